@@ -1,0 +1,4 @@
+pub mod Priority
+pub mod Event
+pub mod Choice
+pub mod Doing

@@ -1,0 +1,34 @@
+// The limits of application texts, scripts and applications.
+
+/// Bytes of an application text.
+pub const TEXT_BYTES: u32 = 262_144;
+
+/// Bytes of a script text.
+pub const SCRIPT_BYTES: u32 = 1_048_576;
+
+/// Events of a script, once its counts are expanded.
+pub const SCRIPT_EVENTS: u32 = 1_000_000;
+
+/// Interrupt numbers that there are: 0 to 239.
+pub const IRQ_NUMBERS: u16 = 240;
+
+/// Interrupts that an application may declare.
+pub const IRQS: usize = 240;
+
+/// Tasks of an application.
+pub const TASKS: usize = 64;
+
+/// Bytes of a name.
+pub const NAME_BYTES: usize = 32;
+
+/// Statements of a body, those of inner blocks included.
+pub const STATEMENTS: usize = 1_000;
+
+/// Instructions of an application's whole code.
+pub const CODE_SIZE: u32 = 65_535;
+
+/// The least number of implemented priority bits.
+pub const LEAST_BITS: u32 = 3;
+
+/// The greatest number of implemented priority bits.
+pub const MOST_BITS: u32 = 7;

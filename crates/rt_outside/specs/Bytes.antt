@@ -1,0 +1,47 @@
+-- Bytes that come from a source and go to a sink. Each object tells what it has left or has taken, or tells
+-- nothing, as a file does: then these facts say only that it goes on telling nothing.
+use Rattle.std.specs.Prelude.{ℕ, ◌≡◌, ◌<◌, List, [], ◌++◌, length, take, Option, Some, None}
+
+-- a read moved the first n bytes of what was left into the buffer's front; none in a buffer with room is the end
+pub record MovesTold (before after buffer : List ℕ) (n : ℕ) : Type 0 where
+  pub moved : before ≡ take n buffer ++ after
+  pub end : n ≡ 0 → 0 < length buffer → before ≡ []
+
+abbrev pub Moves : Option (List ℕ) → Option (List ℕ) → List ℕ → ℕ → Type 0
+Moves None None buffer n = Unit {0}
+Moves (Some before) (Some after) buffer n = MovesTold before after buffer n
+Moves None (Some after) buffer n = ⊥
+Moves (Some before) None buffer n = ⊥
+
+-- from what was left to what is left, these bytes went
+abbrev pub Gave : Option (List ℕ) → Option (List ℕ) → List ℕ → Type 0
+Gave None None bytes = Unit {0}
+Gave (Some before) (Some after) bytes = before ≡ bytes ++ after
+Gave None (Some after) bytes = ⊥
+Gave (Some before) None bytes = ⊥
+
+-- all that was left went, and it was these bytes
+abbrev pub GaveAll : Option (List ℕ) → Option (List ℕ) → List ℕ → Type 0
+GaveAll None None bytes = Unit {0}
+GaveAll (Some before) (Some after) bytes = (before ≡ bytes) × (after ≡ [])
+GaveAll None (Some after) bytes = ⊥
+GaveAll (Some before) None bytes = ⊥
+
+-- so many bytes went, and no more
+abbrev pub GaveCount : Option (List ℕ) → Option (List ℕ) → ℕ → Type 0
+GaveCount before after n = (bytes : List ℕ) × Gave before after bytes × (length bytes ≡ n)
+
+-- what was taken grew by these bytes
+abbrev pub Took : Option (List ℕ) → Option (List ℕ) → List ℕ → Type 0
+Took None None bytes = Unit {0}
+Took (Some before) (Some after) bytes = after ≡ before ++ bytes
+Took None (Some after) bytes = ⊥
+Took (Some before) None bytes = ⊥
+
+-- these bytes begin with those
+abbrev pub IsPrefix : List ℕ → List ℕ → Type 0
+IsPrefix front bytes = (rest : List ℕ) × (front ++ rest ≡ bytes)
+
+-- what was taken grew by a beginning of these bytes
+abbrev pub TookPrefix : Option (List ℕ) → Option (List ℕ) → List ℕ → Type 0
+TookPrefix before after bytes = (front : List ℕ) × IsPrefix front bytes × Took before after front
