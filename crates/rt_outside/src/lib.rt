@@ -1,11 +1,24 @@
 // Where bytes come from and go to: sources and sinks with counts of their faults, in memory and outside.
 #![tactic(auto)]
 
+pub mod file_source;
+pub mod mem_sink;
+pub mod mem_source;
+pub mod never_fails;
+pub mod out_sink;
 pub mod sink;
 pub mod source;
 
+pub use file_source::FileSource;
+pub use mem_sink::MemSink;
+pub use mem_source::MemSource;
+pub use never_fails::NeverFails;
+pub use out_sink::OutSink;
 pub use sink::{Sink, put_all};
 pub use source::{ReadFail, Source, read_text};
+
+#[cfg(test)]
+mod tests;
 
 use thiserror::Error;
 

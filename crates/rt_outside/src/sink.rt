@@ -27,5 +27,13 @@ pub fn put_all<K: Sink>(sink: &mut K, bytes: &[u8]) -> Result<(), Failed>
     ensures err { OnErr result (TookPrefix (K.taken sink.old) (K.taken sink.new) bytes.now) }
     ensures cause { HasCause (K.faults sink.old) (K.faults sink.new) result }
 {
-    unreachable!()
+    let mut done = 0;
+    // Each turn takes at least one byte.
+    for _turn in 0..bytes.len() {
+        if done == bytes.len() {
+            return Ok(());
+        }
+        done += sink.write(&bytes[done..])?;
+    }
+    Ok(())
 }

@@ -3,8 +3,7 @@ ghost use Rattle.rt_outside.specs.Faults.{Rose, HasCause};
 ghost use Rattle.rt_outside.specs.Bytes.{Moves, GaveAll, GaveCount};
 
 use crate::Failed;
-use rt_ids::NoMemory;
-use std::alloc::Global;
+use std::alloc::{AllocError, Global};
 use thiserror::Error;
 
 /// Where bytes come from.
@@ -36,12 +35,31 @@ pub enum ReadFail {
     NoMemory,
 }
 
+impl From<Failed> for ReadFail {
+    ghost use Rattle.rt_outside.specs.declared.source.ReadFail.TheVariants.{Fault};
+
+    ghost from_gives = { λ _ r. r ≡ Fault };
+
+    fn from(_error: Failed) -> ReadFail {
+        ReadFail::Fault
+    }
+}
+
+impl From<AllocError> for ReadFail {
+    ghost use Rattle.rt_outside.specs.declared.source.ReadFail.TheVariants.{NoMemory};
+
+    ghost from_gives = { λ _ r. r ≡ NoMemory };
+
+    fn from(_error: AllocError) -> ReadFail {
+        ReadFail::NoMemory
+    }
+}
+
+/// How many bytes a text is read at a time, at most.
+const PIECE: usize = 4096;
+
 /// Reads all bytes up to the end of the source. After an error the source has lost what was taken.
-pub fn read_text<S: Source>(
-    alloc: Global,
-    source: &mut S,
-    limit: u32,
-) -> Result<Vec<u8>, ReadFail>
+pub fn read_text<S: Source>(alloc: Global, source: &mut S, limit: u32) -> Result<Vec<u8>, ReadFail>
     requires { limit < 2 ^ 32 - 1 }
     ensures whole { IfOk result (λ text. GaveAll (S.left source.old) (S.left source.new) text.items) }
     ensures within { IfOk result (λ text. vec_len text ≤ limit) }
@@ -53,5 +71,20 @@ pub fn read_text<S: Source>(
     ensures fault { IsErrOf result ReadFail.Fault → Rose (S.faults source.old) (S.faults source.new) }
     ensures later { S.faults source.old ≤ S.faults source.new }
 {
+    let most = limit as usize + 1;
+    let mut piece = vec![in alloc; 0u8; PIECE.min(most)]?;
+    let mut text = Vec::new(alloc);
+    // Each turn takes at least one byte.
+    for _turn in 0..most + 1 {
+        let room = piece.len().min(most - text.len());
+        let count = source.read(piece.slice_mut(..room))?;
+        if count == 0 {
+            return Ok(text);
+        }
+        if text.len() + count == most {
+            return Err(ReadFail::TooLong);
+        }
+        text.extend_from_slice(&piece[..count])?;
+    }
     unreachable!()
 }

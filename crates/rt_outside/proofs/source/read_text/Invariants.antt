@@ -1,0 +1,12 @@
+use Rattle.std.proofs.Common.{◌≡◌, ◌+◌, ◌≤◌, min, vec_len}
+use Rattle.rt_outside.specs.Bytes.{Gave}
+use Rattle.rt_outside.proofs.source.read_text.Given as goal
+
+abbrev pub invariant-loop-turn : goal.invariant-loop-turn
+invariant-loop-turn g l = record {
+  paced : l._turn ≤ vec_len l.text;
+  within : vec_len l.text ≤ l.limit;
+  buffer : vec_len l.piece ≡ min 4096 (l.limit + 1);
+  gave : Gave (g.S.Source.left l.initial.source) (g.S.Source.left l.source) l.text.items;
+  later : g.S.Source.faults l.initial.source ≤ g.S.Source.faults l.source;
+}

@@ -1,0 +1,61 @@
+ghost use Rattle.std.specs.Prelude.{◌≡◌, ℕ, ◌<◌, ◌≤◌, length, take, IfOk, OnOk, OnErr};
+ghost use Rattle.rt_outside.specs.Faults.{HasCause};
+ghost use Rattle.rt_outside.specs.Bytes.{Took};
+ghost use Rattle.rt_outside.specs.Memory.{next_fault};
+ghost use Rattle.rt_outside.specs.Outside.{untold};
+
+use crate::{Failed, Sink};
+use std::marker::Model;
+
+/// Standard output as a sink. It has no buffer: what a write took is out when the call returns. No contract says
+/// what it takes.
+#[derive(Drop)]
+pub struct OutSink<'a, R: Print> {
+    rt: &'a R,
+    failed: u64,
+}
+
+impl<'a, R: Print> Model for OutSink<'a, R> {
+    ghost use Rattle.std.specs.Prelude.{ℕ};
+
+    ghost Value = { ℕ };
+
+    ghost view = { λ s. s.failed };
+}
+
+impl<'a, R: Print> OutSink<'a, R> {
+    /// Standard output, which has not failed yet.
+    pub fn of(rt: &'a R) -> OutSink<'a, R>
+        ensures { result ≡ 0 }
+    {
+        OutSink { rt, failed: 0 }
+    }
+}
+
+impl<R: Print> Sink for OutSink<'_, R> {
+    ghost taken = { untold };
+
+    ghost faults = { λ s. s };
+
+    fn write(&mut self, piece: &[u8]) -> Result<usize, Failed>
+        ensures within { IfOk result (λ n. n ≤ length piece.now) }
+        ensures some { IfOk result (λ n. 0 < length piece.now → 0 < n) }
+        ensures took { IfOk result (λ n. Took (untold self.old) (untold self.new) (take n piece.now)) }
+        ensures err { OnErr result (untold self.new ≡ untold self.old) }
+        ensures cause { HasCause self.old self.new result }
+
+        ensures quiet { OnOk result (self.new ≡ self.old) }
+        ensures counted { OnErr result (self.new ≡ next_fault self.old) }
+    {
+        if piece.is_empty() {
+            return Ok(0);
+        }
+        match self.rt.write_some(piece) {
+            Ok(count) if count > 0 => Ok(count),
+            _ => {
+                self.failed = self.failed.saturating_add(1);
+                Err(Failed)
+            }
+        }
+    }
+}
