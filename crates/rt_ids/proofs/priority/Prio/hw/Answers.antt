@@ -1,5 +1,5 @@
 -- The shifts lose nothing, and so they are the products of the formula.
-use Rattle.std.proofs.Common.{◌≡◌, ◌≤◌, ◌^◌, ◌-◌, ◌*◌, ◌%◌, subst, sym, ℕ}
+use Rattle.std.proofs.Common.{◌≡◌, ◌^◌, ◌-◌, ◌*◌, ◌%◌, subst, sym, ℕ}
 use Rattle.rt_ids.proofs.Shifts.{shifted}
 use Rattle.rt_ids.proofs.priority.Prio.hw.Goals as goal
 

@@ -1,0 +1,25 @@
+mod Rows
+mod MachineLemmas
+mod ScriptLemmas
+pub mod SimulationRuns
+pub mod SimulationShown
+pub mod SimulationChoice
+pub mod SimulationValues
+pub mod SimulationBounds
+pub mod SimulationCode
+pub mod SimulationPick
+pub mod Simulation
+pub mod SimulationStep
+pub mod SimulationServe
+pub mod SimulationTake
+pub mod Good
+pub mod Handlers
+pub mod Progress
+pub mod AcceptedTree
+pub mod Judged
+pub mod Values
+pub mod Many
+pub mod Readers
+pub mod Trees
+pub mod Lexing
+mod FormLemmas

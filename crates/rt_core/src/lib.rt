@@ -1,0 +1,22 @@
+// The first path from an application to its trace: hardware tasks of one priority that emit literals.
+#![tactic(auto)]
+
+pub mod application;
+mod compile;
+mod grammar;
+pub mod image;
+pub mod item;
+mod listing;
+mod machine;
+pub mod output;
+mod reading;
+mod rules;
+mod run;
+pub mod script;
+mod text;
+mod token;
+mod trace_text;
+mod tree;
+
+pub use application::Application;
+pub use output::Output;

@@ -1,0 +1,3 @@
+pub mod Words
+pub mod Defined
+pub mod Steps
