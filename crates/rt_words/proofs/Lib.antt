@@ -1,0 +1,14 @@
+pub mod Lists
+pub mod Bits
+pub mod Histories
+pub mod Seats
+pub mod Latching
+pub mod Pending
+pub mod Making
+pub mod Counting
+pub mod Tallies
+pub mod Opening
+pub mod Accounting
+pub mod Parting
+pub mod Closing
+pub mod Worked

@@ -1,0 +1,57 @@
+-- New words meet the rule.
+use Rattle.std.proofs.Common.{◌≡◌, ℕ, ◌+◌, ◌-◌, ◌*◌, ◌/◌, ◌%◌, ◌^◌, ◌<◌, ◌≤◌, zero, suc, List, [], ◌∷◌, ◌++◌, Some, None, refl, sym, ap, ◌∙◌, subst, arith}
+use Rattle.std.proofs.lemmas.List.{replicate-append-replicate}
+use Rattle.std.specs.Int.{bit_at}
+use Rattle.std.proofs.lemmas.Nat.Bits.{bit_at-zero}
+use mathlib.Core.Option.{some, some-injective, some-ne-none}
+use lib.ListN.{get_elem?}
+use Rattle.rt_words.specs.declared.view.View.{View}
+use Rattle.rt_words.specs.Object.{IsPending, pending}
+use Rattle.rt_words.specs.Rule.{IsRow, padded, Standing}
+use Rattle.rt_words.specs.Seats.{number_of, Seated}
+use Rattle.rt_words.specs.Steps.{newcomer}
+use Rattle.rt_words.proofs.Bits.{blank, blank_long, zeros}
+use Rattle.rt_words.proofs.Lists.{in_none}
+
+blank_row : (may : List ℕ) (n : ℕ) → n ≤ 16 → ((irq : ℕ) → IsPending may irq → irq < 32 * n) → IsRow may (blank n)
+blank_row may n l covers = record {
+  short = subst (λ (m : ℕ). m ≤ 16) (sym (blank_long n)) l;
+  low = λ k. subst (λ (m : ℕ). m < 2 ^ 32) (sym (zeros n k)) (omega arith);
+  within = λ irq h. let z : pending (blank n) irq ≡ 0 = ap (λ w. bit_at w (irq % 32)) (zeros n (irq / 32)) ∙ bit_at-zero (irq % 32) in absurd (omega arith);
+  covers = λ irq h. let c = covers irq h in subst (λ (m : ℕ). irq / 32 < m) (sym (blank_long n)) (omega arith);
+}
+
+blank_padded : (n : ℕ) → n ≤ 16 → blank 16 ≡ padded (blank n)
+blank_padded n l =
+    let whole : n + (16 - n) ≡ 16 = omega arith in
+    sym (ap (λ (m : ℕ). blank n ++ blank (16 - m)) (blank_long n) ∙ replicate-append-replicate n (16 - n) 0 ∙ ap blank whole)
+
+new_seated : (may : List ℕ) → Seated [] (newcomer may ∷ []) (newcomer may)
+new_seated may = record {
+  first = refl;
+  stage = refl;
+  own = refl;
+  lines = λ seat number v at is. absurd (none_claims seat number v at is);
+  apart = λ i j number v w a b is js. absurd (none_claims i number v a is);
+  parts = λ p h. absurd (in_none p h);
+  once = tt;
+  unmade = λ number other out. refl;
+}
+  where
+    none_claims : (seat number : ℕ) (v : View) → get_elem? (newcomer may ∷ []) seat ≡ some v → number_of v ≡ Some number → ⊥
+    none_claims zero number v at is = let e : None ≡ Some number = ap number_of (some-injective (newcomer may) v at) ∙ is in cc
+    none_claims (suc seat) number v at is = absurd (some-ne-none v (sym at))
+
+pub opens : (may words : List ℕ) (n : ℕ) → words ≡ blank n → n ≤ 16 → ((irq : ℕ) → IsPending may irq → irq < 32 * n) → Standing may words (newcomer may ∷ []) [] (newcomer may)
+opens may words n is l covers = subst (λ (ws : List ℕ). Standing may ws (newcomer may ∷ []) [] (newcomer may)) (sym is) record {
+  row = blank_row may n l covers;
+  legal = blank_padded n l;
+  seated = new_seated may;
+  same_may = λ seat v at lives. known seat v at;
+  behind = omega arith;
+  quiet = λ all k word h. absurd (in_none _ h);
+}
+  where
+    known : (seat : ℕ) (v : View) → get_elem? (newcomer may ∷ []) seat ≡ some v → v.may ≡ may
+    known zero v at = sym (ap (λ (x : View). x.may) (some-injective (newcomer may) v at))
+    known (suc seat) v at = absurd (some-ne-none v (sym at))

@@ -1,0 +1,30 @@
+-- How often an interrupt was raised, merged and latched by some calls.
+use Rattle.std.specs.Prelude.{ℕ, ◌/◌, ◌%◌, ◌==◌, ◌&&◌, Bool, false, List, count_by}
+use Rattle.std.specs.Int.{bit_at}
+use Rattle.rt_words.specs.declared.call.Pended.TheVariants.{Raised, Merged}
+use Rattle.rt_words.specs.declared.call.Call.{Call}
+use Rattle.rt_words.specs.declared.call.Call.TheVariants.{Pend, Latch}
+
+abbrev pub raises : ℕ → Call → Bool
+raises irq (Pend n Raised) = n == irq
+raises irq (Pend n Merged) = false
+raises irq (Latch k word) = false
+
+abbrev pub merges : ℕ → Call → Bool
+merges irq (Pend n Raised) = false
+merges irq (Pend n Merged) = n == irq
+merges irq (Latch k word) = false
+
+-- the word that was latched holds the interrupt's bit
+abbrev pub latches : ℕ → Call → Bool
+latches irq (Pend n answer) = false
+latches irq (Latch k word) = (k == irq / 32) && (bit_at word (irq % 32) == 1)
+
+abbrev pub raised : ℕ → List Call → ℕ
+raised irq calls = count_by (raises irq) calls
+
+abbrev pub merged : ℕ → List Call → ℕ
+merged irq calls = count_by (merges irq) calls
+
+abbrev pub latched : ℕ → List Call → ℕ
+latched irq calls = count_by (latches irq) calls

@@ -1,0 +1,31 @@
+-- What is known when the words are closed.
+use Rattle.std.specs.Prelude.{◌≡◌, ◌≢◌, ℕ, ◌+◌, ◌<◌, List, [], map, slice_index, Contains}
+use Rattle.rt_words.specs.declared.call.Call.{Call}
+use Rattle.rt_words.specs.declared.call.Call.TheVariants.{Latch}
+use Rattle.rt_words.specs.declared.view.Part.{Part}
+use Rattle.rt_words.specs.Object.{pending}
+use Rattle.rt_words.specs.History.{Entry, IsLegal, part}
+use Rattle.rt_words.specs.Account.{raised, latched}
+use Rattle.rt_words.specs.Lines.{Core, numbers}
+
+-- every line that was made has been gathered
+abbrev pub AllGathered : List ℕ → List Part → Type 0
+AllGathered made gathered = (number : ℕ) → Contains made number → Contains (numbers gathered) number
+
+-- each word that one of these calls latched is 0
+abbrev pub LatchedAreZero : List Call → List ℕ → Type 0
+LatchedAreZero calls words = (k word : ℕ) → Contains calls (Latch k word) → slice_index words k ≡ 0
+
+-- the calls of all lines, in the order of the history
+abbrev pub calls_in : List Entry → List Call
+calls_in history = map (λ e. e.call) history
+
+-- One legal history leaves these bits, in a row of 16 words. Its calls of the number 255 are the core's, its calls of
+-- each other number are those that were gathered under it, and a number that was not made has none.
+pub record OneHistory (line : Core) (bits : List ℕ) : Type 0 where
+  pub history : List Entry
+  pub legal : IsLegal history bits
+  pub core : part history 255 ≡ line.calls
+  pub gathered : (p : Part) → Contains line.gathered p → part history p.line ≡ p.calls
+  pub unmade : (number : ℕ) → number ≢ 255 → ¬ Contains line.made number → part history number ≡ []
+  pub account : (irq : ℕ) → irq < 512 → raised irq (calls_in history) ≡ latched irq (calls_in history) + pending bits irq

@@ -1,0 +1,22 @@
+-- Histories of the calls of several lines.
+use Rattle.std.specs.Prelude.{◌≡◌, ℕ, ◌==◌, List, [], ◌∷◌, map, filter, replicate}
+use Rattle.rt_words.specs.declared.call.Call.{Call}
+use Rattle.rt_words.specs.Object.{IsAnswered, after}
+
+-- a call of the line of this number
+pub record Entry : Type 0 where
+  pub line : ℕ
+  pub call : Call
+
+-- each call got the answer of the words that it met, from the first words on, and the last words are left
+abbrev pub Leads : List ℕ → List Entry → List ℕ → Type 0
+Leads words [] last = words ≡ last
+Leads words (e ∷ es) last = IsAnswered words e.call × Leads (after words e.call) es last
+
+-- one thread could have made these calls, from words of 0 on
+abbrev pub IsLegal : List Entry → List ℕ → Type 0
+IsLegal history last = Leads (replicate 16 0) history last
+
+-- the calls of one line, in their order
+abbrev pub part : List Entry → ℕ → List Call
+part history line = map (λ e. e.call) (filter (λ e. e.line == line) history)

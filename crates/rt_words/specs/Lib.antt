@@ -1,0 +1,9 @@
+pub mod Object
+pub mod History
+pub mod Account
+pub mod Lines
+pub mod Ending
+pub mod Seats
+pub mod Rule
+pub mod Steps
+pub mod Fields

@@ -1,0 +1,16 @@
+/// What became of an interrupt that was pended.
+#[derive(Clone, Copy, Debug, PartialEq, Eq)]
+pub enum Pended {
+    /// It was not pending, and is now.
+    Raised,
+    /// It was pending already, so that the two are one.
+    Merged,
+}
+
+/// A call of a line, with the answer that it got. Contracts name its values; no program makes one.
+pub enum Call {
+    /// The number of the interrupt that was pended, and what became of it.
+    Pend(u16, Pended),
+    /// The number of the word that was latched, and the word that stood.
+    Latch(u8, u32),
+}
