@@ -3,10 +3,12 @@ use Rattle.std.proofs.Common.{◌≡◌, ℕ, zero, suc, ◌+◌, ◌≤◌, Lis
 use Rattle.rt_ids.specs.Event.{Event, Arrive, Tick, Step, steps}
 use Rattle.rt_core.specs.Accepted.{IsAccepted}
 use Rattle.rt_core.specs.Application.{App}
-use Rattle.rt_core.specs.Baker.{State, after, first}
+use Rattle.rt_core.specs.Baker.{State, first}
+use Rattle.rt_core.specs.Allowed.{after}
 use Rattle.rt_core.specs.Bounds.{stack}
 use Rattle.rt_core.specs.Compiled.{image_of}
-use Rattle.rt_core.specs.Core.{Core, happen, moves, core_after, reset, depth, trace}
+use Rattle.rt_core.specs.Core.{Core, reset, depth}
+use Rattle.rt_core.specs.Stepping.{happen, moves, core_after, trace}
 use Rattle.rt_core.specs.Good.{Good, RunsWell, AreDeclared}
 use Rattle.rt_core.specs.Image.{Image}
 use Rattle.rt_core.specs.Move.{Arrived, Ticked, Stepped, shown}

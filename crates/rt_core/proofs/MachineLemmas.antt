@@ -6,7 +6,8 @@ use Rattle.std.proofs.lemmas.List.Sorted.{sum_by-IsPermutation, IsPermutation-re
 use Rattle.std.proofs.lemmas.List.{reverse-append}
 use Rattle.std.proofs.lemmas.Bool.{lt-leb, le-leb}
 use Rattle.rt_core.specs.Image.{Image}
-use Rattle.rt_core.specs.Core.{Core, Context, Traps, Leads, reset, depth, enter, entered}
+use Rattle.rt_core.specs.Core.{Core, Context, reset, depth}
+use Rattle.rt_core.specs.Stepping.{Traps, Leads, enter, entered}
 use Rattle.rt_core.specs.declared.image.Handler.{Handler}
 use Rattle.rt_core.specs.declared.item.What.TheVariants as what
 

@@ -9,7 +9,8 @@ use Rattle.rt_core.specs.Script.{events, order_events, count_of}
 use Rattle.rt_core.specs.declared.script.Order.{Order}
 use Rattle.rt_core.specs.declared.script.Order.TheVariants.{Steps, Pends}
 use Rattle.rt_ids.specs.Event.{Event, Arrive, Tick, Step, steps}
-use Rattle.rt_core.specs.Core.{Core, core_after, moves, happen, step}
+use Rattle.rt_core.specs.Core.{Core}
+use Rattle.rt_core.specs.Stepping.{core_after, moves, happen, step}
 use Rattle.rt_core.specs.Image.{Image}
 use Rattle.rt_core.specs.Move.{Move, Stepped, items_of}
 use Rattle.rt_core.specs.Progress.{Advances}

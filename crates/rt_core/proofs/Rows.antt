@@ -4,7 +4,8 @@ use Rattle.std.specs.Fmt.{digits}
 use Rattle.rt_ids.specs.Event.{Event, steps}
 use Rattle.rt_core.specs.Application.{App}
 use Rattle.rt_core.specs.Image.{Image}
-use Rattle.rt_core.specs.Core.{trace}
+use Rattle.rt_core.specs.Compiled.{image_of}
+use Rattle.rt_core.specs.Stepping.{trace}
 use Rattle.rt_core.specs.Text.{names_of, trace_text}
 use Rattle.rt_core.specs.Listing.{listing}
 use Rattle.rt_core.specs.Script.{script_of, events}
@@ -53,6 +54,10 @@ two_listing : listing (names_of two) two_image
     ≡ codes "image 1 4 40 0 8 0\nirq A 3 224 5 2\nirq B 7 224 2 2\ncode 0 serve ; end init\ncode 1 wait\ncode 2 set 0 20\ncode 3 emit 0\ncode 4 ret\ncode 5 set 0 10\ncode 6 emit 0\ncode 7 ret\n"
 unfolding two two_image digits
 two_listing = refl
+
+two_compiled : image_of two ≡ two_image
+unfolding two two_image
+two_compiled = refl
 
 two_stack : stack two ≡ 40
 unfolding two

@@ -1,7 +1,8 @@
 -- A list of moves that Baker's machine may make one after another is a run over step numbers.
 use Rattle.std.proofs.Common.{◌≡◌, ℕ, zero, suc, ◌-◌, ◌≤◌, List, [], ◌∷◌, Some, None, refl, sym, subst, le_refl, arith}
 use Rattle.rt_core.specs.Application.{App}
-use Rattle.rt_core.specs.Baker.{State, May, after}
+use Rattle.rt_core.specs.Baker.{State}
+use Rattle.rt_core.specs.Allowed.{May, after}
 use Rattle.rt_core.specs.Good.{HasNoTrap, IsNoTrap}
 use Rattle.rt_core.specs.Move.{Move, Arrived, Ticked, Rang, Stepped, items_of}
 use Rattle.rt_core.specs.Run.{move_of, done_after, Silent, silent, RunsFrom}

@@ -5,9 +5,11 @@ use Rattle.rt_ids.specs.Doing.{Doing, Emits, Returns}
 use Rattle.rt_ids.specs.Priority.{hardware}
 use Rattle.rt_core.specs.Accepted.{IsAccepted}
 use Rattle.rt_core.specs.Application.{App, Task, task_of, priority_of, priority_or}
-use Rattle.rt_core.specs.Baker.{State, Job, Values, Serving, MayStep, DoesNext, Serves, Turn, running, candidate, waiting, emitting, spent, acted}
+use Rattle.rt_core.specs.Baker.{State, Job, Values, Serving, running, candidate, waiting, emitting}
+use Rattle.rt_core.specs.Allowed.{MayStep, DoesNext, Serves, Turn, spent, acted}
 use Rattle.rt_core.specs.Compiled.{image_of}
-use Rattle.rt_core.specs.Core.{Core, settle, Leads, Traps}
+use Rattle.rt_core.specs.Core.{Core}
+use Rattle.rt_core.specs.Stepping.{settle, Leads, Traps}
 use Rattle.rt_core.specs.declared.item.What.TheVariants as what
 use Rattle.rt_core.specs.declared.image.Instr.TheVariants as instr
 use Rattle.rt_core.proofs.Simulation.{Agrees, waits, at_statement, at_value, AtStatement, AtValue, waiting_core, serving_core, serving_state}

@@ -3,7 +3,8 @@ use Rattle.std.proofs.Common.{◌≡◌, ℕ, zero, suc, ◌+◌, ◌-◌, ◌�
 use Rattle.std.proofs.lemmas.List.{replicate_more}
 use Rattle.rt_ids.specs.Event.{Event, Arrive, Tick, Step}
 use Rattle.rt_core.specs.Application.{App}
-use Rattle.rt_core.specs.Baker.{State, May, after}
+use Rattle.rt_core.specs.Baker.{State}
+use Rattle.rt_core.specs.Allowed.{May, after}
 use Rattle.rt_core.specs.Move.{Move, Arrived, Ticked, Rang, Stepped, items_of, shown, event_of}
 use Rattle.rt_core.specs.declared.item.What.{What}
 use Rattle.rt_core.specs.declared.item.What.TheVariants as what

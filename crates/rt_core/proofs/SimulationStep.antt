@@ -6,9 +6,11 @@ use Rattle.rt_ids.specs.Priority.{hardware}
 use Rattle.rt_ids.specs.declared.ids.BodyId.TheVariants as body
 use Rattle.rt_core.specs.Accepted.{IsAccepted}
 use Rattle.rt_core.specs.Application.{App, priority_of}
-use Rattle.rt_core.specs.Baker.{State, Job, May, MayStep, DoesNext, after, level, running, on_running, candidate, waiting, initial}
+use Rattle.rt_core.specs.Baker.{State, Job, level, running, on_running, candidate, waiting, initial}
+use Rattle.rt_core.specs.Allowed.{May, MayStep, DoesNext, after}
 use Rattle.rt_core.specs.Compiled.{image_of, row_of}
-use Rattle.rt_core.specs.Core.{Core, step, pick, execution, execute, attempt, fetch, settle, with_note}
+use Rattle.rt_core.specs.Core.{Core, pick, execution}
+use Rattle.rt_core.specs.Stepping.{step, execute, attempt, fetch, settle, with_note}
 use Rattle.rt_core.specs.Image.{Image}
 use Rattle.rt_core.specs.Move.{Stepped}
 use Rattle.rt_core.specs.declared.item.What.{What}

@@ -8,7 +8,8 @@ use Rattle.rt_core.specs.Application.{App, Task, task_of, priority_of, priority_
 use Rattle.rt_core.specs.Baker.{State, level, candidate, waiting, may_start, goes_before, started}
 use Rattle.rt_core.specs.Bounds.{cost, frame, stack}
 use Rattle.rt_core.specs.Compiled.{image_of, row_of, thread_code}
-use Rattle.rt_core.specs.Core.{Core, pick, attempt, settle, Leads, Traps, entered, enter, depth}
+use Rattle.rt_core.specs.Core.{Core, pick, depth}
+use Rattle.rt_core.specs.Stepping.{attempt, settle, Leads, Traps, entered, enter}
 use Rattle.rt_core.specs.declared.image.Handler.{Handler}
 use Rattle.rt_core.specs.declared.item.What.TheVariants as what
 use Rattle.rt_core.proofs.Simulation.{Agrees, at_statement, waiting_core, waiting_state, task_fits}

@@ -3,6 +3,7 @@
 use Rattle.std.specs.Prelude.{◌≡◌, ◌+◌, ◌*◌, ◌^◌, ◌<◌, length, sum_by, reverse}
 use Rattle.rt_ids.specs.declared.limits.TheConstants.{IRQ_NUMBERS}
 use Rattle.rt_core.specs.Core as model
+use Rattle.rt_core.specs.Stepping as stepping
 use Rattle.rt_core.specs.declared.machine.Core.TheInside.{Inside}
 use Rattle.rt_core.specs.declared.machine.Effect.{Effect}
 use Rattle.rt_core.specs.declared.machine.Effect.TheVariants as effect
@@ -24,6 +25,6 @@ pub record IsSound (c : Inside) : Type 0 where
   pub shallow : c.depth < 2 ^ 40
 
 -- what the code says came of a step is what came of it
-abbrev pub IsEffect : Effect → model.Core → model.Core → model.Effect → Type 0
-IsEffect (effect.Traps reason) old new came = (came ≡ model.Traps reason) × (new ≡ old)
-IsEffect (effect.Leads shown) old new came = came ≡ model.Leads new shown
+abbrev pub IsEffect : Effect → model.Core → model.Core → stepping.Effect → Type 0
+IsEffect (effect.Traps reason) old new came = (came ≡ stepping.Traps reason) × (new ≡ old)
+IsEffect (effect.Leads shown) old new came = came ≡ stepping.Leads new shown

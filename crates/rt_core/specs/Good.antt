@@ -6,7 +6,7 @@ use Rattle.rt_core.specs.Application.{App, is_declared}
 use Rattle.rt_core.specs.Bounds.{stack}
 use Rattle.rt_core.specs.Image.{Image}
 use Rattle.rt_core.specs.Move.{shown}
-use Rattle.rt_core.specs.Core.{trace, depth_after}
+use Rattle.rt_core.specs.Stepping.{trace, depth_after}
 use Rattle.rt_core.specs.Run.{Run}
 use Rattle.rt_core.specs.declared.item.Item.{Item}
 use Rattle.rt_core.specs.declared.item.What.{What}

@@ -5,7 +5,9 @@ pub mod Bounds
 pub mod Image
 pub mod Move
 pub mod Core
+pub mod Stepping
 pub mod Baker
+pub mod Allowed
 pub mod Run
 pub mod Good
 pub mod Text

@@ -2,7 +2,7 @@
 use Rattle.std.specs.Prelude.{ℕ, ◌≡◌, List, ◌++◌, codes}
 use Rattle.rt_ids.specs.Event.{steps}
 use Rattle.rt_core.specs.Application.{App}
-use Rattle.rt_core.specs.Core.{trace}
+use Rattle.rt_core.specs.Stepping.{trace}
 use Rattle.rt_core.specs.Good.{Good}
 use Rattle.rt_core.specs.Image.{Image}
 use Rattle.rt_core.specs.Listing.{listing}

@@ -1,7 +1,8 @@
 -- How far a run has come.
 use Rattle.std.specs.Prelude.{ℕ, ◌≡◌, List, ◌++◌, flat_map}
 use Rattle.rt_ids.specs.Event.{Event}
-use Rattle.rt_core.specs.Core.{Core, core_after, moves}
+use Rattle.rt_core.specs.Core.{Core}
+use Rattle.rt_core.specs.Stepping.{core_after, moves}
 use Rattle.rt_core.specs.Image.{Image}
 use Rattle.rt_core.specs.Move.{items_of}
 use Rattle.rt_core.specs.Text.{Names, item_text}

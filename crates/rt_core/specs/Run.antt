@@ -3,7 +3,8 @@
 use Rattle.std.specs.Prelude.{ℕ, zero, suc, ◌-◌, ◌≤◌, List, [], ◌∷◌, Some, None}
 use Rattle.rt_core.specs.Application.{App}
 use Rattle.rt_core.specs.Move.{Move, Arrived, Ticked, Rang, Stepped}
-use Rattle.rt_core.specs.Baker.{State, first, May, after}
+use Rattle.rt_core.specs.Baker.{State, first}
+use Rattle.rt_core.specs.Allowed.{May, after}
 use Rattle.rt_core.specs.declared.item.Item.{Item}
 use Rattle.rt_core.specs.declared.item.What.{What}
 use Rattle.rt_core.specs.declared.item.What.TheVariants as what

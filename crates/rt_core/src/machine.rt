@@ -1,5 +1,6 @@
 ghost use Rattle.std.specs.Prelude.{◌≡◌, ℕ, ◌<◌, ◌+◌, ◌*◌, ◌^◌, ◌≤◌, true, IfOk, OnErr, slice_set, slice_get, option_copied, length};
 ghost use Rattle.rt_core.specs.Core as model;
+ghost use Rattle.rt_core.specs.Stepping as stepping;
 ghost use Rattle.rt_core.specs.declared.image.Instr.TheVariants as model_instr;
 ghost use Rattle.rt_core.specs.CoreView.{IsEffect};
 ghost use Rattle.rt_ids.specs.Choice.{best, better_of};
@@ -165,7 +166,7 @@ impl Core {
         irq: Irq,
         handler: Option<Handler>,
     ) -> Result<Effect, NoMemory>
-        ensures { IfOk result (λ came. IsEffect came self.old self.new (model.enter image.now self.old irq handler)) }
+        ensures { IfOk result (λ came. IsEffect came self.old self.new (stepping.enter image.now self.old irq handler)) }
     {
         let Some(handler) = handler else {
             return Ok(Effect::Leads(None));
@@ -190,7 +191,7 @@ impl Core {
 
     /// Exception return, which the thread has not.
     fn leave(&mut self) -> Effect
-        ensures { IsEffect result self.old self.new (model.return self.old self.old.below) }
+        ensures { IsEffect result self.old self.new (stepping.return self.old self.old.below) }
     {
         let Some(context) = self.below.pop() else {
             return Effect::Traps(STACK_TRAP);
@@ -210,7 +211,7 @@ impl Core {
     /// Writes a value into a slot.
     fn set(&mut self, slot: u32, value: u32) -> Effect
         requires { self.old.address < 2 ^ 63 }
-        ensures { IsEffect result self.old self.new (model.execute self.old (model_instr.Set slot value)) }
+        ensures { IsEffect result self.old self.new (stepping.execute self.old (model_instr.Set slot value)) }
     {
         let slot = slot as usize;
         if slot >= self.slots.len() {
@@ -224,7 +225,7 @@ impl Core {
     /// Emits the value of a slot.
     fn emit(&mut self, slot: u32) -> Effect
         requires { self.old.address < 2 ^ 63 }
-        ensures { IsEffect result self.old self.new (model.execute self.old (model_instr.Emit slot)) }
+        ensures { IsEffect result self.old self.new (stepping.execute self.old (model_instr.Emit slot)) }
     {
         let Some(value) = self.slots.get(slot as usize) else {
             return Effect::Traps(STACK_TRAP);
@@ -237,7 +238,7 @@ impl Core {
     /// Unmasks all interrupts.
     fn serve(&mut self) -> Effect
         requires { self.old.address < 2 ^ 63 }
-        ensures { IsEffect result self.old self.new (model.execute self.old model_instr.Serve) }
+        ensures { IsEffect result self.old self.new (stepping.execute self.old model_instr.Serve) }
     {
         self.masked = false;
         self.address += 1;
@@ -247,7 +248,7 @@ impl Core {
     /// One instruction.
     fn execute(&mut self, instr: Instr) -> Effect
         requires { self.old.address < 2 ^ 63 }
-        ensures { IsEffect result self.old self.new (model.execute self.old instr) }
+        ensures { IsEffect result self.old self.new (stepping.execute self.old instr) }
     {
         match instr {
             Instr::Set(slot, value) => self.set(slot, value),
@@ -260,7 +261,7 @@ impl Core {
 
     /// The instruction at the code address, with its note.
     fn run_line(&mut self, image: &Image) -> Effect
-        ensures { IsEffect result self.old self.new (model.fetch self.old (slice_get image.now.code self.old.address)) }
+        ensures { IsEffect result self.old self.new (stepping.fetch self.old (slice_get image.now.code self.old.address)) }
     {
         let Some(line) = image.code().get(self.address) else {
             return Effect::Traps(JUMP_TRAP);
@@ -272,7 +273,7 @@ impl Core {
     /// One core step: the entry of the interrupt that is to be taken, else one instruction. A trap stops the core.
     /// It answers what the step shows.
     pub(crate) fn step(&mut self, alloc: Global, image: &Image) -> Result<Option<What>, NoMemory>
-        ensures { IfOk result (λ shown. model.step image.now self.old ≡ (self.new, shown)) }
+        ensures { IfOk result (λ shown. stepping.step image.now self.old ≡ (self.new, shown)) }
     {
         if self.stopped {
             return Ok(None);
@@ -286,7 +287,7 @@ impl Core {
 
     /// A trap stops the core and shows its reason.
     fn settle(&mut self, came: Effect) -> Option<What>
-        ensures { (effect : model.Effect) (before : model.Core) → IsEffect came before self.old effect → model.settle before effect ≡ (self.new, result) }
+        ensures { (effect : stepping.Effect) (before : model.Core) → IsEffect came before self.old effect → stepping.settle before effect ≡ (self.new, result) }
     {
         match came {
             Effect::Traps(reason) => {
@@ -300,7 +301,7 @@ impl Core {
 
 /// The item of a note is shown where the instruction itself shows nothing.
 fn with_note(note: Option<Note>, came: Effect) -> Effect
-    ensures { (effect : model.Effect) (old new : model.Core) → IsEffect came old new effect → IsEffect result old new (model.with_note note effect) }
+    ensures { (effect : stepping.Effect) (old new : model.Core) → IsEffect came old new effect → IsEffect result old new (stepping.with_note note effect) }
 {
     match (note, came) {
         (Some(Note::End(body)), Effect::Leads(None)) => Effect::Leads(Some(What::End(body))),

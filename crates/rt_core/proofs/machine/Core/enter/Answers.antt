@@ -1,5 +1,6 @@
 use Rattle.std.proofs.Common.{◌≡◌, ◌<◌, ◌≤◌, ℕ, ◌+◌, ◌*◌, List, ◌++◌, ◌∷◌, [], Some, ap, sym, ◌∙◌, refl, arith, slice_set, replicate, false}
-use Rattle.rt_core.specs.Core.{Core, Context, Leads, enter, depth}
+use Rattle.rt_core.specs.Core.{Core, Context, depth}
+use Rattle.rt_core.specs.Stepping.{Leads, enter}
 use Rattle.rt_core.specs.declared.item.What.TheVariants as what
 use Rattle.rt_core.proofs.MachineLemmas.{core_of, depth_of, enter_traps, enter_fits, entered_parts}
 use Rattle.rt_core.proofs.machine.Core.enter.Goals as goal

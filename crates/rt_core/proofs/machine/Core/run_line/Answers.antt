@@ -2,6 +2,7 @@
 use Rattle.std.proofs.Common.{subst, sym, ◌∙◌, ap, slice_get, refl}
 use Rattle.std.proofs.lemmas.Option.{slice_get_read}
 use Rattle.rt_core.specs.Core as model
+use Rattle.rt_core.specs.Stepping as stepping
 use Rattle.rt_core.specs.CoreView.{IsEffect}
 use Rattle.rt_core.proofs.machine.Core.run_line.Goals as goal
 
@@ -11,6 +12,6 @@ returns c =
     let code = ap (λ xs. slice_get xs c.self.inside.address) c.code.ensures in
     let address = ap (λ (core : model.Core). slice_get c.args.image.now.code core.address) c.self.view_is in
     subst
-    (λ o. IsEffect c.with_note.result c.args.self.now c.execute.new.self (model.fetch c.args.self.now o))
+    (λ o. IsEffect c.with_note.result c.args.self.now c.execute.new.self (stepping.fetch c.args.self.now o))
     (sym at ∙ (code ∙ address))
     (c.with_note.ensures _ _ _ c.execute.ensures)
