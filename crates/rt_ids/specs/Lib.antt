@@ -2,3 +2,4 @@ pub mod Priority
 pub mod Event
 pub mod Choice
 pub mod Doing
+pub mod Status

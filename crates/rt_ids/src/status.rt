@@ -1,3 +1,6 @@
+ghost use Rattle.std.specs.Prelude.{◌≡◌};
+ghost use Rattle.rt_ids.specs.Status.{exit_status};
+
 /// How a command ended. Its number, 0 to 7 in this order, is the program's exit status.
 #[derive(Clone, Copy, Debug, PartialEq, Eq, Hash)]
 pub enum Status {
@@ -21,7 +24,9 @@ pub enum Status {
 
 impl Status {
     /// Its number.
-    pub fn number(self) -> u8 {
+    pub fn number(self) -> u8
+        ensures { result ≡ exit_status self }
+    {
         self as u8
     }
 }
