@@ -6,6 +6,7 @@ pub mod irq;
 pub mod limits;
 pub mod memory;
 pub mod name;
+pub mod place;
 pub mod priority;
 pub mod status;
 
@@ -13,5 +14,6 @@ pub use ids::{BodyId, ResId, Section, TaskId};
 pub use irq::Irq;
 pub use memory::NoMemory;
 pub use name::Name;
+pub use place::Place;
 pub use priority::Prio;
 pub use status::Status;

@@ -1,0 +1,6 @@
+pub mod Values
+pub mod Lexing
+pub mod Longest
+pub mod OfKind
+pub mod Parts
+pub mod Gaps

@@ -1,0 +1,34 @@
+-- What stands between the tokens of a text, before the first and behind the last: blanks and comments alone.
+use Rattle.std.specs.Prelude.{◌≡◌, ◌≢◌, ℕ, ◌+◌, ◌-◌, false, ◌==◌, nat_eq, codes, List, [], ◌∷◌, length, take, drop, fold, if◌then◌else◌}
+use Rattle.std.specs.List.{starts_with}
+use Rattle.rt_lex.specs.Bytes.{is_blank}
+use Rattle.rt_lex.specs.Token.{Token}
+
+-- where a reading of blanks and comments stands: outside of comments, behind one slash, inside a comment, or at a
+-- byte that is in neither. A slash is 47, a line feed 10.
+pub data Standing : Type 0 where
+  Outside : Standing
+  Slash : Standing
+  Inside : Standing
+  Lost : Standing
+
+abbrev pub after_byte : Standing → ℕ → Standing
+after_byte Outside b = if is_blank b then Outside else if b == 47 then Slash else Lost
+after_byte Slash b = if b == 47 then Inside else Lost
+after_byte Inside b = if b == 10 then Outside else Inside
+after_byte Lost b = Lost
+
+-- where it stands behind a text
+abbrev pub standing : List ℕ → Standing
+standing text = fold after_byte Outside text
+
+-- no more than blanks and comments, the last of which may lack its line feed
+abbrev pub IsLastGap : List ℕ → Type 0
+IsLastGap text = (standing text ≢ Lost) × (standing text ≢ Slash)
+
+-- The text between tokens is blanks and whole comments with their line feeds, no token begins with the two slashes of
+-- a comment, and behind the last token stand blanks and comments alone.
+abbrev pub HaveGaps : List ℕ → ℕ → List Token → Type 0
+HaveGaps src from [] = IsLastGap (drop from src)
+HaveGaps src from (t ∷ tokens) =
+    (standing (take (t.at - from) (drop from src)) ≡ Outside) × (starts_with nat_eq (drop t.at src) (codes "//") ≡ false) × HaveGaps src (t.at + length t.text) tokens

@@ -1,0 +1,59 @@
+-- What the split of a text into tokens has to meet, apart from how it is found: the texts of each kind, and where
+-- tokens lie.
+use Rattle.std.specs.Prelude.{◌≡◌, ℕ, ◌+◌, ◌<◌, ◌≤◌, Bool, true, false, not, ◌&&◌, ◌||◌, nat_eq, codes, List, [], ◌∷◌, length, take, drop}
+use Rattle.std.specs.List.{list_all, starts_with}
+use Rattle.rt_lex.specs.declared.token.Kind.{Kind}
+use Rattle.rt_lex.specs.declared.token.Kind.TheVariants as kind
+use Rattle.rt_lex.specs.Bytes.{is_digit, is_letter, is_name_byte, is_hex_digit}
+use Rattle.rt_lex.specs.Spelling.{is_word, is_long_sign, is_short_sign}
+use Rattle.rt_lex.specs.Token.{Token}
+
+-- a letter, and name bytes behind it
+abbrev pub is_name : List ℕ → Bool
+is_name [] = false
+is_name (b ∷ text) = is_letter b && list_all is_name_byte text
+
+-- at least one byte, all of which pass
+abbrev pub is_run : (ℕ → Bool) → List ℕ → Bool
+is_run passes [] = false
+is_run passes (b ∷ text) = passes b && list_all passes text
+
+abbrev pub is_hex : List ℕ → Bool
+is_hex text = starts_with nat_eq text (codes "0x") && is_run is_hex_digit (drop 2 text)
+
+abbrev pub is_number : List ℕ → Bool
+is_number text = is_run is_digit text || is_hex text
+
+abbrev pub is_sign : List ℕ → Bool
+is_sign [] = false
+is_sign (b ∷ []) = is_short_sign b
+is_sign (b ∷ c ∷ text) = is_long_sign (b ∷ c ∷ text)
+
+-- whether a text is a name, a number or a sign
+abbrev pub is_whole : List ℕ → Bool
+is_whole text = is_name text || is_number text || is_sign text
+
+-- whether a text is one token of this kind
+abbrev pub has_kind : Kind → List ℕ → Bool
+has_kind kind.Name text = is_name text && not (is_word text)
+has_kind kind.Word text = is_name text && is_word text
+has_kind kind.Num text = is_number text
+has_kind kind.Sign text = is_sign text
+has_kind kind.Foreign text = not (is_whole text)
+
+-- a token's bytes are the slice of the text at its offset
+pub record IsSlice (src : List ℕ) (t : Token) : Type 0 where
+  pub within : t.at + length t.text ≤ length src
+  pub slice : take (length t.text) (drop t.at src) ≡ t.text
+
+-- Slices of a text lie one behind the other from this offset on, none over another.
+abbrev pub LieIn : List ℕ → ℕ → List Token → Type 0
+LieIn src from [] = Unit {0}
+LieIn src from (t ∷ tokens) = (from ≤ t.at) × IsSlice src t × LieIn src (t.at + length t.text) tokens
+
+-- A token is one of its kind, of at least one byte, and no longer front of the text at its place is a name, a number
+-- or a sign.
+pub record IsLongest (src : List ℕ) (t : Token) : Type 0 where
+  pub some : 0 < length t.text
+  pub kind : has_kind t.kind t.text ≡ true
+  pub longest : (n : ℕ) → length t.text < n → n ≤ length (drop t.at src) → is_whole (take n (drop t.at src)) ≡ false

@@ -1,0 +1,31 @@
+-- A token of an application text: where it begins, of which kind it is, and its bytes.
+use Rattle.std.specs.Prelude.{ℕ, Bool, false, bytes_eq, List}
+use Rattle.rt_lex.specs.declared.token.Kind.{Kind}
+use Rattle.rt_lex.specs.declared.token.Kind.TheVariants as kind
+use Rattle.rt_lex.specs.declared.token.Token as code
+
+pub record Token : Type 0 where
+  -- bytes before it
+  pub at : ℕ
+  pub kind : Kind
+  pub text : List ℕ
+
+-- the token that the code lends
+abbrev pub view : code.Token → Token
+view t = record { at = t.at; kind = t.kind; text = t.text.now }
+
+abbrev pub if_word : Kind → Bool → Bool
+if_word kind.Word same = same
+if_word other same = false
+
+abbrev pub if_sign : Kind → Bool → Bool
+if_sign kind.Sign same = same
+if_sign other same = false
+
+-- whether a token is this word
+abbrev pub is_this_word : List ℕ → Token → Bool
+is_this_word word t = if_word t.kind (bytes_eq t.text word)
+
+-- whether a token is this sign
+abbrev pub is_this_sign : List ℕ → Token → Bool
+is_this_sign sign t = if_sign t.kind (bytes_eq t.text sign)

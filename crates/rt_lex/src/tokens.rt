@@ -1,0 +1,86 @@
+ghost use Rattle.std.specs.Prelude.{◌≡◌, ◌+◌, ◌≤◌, List, [], ◌∷◌, drop, length, MatchOption};
+ghost use Rattle.std.specs.Iterator.{YieldsFirstBy, item_count};
+ghost use Rattle.rt_ids.specs.declared.limits.TheConstants.{TEXT_BYTES};
+ghost use Rattle.rt_lex.specs.Token.{Token, view};
+ghost use Rattle.rt_lex.specs.Tokens.{tokens, tokens_at};
+ghost use Rattle.rt_lex.specs.Step.{IsNext};
+
+use crate::front::front_of;
+use crate::token::Token;
+use std::marker::Model;
+
+/// The tokens of a text that are left, in order. They lend from the text. Contracts see their list.
+#[derive(Drop, Debug)]
+pub struct Tokens<'a> {
+    rest: &'a [u8],
+    at: u32,
+}
+
+impl<'a> Model for Tokens<'a> {
+    ghost Value = { List Token };
+
+    ghost view = { λ t. tokens_at t.at t.rest.now };
+
+    ghost invariant = { λ t. t.at + length t.rest.now ≤ TEXT_BYTES };
+}
+
+impl<'a> Tokens<'a> {
+    /// The tokens of a text.
+    #[tactic(auto, using(crate::proofs::Parts::tokens_are_few))]
+    pub fn of(src: &'a [u8]) -> Tokens<'a>
+        requires { length src.now ≤ TEXT_BYTES }
+        ensures all { result ≡ tokens src.now }
+        ensures few { length result ≤ length src.now }
+    {
+        Tokens { rest: src, at: 0 }
+    }
+
+    /// The token that `next` gives, which stays. None exactly where only blanks and comments are left.
+    pub fn peek(&self) -> Option<Token<'a>>
+        ensures { MatchOption result (self.now ≡ []) (λ t. self.now ≡ view t ∷ drop 1 self.now) }
+    {
+        let (token, _) = next_token(self.rest, self.at)?;
+        Some(token)
+    }
+}
+
+impl<'a> Iterator for Tokens<'a> {
+    type Item = Token<'a>;
+
+    ghost next_gives = { YieldsFirstBy view (λ tokens. tokens) };
+
+    ghost remaining = { item_count (λ tokens. tokens) };
+
+    fn next(&mut self) -> Option<Token<'a>> {
+        let Some((token, rest)) = next_token(self.rest, self.at) else {
+            return None;
+        };
+        self.at = token.at + token.text.len() as u32;
+        self.rest = rest;
+        Some(token)
+    }
+}
+
+/// The first token of a text that stands at an offset, and the text behind. None where only blanks and comments are left.
+fn next_token(text: &[u8], start: u32) -> Option<(Token<'_>, &[u8])>
+    requires { start + length text.now ≤ TEXT_BYTES }
+    ensures { MatchOption result (tokens_at start text.now ≡ []) (λ x. IsNext start text.now (view x.0) x.1.now) }
+{
+    let mut rest = text;
+    let mut at = start;
+    while let [first, ..] = rest {
+        let front = front_of(*first, rest);
+        let (bytes, behind) = rest.split_at(front.len);
+        if let Some(kind) = front.kind {
+            let token = Token {
+                text: bytes,
+                at,
+                kind,
+            };
+            return Some((token, behind));
+        }
+        rest = behind;
+        at += front.len as u32;
+    }
+    None
+}
