@@ -17,9 +17,7 @@ pub mod Handlers
 pub mod Progress
 pub mod AcceptedTree
 pub mod Judged
-pub mod Values
 pub mod Many
 pub mod Readers
 pub mod Trees
-pub mod Lexing
 mod FormLemmas

@@ -7,7 +7,8 @@ use Rattle.std.proofs.lemmas.List.Concat.{flat_map-cons}
 use Rattle.rt_core.specs.Token.{Token}
 use Rattle.rt_core.specs.declared.grammar.Stop.{Stop}
 use Rattle.rt_core.specs.declared.grammar.Stop.TheVariants as stop
-use Rattle.rt_core.specs.Reading.{◌>>=◌, Stops, many}
+use Rattle.rt_core.specs.Reading.{◌>>=◌, Stops}
+use Rattle.rt_core.specs.ReadingTree.{many}
 
 -- the value of a step that gave one
 pub bind_some : {A B : Type 0} (r : Option A) (f : A → Option B) (y : B) → (r >>= f) ≡ Some y → (x : A) × (r ≡ Some x) × (f x ≡ Some y)

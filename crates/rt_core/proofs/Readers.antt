@@ -5,7 +5,8 @@ use Rattle.std.specs.List.{flat_map, AllByRecursion}
 use Rattle.std.proofs.lemmas.Slice.Eq.{bytes_eq-Decides}
 use Rattle.rt_core.specs.Token.{Token, Name, Word, Num, Sign}
 use Rattle.rt_core.specs.Grammar.{IrqTree, TaskTree, emit_tokens, irq_tokens, task_tokens}
-use Rattle.rt_core.specs.Reading.{number_of, begins, sign_at, word_at, name_at, number_at, opening_at, name_setting_at, number_setting_at, head_at, irq_at, comma_at, listed_at, emit_at, emits_at, task_at}
+use Rattle.rt_core.specs.Reading.{number_of, begins, sign_at, word_at, name_at, number_at, opening_at, name_setting_at, number_setting_at, head_at}
+use Rattle.rt_core.specs.ReadingTree.{irq_at, comma_at, listed_at, emit_at, emits_at, task_at}
 use Rattle.rt_core.proofs.Many.{bind_gives, some_is, test_some, many_takes, many_again, count_within}
 
 -- ---- one token

@@ -8,7 +8,8 @@ use Rattle.rt_core.specs.Token.{Token, Sign}
 use Rattle.rt_core.specs.Grammar.{IrqTree, TaskTree, Tree, irq_tokens, task_tokens, head_tokens, separated, IsList, IsSpelled}
 use Rattle.rt_core.specs.Form.{IsNumber}
 use Rattle.rt_core.specs.TreeView.{HasNumbers}
-use Rattle.rt_core.specs.Reading.{is_number, begins, is_end, many, sign_at, head_at, listed_at, irqs_at, task_at, tasks_at, tree_at}
+use Rattle.rt_core.specs.Reading.{is_number, begins, is_end, sign_at, head_at}
+use Rattle.rt_core.specs.ReadingTree.{listed_at, many, irqs_at, task_at, tasks_at, tree_at}
 use Rattle.rt_core.proofs.Many.{bind_gives, some_is, ended, many_none, many_step, many_takes, many_ends, many_again, count_within}
 use Rattle.rt_core.proofs.Readers.{TaskFits, listed_takes, listed_comma, listed_last, sign_takes, head_takes, head_again, task_takes, task_again}
 

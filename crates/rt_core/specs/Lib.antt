@@ -22,3 +22,4 @@ pub mod ScriptView
 pub mod Output
 pub mod Progress
 pub mod Reading
+pub mod ReadingTree

@@ -7,10 +7,11 @@ use Rattle.std.specs.List.{list_all, slice_split}
 use Rattle.std.specs.Str.Lines.{lines}
 use Rattle.rt_ids.specs.Event.{Event, Arrive, Step}
 use Rattle.rt_ids.specs.declared.limits.TheConstants.{SCRIPT_BYTES, SCRIPT_EVENTS}
+use Rattle.rt_lex.specs.Bytes.{is_digit}
+use Rattle.rt_lex.specs.Number.{value_of}
 use Rattle.rt_core.specs.Application.{App}
 use Rattle.rt_core.specs.declared.script.Order.{Order}
 use Rattle.rt_core.specs.declared.script.Order.TheVariants.{Steps, Pends}
-use Rattle.rt_core.specs.Token.{is_digit, value_of}
 
 abbrev pub count_of : Order → ℕ
 count_of (Steps n) = n

@@ -1,16 +1,18 @@
-// The parser of application texts. Each reader takes the text that is left, and answers what it read and the text
+// The parser of application texts. Each reader takes the tokens that are left, and answers what it read and the tokens
 // behind. It looks one token ahead.
 
-ghost use Rattle.std.specs.Prelude.{◌≡◌, map, IfOk, IfSome, IfNone};
-ghost use Rattle.rt_core.specs.Token.{tokens};
+ghost use Rattle.std.specs.Prelude.{◌≡◌, ◌≤◌, length, map, IfOk, IfSome, IfNone};
+ghost use Rattle.rt_ids.specs.declared.limits.TheConstants.{TEXT_BYTES};
+ghost use Rattle.rt_core.specs.Token.{lexemes, tokens};
 ghost use Rattle.rt_core.specs.Grammar as grammar;
 ghost use Rattle.rt_core.specs.Grammar.{IsSpelled};
 ghost use Rattle.rt_core.specs.TreeView.{irq_view, task_view, tree_view, HasNumbers};
-ghost use Rattle.rt_core.specs.Reading.{Gives, is_number, begins, is_end, sign_at, word_at, name_at, number_at, opening_at, name_setting_at, number_setting_at, head_at, irq_at, comma_at, listed_at, emit_at, emits_at, irqs_at, task_at, tasks_at, tree_at};
+ghost use Rattle.rt_core.specs.Reading.{Gives, is_number, begins, is_end, sign_at, word_at, name_at, number_at, opening_at, name_setting_at, number_setting_at, head_at};
+ghost use Rattle.rt_core.specs.ReadingTree.{irq_at, comma_at, listed_at, emit_at, emits_at, irqs_at, task_at, tasks_at, tree_at};
 
-use crate::token::{Token, next_token, value_of};
 use crate::tree::{IrqTree, TaskTree, Tree};
 use rt_ids::NoMemory;
+use rt_lex::{Kind, Tokens};
 use std::alloc::{AllocError, AllocFailed, Global};
 
 /// Why no tree was read.
@@ -42,160 +44,163 @@ impl<T: Drop> From<AllocFailed<T>> for Stop {
 }
 
 /// Whether a sign comes next.
-fn begins(text: &[u8], expected: &[u8]) -> bool
-    ensures { result ≡ begins expected.now (tokens text.now) }
+fn begins(tokens: &Tokens<'_>, expected: &[u8]) -> bool
+    ensures { result ≡ begins expected.now (lexemes tokens.now) }
 {
-    match next_token(text) {
-        Some((Token::Sign(found), _)) => found == expected,
-        _ => false,
+    match tokens.peek() {
+        Some(token) => match token.kind {
+            Kind::Sign => token.text == expected,
+            _ => false,
+        },
+        None => false,
     }
 }
 
 /// Whether no token is left.
-fn is_end(text: &[u8]) -> bool
-    ensures { result ≡ is_end (tokens text.now) }
+fn is_end(tokens: &Tokens<'_>) -> bool
+    ensures { result ≡ is_end (lexemes tokens.now) }
 {
-    next_token(text).is_none()
+    tokens.peek().is_none()
 }
 
 #[tactic(auto, unfolding(crate::specs::Reading::sign_at))]
-fn sign<'a>(text: &'a [u8], expected: &[u8]) -> Result<&'a [u8], Stop>
-    ensures { Gives (λ rest. tokens rest.now) result (sign_at expected.now (tokens text.now)) }
+fn sign<'a>(mut tokens: Tokens<'a>, expected: &[u8]) -> Result<Tokens<'a>, Stop>
+    ensures { Gives lexemes result (sign_at expected.now (lexemes tokens.entry)) }
 {
-    match next_token(text) {
-        Some((Token::Sign(found), rest)) if found == expected => Ok(rest),
+    let token = tokens.next().ok_or(Stop::Grammar)?;
+    match token.kind {
+        Kind::Sign if token.text == expected => Ok(tokens),
         _ => Err(Stop::Grammar),
     }
 }
 
 #[tactic(auto, unfolding(crate::specs::Reading::word_at))]
-fn word<'a>(text: &'a [u8], expected: &[u8]) -> Result<&'a [u8], Stop>
-    ensures { Gives (λ rest. tokens rest.now) result (word_at expected.now (tokens text.now)) }
+fn word<'a>(mut tokens: Tokens<'a>, expected: &[u8]) -> Result<Tokens<'a>, Stop>
+    ensures { Gives lexemes result (word_at expected.now (lexemes tokens.entry)) }
 {
-    match next_token(text) {
-        Some((Token::Word(found), rest)) if found == expected => Ok(rest),
+    let token = tokens.next().ok_or(Stop::Grammar)?;
+    match token.kind {
+        Kind::Word if token.text == expected => Ok(tokens),
         _ => Err(Stop::Grammar),
     }
 }
 
 #[tactic(auto, unfolding(crate::specs::Reading::name_at))]
-fn name<'a>(text: &'a [u8]) -> Result<(&'a [u8], &'a [u8]), Stop>
-    ensures { Gives (λ x. (x.0.now, tokens x.1.now)) result (name_at (tokens text.now)) }
+fn name<'a>(mut tokens: Tokens<'a>) -> Result<(&'a [u8], Tokens<'a>), Stop>
+    ensures { Gives (λ x. (x.0.now, lexemes x.1)) result (name_at (lexemes tokens.entry)) }
 {
-    match next_token(text) {
-        Some((Token::Name(name), rest)) => Ok((name, rest)),
+    let token = tokens.next().ok_or(Stop::Grammar)?;
+    match token.kind {
+        Kind::Name => Ok((token.text, tokens)),
         _ => Err(Stop::Grammar),
     }
 }
 
 #[tactic(auto, unfolding(crate::specs::Reading::number_at))]
-fn number(text: &[u8]) -> Result<(u32, &[u8]), Stop>
-    ensures { Gives (λ x. (x.0, tokens x.1.now)) result (number_at is_number (tokens text.now)) }
+fn number(mut tokens: Tokens<'_>) -> Result<(u32, Tokens<'_>), Stop>
+    ensures { Gives (λ x. (x.0, lexemes x.1)) result (number_at is_number (lexemes tokens.entry)) }
 {
-    match next_token(text) {
-        Some((Token::Decimal(digits), rest)) => Ok((
-            value_of(10, digits).ok_or(Stop::Grammar)?,
-            rest,
-        )),
-        Some((Token::Hex(digits), rest)) => Ok((value_of(16, digits).ok_or(Stop::Grammar)?, rest)),
+    let token = tokens.next().ok_or(Stop::Grammar)?;
+    match token.kind {
+        Kind::Num => Ok((token.value().ok_or(Stop::Grammar)?, tokens)),
         _ => Err(Stop::Grammar),
     }
 }
 
 /// A word, a name and an opening bracket.
 #[tactic(auto, unfolding(crate::specs::Reading::opening_at))]
-fn opening<'a>(text: &'a [u8], keyword: &[u8]) -> Result<(&'a [u8], &'a [u8]), Stop>
-    ensures { Gives (λ x. (x.0.now, tokens x.1.now)) result (opening_at keyword.now (tokens text.now)) }
+fn opening<'a>(tokens: Tokens<'a>, keyword: &[u8]) -> Result<(&'a [u8], Tokens<'a>), Stop>
+    ensures { Gives (λ x. (x.0.now, lexemes x.1)) result (opening_at keyword.now (lexemes tokens.entry)) }
 {
-    let rest = word(text, keyword)?;
-    let (name, rest) = name(rest)?;
-    let rest = sign(rest, b"(")?;
-    Ok((name, rest))
+    let tokens = word(tokens, keyword)?;
+    let (name, tokens) = name(tokens)?;
+    let tokens = sign(tokens, b"(")?;
+    Ok((name, tokens))
 }
 
 /// A word and its name, as `binds = Timer`.
 #[tactic(auto, unfolding(crate::specs::Reading::name_setting_at))]
-fn name_setting<'a>(text: &'a [u8], keyword: &[u8]) -> Result<(&'a [u8], &'a [u8]), Stop>
-    ensures { Gives (λ x. (x.0.now, tokens x.1.now)) result (name_setting_at keyword.now (tokens text.now)) }
+fn name_setting<'a>(tokens: Tokens<'a>, keyword: &[u8]) -> Result<(&'a [u8], Tokens<'a>), Stop>
+    ensures { Gives (λ x. (x.0.now, lexemes x.1)) result (name_setting_at keyword.now (lexemes tokens.entry)) }
 {
-    let rest = word(text, keyword)?;
-    let rest = sign(rest, b"=")?;
-    name(rest)
+    let tokens = word(tokens, keyword)?;
+    let tokens = sign(tokens, b"=")?;
+    name(tokens)
 }
 
 /// A word and its number, as `bits = 4`.
 #[tactic(auto, unfolding(crate::specs::Reading::number_setting_at))]
-fn number_setting<'a>(text: &'a [u8], keyword: &[u8]) -> Result<(u32, &'a [u8]), Stop>
-    ensures { Gives (λ x. (x.0, tokens x.1.now)) result (number_setting_at is_number keyword.now (tokens text.now)) }
+fn number_setting<'a>(tokens: Tokens<'a>, keyword: &[u8]) -> Result<(u32, Tokens<'a>), Stop>
+    ensures { Gives (λ x. (x.0, lexemes x.1)) result (number_setting_at is_number keyword.now (lexemes tokens.entry)) }
 {
-    let rest = word(text, keyword)?;
-    let rest = sign(rest, b"=")?;
-    number(rest)
+    let tokens = word(tokens, keyword)?;
+    let tokens = sign(tokens, b"=")?;
+    number(tokens)
 }
 
 /// The name and the bits of the application, up to its list of interrupts.
 #[tactic(auto, unfolding(crate::specs::Reading::head_at))]
-fn head<'a>(text: &'a [u8]) -> Result<((&'a [u8], u32), &'a [u8]), Stop>
-    ensures { Gives (λ x. ((x.0.0.now, x.0.1), tokens x.1.now)) result (head_at is_number (tokens text.now)) }
+fn head<'a>(tokens: Tokens<'a>) -> Result<((&'a [u8], u32), Tokens<'a>), Stop>
+    ensures { Gives (λ x. ((x.0.0.now, x.0.1), lexemes x.1)) result (head_at is_number (lexemes tokens.entry)) }
 {
-    let (name, rest) = opening(text, b"app")?;
-    let (bits, rest) = number_setting(rest, b"bits")?;
-    let rest = sign(rest, b")")?;
-    let rest = sign(rest, b";")?;
-    let rest = word(rest, b"interrupts")?;
-    let rest = sign(rest, b"{")?;
-    Ok(((name, bits), rest))
+    let (name, tokens) = opening(tokens, b"app")?;
+    let (bits, tokens) = number_setting(tokens, b"bits")?;
+    let tokens = sign(tokens, b")")?;
+    let tokens = sign(tokens, b";")?;
+    let tokens = word(tokens, b"interrupts")?;
+    let tokens = sign(tokens, b"{")?;
+    Ok(((name, bits), tokens))
 }
 
-#[tactic(auto, unfolding(crate::specs::Reading::irq_at))]
-fn irq<'a>(text: &'a [u8]) -> Result<(IrqTree<'a>, &'a [u8]), Stop>
-    ensures { Gives (λ x. (irq_view x.0, tokens x.1.now)) result (irq_at is_number (tokens text.now)) }
+#[tactic(auto, unfolding(crate::specs::ReadingTree::irq_at))]
+fn irq<'a>(tokens: Tokens<'a>) -> Result<(IrqTree<'a>, Tokens<'a>), Stop>
+    ensures { Gives (λ x. (irq_view x.0, lexemes x.1)) result (irq_at is_number (lexemes tokens.entry)) }
 {
-    let (name, rest) = name(text)?;
-    let rest = sign(rest, b"=")?;
-    let (number, rest) = number(rest)?;
-    Ok((IrqTree { name, number }, rest))
+    let (name, tokens) = name(tokens)?;
+    let tokens = sign(tokens, b"=")?;
+    let (number, tokens) = number(tokens)?;
+    Ok((IrqTree { name, number }, tokens))
 }
 
 /// A comma, or nothing before the end of the list.
-#[tactic(auto, unfolding(crate::specs::Reading::comma_at))]
-fn comma(text: &[u8]) -> Result<&[u8], Stop>
-    ensures { Gives (λ rest. tokens rest.now) result (comma_at (tokens text.now)) }
+#[tactic(auto, unfolding(crate::specs::ReadingTree::comma_at))]
+fn comma(tokens: Tokens<'_>) -> Result<Tokens<'_>, Stop>
+    ensures { Gives lexemes result (comma_at (lexemes tokens.entry)) }
 {
-    if begins(text, b"}") {
-        Ok(text)
+    if begins(&tokens, b"}") {
+        Ok(tokens)
     } else {
-        sign(text, b",")
+        sign(tokens, b",")
     }
 }
 
 /// An interrupt of the list, and the comma behind it.
-#[tactic(auto, unfolding(crate::specs::Reading::listed_at))]
-fn listed<'a>(text: &'a [u8]) -> Result<(IrqTree<'a>, &'a [u8]), Stop>
-    ensures { Gives (λ x. (irq_view x.0, tokens x.1.now)) result (listed_at is_number (tokens text.now)) }
+#[tactic(auto, unfolding(crate::specs::ReadingTree::listed_at))]
+fn listed<'a>(tokens: Tokens<'a>) -> Result<(IrqTree<'a>, Tokens<'a>), Stop>
+    ensures { Gives (λ x. (irq_view x.0, lexemes x.1)) result (listed_at is_number (lexemes tokens.entry)) }
 {
-    let (irq, rest) = irq(text)?;
-    let rest = comma(rest)?;
-    Ok((irq, rest))
+    let (irq, tokens) = irq(tokens)?;
+    let tokens = comma(tokens)?;
+    Ok((irq, tokens))
 }
 
-#[tactic(auto, unfolding(crate::specs::Reading::emit_at))]
-fn emit(text: &[u8]) -> Result<(u32, &[u8]), Stop>
-    ensures { Gives (λ x. (x.0, tokens x.1.now)) result (emit_at is_number (tokens text.now)) }
+#[tactic(auto, unfolding(crate::specs::ReadingTree::emit_at))]
+fn emit(tokens: Tokens<'_>) -> Result<(u32, Tokens<'_>), Stop>
+    ensures { Gives (λ x. (x.0, lexemes x.1)) result (emit_at is_number (lexemes tokens.entry)) }
 {
-    let rest = word(text, b"emit")?;
-    let (value, rest) = number(rest)?;
-    let rest = sign(rest, b";")?;
-    Ok((value, rest))
+    let tokens = word(tokens, b"emit")?;
+    let (value, tokens) = number(tokens)?;
+    let tokens = sign(tokens, b";")?;
+    Ok((value, tokens))
 }
 
 /// The interrupts, up to the bracket that closes them.
-fn irqs<'a>(alloc: Global, text: &'a [u8]) -> Result<(Vec<IrqTree<'a>>, &'a [u8]), Stop>
-    ensures { Gives (λ x. (map irq_view x.0.items, tokens x.1.now)) result (irqs_at is_number (tokens text.now)) }
+fn irqs<'a>(alloc: Global, tokens: Tokens<'a>) -> Result<(Vec<IrqTree<'a>>, Tokens<'a>), Stop>
+    ensures { Gives (λ x. (map irq_view x.0.items, lexemes x.1)) result (irqs_at is_number (lexemes tokens.entry)) }
 {
     let mut irqs = Vec::new(alloc);
-    let mut rest = text;
-    while !begins(rest, b"}") {
+    let mut rest = tokens;
+    while !begins(&rest, b"}") {
         let (irq, behind) = listed(rest)?;
         irqs.push(irq)?;
         rest = behind;
@@ -204,12 +209,12 @@ fn irqs<'a>(alloc: Global, text: &'a [u8]) -> Result<(Vec<IrqTree<'a>>, &'a [u8]
 }
 
 /// The values that a task emits, up to the bracket that closes its body.
-fn emits(alloc: Global, text: &[u8]) -> Result<(Vec<u32>, &[u8]), Stop>
-    ensures { Gives (λ x. (x.0.items, tokens x.1.now)) result (emits_at is_number (tokens text.now)) }
+fn emits(alloc: Global, tokens: Tokens<'_>) -> Result<(Vec<u32>, Tokens<'_>), Stop>
+    ensures { Gives (λ x. (x.0.items, lexemes x.1)) result (emits_at is_number (lexemes tokens.entry)) }
 {
     let mut emits = Vec::new(alloc);
-    let mut rest = text;
-    while !begins(rest, b"}") {
+    let mut rest = tokens;
+    while !begins(&rest, b"}") {
         let (value, behind) = emit(rest)?;
         emits.push(value)?;
         rest = behind;
@@ -217,34 +222,34 @@ fn emits(alloc: Global, text: &[u8]) -> Result<(Vec<u32>, &[u8]), Stop>
     Ok((emits, rest))
 }
 
-#[tactic(auto, unfolding(crate::specs::Reading::task_at))]
-fn task<'a>(alloc: Global, text: &'a [u8]) -> Result<(TaskTree<'a>, &'a [u8]), Stop>
-    ensures { Gives (λ x. (task_view x.0, tokens x.1.now)) result (task_at is_number (tokens text.now)) }
+#[tactic(auto, unfolding(crate::specs::ReadingTree::task_at))]
+fn task<'a>(alloc: Global, tokens: Tokens<'a>) -> Result<(TaskTree<'a>, Tokens<'a>), Stop>
+    ensures { Gives (λ x. (task_view x.0, lexemes x.1)) result (task_at is_number (lexemes tokens.entry)) }
 {
-    let (name, rest) = opening(text, b"task")?;
-    let (binds, rest) = name_setting(rest, b"binds")?;
-    let rest = sign(rest, b",")?;
-    let (priority, rest) = number_setting(rest, b"priority")?;
-    let rest = sign(rest, b")")?;
-    let rest = sign(rest, b"{")?;
-    let (emits, rest) = emits(alloc, rest)?;
-    let rest = sign(rest, b"}")?;
+    let (name, tokens) = opening(tokens, b"task")?;
+    let (binds, tokens) = name_setting(tokens, b"binds")?;
+    let tokens = sign(tokens, b",")?;
+    let (priority, tokens) = number_setting(tokens, b"priority")?;
+    let tokens = sign(tokens, b")")?;
+    let tokens = sign(tokens, b"{")?;
+    let (emits, tokens) = emits(alloc, tokens)?;
+    let tokens = sign(tokens, b"}")?;
     let task = TaskTree {
         name,
         binds,
         priority,
         emits,
     };
-    Ok((task, rest))
+    Ok((task, tokens))
 }
 
 /// The tasks, up to the end of the text.
-fn tasks<'a>(alloc: Global, text: &'a [u8]) -> Result<Vec<TaskTree<'a>>, Stop>
-    ensures { Gives (λ tasks. map task_view tasks.items) result (tasks_at is_number (tokens text.now)) }
+fn tasks<'a>(alloc: Global, tokens: Tokens<'a>) -> Result<Vec<TaskTree<'a>>, Stop>
+    ensures { Gives (λ tasks. map task_view tasks.items) result (tasks_at is_number (lexemes tokens.entry)) }
 {
     let mut tasks = Vec::new(alloc);
-    let mut rest = text;
-    while !is_end(rest) {
+    let mut rest = tokens;
+    while !is_end(&rest) {
         let (task, behind) = task(alloc, rest)?;
         tasks.push(task)?;
         rest = behind;
@@ -252,14 +257,14 @@ fn tasks<'a>(alloc: Global, text: &'a [u8]) -> Result<Vec<TaskTree<'a>>, Stop>
     Ok(tasks)
 }
 
-#[tactic(auto, unfolding(crate::specs::Reading::tree_at))]
-fn tree<'a>(alloc: Global, text: &'a [u8]) -> Result<Tree<'a>, Stop>
-    ensures { Gives tree_view result (tree_at is_number (tokens text.now)) }
+#[tactic(auto, unfolding(crate::specs::ReadingTree::tree_at))]
+fn tree<'a>(alloc: Global, tokens: Tokens<'a>) -> Result<Tree<'a>, Stop>
+    ensures { Gives tree_view result (tree_at is_number (lexemes tokens.entry)) }
 {
-    let ((name, bits), rest) = head(text)?;
-    let (irqs, rest) = irqs(alloc, rest)?;
-    let rest = sign(rest, b"}")?;
-    let tasks = tasks(alloc, rest)?;
+    let ((name, bits), tokens) = head(tokens)?;
+    let (irqs, tokens) = irqs(alloc, tokens)?;
+    let tokens = sign(tokens, b"}")?;
+    let tasks = tasks(alloc, tokens)?;
     Ok(Tree {
         name,
         bits,
@@ -270,12 +275,13 @@ fn tree<'a>(alloc: Global, text: &'a [u8]) -> Result<Tree<'a>, Stop>
 
 /// Reads the tree of an application text. None where its tokens are not in the grammar, or a number passes 32 bits.
 pub(crate) fn read_tree<'a>(alloc: Global, text: &'a [u8]) -> Result<Option<Tree<'a>>, NoMemory>
+    requires { length text.now ≤ TEXT_BYTES }
     ensures none { IfOk result (λ o. IfNone o ((t : grammar.Tree) → HasNumbers t → IsSpelled (tokens text.now) t → ⊥)) }
     ensures some { IfOk result (λ o. IfSome o (λ t. IsSpelled (tokens text.now) (tree_view t))) }
     ensures numbers { IfOk result (λ o. IfSome o (λ t. HasNumbers (tree_view t))) }
     ensures only { IfOk result (λ o. IfSome o (λ t. (u : grammar.Tree) → IsSpelled (tokens text.now) u → u ≡ tree_view t)) }
 {
-    match tree(alloc, text) {
+    match tree(alloc, Tokens::of(text)) {
         Ok(tree) => Ok(Some(tree)),
         Err(Stop::Grammar) => Ok(None),
         Err(Stop::Memory) => Err(NoMemory),
@@ -285,10 +291,13 @@ pub(crate) fn read_tree<'a>(alloc: Global, text: &'a [u8]) -> Result<Option<Tree
 #[cfg(test)]
 mod tests {
     use super::*;
+    use rt_ids::limits::TEXT_BYTES;
     use std::process::Abort;
     use std::test::Fail;
 
-    fn assert_two(rt: &impl Abort, alloc: Global, text: &[u8]) -> Result<(), Fail> {
+    fn assert_two(rt: &impl Abort, alloc: Global, text: &[u8]) -> Result<(), Fail>
+        requires { length text.now ≤ TEXT_BYTES }
+    {
         let tree = read_tree(alloc, text)?.ok_or("the text is in the grammar")?;
         assert_eq!(rt; tree.name, b"two".as_slice());
         assert_eq!(rt; tree.bits, 4);
@@ -372,13 +381,14 @@ mod tests {
             b"app a(bits = 3); interrupts { A = 1 } task a(binds = A, priority = 1) {".to_vec(
                 rt.alloc(),
             )?;
-        for _ in 0..100_000 {
+        for _ in 0..37_000 {
             text.extend_from_slice(b"emit 1;")?;
         }
         text.push(b'}')?;
+        assert!(rt; text.len() <= TEXT_BYTES as usize);
         let tree = read_tree(rt.alloc(), &text)?.ok_or("in the grammar")?;
         for task in &tree.tasks {
-            assert_eq!(rt; task.emits.len(), 100_000);
+            assert_eq!(rt; task.emits.len(), 37_000);
         }
         Ok(())
     }

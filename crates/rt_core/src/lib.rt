@@ -14,7 +14,6 @@ mod rules;
 mod run;
 pub mod script;
 mod text;
-mod token;
 mod trace_text;
 mod tree;
 

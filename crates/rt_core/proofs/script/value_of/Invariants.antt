@@ -1,5 +1,5 @@
 use Rattle.std.proofs.Common.{◌≡◌, ◌<◌, ◌^◌, take}
-use Rattle.rt_core.specs.Token.{value_of}
+use Rattle.rt_lex.specs.Number.{value_of}
 use Rattle.rt_core.proofs.script.value_of.Given as goal
 
 -- the value of the digits so far, which has no more digits than they are
