@@ -50,7 +50,8 @@ pub fn rtic<R: Threads + Sync, A: Source, B: Source, C: Source, K: Sink + Send, 
     _gate: &G,
 ) -> Status
     // With an answer all that is defined was written, and nothing else. At `Done` it is the listing of an image and
-    // that image's trace, and for every list of events the image's trace is a run of Baker's machine.
+    // that image's trace, and for every list of fewer than 2^31 events in which only declared interrupts arrive the
+    // image's trace is a run of Baker's machine.
     ensures answered { (text script : List ℕ) → A.left app.old ≡ Some text → B.left second.old ≡ Some script → IsAnswer result →
         WroteAll (texts words.now) text script result (K.taken out.old) (K.taken out.new) }
 
