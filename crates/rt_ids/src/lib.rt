@@ -3,17 +3,23 @@
 
 pub mod ids;
 pub mod irq;
+pub mod limit;
 pub mod limits;
 pub mod memory;
 pub mod name;
+pub mod op;
 pub mod place;
 pub mod priority;
+pub mod refusal;
 pub mod status;
 
 pub use ids::{BodyId, ResId, Section, TaskId};
 pub use irq::Irq;
+pub use limit::Limit;
 pub use memory::NoMemory;
 pub use name::Name;
+pub use op::Op;
 pub use place::Place;
 pub use priority::Prio;
+pub use refusal::{Fault, Refusal, Refused};
 pub use status::Status;

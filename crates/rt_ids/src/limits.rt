@@ -18,6 +18,30 @@ pub const IRQS: usize = 240;
 /// Tasks of an application.
 pub const TASKS: usize = 64;
 
+/// Shared resources of an application.
+pub const SHARED: usize = 64;
+
+/// Local resources of an application.
+pub const LOCALS: usize = 64;
+
+/// Arguments of a task.
+pub const ARGUMENTS: usize = 4;
+
+/// Messages of a task that may be out at once.
+pub const CAPACITY: u32 = 16;
+
+/// Blocks inside each other, the body included.
+pub const NESTING: u32 = 16;
+
+/// Open parentheses of one expression.
+pub const PARENTHESES: u32 = 64;
+
+/// The depth of an expression, where a name or a number is 1 deep.
+pub const DEPTH: u32 = 16;
+
+/// Turns of a `for`.
+pub const TURNS: u32 = 1_000;
+
 /// Bytes of a name.
 pub const NAME_BYTES: usize = 32;
 

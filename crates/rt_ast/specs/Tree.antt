@@ -1,0 +1,70 @@
+-- The tree of an application text: what it says, and where its names stand. Offsets are the bytes of the text before.
+use Rattle.std.specs.Prelude.{ℕ, List, Option}
+use Rattle.rt_ids.specs.declared.op.Op.{Op}
+use Rattle.rt_ast.specs.declared.ident.Ident.{Ident}
+use Rattle.rt_ast.specs.declared.ident.Number.{Number}
+use Rattle.rt_ast.specs.declared.app.IrqTree.{IrqTree}
+use Rattle.rt_ast.specs.declared.app.MonoTree.{MonoTree}
+use Rattle.rt_ast.specs.declared.app.SharedTree.{SharedTree}
+use Rattle.rt_ast.specs.declared.app.LocalTree.{LocalTree}
+use Rattle.rt_ast.specs.declared.app.ListedTree.{ListedTree}
+
+pub data Expression : Type 0 where
+  Num : ℕ → Expression
+  Read : Ident → Expression
+  Oper : Op → Expression → Expression → Expression
+
+pub data Spawn : Type 0 where
+  -- the task, and its arguments
+  Soon : Ident → List Expression → Spawn
+  -- the offset of the word, the delay, the task, and its arguments
+  After : ℕ → Expression → Ident → List Expression → Spawn
+
+pub data Value : Type 0 where
+  Calc : Expression → Value
+  -- the offset of the word
+  Now : ℕ → Value
+  Call : Spawn → Value
+
+-- A block is none or a statement and the block behind it.
+mutual
+  pub data Statement : Type 0 where
+    Bind : Ident → Value → Statement
+    Assign : Ident → Expression → Statement
+    Branch : Expression → Block → Block → Statement
+    Repeat : Ident → ℕ → ℕ → Block → Statement
+    Locked : Ident → Block → Statement
+    Emit : Expression → Statement
+    Pend : Ident → Statement
+    Spawns : Spawn → Statement
+
+  pub data Block : Type 0 where
+    Empty : Block
+    Then : Statement → Block → Block
+
+pub record Body : Type 0 where
+  pub shared : List ListedTree
+  pub local : List Ident
+  pub block : Block
+  -- the offset of the word `init` or `idle`, or of the task's name
+  pub at : ℕ
+
+pub record Task : Type 0 where
+  pub name : Ident
+  pub binds : Option Ident
+  pub priority : Option Number
+  pub capacity : Option ℕ
+  pub args : List Ident
+  pub body : Body
+
+pub record App : Type 0 where
+  pub name : Ident
+  pub bits : ℕ
+  pub dispatchers : List Ident
+  pub irqs : List IrqTree
+  pub mono : Option MonoTree
+  pub shared : List SharedTree
+  pub locals : List LocalTree
+  pub init : Option Body
+  pub idle : Option Body
+  pub tasks : List Task

@@ -1,0 +1,69 @@
+-- The trees that the code builds, as trees of the definitions.
+use Rattle.std.specs.Prelude.{List, [], ◌∷◌, map, Option, Some, None}
+use Rattle.rt_ast.specs.Tree as tree
+use Rattle.rt_ast.specs.declared.expr.Expr.{Expr, Num, Read, Oper'}
+use Rattle.rt_ast.specs.declared.stmt.Spawn.{Spawn}
+use Rattle.rt_ast.specs.declared.stmt.Spawn.TheVariants as spawn
+use Rattle.rt_ast.specs.declared.stmt.Value.{Value}
+use Rattle.rt_ast.specs.declared.stmt.Value.TheVariants as value
+use Rattle.rt_ast.specs.declared.stmt.Stmt.{Stmt, Row_of-Stmt, end_of-Stmt, more_of-Stmt, Bind, Assign, Branch', Repeat', Locked', Emit, Pend, Call}
+use Rattle.rt_ast.specs.declared.app.BodyTree.{BodyTree}
+use Rattle.rt_ast.specs.declared.app.TaskTree.{TaskTree}
+use Rattle.rt_ast.specs.declared.app.AppTree.{AppTree}
+
+abbrev pub expression_of : Expr → tree.Expression
+expression_of (Num n) = tree.Num n
+expression_of (Read ident) = tree.Read ident
+expression_of (Oper' op p a q b) = tree.Oper op (expression_of a) (expression_of b)
+
+abbrev pub spawn_of : Spawn → tree.Spawn
+spawn_of (spawn.Soon task args) = tree.Soon task (map expression_of args.items)
+spawn_of (spawn.After at delay task args) = tree.After at (expression_of delay) task (map expression_of args.items)
+
+abbrev pub value_of : Value → tree.Value
+value_of (value.Calc e) = tree.Calc (expression_of e)
+value_of (value.Now at) = tree.Now at
+value_of (value.Call s) = tree.Call (spawn_of s)
+
+abbrev mutual
+  pub statement_of : Stmt → tree.Statement
+  statement_of (Bind x v) = tree.Bind x (value_of v)
+  statement_of (Assign x e) = tree.Assign x (expression_of e)
+  statement_of (Branch' e shape_a a shape_b b) = tree.Branch (expression_of e) (row_block a) (row_block b)
+  statement_of (Repeat' x first last shape a) = tree.Repeat x first last (row_block a)
+  statement_of (Locked' r shape a) = tree.Locked r (row_block a)
+  statement_of (Emit e) = tree.Emit (expression_of e)
+  statement_of (Pend i) = tree.Pend i
+  statement_of (Call s) = tree.Spawns (spawn_of s)
+
+  pub row_block : {n : _} → Row_of-Stmt n → tree.Block
+  row_block end_of-Stmt = tree.Empty
+  row_block (more_of-Stmt s rest) = tree.Then (statement_of s) (row_block rest)
+
+abbrev pub block_of : List Stmt → tree.Block
+block_of [] = tree.Empty
+block_of (s ∷ stmts) = tree.Then (statement_of s) (block_of stmts)
+
+abbrev pub body_of : BodyTree → tree.Body
+body_of b = record { shared = b.shared.items; local = b.local.items; block = block_of b.block.items; at = b.at }
+
+abbrev pub task_of : TaskTree → tree.Task
+task_of t = record { name = t.name; binds = t.binds; priority = t.priority; capacity = t.capacity; args = t.args.items; body = body_of t.body }
+
+abbrev pub option_map : {A B : Type 0} → (A → B) → Option A → Option B
+option_map f None = None
+option_map f (Some x) = Some (f x)
+
+abbrev pub app_of : AppTree → tree.App
+app_of a = record {
+  name = a.name;
+  bits = a.bits;
+  dispatchers = a.dispatchers.items;
+  irqs = a.irqs.items;
+  mono = a.mono;
+  shared = a.shared.items;
+  locals = a.locals.items;
+  init = option_map body_of a.init;
+  idle = option_map body_of a.idle;
+  tasks = map task_of a.tasks.items;
+}

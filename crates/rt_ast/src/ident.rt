@@ -1,0 +1,17 @@
+use rt_ids::Name;
+
+/// A name, and where it stands.
+#[derive(Debug, Drop)]
+pub struct Ident {
+    pub name: Name,
+    /// The bytes of the text before it.
+    pub at: u32,
+}
+
+/// A number, and where it stands.
+#[derive(Clone, Copy, Debug)]
+pub struct Number {
+    pub value: u32,
+    /// The bytes of the text before it.
+    pub at: u32,
+}

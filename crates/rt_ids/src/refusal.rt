@@ -1,0 +1,28 @@
+use crate::limit::Limit;
+use crate::place::Place;
+
+/// What is wrong with an application text.
+#[derive(Clone, Copy, Debug, PartialEq, Eq)]
+pub enum Refusal {
+    /// The text has more than 262,144 bytes.
+    TooLong,
+    /// A byte that no token begins with.
+    Foreign,
+    /// With this token the text is no beginning of an application, or it ends too early.
+    Syntax,
+    Limit(Limit),
+}
+
+/// A refusal of an application text, and where it stands.
+#[derive(Clone, Copy, Debug, PartialEq, Eq)]
+pub struct Fault {
+    pub place: Place,
+    pub refusal: Refusal,
+}
+
+/// Why an application was not taken.
+#[derive(Clone, Copy, Debug, PartialEq, Eq, Drop)]
+pub enum Refused {
+    At(Fault),
+    NoMemory,
+}
