@@ -1,0 +1,23 @@
+-- What stands in a text of the grammar: its tokens, each with the limit that it passes, if it passes one; and the end
+-- of each whole expression, where its depth is judged.
+use Rattle.std.specs.Prelude.{ℕ, Bool, List, [], ◌∷◌, Option, None, Some}
+use Rattle.rt_ids.specs.declared.limit.Limit.{Limit}
+use Rattle.rt_lex.specs.Token.{Token}
+
+pub data Mark : Type 0 where
+  Takes : Token → Option Limit → Mark
+  -- whether the expression is a comparison, and the offset of its first token where it is too deep
+  Ends : Bool → Option ℕ → Mark
+
+-- the tokens of a text
+abbrev pub tokens_of : List Mark → List Token
+tokens_of [] = []
+tokens_of (Takes t limit ∷ marks) = t ∷ tokens_of marks
+tokens_of (Ends compares deep ∷ marks) = tokens_of marks
+
+-- no limit is passed
+abbrev pub IsWithin : Mark → Type 0
+IsWithin (Takes t None) = Unit {0}
+IsWithin (Takes t (Some limit)) = ⊥
+IsWithin (Ends compares None) = Unit {0}
+IsWithin (Ends compares (Some at)) = ⊥
