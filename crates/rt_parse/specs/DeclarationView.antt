@@ -1,0 +1,23 @@
+-- What the parser of declarations keeps, as the readers' values.
+use Rattle.std.specs.Prelude.{List, Option, Some, None}
+use Rattle.std.specs.Prelude.{Vec}
+use Rattle.rt_grammar.specs.Declaration as grammar
+use Rattle.rt_parse.specs.declared.declaration.Opening.{Opening}
+use Rattle.rt_parse.specs.declared.body.BodyOptions.{BodyOptions}
+use Rattle.rt_parse.specs.declared.body.Owner.{Owner}
+use Rattle.rt_parse.specs.declared.body.Owner.TheVariants as owner
+
+abbrev pub opening_view : Opening → grammar.Head
+opening_view h = record { name = h.name; bits = h.bits; dispatchers = h.dispatchers.items }
+
+abbrev pub owner_view : Owner → grammar.Owner
+owner_view owner.Init = grammar.OfInit
+owner_view owner.Idle = grammar.OfIdle
+owner_view owner.Task = grammar.OfTask
+
+abbrev pub items_of : {A Z : Type 0} → Option (Vec A Z) → Option (List A)
+items_of None = None
+items_of (Some xs) = Some xs.items
+
+abbrev pub options_view : BodyOptions → grammar.Options
+options_view o = record { binds = o.binds; priority = o.priority; capacity = o.capacity; shared = items_of o.shared; local = items_of o.local }

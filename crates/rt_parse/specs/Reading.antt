@@ -1,0 +1,119 @@
+-- Reading as a function on lists of tokens. A reader gives what it read and the tokens behind, or the first thing that it
+-- found wrong. It looks one token ahead.
+use Rattle.std.specs.Prelude.{◌≡◌, ℕ, zero, suc, Bool, false, not, codes, List, [], ◌∷◌, ◌++◌, length, Option, Some, None, Result, Ok, Err, if◌then◌else◌}
+use Rattle.rt_ids.specs.declared.limit.Limit.{Limit}
+use Rattle.rt_ids.specs.declared.refusal.Refusal.{Refusal}
+use Rattle.rt_ids.specs.declared.refusal.Refusal.TheVariants as refusal
+use Rattle.rt_lex.specs.declared.token.Kind.{Kind}
+use Rattle.rt_lex.specs.declared.token.Kind.TheVariants as kind
+use Rattle.rt_lex.specs.Token.{Token, is_this_sign}
+use Rattle.rt_ast.specs.declared.ident.Ident.{Ident}
+use Rattle.rt_ast.specs.declared.ident.Number.{Number}
+use Rattle.rt_grammar.specs.Tokens.{free, word_of, sign_of, ident_of, number_of, name_limit, number_limit}
+use Rattle.rt_parse.specs.declared.stop.Found.{Found}
+use Rattle.rt_parse.specs.declared.stop.Stop.{Stop}
+use Rattle.rt_parse.specs.declared.stop.Stop.TheVariants as stop
+
+abbrev pub Reader : Type 0 → Type 0
+Reader A = List Token → Result (A × List Token) Found
+
+-- What a function returned, seen by view, is what reading gives, unless memory ran out.
+abbrev pub Stops : {Y : Type 0} → Stop → Result Y Found → Type 0
+Stops stop.Memory read = Unit {0}
+Stops (stop.At found) read = read ≡ Err found
+
+abbrev pub Gives : {X Y : Type 0} → (X → Y) → Result X Stop → Result Y Found → Type 0
+Gives view (Ok x) read = read ≡ Ok (view x)
+Gives view (Err e) read = Stops e read
+
+infixl 10 ◌>>=◌
+abbrev pub ◌>>=◌ : {A B E : Type 0} → Result A E → (A → Result B E) → Result B E
+(Ok x) >>= f = f x
+(Err e) >>= f = Err e
+
+-- the offset of the next token, or none at the end of the text
+abbrev pub next_offset : List Token → Option ℕ
+next_offset [] = None
+next_offset (t ∷ tokens) = Some t.at
+
+abbrev pub refusal_of : Kind → Refusal
+refusal_of kind.Foreign = refusal.Foreign
+refusal_of other = refusal.Syntax
+
+-- why no text goes on with these tokens
+abbrev pub refusal_at : List Token → Refusal
+refusal_at [] = refusal.Syntax
+refusal_at (t ∷ tokens) = refusal_of t.kind
+
+abbrev pub wrong_at : List Token → Found
+wrong_at tokens = record { at = next_offset tokens; refusal = refusal_at tokens }
+
+-- what was read, unless it passes a limit
+abbrev pub unless_limited : {A : Type 0} → ℕ → Option Limit → A → List Token → Result (A × List Token) Found
+unless_limited at None x tokens = Ok (x, tokens)
+unless_limited at (Some what) x tokens = Err (record { at = Some at; refusal = refusal.Limit what })
+
+abbrev pub take_meaning : {A : Type 0} → Option A → (A → Option Limit) → Token → List Token → Result (A × List Token) Found
+take_meaning None limit t tokens = Err (wrong_at (t ∷ tokens))
+take_meaning (Some x) limit t tokens = unless_limited t.at (limit x) x tokens
+
+-- one token that means something
+unfoldable pub token_at : {A : Type 0} → (Token → Option A) → (A → Option Limit) → Reader A
+token_at meaning limit [] = Err (wrong_at [])
+token_at meaning limit (t ∷ tokens) = take_meaning (meaning t) limit t tokens
+
+-- whether the next token is one of these
+abbrev pub begins_with : (Token → Bool) → List Token → Bool
+begins_with test [] = false
+begins_with test (t ∷ tokens) = test t
+
+-- steps for as long as such a token comes next, at most so many
+unfoldable pub repeat_at : {S : Type 0} → (Token → Bool) → (S → Reader S) → ℕ → S → Reader S
+repeat_at starts step zero s tokens = Ok (s, tokens)
+repeat_at starts step (suc n) s tokens =
+    if begins_with starts tokens then (step s tokens >>= λ x. repeat_at starts step n x.0 x.1) else Ok (s, tokens)
+
+abbrev pub limited_word_at : List ℕ → Option Limit → Reader ℕ
+limited_word_at text what = token_at (word_of text) (λ _. what)
+
+abbrev pub word_at : List ℕ → Reader ℕ
+word_at text = limited_word_at text free
+
+abbrev pub limited_sign_at : List ℕ → Option Limit → Reader ℕ
+limited_sign_at text what = token_at (sign_of text) (λ _. what)
+
+abbrev pub sign_at : List ℕ → Reader ℕ
+sign_at text = limited_sign_at text free
+
+abbrev pub limited_name_at : Option Limit → Reader Ident
+limited_name_at what = token_at ident_of (name_limit what)
+
+abbrev pub name_at : Reader Ident
+name_at = limited_name_at free
+
+abbrev pub limited_number_at : (ℕ → Option Limit) → Reader Number
+limited_number_at limit = token_at number_of (number_limit limit)
+
+abbrev pub number_at : Reader Number
+number_at = limited_number_at (λ _. free)
+
+-- a comma, or nothing in front of the sign that closes a list
+abbrev pub comma_at : List ℕ → List Token → Result (List Token) Found
+comma_at closing tokens =
+    if begins_with (is_this_sign closing) tokens then Ok tokens else (sign_at (codes ",") tokens >>= λ got. Ok got.1)
+
+-- items up to the sign that closes the list, with a comma between each two, and perhaps one behind the last; at most so many
+unfoldable pub items_at : {S : Type 0} → List ℕ → (S → Reader S) → ℕ → S → Reader S
+items_at closing item zero s tokens = sign_at closing tokens >>= λ end. Ok (s, end.1)
+items_at closing item (suc n) s tokens =
+    if begins_with (is_this_sign closing) tokens then (sign_at closing tokens >>= λ end. Ok (s, end.1))
+    else (item s tokens >>= λ x. comma_at closing x.1 >>= λ behind. items_at closing item n x.0 behind)
+
+-- one more item of a list, of which there is none at the end of the text
+unfoldable pub adds_at : {A : Type 0} → (ℕ → Reader A) → List A → Reader (List A)
+adds_at item xs [] = Err (wrong_at [])
+adds_at item xs (t ∷ tokens) = item (length xs) (t ∷ tokens) >>= λ x. Ok (xs ++ x.0 ∷ [], x.1)
+
+-- whether there is a token, and it is not this sign
+abbrev pub goes_past : List ℕ → List Token → Bool
+goes_past sign tokens = begins_with (λ t. not (is_this_sign sign t)) tokens

@@ -1,0 +1,132 @@
+-- The readers of expressions. An expression that is too deep is read on, and no tree of it is kept.
+use Rattle.std.specs.Prelude.{ℕ, zero, suc, ◌+◌, max, Bool, true, false, nat_lt, codes, List, [], ◌∷◌, length, Option, Some, None, Ok, Err, if◌then◌else◌}
+use Rattle.rt_ids.specs.declared.op.Op.{Op}
+use Rattle.rt_ids.specs.declared.limit.Limit.TheVariants as limit
+use Rattle.rt_ids.specs.declared.limits.TheConstants.{PARENTHESES, DEPTH}
+use Rattle.rt_ids.specs.declared.refusal.Refusal.TheVariants as refusal
+use Rattle.rt_lex.specs.declared.token.Kind.{Kind}
+use Rattle.rt_lex.specs.declared.token.Kind.TheVariants as kind
+use Rattle.rt_lex.specs.Token.{Token}
+use Rattle.rt_ast.specs.Tree.{Expression, Num, Read, Oper}
+use Rattle.rt_grammar.specs.Tokens.{free}
+use Rattle.rt_grammar.specs.Expression.{Operand, Signs, comparisons, strengths, op_of, depth}
+use Rattle.rt_grammar.specs.Reach.{is_of}
+use Rattle.rt_parse.specs.Reading.{Reader, ◌>>=◌, token_at, repeat_at, begins_with, wrong_at, limited_sign_at, sign_at, name_at, number_at}
+
+-- a tree and its depth
+pub record Kept : Type 0 where
+  pub tree : Expression
+  pub depth : ℕ
+
+-- an expression as it is read: the offset of its first token, and its tree unless it is too deep
+pub record Measured : Type 0 where
+  pub at : ℕ
+  pub kept : Option Kept
+
+abbrev pub kept_if : Bool → Kept → Option Kept
+kept_if deep k = if deep then None else Some k
+
+abbrev pub kept_joined : Op → Option Kept → Option Kept → Option Kept
+kept_joined o None right = None
+kept_joined o (Some left) None = None
+kept_joined o (Some left) (Some right) =
+    kept_if (nat_lt DEPTH (1 + max left.depth right.depth)) (record { tree = Oper o left.tree right.tree; depth = 1 + max left.depth right.depth })
+
+abbrev pub measured_joined : Op → Measured → Measured → Measured
+measured_joined o left right = record { at = left.at; kept = kept_joined o left.kept right.kept }
+
+-- how an operand of the grammar is read
+abbrev pub measure : Operand → Measured
+measure e = record { at = e.at; kept = kept_if (nat_lt DEPTH (depth e.tree)) (record { tree = e.tree; depth = depth e.tree }) }
+
+abbrev pub atomic : ℕ → Expression → Measured
+atomic at tree = record { at = at; kept = Some (record { tree = tree; depth = 1 }) }
+
+unfoldable pub operator_at : Signs → Reader Op
+operator_at signs tokens = token_at (op_of signs) (λ _. free) tokens
+
+-- one more operator and its operand
+unfoldable pub joined_at : Signs → Reader Measured → Measured → Reader Measured
+joined_at signs operand left tokens = do
+  o ← operator_at signs tokens
+  right ← operand o.1
+  Ok (measured_joined o.0 left right.0, right.1)
+
+unfoldable pub chain_at : Signs → Reader Measured → Reader Measured
+chain_at signs operand tokens = do
+  first ← operand tokens
+  repeat_at (is_of signs) (joined_at signs operand) (length first.1) first.0 first.1
+
+unfoldable pub chains_at : List Signs → Reader Measured → Reader Measured
+chains_at [] atom tokens = atom tokens
+chains_at (signs ∷ stronger) atom tokens = chain_at signs (chains_at stronger atom) tokens
+
+-- the comparison behind its left side, or none
+unfoldable pub compared_at : Reader Measured → Measured → Reader Measured
+compared_at operand left tokens = if begins_with (is_of comparisons) tokens then joined_at comparisons operand left tokens else Ok (left, tokens)
+
+unfoldable pub comparison_at : Reader Measured → Reader Measured
+comparison_at atom tokens = do
+  left ← chains_at strengths atom tokens
+  compared_at (chains_at strengths atom) left.0 left.1
+
+abbrev pub is_number_kind : Kind → Bool
+is_number_kind kind.Num = true
+is_number_kind other = false
+
+abbrev pub is_number : Token → Bool
+is_number t = is_number_kind t.kind
+
+abbrev pub is_name_kind : Kind → Bool
+is_name_kind kind.Name = true
+is_name_kind other = false
+
+abbrev pub is_name : Token → Bool
+is_name t = is_name_kind t.kind
+
+unfoldable pub number_atom_at : Reader Measured
+number_atom_at tokens = do
+  n ← number_at tokens
+  Ok (atomic n.0.at (Num n.0.value), n.1)
+
+unfoldable pub name_atom_at : Reader Measured
+name_atom_at tokens = do
+  x ← name_at tokens
+  Ok (atomic x.0.at (Read x.0), x.1)
+
+unfoldable pub parenthesized_at : Reader Measured → Reader Measured
+parenthesized_at inner tokens = do
+  at ← sign_at (codes "(") tokens
+  e ← inner at.1
+  b ← sign_at (codes ")") e.1
+  Ok (record { at = at.0; kept = e.0.kept }, b.1)
+
+-- where no more parentheses may be opened
+unfoldable pub closed_at : Reader Measured
+closed_at tokens = do
+  at ← limited_sign_at (codes "(") (Some limit.Parentheses) tokens
+  Err (wrong_at at.1)
+
+unfoldable pub atom_or_at : Reader Measured → Reader Measured
+atom_or_at nested tokens =
+    if begins_with is_number tokens then number_atom_at tokens
+    else if begins_with is_name tokens then name_atom_at tokens
+    else nested tokens
+
+-- an expression in parentheses, where so many may be opened
+unfoldable pub nested_at : ℕ → Reader Measured
+nested_at zero tokens = closed_at tokens
+nested_at (suc more) tokens = parenthesized_at (comparison_at (atom_or_at (nested_at more))) tokens
+
+abbrev pub atom_at : ℕ → Reader Measured
+atom_at more = atom_or_at (nested_at more)
+
+abbrev pub unless_deep : ℕ → Option Kept → Reader Expression
+unless_deep at (Some k) tokens = Ok (k.tree, tokens)
+unless_deep at None tokens = Err (record { at = Some at; refusal = refusal.Limit limit.Depth })
+
+-- an expression that stands in no other
+unfoldable pub expression_at : Reader Expression
+expression_at tokens = do
+  e ← comparison_at (atom_at PARENTHESES) tokens
+  unless_deep e.0.at e.0.kept e.1

@@ -1,0 +1,418 @@
+// The parser of bodies with their options, of tasks and of the whole application.
+
+ghost use Rattle.std.specs.Prelude.{◌≡◌, ◌&&◌, [], ◌∷◌, codes, length, map, not, is_none};
+ghost use Rattle.rt_lex.specs.Token.{is_this_sign, is_this_word};
+ghost use Rattle.rt_ast.specs.View.{body_of, task_of, app_of, option_map};
+ghost use Rattle.rt_grammar.specs.Declaration.{no_options, is_task, is_init, or_empty};
+ghost use Rattle.rt_parse.specs.Reading.{Gives, begins_with, items_at, adds_at, repeat_at};
+ghost use Rattle.rt_parse.specs.ReadingDeclaration.{binds_at, priority_at, capacity_at, shared_list_at, local_list_at, takes, option_at, some_options_at, options_at, thread_at, thread_body_at, one_argument_at, argument_at, parameters_at, task_arguments_at, task_at, application_at, text_at};
+ghost use Rattle.rt_parse.specs.DeclarationView.{options_view, owner_view, items_of};
+
+use crate::declaration::{heading, interrupts, locals, monotonic, names, shared};
+use crate::list::{comma, goes_past, list};
+use crate::statement::block;
+use crate::stop::Stop;
+use crate::tokens::{
+    begins_sign, begins_word, limit_if, limited_name, limited_word, name, number, number_within,
+    sign, word, wrong,
+};
+use rt_ast::{AppTree, BodyTree, Ident, ListedTree, Number, Stmt, TaskTree};
+use rt_ids::Limit;
+use rt_ids::limits::{ARGUMENTS, CAPACITY, NESTING, STATEMENTS, TASKS};
+use rt_lex::Tokens;
+use std::alloc::Global;
+
+/// Whose body it is.
+#[derive(Clone, Copy)]
+pub(crate) enum Owner {
+    Init,
+    Idle,
+    Task,
+}
+
+impl Owner {
+    fn is_task(self) -> bool
+        ensures { result ≡ is_task (owner_view self) }
+    {
+        matches!(self, Owner::Task)
+    }
+
+    fn is_init(self) -> bool
+        ensures { result ≡ is_init (owner_view self) }
+    {
+        matches!(self, Owner::Init)
+    }
+}
+
+/// What stands between a body's parentheses, as far as it was read.
+#[derive(Drop)]
+struct BodyOptions {
+    binds: Option<Ident>,
+    priority: Option<Number>,
+    capacity: Option<u32>,
+    shared: Option<Vec<ListedTree>>,
+    local: Option<Vec<Ident>>,
+}
+
+fn no_options() -> BodyOptions
+    ensures { options_view result ≡ no_options }
+{
+    BodyOptions {
+        binds: None,
+        priority: None,
+        capacity: None,
+        shared: None,
+        local: None,
+    }
+}
+
+#[tactic(auto, unfolding(crate::specs::ReadingDeclaration::binds_at))]
+fn binds<'a>(
+    alloc: Global,
+    tokens: Tokens<'a>,
+    options: BodyOptions,
+) -> Result<(BodyOptions, Tokens<'a>), Stop>
+    ensures { Gives (λ x. (options_view x.0, x.1)) result (binds_at (options_view options) tokens.entry) }
+{
+    let (_, tokens) = word(tokens, b"binds")?;
+    let (_, tokens) = sign(tokens, b"=")?;
+    let (irq, tokens) = name(alloc, tokens)?;
+    let binds = Some(irq);
+    Ok((BodyOptions { binds, ..options }, tokens))
+}
+
+#[tactic(auto, unfolding(crate::specs::ReadingDeclaration::priority_at))]
+fn priority<'a>(tokens: Tokens<'a>, options: BodyOptions) -> Result<(BodyOptions, Tokens<'a>), Stop>
+    ensures { Gives (λ x. (options_view x.0, x.1)) result (priority_at (options_view options) tokens.entry) }
+{
+    let (_, tokens) = word(tokens, b"priority")?;
+    let (_, tokens) = sign(tokens, b"=")?;
+    let (number, tokens) = number(tokens)?;
+    let priority = Some(number);
+    Ok((
+        BodyOptions {
+            priority,
+            ..options
+        },
+        tokens,
+    ))
+}
+
+#[tactic(auto, unfolding(crate::specs::ReadingDeclaration::capacity_at))]
+fn capacity<'a>(tokens: Tokens<'a>, options: BodyOptions) -> Result<(BodyOptions, Tokens<'a>), Stop>
+    ensures { Gives (λ x. (options_view x.0, x.1)) result (capacity_at (options_view options) tokens.entry) }
+{
+    let (_, tokens) = word(tokens, b"capacity")?;
+    let (_, tokens) = sign(tokens, b"=")?;
+    let (number, tokens) = number_within(tokens, 1, CAPACITY, Limit::Capacity)?;
+    let capacity = Some(number.value);
+    Ok((
+        BodyOptions {
+            capacity,
+            ..options
+        },
+        tokens,
+    ))
+}
+
+#[tactic(auto, unfolding(crate::specs::ReadingDeclaration::shared_list_at))]
+fn shared_list<'a>(
+    alloc: Global,
+    tokens: Tokens<'a>,
+    options: BodyOptions,
+) -> Result<(BodyOptions, Tokens<'a>), Stop>
+    ensures { Gives (λ x. (options_view x.0, x.1)) result (shared_list_at (options_view options) tokens.entry) }
+{
+    let (_, tokens) = word(tokens, b"shared")?;
+    let (_, tokens) = sign(tokens, b"=")?;
+    let (_, tokens) = sign(tokens, b"[")?;
+    let (listed, tokens) = list(alloc, tokens, b"]")?;
+    let shared = Some(listed);
+    Ok((BodyOptions { shared, ..options }, tokens))
+}
+
+#[tactic(auto, unfolding(crate::specs::ReadingDeclaration::local_list_at))]
+fn local_list<'a>(
+    alloc: Global,
+    tokens: Tokens<'a>,
+    options: BodyOptions,
+) -> Result<(BodyOptions, Tokens<'a>), Stop>
+    ensures { Gives (λ x. (options_view x.0, x.1)) result (local_list_at (options_view options) tokens.entry) }
+{
+    let (_, tokens) = word(tokens, b"local")?;
+    let (_, tokens) = sign(tokens, b"=")?;
+    let (listed, tokens) = names(alloc, tokens)?;
+    let local = Some(listed);
+    Ok((BodyOptions { local, ..options }, tokens))
+}
+
+impl BodyOptions {
+    fn may_bind(&self, owner: Owner) -> bool
+        ensures { result ≡ is_task (owner_view owner) && is_none (options_view self.now).binds }
+    {
+        owner.is_task() && self.binds.is_none()
+    }
+
+    fn may_rank(&self, owner: Owner) -> bool
+        ensures { result ≡ is_task (owner_view owner) && is_none (options_view self.now).priority }
+    {
+        owner.is_task() && self.priority.is_none()
+    }
+
+    fn may_hold(&self, owner: Owner) -> bool
+        ensures { result ≡ is_task (owner_view owner) && is_none (options_view self.now).capacity }
+    {
+        owner.is_task() && self.capacity.is_none()
+    }
+
+    #[tactic(auto, using(crate::proofs::Options::is_none_items))]
+    fn may_share(&self, owner: Owner) -> bool
+        ensures { result ≡ not (is_init (owner_view owner)) && is_none (options_view self.now).shared }
+    {
+        !owner.is_init() && self.shared.is_none()
+    }
+
+    #[tactic(auto, using(crate::proofs::Options::is_none_items))]
+    fn may_keep(&self) -> bool
+        ensures { result ≡ is_none (options_view self.now).local }
+    {
+        self.local.is_none()
+    }
+}
+
+/// Whether an option may stand here, and comes next.
+fn takes(tokens: &Tokens<'_>, allowed: bool, option: &[u8]) -> bool
+    ensures { result ≡ begins_with (takes allowed option.now) tokens.now }
+{
+    match tokens.peek() {
+        Some(token) => allowed && token.is_word(option),
+        None => false,
+    }
+}
+
+/// One more option, of which each stands at most once.
+#[tactic(auto, unfolding(crate::specs::ReadingDeclaration::option_at))]
+fn option<'a>(
+    alloc: Global,
+    tokens: Tokens<'a>,
+    owner: Owner,
+    options: BodyOptions,
+) -> Result<(BodyOptions, Tokens<'a>), Stop>
+    ensures { Gives (λ x. (options_view x.0, x.1)) result (option_at (owner_view owner) (options_view options) tokens.entry) }
+{
+    if takes(&tokens, options.may_bind(owner), b"binds") {
+        binds(alloc, tokens, options)
+    } else if takes(&tokens, options.may_rank(owner), b"priority") {
+        priority(tokens, options)
+    } else if takes(&tokens, options.may_hold(owner), b"capacity") {
+        capacity(tokens, options)
+    } else if takes(&tokens, options.may_share(owner), b"shared") {
+        shared_list(alloc, tokens, options)
+    } else if takes(&tokens, options.may_keep(), b"local") {
+        local_list(alloc, tokens, options)
+    } else {
+        Err(Stop::At(wrong(&tokens)))
+    }
+}
+
+/// The options up to the parenthesis that closes them.
+fn option_list<'a>(
+    alloc: Global,
+    tokens: Tokens<'a>,
+    owner: Owner,
+) -> Result<(BodyOptions, Tokens<'a>), Stop>
+    ensures { Gives (λ x. (options_view x.0, x.1)) result (items_at (codes ")") (option_at (owner_view owner)) (length tokens.entry) no_options tokens.entry) }
+{
+    let mut options = no_options();
+    let mut rest = tokens;
+    while goes_past(&rest, b")") {
+        let (more, behind) = option(alloc, rest, owner, options)?;
+        options = more;
+        rest = comma(behind, b")")?;
+    }
+    let (_, rest) = sign(rest, b")")?;
+    Ok((options, rest))
+}
+
+/// The options of a body, where there are any.
+#[tactic(auto, unfolding(crate::specs::ReadingDeclaration::options_at, crate::specs::ReadingDeclaration::some_options_at))]
+fn options<'a>(
+    alloc: Global,
+    tokens: Tokens<'a>,
+    owner: Owner,
+) -> Result<(BodyOptions, Tokens<'a>), Stop>
+    ensures { Gives (λ x. (options_view x.0, x.1)) result (options_at (owner_view owner) tokens.entry) }
+{
+    if !begins_sign(&tokens, b"(") {
+        return Ok((no_options(), tokens));
+    }
+    let (_, tokens) = sign(tokens, b"(")?;
+    option_list(alloc, tokens, owner)
+}
+
+/// The items of a list, or none.
+fn or_empty<T: Drop>(alloc: Global, list: Option<Vec<T>>) -> Vec<T>
+    ensures { result.items ≡ or_empty (items_of list) }
+{
+    match list {
+        Some(items) => items,
+        None => Vec::new(alloc),
+    }
+}
+
+/// The body of `init` or `idle`, where there is one.
+#[tactic(auto, unfolding(crate::specs::ReadingDeclaration::thread_body_at, crate::specs::ReadingDeclaration::thread_at))]
+fn thread_body<'a>(
+    alloc: Global,
+    tokens: Tokens<'a>,
+    owner: Owner,
+    text: &[u8],
+) -> Result<(Option<BodyTree>, Tokens<'a>), Stop>
+    ensures { Gives (λ x. (option_map body_of x.0, x.1)) result (thread_body_at (owner_view owner) text.now tokens.entry) }
+{
+    if !begins_word(&tokens, text) {
+        return Ok((None, tokens));
+    }
+    let (at, tokens) = word(tokens, text)?;
+    let (options, tokens) = options(alloc, tokens, owner)?;
+    let ((block, _), tokens) = block(alloc, tokens, NESTING, STATEMENTS as u32)?;
+    let body = BodyTree {
+        shared: or_empty(alloc, options.shared),
+        local: or_empty(alloc, options.local),
+        block,
+        at,
+    };
+    Ok((Some(body), tokens))
+}
+
+/// One more argument, behind so many.
+#[tactic(auto, unfolding(crate::specs::ReadingDeclaration::one_argument_at))]
+fn argument<'a>(
+    alloc: Global,
+    tokens: Tokens<'a>,
+    before: usize,
+) -> Result<(Ident, Tokens<'a>), Stop>
+    ensures { Gives (λ x. x) result (one_argument_at before tokens.entry) }
+{
+    let (_, tokens) = sign(tokens, b",")?;
+    let limit = limit_if(before >= ARGUMENTS, Limit::Arguments);
+    limited_name(alloc, tokens, limit)
+}
+
+/// The arguments behind the first one.
+fn more_arguments<'a>(
+    alloc: Global,
+    tokens: Tokens<'a>,
+    first: Ident,
+) -> Result<(Vec<Ident>, Tokens<'a>), Stop>
+    ensures { Gives (λ x. (x.0.items, x.1)) result (repeat_at (is_this_sign (codes ",")) argument_at (length tokens.entry) (first ∷ []) tokens.entry) }
+{
+    let mut arguments = Vec::new(alloc);
+    arguments.push(first)?;
+    let mut rest = tokens;
+    while begins_sign(&rest, b",") {
+        let (one, behind) = argument(alloc, rest, arguments.len())?;
+        arguments.push(one)?;
+        rest = behind;
+    }
+    Ok((arguments, rest))
+}
+
+/// The arguments of a task, where there are any.
+#[tactic(auto, unfolding(crate::specs::ReadingDeclaration::task_arguments_at, crate::specs::ReadingDeclaration::parameters_at))]
+fn task_arguments<'a>(alloc: Global, tokens: Tokens<'a>) -> Result<(Vec<Ident>, Tokens<'a>), Stop>
+    ensures { Gives (λ x. (x.0.items, x.1)) result (task_arguments_at tokens.entry) }
+{
+    if !begins_word(&tokens, b"with") {
+        return Ok((Vec::new(alloc), tokens));
+    }
+    let (_, tokens) = word(tokens, b"with")?;
+    let (first, tokens) = name(alloc, tokens)?;
+    more_arguments(alloc, tokens, first)
+}
+
+/// One more task, behind so many.
+#[tactic(auto, unfolding(crate::specs::ReadingDeclaration::task_at))]
+fn task<'a>(
+    alloc: Global,
+    tokens: Tokens<'a>,
+    before: usize,
+) -> Result<(TaskTree, Tokens<'a>), Stop>
+    ensures { Gives (λ x. (task_of x.0, x.1)) result (task_at before tokens.entry) }
+{
+    let limit = limit_if(before >= TASKS, Limit::Tasks);
+    let (_, tokens) = limited_word(tokens, b"task", limit)?;
+    let (name, tokens) = name(alloc, tokens)?;
+    let (options, tokens) = options(alloc, tokens, Owner::Task)?;
+    let (args, tokens) = task_arguments(alloc, tokens)?;
+    let ((block, _), tokens) = block(alloc, tokens, NESTING, STATEMENTS as u32)?;
+    let body = BodyTree {
+        shared: or_empty(alloc, options.shared),
+        local: or_empty(alloc, options.local),
+        block,
+        at: name.at,
+    };
+    let task = TaskTree {
+        name,
+        binds: options.binds,
+        priority: options.priority,
+        capacity: options.capacity,
+        args,
+        body,
+    };
+    Ok((task, tokens))
+}
+
+/// The tasks.
+fn tasks<'a>(alloc: Global, tokens: Tokens<'a>) -> Result<(Vec<TaskTree>, Tokens<'a>), Stop>
+    ensures { Gives (λ x. (map task_of x.0.items, x.1)) result (repeat_at (is_this_word (codes "task")) (adds_at task_at) (length tokens.entry) [] tokens.entry) }
+{
+    let mut tasks = Vec::new(alloc);
+    let mut rest = tokens;
+    while begins_word(&rest, b"task") {
+        let (one, behind) = task(alloc, rest, tasks.len())?;
+        tasks.push(one)?;
+        rest = behind;
+    }
+    Ok((tasks, rest))
+}
+
+/// A whole application.
+#[tactic(auto, unfolding(crate::specs::ReadingDeclaration::application_at))]
+fn application<'a>(alloc: Global, tokens: Tokens<'a>) -> Result<(AppTree, Tokens<'a>), Stop>
+    ensures { Gives (λ x. (app_of x.0, x.1)) result (application_at tokens.entry) }
+{
+    let (first, tokens) = heading(alloc, tokens)?;
+    let (irqs, tokens) = interrupts(alloc, tokens)?;
+    let (mono, tokens) = monotonic(alloc, tokens)?;
+    let (shared, tokens) = shared(alloc, tokens)?;
+    let (locals, tokens) = locals(alloc, tokens)?;
+    let (init, tokens) = thread_body(alloc, tokens, Owner::Init, b"init")?;
+    let (idle, tokens) = thread_body(alloc, tokens, Owner::Idle, b"idle")?;
+    let (tasks, tokens) = tasks(alloc, tokens)?;
+    let app = AppTree {
+        name: first.name,
+        bits: first.bits,
+        dispatchers: first.dispatchers,
+        irqs,
+        mono,
+        shared,
+        locals,
+        init,
+        idle,
+        tasks,
+    };
+    Ok((app, tokens))
+}
+
+/// An application, and nothing behind it.
+#[tactic(auto, unfolding(crate::specs::ReadingDeclaration::text_at))]
+pub(crate) fn whole(alloc: Global, tokens: Tokens<'_>) -> Result<AppTree, Stop>
+    ensures { Gives app_of result (text_at tokens.entry) }
+{
+    let (app, tokens) = application(alloc, tokens)?;
+    match tokens.peek() {
+        None => Ok(app),
+        Some(_) => Err(Stop::At(wrong(&tokens))),
+    }
+}

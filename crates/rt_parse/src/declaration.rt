@@ -1,0 +1,331 @@
+// The parser of declarations, bodies and the whole application.
+
+ghost use Rattle.std.specs.Prelude.{◌≡◌, ◌-◌, ◌&&◌, [], ◌∷◌, codes, length, map, not, is_none};
+ghost use Rattle.rt_lex.specs.Token.{is_this_sign, is_this_word};
+ghost use Rattle.rt_ast.specs.View.{block_of, body_of, task_of, app_of, option_map};
+ghost use Rattle.rt_grammar.specs.Declaration.{at_most};
+ghost use Rattle.rt_parse.specs.DeclarationView.{opening_view};
+ghost use Rattle.rt_parse.specs.Reading.{Gives, begins_with, items_at, adds_at, repeat_at, name_at};
+ghost use Rattle.rt_parse.specs.ReadingDeclaration.{names_at, dispatcher_names_at, dispatchers_at, head_at, interrupt_at, interrupts_at, clock_at, monotonic_at, first_value_at, lock_free_at, locked_at, resource_at, resources_at, shared_at, local_at, local_resources_at, locals_at, binds_at, priority_at, capacity_at, listed_by_ref_at, listed_plainly_at, listed_at, shared_list_at, local_list_at, takes, option_at, some_options_at, options_at, body_block_at, thread_at, thread_body_at, argument_at, parameters_at, task_arguments_at, task_at, application_at, text_at};
+
+use crate::list::{Item, comma, goes_past, list};
+use crate::statement::block;
+use crate::stop::Stop;
+use crate::tokens::{
+    begins_sign, begins_word, limit_if, limited_name, limited_word, name, number, number_within,
+    sign, word, wrong,
+};
+use rt_ast::{
+    AppTree, BodyTree, Ident, IrqTree, ListedTree, LocalTree, MonoTree, Number, SharedTree, Stmt,
+    TaskTree,
+};
+use rt_ids::Limit;
+use rt_ids::limits::{
+    ARGUMENTS, CAPACITY, IRQ_NUMBERS, IRQS, LEAST_BITS, LOCALS, MOST_BITS, NESTING, SHARED,
+    STATEMENTS, TASKS,
+};
+use rt_lex::Tokens;
+use std::alloc::Global;
+
+/// The limit on a number of things, at one behind so many.
+fn at_most(most: usize, limit: Limit, before: usize) -> Option<Limit>
+    ensures { result ≡ at_most most limit before }
+{
+    limit_if(before >= most, limit)
+}
+
+impl Item for Ident {
+    ghost reads = { λ _. name_at };
+
+    fn read<'a>(
+        alloc: Global,
+        tokens: Tokens<'a>,
+        _before: usize,
+    ) -> Result<(Ident, Tokens<'a>), Stop> {
+        name(alloc, tokens)
+    }
+}
+
+/// Names in square brackets.
+#[tactic(auto, unfolding(crate::specs::ReadingDeclaration::names_at))]
+pub(crate) fn names<'a>(alloc: Global, tokens: Tokens<'a>) -> Result<(Vec<Ident>, Tokens<'a>), Stop>
+    ensures { Gives (λ x. (x.0.items, x.1)) result (names_at tokens.entry) }
+{
+    let (_, tokens) = sign(tokens, b"[")?;
+    list(alloc, tokens, b"]")
+}
+
+#[tactic(auto, unfolding(crate::specs::ReadingDeclaration::interrupt_at))]
+fn interrupt<'a>(
+    alloc: Global,
+    tokens: Tokens<'a>,
+    before: usize,
+) -> Result<(IrqTree, Tokens<'a>), Stop>
+    ensures { Gives (λ x. x) result (interrupt_at before tokens.entry) }
+{
+    let limit = at_most(IRQS, Limit::Interrupts, before);
+    let (name, tokens) = limited_name(alloc, tokens, limit)?;
+    let (_, tokens) = sign(tokens, b"=")?;
+    let greatest = u32::from(IRQ_NUMBERS) - 1;
+    let (number, tokens) = number_within(tokens, 0, greatest, Limit::Interrupt)?;
+    Ok((IrqTree { name, number }, tokens))
+}
+
+impl Item for IrqTree {
+    ghost reads = { interrupt_at };
+
+    fn read<'a>(
+        alloc: Global,
+        tokens: Tokens<'a>,
+        before: usize,
+    ) -> Result<(IrqTree, Tokens<'a>), Stop> {
+        interrupt(alloc, tokens, before)
+    }
+}
+
+#[tactic(auto, unfolding(crate::specs::ReadingDeclaration::interrupts_at))]
+pub(crate) fn interrupts<'a>(
+    alloc: Global,
+    tokens: Tokens<'a>,
+) -> Result<(Vec<IrqTree>, Tokens<'a>), Stop>
+    ensures { Gives (λ x. (x.0.items, x.1)) result (interrupts_at tokens.entry) }
+{
+    let (_, tokens) = word(tokens, b"interrupts")?;
+    let (_, tokens) = sign(tokens, b"{")?;
+    list(alloc, tokens, b"}")
+}
+
+/// The names of the dispatchers, behind a comma.
+#[tactic(auto, unfolding(crate::specs::ReadingDeclaration::dispatchers_at, crate::specs::ReadingDeclaration::dispatcher_names_at))]
+fn dispatchers<'a>(alloc: Global, tokens: Tokens<'a>) -> Result<(Vec<Ident>, Tokens<'a>), Stop>
+    ensures { Gives (λ x. (x.0.items, x.1)) result (dispatchers_at tokens.entry) }
+{
+    if !begins_sign(&tokens, b",") {
+        return Ok((Vec::new(alloc), tokens));
+    }
+    let (_, tokens) = sign(tokens, b",")?;
+    let (_, tokens) = word(tokens, b"dispatchers")?;
+    let (_, tokens) = sign(tokens, b"=")?;
+    names(alloc, tokens)
+}
+
+/// The first declaration.
+#[derive(Drop)]
+pub(crate) struct Opening {
+    pub(crate) name: Ident,
+    pub(crate) bits: u32,
+    pub(crate) dispatchers: Vec<Ident>,
+}
+
+#[tactic(auto, unfolding(crate::specs::ReadingDeclaration::head_at))]
+pub(crate) fn heading<'a>(alloc: Global, tokens: Tokens<'a>) -> Result<(Opening, Tokens<'a>), Stop>
+    ensures { Gives (λ x. (opening_view x.0, x.1)) result (head_at tokens.entry) }
+{
+    let (_, tokens) = word(tokens, b"app")?;
+    let (name, tokens) = name(alloc, tokens)?;
+    let (_, tokens) = sign(tokens, b"(")?;
+    let (_, tokens) = word(tokens, b"bits")?;
+    let (_, tokens) = sign(tokens, b"=")?;
+    let (bits, tokens) = number_within(tokens, LEAST_BITS, MOST_BITS, Limit::Bits)?;
+    let (dispatchers, tokens) = dispatchers(alloc, tokens)?;
+    let (_, tokens) = sign(tokens, b")")?;
+    let (_, tokens) = sign(tokens, b";")?;
+    let heading = Opening {
+        name,
+        bits: bits.value,
+        dispatchers,
+    };
+    Ok((heading, tokens))
+}
+
+/// The monotonic, where one is declared.
+#[tactic(auto, unfolding(crate::specs::ReadingDeclaration::monotonic_at, crate::specs::ReadingDeclaration::clock_at))]
+pub(crate) fn monotonic<'a>(
+    alloc: Global,
+    tokens: Tokens<'a>,
+) -> Result<(Option<MonoTree>, Tokens<'a>), Stop>
+    ensures { Gives (λ x. x) result (monotonic_at tokens.entry) }
+{
+    if !begins_word(&tokens, b"monotonic") {
+        return Ok((None, tokens));
+    }
+    let (_, tokens) = word(tokens, b"monotonic")?;
+    let (_, tokens) = sign(tokens, b"(")?;
+    let (_, tokens) = word(tokens, b"binds")?;
+    let (_, tokens) = sign(tokens, b"=")?;
+    let (binds, tokens) = name(alloc, tokens)?;
+    let (_, tokens) = sign(tokens, b",")?;
+    let (_, tokens) = word(tokens, b"priority")?;
+    let (_, tokens) = sign(tokens, b"=")?;
+    let (priority, tokens) = number(tokens)?;
+    let (_, tokens) = sign(tokens, b")")?;
+    let (_, tokens) = sign(tokens, b";")?;
+    Ok((Some(MonoTree { binds, priority }), tokens))
+}
+
+#[tactic(auto, unfolding(crate::specs::ReadingDeclaration::first_value_at))]
+fn first_value(tokens: Tokens<'_>) -> Result<(u32, Tokens<'_>), Stop>
+    ensures { Gives (λ x. x) result (first_value_at tokens.entry) }
+{
+    let (_, tokens) = sign(tokens, b"=")?;
+    let (number, tokens) = number(tokens)?;
+    Ok((number.value, tokens))
+}
+
+#[tactic(auto, unfolding(crate::specs::ReadingDeclaration::lock_free_at))]
+fn lock_free<'a>(
+    alloc: Global,
+    tokens: Tokens<'a>,
+    before: usize,
+) -> Result<(SharedTree, Tokens<'a>), Stop>
+    ensures { Gives (λ x. x) result (lock_free_at before tokens.entry) }
+{
+    let limit = at_most(SHARED, Limit::Shared, before);
+    let (_, tokens) = limited_word(tokens, b"lock_free", limit)?;
+    let (name, tokens) = name(alloc, tokens)?;
+    let (first, tokens) = first_value(tokens)?;
+    let lock_free = true;
+    Ok((
+        SharedTree {
+            name,
+            first,
+            lock_free,
+        },
+        tokens,
+    ))
+}
+
+#[tactic(auto, unfolding(crate::specs::ReadingDeclaration::locked_at))]
+fn locked<'a>(
+    alloc: Global,
+    tokens: Tokens<'a>,
+    before: usize,
+) -> Result<(SharedTree, Tokens<'a>), Stop>
+    ensures { Gives (λ x. x) result (locked_at before tokens.entry) }
+{
+    let limit = at_most(SHARED, Limit::Shared, before);
+    let (name, tokens) = limited_name(alloc, tokens, limit)?;
+    let (first, tokens) = first_value(tokens)?;
+    let lock_free = false;
+    Ok((
+        SharedTree {
+            name,
+            first,
+            lock_free,
+        },
+        tokens,
+    ))
+}
+
+/// A shared resource, lock-free or not.
+#[tactic(auto, unfolding(crate::specs::ReadingDeclaration::resource_at))]
+fn resource<'a>(
+    alloc: Global,
+    tokens: Tokens<'a>,
+    before: usize,
+) -> Result<(SharedTree, Tokens<'a>), Stop>
+    ensures { Gives (λ x. x) result (resource_at before tokens.entry) }
+{
+    if begins_word(&tokens, b"lock_free") {
+        lock_free(alloc, tokens, before)
+    } else {
+        locked(alloc, tokens, before)
+    }
+}
+
+impl Item for SharedTree {
+    ghost reads = { resource_at };
+
+    fn read<'a>(
+        alloc: Global,
+        tokens: Tokens<'a>,
+        before: usize,
+    ) -> Result<(SharedTree, Tokens<'a>), Stop> {
+        resource(alloc, tokens, before)
+    }
+}
+
+#[tactic(auto, unfolding(crate::specs::ReadingDeclaration::shared_at, crate::specs::ReadingDeclaration::resources_at))]
+pub(crate) fn shared<'a>(
+    alloc: Global,
+    tokens: Tokens<'a>,
+) -> Result<(Vec<SharedTree>, Tokens<'a>), Stop>
+    ensures { Gives (λ x. (x.0.items, x.1)) result (shared_at tokens.entry) }
+{
+    if !begins_word(&tokens, b"shared") {
+        return Ok((Vec::new(alloc), tokens));
+    }
+    let (_, tokens) = word(tokens, b"shared")?;
+    let (_, tokens) = sign(tokens, b"{")?;
+    list(alloc, tokens, b"}")
+}
+
+#[tactic(auto, unfolding(crate::specs::ReadingDeclaration::local_at))]
+fn local<'a>(
+    alloc: Global,
+    tokens: Tokens<'a>,
+    before: usize,
+) -> Result<(LocalTree, Tokens<'a>), Stop>
+    ensures { Gives (λ x. x) result (local_at before tokens.entry) }
+{
+    let limit = at_most(LOCALS, Limit::Locals, before);
+    let (name, tokens) = limited_name(alloc, tokens, limit)?;
+    let (first, tokens) = first_value(tokens)?;
+    Ok((LocalTree { name, first }, tokens))
+}
+
+impl Item for LocalTree {
+    ghost reads = { local_at };
+
+    fn read<'a>(
+        alloc: Global,
+        tokens: Tokens<'a>,
+        before: usize,
+    ) -> Result<(LocalTree, Tokens<'a>), Stop> {
+        local(alloc, tokens, before)
+    }
+}
+
+#[tactic(auto, unfolding(crate::specs::ReadingDeclaration::locals_at, crate::specs::ReadingDeclaration::local_resources_at))]
+pub(crate) fn locals<'a>(
+    alloc: Global,
+    tokens: Tokens<'a>,
+) -> Result<(Vec<LocalTree>, Tokens<'a>), Stop>
+    ensures { Gives (λ x. (x.0.items, x.1)) result (locals_at tokens.entry) }
+{
+    if !begins_word(&tokens, b"local") {
+        return Ok((Vec::new(alloc), tokens));
+    }
+    let (_, tokens) = word(tokens, b"local")?;
+    let (_, tokens) = sign(tokens, b"{")?;
+    list(alloc, tokens, b"}")
+}
+
+/// A shared resource that a body lists, by its name or by reference.
+#[tactic(auto, unfolding(crate::specs::ReadingDeclaration::listed_at, crate::specs::ReadingDeclaration::listed_by_ref_at, crate::specs::ReadingDeclaration::listed_plainly_at))]
+fn listed<'a>(alloc: Global, tokens: Tokens<'a>) -> Result<(ListedTree, Tokens<'a>), Stop>
+    ensures { Gives (λ x. x) result (listed_at tokens.entry) }
+{
+    if begins_sign(&tokens, b"&") {
+        let (at, tokens) = sign(tokens, b"&")?;
+        let (name, tokens) = name(alloc, tokens)?;
+        let by_ref = true;
+        Ok((ListedTree { name, by_ref, at }, tokens))
+    } else {
+        let (name, tokens) = name(alloc, tokens)?;
+        let (by_ref, at) = (false, name.at);
+        Ok((ListedTree { name, by_ref, at }, tokens))
+    }
+}
+
+impl Item for ListedTree {
+    ghost reads = { λ _. listed_at };
+
+    fn read<'a>(
+        alloc: Global,
+        tokens: Tokens<'a>,
+        _before: usize,
+    ) -> Result<(ListedTree, Tokens<'a>), Stop> {
+        listed(alloc, tokens)
+    }
+}

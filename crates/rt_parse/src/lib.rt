@@ -1,0 +1,15 @@
+// From application texts to trees.
+#![tactic(auto)]
+
+mod body;
+mod declaration;
+mod expression;
+mod list;
+mod statement;
+mod stop;
+#[cfg(test)]
+mod tests;
+mod text;
+mod tokens;
+
+pub use text::parse;
