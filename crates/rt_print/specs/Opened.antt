@@ -1,0 +1,17 @@
+-- Options as they are written one behind the other, the parenthesis being open once there is one.
+use Rattle.std.specs.Prelude.{ℕ, Bool, true, false, codes, List, [], ◌∷◌, ◌++◌, if◌then◌else◌}
+
+abbrev pub has_any : List (List ℕ) → Bool
+has_any [] = false
+has_any (o ∷ os) = true
+
+abbrev pub opening : Bool → List ℕ
+opening opened = if opened then codes ", " else codes "("
+
+-- these options, behind others where it is open
+abbrev pub opened_text : Bool → List (List ℕ) → List ℕ
+opened_text opened [] = []
+opened_text opened (o ∷ os) = opening opened ++ o ++ opened_text true os
+
+abbrev pub closing : Bool → List ℕ
+closing opened = if opened then codes ")" else []

@@ -1,0 +1,30 @@
+-- What is claimed of canonical texts: each is read as its tree.
+use Rattle.std.specs.Prelude.{◌≡◌, ℕ, ◌≤◌, List, [], length}
+use Rattle.std.specs.List.{AllByRecursion}
+use Rattle.rt_ids.specs.declared.limits.TheConstants.{TEXT_BYTES}
+use Rattle.rt_lex.specs.Tokens.{tokens}
+use Rattle.rt_ast.specs.Tree.{App}
+use Rattle.rt_ast.specs.Canonical.{canonical}
+use Rattle.rt_ast.specs.Bare.{bare}
+use Rattle.rt_ast.specs.Printable.{IsPrintable}
+use Rattle.rt_grammar.specs.Mark.{Mark, IsWithin}
+use Rattle.rt_grammar.specs.Reach.{Fits}
+use Rattle.rt_grammar.specs.Text.{text, IsText}
+
+-- the text is an application's, as this tree, and passes no limit, whatever its length
+pub record IsReadAs (src : List ℕ) (app : App) : Type 0 where
+  pub marks : List Mark
+  pub spelled : text marks app
+  pub whole : Fits marks (tokens src) []
+  pub within : AllByRecursion IsWithin marks
+
+-- the canonical text is read as the tree, offsets aside
+abbrev pub ReadsBack : App → Type 0
+ReadsBack app = (u : App) × IsReadAs (canonical app) u × (bare u ≡ bare app)
+
+-- where it is no longer than a text may be, it is the text of an application
+abbrev pub IsTextAgain : App → Type 0
+IsTextAgain app = length (canonical app) ≤ TEXT_BYTES → (u : App) × IsText (canonical app) u × (bare u ≡ bare app)
+
+abbrev pub CanonicalTextsAreReadAsTheirTrees : Type 0
+CanonicalTextsAreReadAsTheirTrees = (app : App) → IsPrintable app → ReadsBack app × IsTextAgain app

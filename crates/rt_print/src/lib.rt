@@ -1,0 +1,15 @@
+// Canonical texts of applications.
+#![tactic(auto)]
+
+pub mod app;
+pub mod block;
+pub mod declarations;
+pub mod expr;
+pub mod laws;
+pub mod options;
+pub mod separated;
+#[cfg(test)]
+mod tests;
+pub mod text;
+
+pub use app::canonical;

@@ -1,0 +1,173 @@
+ghost use Rattle.std.specs.Prelude.{◌≡◌, ◌++◌, ◌||◌, false, IfOk, OnOk};
+ghost use Rattle.rt_ast.specs.View as view;
+ghost use Rattle.rt_ast.specs.CanonicalExpression.{further, name_text};
+ghost use Rattle.rt_ast.specs.Canonical.{bracketed, listed_text, binds_option, priority_option, capacity_option, shared_option, local_option, body_options, task_options, options_text};
+ghost use Rattle.rt_print.specs.Opened.{has_any, opening, opened_text, closing};
+
+use crate::declarations::push_bracketed;
+use crate::text::{push_bytes, push_name, push_number};
+use rt_ast::{BodyTree, Ident, ListedTree, Number, TaskTree};
+use rt_ids::NoMemory;
+
+/// Appends what stands before an option: an open parenthesis before the first.
+fn push_opening(out: &mut Vec<u8>, opened: bool) -> Result<(), NoMemory>
+    ensures { OnOk result (out.new.items ≡ out.old.items ++ opening opened) }
+{
+    if opened {
+        push_bytes(out, b", ")
+    } else {
+        push_bytes(out, b"(")
+    }
+}
+
+/// Appends the end of the options, where there were any.
+fn push_closing(out: &mut Vec<u8>, opened: bool) -> Result<(), NoMemory>
+    ensures { OnOk result (out.new.items ≡ out.old.items ++ closing opened) }
+{
+    if opened {
+        push_bytes(out, b")")
+    } else {
+        Ok(())
+    }
+}
+
+/// Appends the interrupt that a task binds, where it binds one. It tells whether there were options so far.
+fn push_binds(out: &mut Vec<u8>, opened: bool, binds: &Option<Ident>) -> Result<bool, NoMemory>
+    ensures text { OnOk result (out.new.items ≡ out.old.items ++ opened_text opened (binds_option binds.now)) }
+    ensures any { IfOk result (λ any. any ≡ (opened || has_any (binds_option binds.now))) }
+{
+    match binds {
+        Some(name) => {
+            push_opening(out, opened)?;
+            push_bytes(out, b"binds = ")?;
+            push_name(out, name)?;
+            Ok(true)
+        }
+        None => Ok(opened),
+    }
+}
+
+/// Appends a task's priority, where it has one. It tells whether there were options so far.
+fn push_priority(
+    out: &mut Vec<u8>,
+    opened: bool,
+    priority: &Option<Number>,
+) -> Result<bool, NoMemory>
+    ensures text { OnOk result (out.new.items ≡ out.old.items ++ opened_text opened (priority_option priority.now)) }
+    ensures any { IfOk result (λ any. any ≡ (opened || has_any (priority_option priority.now))) }
+{
+    match priority {
+        Some(number) => {
+            push_opening(out, opened)?;
+            push_bytes(out, b"priority = ")?;
+            push_number(out, number.value)?;
+            Ok(true)
+        }
+        None => Ok(opened),
+    }
+}
+
+/// Appends a task's capacity, where it has one. It tells whether there were options so far.
+fn push_capacity(out: &mut Vec<u8>, opened: bool, capacity: Option<u32>) -> Result<bool, NoMemory>
+    ensures text { OnOk result (out.new.items ≡ out.old.items ++ opened_text opened (capacity_option capacity)) }
+    ensures any { IfOk result (λ any. any ≡ (opened || has_any (capacity_option capacity))) }
+{
+    match capacity {
+        Some(number) => {
+            push_opening(out, opened)?;
+            push_bytes(out, b"capacity = ")?;
+            push_number(out, number)?;
+            Ok(true)
+        }
+        None => Ok(opened),
+    }
+}
+
+/// Appends a shared resource that a body lists.
+fn push_listed(out: &mut Vec<u8>, listed: &ListedTree) -> Result<(), NoMemory>
+    ensures { OnOk result (out.new.items ≡ out.old.items ++ listed_text listed.now) }
+{
+    let mark: &[u8] = if listed.by_ref { b"&" } else { b"" };
+    push_bytes(out, mark)?;
+    push_name(out, &listed.name)
+}
+
+/// Appends listed resources, each behind a comma.
+fn push_further_listed(out: &mut Vec<u8>, listed: &[ListedTree]) -> Result<(), NoMemory>
+    ensures { OnOk result (out.new.items ≡ out.old.items ++ further listed_text listed.now) }
+{
+    for resource in listed {
+        push_bytes(out, b", ")?;
+        push_listed(out, resource)?;
+    }
+    Ok(())
+}
+
+/// Appends listed resources in brackets.
+fn push_bracketed_listed(out: &mut Vec<u8>, listed: &[ListedTree]) -> Result<(), NoMemory>
+    ensures { OnOk result (out.new.items ≡ out.old.items ++ bracketed listed_text listed.now) }
+{
+    match listed.split_first() {
+        Some((first, rest)) => {
+            push_bytes(out, b"[")?;
+            push_listed(out, first)?;
+            push_further_listed(out, rest)?;
+            push_bytes(out, b"]")
+        }
+        None => push_bytes(out, b"[]"),
+    }
+}
+
+/// Appends the shared resources that a body lists, where it lists any. It tells whether there were options so far.
+fn push_shared(out: &mut Vec<u8>, opened: bool, shared: &[ListedTree]) -> Result<bool, NoMemory>
+    ensures text { OnOk result (out.new.items ≡ out.old.items ++ opened_text opened (shared_option shared.now)) }
+    ensures any { IfOk result (λ any. any ≡ (opened || has_any (shared_option shared.now))) }
+{
+    if shared.is_empty() {
+        return Ok(opened);
+    }
+    push_opening(out, opened)?;
+    push_bytes(out, b"shared = ")?;
+    push_bracketed_listed(out, shared)?;
+    Ok(true)
+}
+
+/// Appends the local resources that a body lists, where it lists any. It tells whether there were options so far.
+fn push_local(out: &mut Vec<u8>, opened: bool, local: &[Ident]) -> Result<bool, NoMemory>
+    ensures text { OnOk result (out.new.items ≡ out.old.items ++ opened_text opened (local_option local.now)) }
+    ensures any { IfOk result (λ any. any ≡ (opened || has_any (local_option local.now))) }
+{
+    if local.is_empty() {
+        return Ok(opened);
+    }
+    push_opening(out, opened)?;
+    push_bytes(out, b"local = ")?;
+    push_bracketed(out, local)?;
+    Ok(true)
+}
+
+/// Appends a body's options behind others, and the end of them all.
+fn push_rest(out: &mut Vec<u8>, opened: bool, body: &BodyTree) -> Result<(), NoMemory>
+    ensures { OnOk result (out.new.items ≡ out.old.items ++ (opened_text opened (body_options (view.body_of body.now)) ++ closing (opened || has_any (body_options (view.body_of body.now))))) }
+{
+    let before = push_shared(out, opened, &body.shared)?;
+    let any = push_local(out, before, &body.local)?;
+    push_closing(out, any)
+}
+
+/// Appends a body's options in parentheses, where it has any.
+pub(crate) fn push_body_options(out: &mut Vec<u8>, body: &BodyTree) -> Result<(), NoMemory>
+    ensures { OnOk result (out.new.items ≡ out.old.items ++ options_text (body_options (view.body_of body.now))) }
+{
+    push_rest(out, false, body)
+}
+
+/// Appends a task's options in parentheses, where it has any.
+pub(crate) fn push_task_options(out: &mut Vec<u8>, task: &TaskTree) -> Result<(), NoMemory>
+    ensures { OnOk result (out.new.items ≡ out.old.items ++ options_text (task_options (view.task_of task.now))) }
+{
+    let bound = push_binds(out, false, &task.binds)?;
+    let before = push_priority(out, bound, &task.priority)?;
+    let opened = push_capacity(out, before, task.capacity)?;
+    push_rest(out, opened, &task.body)
+}
