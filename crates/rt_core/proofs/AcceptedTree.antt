@@ -8,7 +8,7 @@ use Rattle.std.proofs.lemmas.List.{length-map}
 use Rattle.std.proofs.lemmas.List.Sums.{sum_by-cons}
 use Rattle.std.proofs.Math.Pow.{pow_mono}
 use Rattle.std.proofs.lemmas.Simd.{map-map}
-use Rattle.rt_core.specs.Grammar.{Tree, IrqTree, TaskTree}
+use Rattle.rt_core.specs.FirstForm.{Tree, IrqTree, TaskTree}
 use Rattle.rt_core.specs.Application as app
 use Rattle.rt_core.specs.Form.{AreDistinct, KeepsLimits, KeepsRules, number_of_name, number_or_zero, task_of_tree, task_size, app_of}
 use Rattle.rt_core.specs.Accepted.{IsAccepted}

@@ -8,7 +8,7 @@ use Rattle.std.proofs.lemmas.Bool.Decides.{Decides-and, leb_tells}
 use Rattle.std.proofs.lemmas.List.{take_rest}
 use Rattle.std.specs.Str.{bytes_eq}
 use Rattle.rt_core.specs.Form.{AreDistinct, number_of_name}
-use Rattle.rt_core.specs.Grammar as grammar
+use Rattle.rt_core.specs.FirstForm as form
 use Rattle.rt_core.specs.TreeView.{irq_view}
 use Rattle.rt_core.specs.declared.tree.IrqTree.{IrqTree}
 
@@ -97,7 +97,7 @@ number_by_name irqs name o is =
       twice (Some x) = refl
 
 -- the number of a name is in range, where there is such, else 0
-pub number_below : (limit : ℕ) (irqs : List grammar.IrqTree) (name : List ℕ) → 0 < limit → AllByRecursion (λ irq. irq.number < limit) irqs
+pub number_below : (limit : ℕ) (irqs : List form.IrqTree) (name : List ℕ) → 0 < limit → AllByRecursion (λ irq. irq.number < limit) irqs
     → unwrap_or (option_map (λ irq. irq.number) (number_of_name irqs name)) 0 < limit
 number_below limit [] name some all = some
 number_below limit (irq ∷ irqs) name some all =

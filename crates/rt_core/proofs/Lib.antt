@@ -17,7 +17,4 @@ pub mod Handlers
 pub mod Progress
 pub mod AcceptedTree
 pub mod Judged
-pub mod Many
-pub mod Readers
-pub mod Trees
 mod FormLemmas

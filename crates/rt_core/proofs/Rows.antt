@@ -10,7 +10,6 @@ use Rattle.rt_core.specs.Text.{names_of, trace_text}
 use Rattle.rt_core.specs.Listing.{listing}
 use Rattle.rt_core.specs.Script.{script_of, events}
 use Rattle.rt_core.specs.declared.script.Order.TheVariants.{Steps, Pends}
-use Rattle.rt_core.specs.Token.{tokens, Name, Word, Num, Sign}
 use Rattle.rt_core.specs.Bounds.{stack}
 use Rattle.rt_core.specs.declared.image.Instr.TheVariants as instr
 use Rattle.rt_core.specs.declared.image.Note.TheVariants as note
@@ -62,6 +61,3 @@ two_compiled = refl
 two_stack : stack two ≡ 40
 unfolding two
 two_stack = refl
-
-some_tokens : tokens (codes "app x(bits==0x1F);// no\n task 12") ≡ Word (codes "app") ∷ Name (codes "x") ∷ Sign (codes "(") ∷ Word (codes "bits") ∷ Sign (codes "==") ∷ Num 31 ∷ Sign (codes ")") ∷ Sign (codes ";") ∷ Word (codes "task") ∷ Num 12 ∷ []
-some_tokens = refl

@@ -1,10 +1,11 @@
--- The first form of application texts: the tokens are in the grammar, the priorities are all the same, and no
--- rule or limit of applications is broken.
+-- Applications of the first form: their texts are in the grammar, their priorities are all the same, and no rule or limit
+-- of applications is broken.
 use Rattle.std.specs.Prelude.{ℕ, ◌+◌, ◌*◌, ◌^◌, ◌≡◌, ◌≢◌, ◌<◌, ◌≤◌, bytes_eq, List, [], ◌∷◌, length, map, sum_by, find, Option, Some, None}
 use Rattle.std.specs.List.{AllByRecursion}
-use Rattle.rt_ids.specs.declared.limits.TheConstants.{TEXT_BYTES, IRQ_NUMBERS, IRQS, TASKS, NAME_BYTES, STATEMENTS, CODE_SIZE, LEAST_BITS, MOST_BITS}
-use Rattle.rt_core.specs.Token.{tokens}
-use Rattle.rt_core.specs.Grammar.{Tree, IrqTree, TaskTree, IsSpelled}
+use Rattle.rt_ids.specs.declared.limits.TheConstants.{IRQ_NUMBERS, IRQS, TASKS, NAME_BYTES, STATEMENTS, CODE_SIZE, LEAST_BITS, MOST_BITS}
+use Rattle.rt_ast.specs.Tree as tree
+use Rattle.rt_grammar.specs.Text.{IsText}
+use Rattle.rt_core.specs.FirstForm.{Tree, IrqTree, TaskTree, first_form}
 use Rattle.rt_core.specs.Application.{App, Task}
 
 -- no two are the same
@@ -68,11 +69,16 @@ app_of t = record {
   tasks = map (task_of_tree t.irqs) t.tasks;
 }
 
--- the text is of the first form, as this application
-pub record IsFirstForm (text : List ℕ) (app : App) : Type 0 where
-  pub short : length text ≤ TEXT_BYTES
+-- the tree of an application text is of the first form, as this application
+pub record HasFirstForm (a : tree.App) (app : App) : Type 0 where
   pub tree : Tree
-  pub spelled : IsSpelled (tokens text) tree
+  pub form : first_form a ≡ Some tree
   pub limits : KeepsLimits tree
   pub rules : KeepsRules tree
   pub resolved : app ≡ app_of tree
+
+-- the text is of the first form, as this application
+pub record IsFirstForm (text : List ℕ) (app : App) : Type 0 where
+  pub tree : tree.App
+  pub spelled : IsText text tree
+  pub form : HasFirstForm tree app

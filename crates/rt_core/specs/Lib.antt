@@ -1,5 +1,4 @@
-pub mod Token
-pub mod Grammar
+pub mod FirstForm
 pub mod Application
 pub mod Bounds
 pub mod Image
@@ -21,5 +20,3 @@ pub mod CoreView
 pub mod ScriptView
 pub mod Output
 pub mod Progress
-pub mod Reading
-pub mod ReadingTree

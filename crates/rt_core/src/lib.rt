@@ -3,19 +3,22 @@
 
 pub mod application;
 mod compile;
-mod grammar;
+mod form;
 pub mod image;
 pub mod item;
 mod listing;
 mod machine;
 pub mod output;
-mod reading;
 mod rules;
 mod run;
 pub mod script;
+#[cfg(test)]
+mod tests;
 mod text;
 mod trace_text;
 mod tree;
+#[cfg(test)]
+mod trees;
 
 pub use application::Application;
 pub use output::Output;

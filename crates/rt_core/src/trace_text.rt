@@ -170,15 +170,13 @@ fn push_start(
 #[cfg(test)]
 mod tests {
     use super::*;
+    use crate::trees::two;
     use rt_ids::{BodyId, Prio, ResId};
     use std::test::Fail;
 
-    const TEXT: &[u8] =
-        b"app two(bits = 4); interrupts { A = 3, B = 7 } task b(binds = B, priority = 2) {} task a(binds = A, priority = 2) {}";
-
     #[test]
     fn writes_each_item(rt: HostRuntime) -> Result<(), Fail> {
-        let app = Application::read(rt.alloc(), TEXT)?.ok_or("refused")?;
+        let app = Application::of(rt.alloc(), &two(rt.alloc())?)?.ok_or("refused")?;
         let irq = Irq::new(3).ok_or("no such interrupt")?;
         let (b, a) = (TaskId(0), TaskId(1));
         let args = Args {

@@ -1,3 +1,3 @@
 mod Answers
-mod Reading
-mod ThreeWords
+mod Texts
+mod CommandWords

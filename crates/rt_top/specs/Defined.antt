@@ -1,28 +1,37 @@
 -- What the program is to write, and its status: for the words, the text of the application and that of the script.
 use Rattle.std.specs.Prelude.{ℕ, ◌≡◌, List, ◌++◌, codes, Option, Some, None}
+use Rattle.rt_ids.specs.declared.refusal.Fault.{Fault}
 use Rattle.rt_ids.specs.declared.status.Status.{Status}
 use Rattle.rt_ids.specs.declared.status.Status.TheVariants as status
 use Rattle.rt_outside.specs.Bytes.{Took, TookPrefix}
+use Rattle.rt_ast.specs.Tree as tree
+use Rattle.rt_ast.specs.Canonical.{canonical}
+use Rattle.rt_grammar.specs.Text.{IsText, IsRefused}
 use Rattle.rt_core.specs.Application.{App}
-use Rattle.rt_core.specs.Form.{IsFirstForm}
+use Rattle.rt_core.specs.Form.{HasFirstForm, IsFirstForm}
 use Rattle.rt_core.specs.Script.{script_of}
 use Rattle.rt_core.specs.Output.{IsOutput}
 use Rattle.rt_core.specs.declared.script.Order.{Order}
-use Rattle.rt_top.specs.Words.{IsRun, usage_line}
+use Rattle.rt_top.specs.Words.{IsRun, IsFmt, IsCommand, usage_line}
+use Rattle.rt_top.specs.Refusal.{refusal_line, unbuilt_line}
 
--- the application text is not of the form
-abbrev pub IsRefused : List ℕ → Type 0
-IsRefused text = (app : App) → IsFirstForm text app → ⊥
+-- the application is not of the form that is built
+abbrev pub IsUnbuilt : tree.App → Type 0
+IsUnbuilt a = (app : App) → HasFirstForm a app → ⊥
 
 pub data Defined (words : List (List ℕ)) (text script : List ℕ) : Status → List ℕ → Type 0 where
   -- other words give the usage line
-  usage : (IsRun words → ⊥) → Defined words text script status.Usage usage_line
-  -- an application text that is not of the form
-  refused : IsRun words → IsRefused text → Defined words text script status.App (codes "1:1 E00 not built\n")
+  usage : (IsCommand words → ⊥) → Defined words text script status.Usage usage_line
+  -- an application text that is too long, not in the grammar, or past a limit: its first refusal
+  wrong : IsCommand words → (fault : Fault) → IsRefused text fault → Defined words text script status.App (refusal_line fault)
+  -- for `run`, one whose tree is not of the form
+  unbuilt : IsRun words → (a : tree.App) → IsText text a → IsUnbuilt a → Defined words text script status.App unbuilt_line
   -- a script that is not of the form, for an application that is
   faulty : IsRun words → (app : App) → IsFirstForm text app → script_of app script ≡ None → Defined words text script status.Text (codes "script:1 0 not built\n")
   -- the listing of a good image, and that image's trace under the script
   done : IsRun words → (app : App) → IsFirstForm text app → (orders : List Order) → script_of app script ≡ Some orders → (first second : List ℕ) → IsOutput app orders first second → Defined words text script status.Done (first ++ second)
+  -- the canonical text of the application
+  formatted : IsFmt words → (a : tree.App) → IsText text a → Defined words text script status.Done (canonical a)
 
 -- a status that tells what was written; the others say why the program stopped
 abbrev pub IsAnswer : Status → Type 0

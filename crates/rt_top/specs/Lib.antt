@@ -1,3 +1,4 @@
 pub mod Words
+pub mod Refusal
 pub mod Defined
 pub mod Steps

@@ -4,7 +4,16 @@ use Rattle.rt_ids.specs.declared.status.Status.{Status}
 use Rattle.rt_ids.specs.declared.status.Status.TheVariants as status
 use Rattle.rt_outside.specs.Faults.{Rose}
 use Rattle.rt_outside.specs.Bytes.{Took, TookPrefix}
+use Rattle.rt_ids.specs.declared.refusal.Fault.{Fault}
+use Rattle.rt_ast.specs.Tree as tree
+use Rattle.rt_grammar.specs.Text.{IsText, IsRefused}
 use Rattle.rt_core.specs.Application.{App}
+use Rattle.rt_core.specs.Form.{IsFirstForm}
+use Rattle.rt_top.specs.Words.{IsRun}
+use Rattle.rt_top.specs.Refusal.{refusal_line}
+use Rattle.rt_top.specs.Defined.{Defined}
+use Rattle.rt_top.specs.declared.halt.Halt.{Halt}
+use Rattle.rt_top.specs.declared.halt.Halt.TheVariants as halt
 use Rattle.rt_core.specs.Script.{script_of}
 use Rattle.rt_core.specs.Output.{IsOutput}
 use Rattle.rt_core.specs.declared.script.Order.{Order}
@@ -24,3 +33,25 @@ pub record Outputs (app : App) (script first second : List ℕ) : Type 0 where
   pub orders : List Order
   pub read : script_of app script ≡ Some orders
   pub output : IsOutput app orders first second
+
+-- this is so of the line, where the application was refused
+abbrev pub IfRefused : Halt → (List ℕ → Type 0) → Type 0
+IfRefused (halt.Refused line) P = P line.items
+IfRefused (halt.Ended ended) P = Unit {0}
+
+-- this is so of the status, where the program can't go on
+abbrev pub IfEnded : Halt → (Status → Type 0) → Type 0
+IfEnded (halt.Refused line) P = Unit {0}
+IfEnded (halt.Ended ended) P = P ended
+
+-- the line refuses the application text by its first refusal, and the text is no application's
+pub record IsWrong (text line : List ℕ) : Type 0 where
+  pub fault : Fault
+  pub refused : IsRefused text fault
+  pub says : line ≡ refusal_line fault
+  pub none : (a : tree.App) → IsText text a → ⊥
+
+-- the line refuses an application text that is not of the form that is built, as `run` does
+pub record IsRefusal (text line : List ℕ) : Type 0 where
+  pub defined : (words : List (List ℕ)) (script : List ℕ) → IsRun words → Defined words text script status.App line
+  pub none : (app : App) → IsFirstForm text app → ⊥

@@ -1,14 +1,22 @@
 -- The words behind the program's name.
-use Rattle.std.specs.Prelude.{ℕ, ◌≡◌, List, [], ◌∷◌, codes, map}
+use Rattle.std.specs.Prelude.{ℕ, ◌≡◌, List, [], ◌∷◌, codes, map, ◌⊎◌}
 use Rattle.std.specs.Borrow.{Bor}
 
 -- the bytes of the words
 abbrev pub texts : List (Bor (List ℕ)) → List (List ℕ)
 texts words = map (λ word. word.now) words
 
--- `run APP SCRIPT`, the one command that is built
+-- `run APP SCRIPT`
 abbrev pub IsRun : List (List ℕ) → Type 0
 IsRun words = (app : List ℕ) × (script : List ℕ) × (words ≡ codes "run" ∷ app ∷ script ∷ [])
+
+-- `fmt APP`
+abbrev pub IsFmt : List (List ℕ) → Type 0
+IsFmt words = (app : List ℕ) × (words ≡ codes "fmt" ∷ app ∷ [])
+
+-- the commands that are built
+abbrev pub IsCommand : List (List ℕ) → Type 0
+IsCommand words = IsRun words ⊎ IsFmt words
 
 -- the line for all other words
 abbrev pub usage_line : List ℕ

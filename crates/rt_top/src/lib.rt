@@ -1,7 +1,13 @@
 // The top call: from the program's words, sources and sink to its status.
 #![tactic(auto)]
 
+mod answer;
+mod format;
 pub mod gate;
+mod halt;
+mod reading;
+mod refusal;
+mod run;
 pub mod top;
 
 pub use gate::{Gate, NoGate};
@@ -9,3 +15,5 @@ pub use top::rtic;
 
 #[cfg(test)]
 mod tests;
+#[cfg(test)]
+mod text_tests;

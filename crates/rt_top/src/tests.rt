@@ -187,9 +187,9 @@ const ROWS: [(&[u8], &[u8], &[u8]); 3] = [
 
 /// The status of a run, and what the sink took.
 #[derive(Drop)]
-struct Ran {
-    status: Status,
-    sink: MemSink,
+pub(crate) struct Ran {
+    pub(crate) status: Status,
+    pub(crate) sink: MemSink,
 }
 
 /// Runs words on an application and a script in memory, with the calls at which each of the three fails.
@@ -259,16 +259,66 @@ fn answers_each_status(rt: HostRuntime) -> Result<(), Fail> {
         let ran = run(&rt, rt.alloc(), &RUN, (TWO, script), (&[], &[], &[]))?;
         assert_eq!(rt; ran.status, Status::Done);
     }
-    let ran = run(
-        &rt,
-        rt.alloc(),
-        &RUN,
-        (b"app x", b"step 1"),
-        (&[], &[], &[]),
-    )?;
-    assert_eq!(rt; ran.status, Status::App);
-    assert_eq!(rt; ran.sink.bytes(), b"1:1 E00 not built\n".as_slice());
     Ok(())
+}
+
+/// Application texts, and the lines that refuse them.
+const REFUSED: [(&[u8], &[u8]); 8] = [
+    (b"", b"1:1 E03 syntax\n"),
+    (b"app x", b"1:6 E03 syntax\n"),
+    (b"app two(bits = 4)", b"1:18 E03 syntax\n"),
+    (
+        b"app x(bits = 4);\ninterrupts { A = 0,, B = 1 }",
+        b"2:20 E03 syntax\n",
+    ),
+    (b"app x(bits = 4); @", b"1:18 E02 foreign byte\n"),
+    (b"app x(bits = 8); interrupts {}", b"1:14 E04 limit bits\n"),
+    (
+        b"app x(bits = 4); interrupts { A = 240 }",
+        b"1:35 E04 limit interrupt\n",
+    ),
+    (
+        b"app x(bits = 4); interrupts {} idle {}",
+        b"1:1 E00 not built\n",
+    ),
+];
+
+#[test]
+fn refuses_applications(rt: HostRuntime) -> Result<(), Fail> {
+    for (text, line) in REFUSED {
+        let ran = run(&rt, rt.alloc(), &RUN, (text, b"step 1"), (&[], &[], &[]))?;
+        assert_eq!(rt; ran.status, Status::App);
+        assert_eq!(rt; ran.sink.bytes(), line);
+    }
+    Ok(())
+}
+
+#[test]
+fn judges_the_length(rt: HostRuntime) -> Result<(), Fail> {
+    let mut text = b"app x(bits = 4); interrupts {}".to_vec(rt.alloc())?;
+    text.resize(262_144, b' ')?;
+    let ran = run(&rt, rt.alloc(), &RUN, (&text, b""), (&[], &[], &[]))?;
+    assert_eq!(rt; ran.status, Status::Done);
+    text.push(b' ')?;
+    let ran = run(&rt, rt.alloc(), &RUN, (&text, b""), (&[], &[], &[]))?;
+    assert_eq!(rt; ran.status, Status::App);
+    assert_eq!(rt; ran.sink.bytes(), b"1:1 E01 text too long\n".as_slice());
+    Ok(())
+}
+
+/// The words `fmt APP` for an application text.
+pub(crate) fn format<R: Threads + Sync>(
+    rt: &R,
+    alloc: Global,
+    text: &[u8],
+) -> Result<Ran, NoMemory> {
+    run(
+        rt,
+        alloc,
+        &["fmt", "app"],
+        (text, TWO_SCRIPT),
+        (&[], &[0], &[]),
+    )
 }
 
 #[test]
@@ -282,6 +332,8 @@ fn knows_its_words(rt: HostRuntime) -> Result<(), Fail> {
         &["run", "x", "y", "z"],
         &["Run", "x", "y"],
         &["check", "x"],
+        &["fmt"],
+        &["fmt", "x", "y"],
         &["--help"],
     ] {
         let ran = run(&rt, rt.alloc(), words, (TWO, TWO_SCRIPT), (&[0], &[0], &[]))?;
@@ -351,7 +403,7 @@ fn leaves_what_it_does_not_read(rt: HostRuntime) -> Result<(), Fail> {
     );
     // The sink has no room for the line of the refusal.
     assert_eq!(rt; status, Status::Write);
-    assert_eq!(rt; sink.bytes(), b"1:1 ".as_slice());
+    assert_eq!(rt; sink.bytes(), b"1:6 ".as_slice());
     let mut buffer = [0; 8];
     assert_eq!(rt; script.read(&mut buffer), Ok(8));
     assert_eq!(rt; buffer.as_slice(), b"pend B\np".as_slice());

@@ -1,5 +1,5 @@
 use Rattle.std.proofs.Common.{[]}
-use Rattle.rt_top.proofs.ThreeWords.{is_run_by}
+use Rattle.rt_top.proofs.CommandWords.{is_run_by}
 use Rattle.rt_top.proofs.top.is_run.Goals as goal
 
 pub returns-in-len3 : goal.returns-in-len3

@@ -1,0 +1,39 @@
+-- The line that refuses an application text: where it stands, its number, and what is wrong.
+use Rattle.std.specs.Prelude.{ℕ, List, ◌++◌, codes, decimal}
+use Rattle.rt_ids.specs.declared.limit.Limit.{Limit}
+use Rattle.rt_ids.specs.declared.limit.Limit.TheVariants as limit
+use Rattle.rt_ids.specs.declared.refusal.Fault.{Fault}
+use Rattle.rt_ids.specs.declared.refusal.Refusal.{Refusal}
+use Rattle.rt_ids.specs.declared.refusal.Refusal.TheVariants as refusal
+
+abbrev pub limit_word : Limit → List ℕ
+limit_word limit.Tasks = codes "tasks"
+limit_word limit.Shared = codes "shared"
+limit_word limit.Locals = codes "locals"
+limit_word limit.Interrupts = codes "interrupts"
+limit_word limit.Interrupt = codes "interrupt"
+limit_word limit.Bits = codes "bits"
+limit_word limit.Arguments = codes "arguments"
+limit_word limit.Capacity = codes "capacity"
+limit_word limit.Name = codes "name"
+limit_word limit.Number = codes "number"
+limit_word limit.Nesting = codes "nesting"
+limit_word limit.Parentheses = codes "parentheses"
+limit_word limit.Depth = codes "depth"
+limit_word limit.Statements = codes "statements"
+limit_word limit.Turns = codes "turns"
+
+-- the number of a refusal, and its words
+abbrev pub refusal_words : Refusal → List ℕ
+refusal_words refusal.TooLong = codes "E01 text too long"
+refusal_words refusal.Foreign = codes "E02 foreign byte"
+refusal_words refusal.Syntax = codes "E03 syntax"
+refusal_words (refusal.Limit what) = codes "E04 limit " ++ limit_word what
+
+abbrev pub refusal_line : Fault → List ℕ
+refusal_line fault =
+    decimal fault.place.line ++ codes ":" ++ decimal fault.place.col ++ codes " " ++ refusal_words fault.refusal ++ codes "\n"
+
+-- the line for an application of no form that is built
+abbrev pub unbuilt_line : List ℕ
+unbuilt_line = codes "1:1 E00 not built\n"

@@ -1,0 +1,73 @@
+ghost use Rattle.std.specs.Prelude.{◌≡◌, ◌++◌, decimal, OnOk, IfOk};
+ghost use Rattle.rt_top.specs.Refusal.{limit_word, refusal_words, refusal_line};
+
+use itoa::Buffer;
+use rt_ids::{Fault, Limit, NoMemory, Refusal};
+use std::alloc::Global;
+
+/// The line that refuses an application text.
+pub(crate) fn refusal_line(alloc: Global, fault: Fault) -> Result<Vec<u8>, NoMemory>
+    ensures { IfOk result (λ line. line.items ≡ refusal_line fault) }
+{
+    let mut line = Vec::new(alloc);
+    push_number(&mut line, fault.place.line)?;
+    push_bytes(&mut line, b":")?;
+    push_number(&mut line, fault.place.col)?;
+    push_bytes(&mut line, b" ")?;
+    push_words(&mut line, fault.refusal)?;
+    push_bytes(&mut line, b"\n")?;
+    Ok(line)
+}
+
+/// Appends the number of a refusal, and its words.
+fn push_words(out: &mut Vec<u8>, refusal: Refusal) -> Result<(), NoMemory>
+    ensures { OnOk result (out.new.items ≡ out.old.items ++ refusal_words refusal) }
+{
+    match refusal {
+        Refusal::TooLong => push_bytes(out, b"E01 text too long"),
+        Refusal::Foreign => push_bytes(out, b"E02 foreign byte"),
+        Refusal::Syntax => push_bytes(out, b"E03 syntax"),
+        Refusal::Limit(limit) => {
+            push_bytes(out, b"E04 limit ")?;
+            push_bytes(out, limit_word(limit).as_bytes())
+        }
+    }
+}
+
+/// The word for a limit.
+fn limit_word(limit: Limit) -> &'static str
+    ensures { result.now ≡ limit_word limit }
+{
+    match limit {
+        Limit::Tasks => "tasks",
+        Limit::Shared => "shared",
+        Limit::Locals => "locals",
+        Limit::Interrupts => "interrupts",
+        Limit::Interrupt => "interrupt",
+        Limit::Bits => "bits",
+        Limit::Arguments => "arguments",
+        Limit::Capacity => "capacity",
+        Limit::Name => "name",
+        Limit::Number => "number",
+        Limit::Nesting => "nesting",
+        Limit::Parentheses => "parentheses",
+        Limit::Depth => "depth",
+        Limit::Statements => "statements",
+        Limit::Turns => "turns",
+    }
+}
+
+fn push_bytes(out: &mut Vec<u8>, bytes: &[u8]) -> Result<(), NoMemory>
+    ensures { OnOk result (out.new.items ≡ out.old.items ++ bytes.now) }
+{
+    out.extend_from_slice(bytes)?;
+    Ok(())
+}
+
+/// Appends a number in decimal.
+fn push_number(out: &mut Vec<u8>, number: u32) -> Result<(), NoMemory>
+    ensures { OnOk result (out.new.items ≡ out.old.items ++ decimal number) }
+{
+    let mut buffer = Buffer::new();
+    push_bytes(out, buffer.format(number).as_bytes())
+}
