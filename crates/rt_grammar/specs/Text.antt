@@ -55,6 +55,7 @@ IsMet src marks rest refusal.Foreign at = (t : Token) × (more : List Token) × 
 IsMet src marks rest refusal.Syntax at = IsDeadEnd (tokens src) rest × IsNotForeign rest × (at ≡ offset_of src rest)
 IsMet src marks rest (refusal.Limit what) at =
     (mark : Mark) × (left : List Token) × Reaches text (tokens src) (marks ++ mark ∷ []) left × Passes mark (Some at) what
+IsMet src marks rest (refusal.Rule what) at = ⊥
 
 pub record IsMetAt (src : List ℕ) (fault : Fault) : Type 0 where
   pub short : length src ≤ TEXT_BYTES
@@ -76,6 +77,7 @@ IsFirst ts refusal.TooLong = Unit {0}
 IsFirst ts refusal.Foreign = IsUnlimited ts
 IsFirst ts refusal.Syntax = IsUnlimited ts
 IsFirst ts (refusal.Limit what) = Unit {0}
+IsFirst ts (refusal.Rule what) = Unit {0}
 
 pub record IsRefusedAt (src : List ℕ) (fault : Fault) : Type 0 where
   pub met : IsMetAt src fault

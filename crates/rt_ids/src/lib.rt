@@ -11,6 +11,7 @@ pub mod op;
 pub mod place;
 pub mod priority;
 pub mod refusal;
+pub mod rule;
 pub mod status;
 
 pub use ids::{BodyId, ResId, Section, TaskId};
@@ -22,4 +23,5 @@ pub use op::Op;
 pub use place::Place;
 pub use priority::Prio;
 pub use refusal::{Fault, Refusal, Refused};
+pub use rule::Rule;
 pub use status::Status;

@@ -48,6 +48,9 @@ pub const NAME_BYTES: usize = 32;
 /// Statements of a body, those of inner blocks included.
 pub const STATEMENTS: usize = 1_000;
 
+/// Core steps that a body may take.
+pub const BODY_COST: u32 = 1_000_000;
+
 /// Instructions of an application's whole code.
 pub const CODE_SIZE: u32 = 65_535;
 

@@ -1,5 +1,6 @@
 use crate::limit::Limit;
 use crate::place::Place;
+use crate::rule::Rule;
 
 /// What is wrong with an application text.
 #[derive(Clone, Copy, Debug, PartialEq, Eq)]
@@ -11,6 +12,8 @@ pub enum Refusal {
     /// With this token the text is no beginning of an application, or it ends too early.
     Syntax,
     Limit(Limit),
+    /// A rule is broken that binds texts of the grammar within their limits.
+    Rule(Rule),
 }
 
 /// A refusal of an application text, and where it stands.

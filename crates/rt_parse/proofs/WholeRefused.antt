@@ -121,6 +121,7 @@ module _ (src : List ℕ) (found : Found) (e : text_at (tokens src) ≡ Err foun
   refusal_found place refusal.Foreign x = foreign_found place x
   refusal_found place refusal.Syntax x = syntax_found place x
   refusal_found place (refusal.Limit what) x = inl (limit_found place what x)
+  refusal_found place (refusal.Rule what) x = absurd x.met
 
 -- A text that is read is not refused.
 module _ (src : List ℕ) (app : App) (e : text_at (tokens src) ≡ Ok app) where
@@ -146,6 +147,7 @@ module _ (src : List ℕ) (app : App) (e : text_at (tokens src) ≡ Ok app) wher
       let b = to_bound (tokens src) (x.marks ++ met.0 ∷ []) met.1 met.2 in
       let o = read_refused b.0 in
       within_not x.marks met.0 (Some x.at) what o.marks met.3 (o.most (x.marks ++ met.0 ∷ []) met.1 b.1) o.within
+  not_refused place (refusal.Rule what) x = x.met
 
 pub text_not_refused : (src : List ℕ) (app : App) (f : Fault) → IsText src app → IsMetAt src f → ⊥
 text_not_refused src app f t x = not_refused src app (text_is_read src app t) f.place f.refusal x

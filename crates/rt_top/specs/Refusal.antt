@@ -5,6 +5,8 @@ use Rattle.rt_ids.specs.declared.limit.Limit.TheVariants as limit
 use Rattle.rt_ids.specs.declared.refusal.Fault.{Fault}
 use Rattle.rt_ids.specs.declared.refusal.Refusal.{Refusal}
 use Rattle.rt_ids.specs.declared.refusal.Refusal.TheVariants as refusal
+use Rattle.rt_ids.specs.declared.rule.Rule.{Rule}
+use Rattle.rt_ids.specs.declared.rule.Rule.TheVariants as rule
 
 abbrev pub limit_word : Limit → List ℕ
 limit_word limit.Tasks = codes "tasks"
@@ -23,12 +25,29 @@ limit_word limit.Depth = codes "depth"
 limit_word limit.Statements = codes "statements"
 limit_word limit.Turns = codes "turns"
 
+abbrev pub rule_words : Rule → List ℕ
+rule_words rule.UnknownName = codes "E05 unknown name"
+rule_words rule.DeclaredTwice = codes "E06 name declared twice"
+rule_words rule.PriorityOutOfRange = codes "E07 priority out of range"
+rule_words rule.InterruptUsedTwice = codes "E08 interrupt used twice"
+rule_words rule.TooFewDispatchers = codes "E09 too few dispatchers"
+rule_words rule.LocalInTwoTasks = codes "E10 local in two tasks"
+rule_words rule.OutsideLock = codes "E11 resource outside a lock"
+rule_words rule.LockedInsideItself = codes "E12 locked inside itself"
+rule_words rule.SharedAndExclusive = codes "E13 shared and exclusive"
+rule_words rule.LockFreeAtTwoPriorities = codes "E14 lock_free at two priorities"
+rule_words rule.NotSoftware = codes "E15 not a software task"
+rule_words rule.NoMonotonic = codes "E16 no monotonic"
+rule_words rule.TooLongBody = codes "E17 too long a body"
+rule_words rule.NotWritable = codes "E18 not writable"
+
 -- the number of a refusal, and its words
 abbrev pub refusal_words : Refusal → List ℕ
 refusal_words refusal.TooLong = codes "E01 text too long"
 refusal_words refusal.Foreign = codes "E02 foreign byte"
 refusal_words refusal.Syntax = codes "E03 syntax"
 refusal_words (refusal.Limit what) = codes "E04 limit " ++ limit_word what
+refusal_words (refusal.Rule what) = rule_words what
 
 abbrev pub refusal_line : Fault → List ℕ
 refusal_line fault =

@@ -1,8 +1,8 @@
 ghost use Rattle.std.specs.Prelude.{◌≡◌, ◌++◌, decimal, OnOk, IfOk};
-ghost use Rattle.rt_top.specs.Refusal.{limit_word, refusal_words, refusal_line};
+ghost use Rattle.rt_top.specs.Refusal.{limit_word, rule_words, refusal_words, refusal_line};
 
 use itoa::Buffer;
-use rt_ids::{Fault, Limit, NoMemory, Refusal};
+use rt_ids::{Fault, Limit, NoMemory, Refusal, Rule};
 use std::alloc::Global;
 
 /// The line that refuses an application text.
@@ -31,6 +31,29 @@ fn push_words(out: &mut Vec<u8>, refusal: Refusal) -> Result<(), NoMemory>
             push_bytes(out, b"E04 limit ")?;
             push_bytes(out, limit_word(limit).as_bytes())
         }
+        Refusal::Rule(rule) => push_bytes(out, rule_words(rule).as_bytes()),
+    }
+}
+
+/// The number of the refusal by a rule, and its words.
+fn rule_words(rule: Rule) -> &'static str
+    ensures { result.now ≡ rule_words rule }
+{
+    match rule {
+        Rule::UnknownName => "E05 unknown name",
+        Rule::DeclaredTwice => "E06 name declared twice",
+        Rule::PriorityOutOfRange => "E07 priority out of range",
+        Rule::InterruptUsedTwice => "E08 interrupt used twice",
+        Rule::TooFewDispatchers => "E09 too few dispatchers",
+        Rule::LocalInTwoTasks => "E10 local in two tasks",
+        Rule::OutsideLock => "E11 resource outside a lock",
+        Rule::LockedInsideItself => "E12 locked inside itself",
+        Rule::SharedAndExclusive => "E13 shared and exclusive",
+        Rule::LockFreeAtTwoPriorities => "E14 lock_free at two priorities",
+        Rule::NotSoftware => "E15 not a software task",
+        Rule::NoMonotonic => "E16 no monotonic",
+        Rule::TooLongBody => "E17 too long a body",
+        Rule::NotWritable => "E18 not writable",
     }
 }
 
