@@ -2,19 +2,14 @@
 -- feed ends each.
 use Rattle.std.specs.Prelude.{ℕ, Bool, codes, decimal, List, [], ◌∷◌, ◌++◌, flat_map, Option, Some, None, if◌then◌else◌}
 use Rattle.rt_ast.specs.declared.ident.Ident.{Ident}
-use Rattle.rt_ast.specs.declared.ident.Number.{Number}
 use Rattle.rt_ast.specs.declared.app.IrqTree.{IrqTree}
 use Rattle.rt_ast.specs.declared.app.MonoTree.{MonoTree}
 use Rattle.rt_ast.specs.declared.app.SharedTree.{SharedTree}
 use Rattle.rt_ast.specs.declared.app.LocalTree.{LocalTree}
-use Rattle.rt_ast.specs.declared.app.ListedTree.{ListedTree}
 use Rattle.rt_ast.specs.Tree.{Body, Task, App}
 use Rattle.rt_ast.specs.CanonicalExpression.{newline, separated, name_text, names_text}
 use Rattle.rt_ast.specs.CanonicalBlock.{block_text}
-
--- a list in brackets
-abbrev pub bracketed : {A : Type 0} → (A → List ℕ) → List A → List ℕ
-bracketed text xs = codes "[" ++ separated text xs ++ codes "]"
+use Rattle.rt_ast.specs.CanonicalOptions.{bracketed, body_options, task_options, options_text}
 
 -- a list in braces
 abbrev pub enclosed : {A : Type 0} → (A → List ℕ) → List A → List ℕ
@@ -55,44 +50,6 @@ local_text r = name_text r.name ++ codes " = " ++ decimal r.first
 abbrev pub locals_text : List LocalTree → List ℕ
 locals_text [] = []
 locals_text (r ∷ rs) = codes "local " ++ enclosed local_text (r ∷ rs) ++ newline
-
-abbrev pub by_ref_text : Bool → List ℕ
-by_ref_text by_ref = if by_ref then codes "&" else []
-
-abbrev pub listed_text : ListedTree → List ℕ
-listed_text r = by_ref_text r.by_ref ++ name_text r.name
-
--- options, each as its text: those that are there
-abbrev pub binds_option : Option Ident → List (List ℕ)
-binds_option None = []
-binds_option (Some x) = (codes "binds = " ++ name_text x) ∷ []
-
-abbrev pub priority_option : Option Number → List (List ℕ)
-priority_option None = []
-priority_option (Some n) = (codes "priority = " ++ decimal n.value) ∷ []
-
-abbrev pub capacity_option : Option ℕ → List (List ℕ)
-capacity_option None = []
-capacity_option (Some n) = (codes "capacity = " ++ decimal n) ∷ []
-
-abbrev pub shared_option : List ListedTree → List (List ℕ)
-shared_option [] = []
-shared_option (r ∷ rs) = (codes "shared = " ++ bracketed listed_text (r ∷ rs)) ∷ []
-
-abbrev pub local_option : List Ident → List (List ℕ)
-local_option [] = []
-local_option (x ∷ xs) = (codes "local = " ++ bracketed name_text (x ∷ xs)) ∷ []
-
-abbrev pub body_options : Body → List (List ℕ)
-body_options b = shared_option b.shared ++ local_option b.local
-
-abbrev pub task_options : Task → List (List ℕ)
-task_options t = binds_option t.binds ++ priority_option t.priority ++ capacity_option t.capacity ++ body_options t.body
-
--- options in parentheses, where there are any
-abbrev pub options_text : List (List ℕ) → List ℕ
-options_text [] = []
-options_text (o ∷ os) = codes "(" ++ separated (λ text. text) (o ∷ os) ++ codes ")"
 
 abbrev pub body_text : List ℕ → Option Body → List ℕ
 body_text word None = []

@@ -1,102 +1,15 @@
 -- Statements and blocks.
 --   Block = "{" { Stmt } "}"
---   Stmt = "let" Name "=" Value ";" | Name "=" Expr ";" | "if" Expr Block [ "else" Block ] | "for" Name "in" Num ".." Num Block
---        | "lock" Name { "," Name } Block | "emit" Expr ";" | "pend" Name ";" | Spawn ";"
---   Value = Expr | "now" | Spawn
---   Spawn = "spawn" Name "(" List(Expr) ")" | "spawn_after" "(" Expr ")" Name "(" List(Expr) ")"
+--   Stmt = Simple | "if" Expr Block [ "else" Block ] | "for" Name "in" Num ".." Num Block | "lock" Name { "," Name } Block
 -- A statement is told the nesting of the block that it stands in (a body's is 1), and how many statements of the body stand
 -- before it; it means its tree, and how many stand before what is behind it.
-use Rattle.std.specs.Prelude.{ℕ, zero, suc, ◌-◌, nat_lt, nat_le, codes, List, [], ◌∷◌, ◌++◌, Option}
-use Rattle.rt_ids.specs.declared.limit.Limit.{Limit}
-use Rattle.rt_ids.specs.declared.limit.Limit.TheVariants as limit
-use Rattle.rt_ids.specs.declared.limits.TheConstants.{NESTING, STATEMENTS, TURNS}
-use Rattle.rt_ast.specs.Tree.{Statement, Block, Value, Spawn, Expression, Bind, Assign, Branch, Repeat, Locked, Emit, Pend, Spawns, Empty, Then, Calc, Now, Call, Soon, After}
+use Rattle.std.specs.Prelude.{ℕ, zero, suc, codes, List, [], ◌∷◌, ◌++◌}
+use Rattle.rt_ast.specs.Tree.{Statement, Block, Branch, Repeat, Locked, Empty, Then}
 use Rattle.rt_grammar.specs.Language.{Language, gives, ◌>>=◌, ◌>>◌, ◌or◌, or_else, never, repeat}
-use Rattle.rt_grammar.specs.Tokens.{free, limit_if, first_of, word, limited_word, sign, limited_sign, name, limited_name, number, limited_number, list, adds}
+use Rattle.rt_grammar.specs.Tokens.{first_of, word, limited_word, sign, limited_sign, name, limited_name, number, limited_number}
 use Rattle.rt_grammar.specs.Expression.{expression}
-
--- the limit on statements, at one behind so many
-abbrev pub counted : ℕ → Option Limit
-counted before = limit_if (nat_le STATEMENTS before) limit.Statements
-
--- the limit on nesting, at a block of this nesting
-abbrev pub nested : ℕ → Option Limit
-nested nesting = limit_if (nat_lt NESTING nesting) limit.Nesting
-
--- the limit on turns, at the second number
-abbrev pub turned : ℕ → ℕ → Option Limit
-turned first last = limit_if (nat_lt TURNS (last - first)) limit.Turns
-
-abbrev pub arguments : ℕ → Language (List Expression)
-arguments most = sign (codes "(") >> list (codes ")") (adds (λ before. expression most)) []
-
-abbrev pub soon : ℕ → Option Limit → Language Spawn
-soon most what = do
-  limited_word (codes "spawn") what
-  task ← name
-  args ← arguments most
-  gives (Soon task args)
-
-abbrev pub after : ℕ → Option Limit → Language Spawn
-after most what = do
-  at ← limited_word (codes "spawn_after") what
-  sign (codes "(")
-  delay ← expression most
-  sign (codes ")")
-  task ← name
-  args ← arguments most
-  gives (After at delay task args)
-
--- a spawn whose first word may pass a limit
-abbrev pub spawn : ℕ → Option Limit → Language Spawn
-spawn most what = soon most what or after most what
-
-abbrev pub value : ℕ → Language Value
-value most =
-    (do at ← word (codes "now"); gives (Now at))
-    or (do s ← spawn most free; gives (Call s))
-    or (do e ← expression most; gives (Calc e))
-
--- what is read of a body: a tree, and the statements before what is behind it
-abbrev pub Counted : Type 0 → Type 0
-Counted A = A × ℕ
-
-abbrev pub bind : ℕ → ℕ → Language (Counted Statement)
-bind most before = do
-  limited_word (codes "let") (counted before)
-  x ← name
-  sign (codes "=")
-  v ← value most
-  sign (codes ";")
-  gives (Bind x v, suc before)
-
-abbrev pub assign : ℕ → ℕ → Language (Counted Statement)
-assign most before = do
-  x ← limited_name (counted before)
-  sign (codes "=")
-  e ← expression most
-  sign (codes ";")
-  gives (Assign x e, suc before)
-
-abbrev pub emit : ℕ → ℕ → Language (Counted Statement)
-emit most before = do
-  limited_word (codes "emit") (counted before)
-  e ← expression most
-  sign (codes ";")
-  gives (Emit e, suc before)
-
-abbrev pub pend : ℕ → Language (Counted Statement)
-pend before = do
-  limited_word (codes "pend") (counted before)
-  irq ← name
-  sign (codes ";")
-  gives (Pend irq, suc before)
-
-abbrev pub call : ℕ → ℕ → Language (Counted Statement)
-call most before = do
-  s ← spawn most (counted before)
-  sign (codes ";")
-  gives (Spawns s, suc before)
+use Rattle.rt_grammar.specs.Limits.{counted, nested, turned}
+use Rattle.rt_grammar.specs.Simple.{Counted, bind, assign, emit, pend, call}
 
 -- a block of a nesting, behind so many statements
 abbrev pub Blocks : Type 1

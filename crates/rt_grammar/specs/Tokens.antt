@@ -90,3 +90,6 @@ abbrev pub adds : {A : Type 0} → (ℕ → Language A) → List A → Language 
 adds item xs = do
   x ← item (length xs)
   gives (xs ++ x ∷ [])
+
+abbrev pub names : Language (List Ident)
+names = sign (codes "[") >> list (codes "]") (adds (λ before. name)) []

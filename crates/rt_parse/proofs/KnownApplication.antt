@@ -5,9 +5,13 @@ use Rattle.rt_ids.specs.declared.limit.Limit.TheVariants as limit
 use Rattle.rt_ids.specs.declared.limits.TheConstants.{IRQ_NUMBERS, LEAST_BITS, MOST_BITS, CAPACITY}
 use Rattle.rt_ast.specs.Tree.{App}
 use Rattle.rt_grammar.specs.Mark.{Mark}
-use Rattle.rt_grammar.specs.Tokens.{free}
+use Rattle.rt_grammar.specs.Tokens.{free, names}
 use Rattle.rt_grammar.specs.Text.{text}
-use Rattle.rt_grammar.specs.Declaration.{Owner, OfInit, OfIdle, OfTask, Options, within, names, dispatchers, interrupt, interrupts, monotonic, first_value, lock_free, locked, shared, local, locals, listed, option, options, thread_body, arguments, task, head, application}
+use Rattle.rt_grammar.specs.Limits.{within}
+use Rattle.rt_grammar.specs.Resources.{interrupt, interrupts, monotonic, first_value, lock_free, locked, shared, local, locals}
+use Rattle.rt_grammar.specs.Options.{Owner, OfInit, OfIdle, OfTask, Options, listed, option, options}
+use Rattle.rt_grammar.specs.Bodies.{thread_body, arguments, task}
+use Rattle.rt_grammar.specs.Declaration.{dispatchers, head, application}
 use Rattle.rt_parse.proofs.Known.{Known, IsToken, known_gives, known_then, known_or, known_or_else, known_only_if, known_repeat, known_word, known_sign, known_name, known_number, known_list, known_adds}
 use Rattle.rt_parse.proofs.KnownStatement.{known_block}
 

@@ -2,7 +2,10 @@
 use Rattle.std.proofs.Common.{ℕ, zero, suc, codes, [], Option}
 use Rattle.rt_ids.specs.declared.limit.Limit.{Limit}
 use Rattle.rt_grammar.specs.Tokens.{free}
-use Rattle.rt_grammar.specs.Statement.{Blocks, turned, arguments, soon, after, spawn, value, bind, assign, emit, pend, call, branch, loop, further, lock, statement, braced, block, inside}
+use Rattle.rt_grammar.specs.Limits.{turned}
+use Rattle.rt_grammar.specs.Spawn.{arguments, soon, after, spawn, value}
+use Rattle.rt_grammar.specs.Simple.{bind, assign, emit, pend, call}
+use Rattle.rt_grammar.specs.Statement.{Blocks, branch, loop, further, lock, statement, braced, block, inside}
 use Rattle.rt_parse.proofs.Known.{Known, known_gives, known_then, known_or, known_or_else, known_never, known_repeat, known_word, known_sign, known_name, known_number, known_list, known_adds, known_expression}
 
 known_arguments : (most : ℕ) → Known (arguments most)

@@ -7,7 +7,11 @@ use Rattle.rt_ast.specs.Tree.{App}
 use Rattle.rt_grammar.specs.Mark.{Mark}
 use Rattle.rt_grammar.specs.Language.{gives}
 use Rattle.rt_grammar.specs.Tokens.{word, limited_word, name}
-use Rattle.rt_grammar.specs.Declaration.{Owner, OfInit, OfIdle, OfTask, at_most, options, arguments, body_of, thread_body, task, head, interrupts, monotonic, shared, locals, application}
+use Rattle.rt_grammar.specs.Limits.{at_most}
+use Rattle.rt_grammar.specs.Resources.{interrupts, monotonic, shared, locals}
+use Rattle.rt_grammar.specs.Options.{Owner, OfInit, OfIdle, OfTask, options}
+use Rattle.rt_grammar.specs.Bodies.{arguments, body_of, thread_body, task}
+use Rattle.rt_grammar.specs.Declaration.{head, application}
 use Rattle.rt_parse.proofs.Larger.{Grows, grows_behind, grows_before, grows_then, grows_or_else, grows_repeat, grows_adds}
 use Rattle.rt_parse.proofs.LargerStatement.{larger_block}
 

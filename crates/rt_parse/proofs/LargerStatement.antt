@@ -4,7 +4,10 @@ use Rattle.rt_ids.specs.declared.limit.Limit.{Limit}
 use Rattle.rt_ast.specs.Tree.{Statement, Then, Locked, Empty, Branch, Repeat, Bind, Assign, Emit, Spawns, Calc, Call, Now, Soon, After}
 use Rattle.rt_grammar.specs.Language.{gives, ◌>>=◌, ◌>>◌}
 use Rattle.rt_grammar.specs.Tokens.{free, first_of, word, limited_word, sign, limited_sign, name, limited_name, number, limited_number}
-use Rattle.rt_grammar.specs.Statement.{counted, nested, turned, arguments, soon, after, spawn, value, Counted, bind, assign, emit, pend, call, Blocks, branch, loop, further, lock, statement, one_more, block_of, braced, block, inside}
+use Rattle.rt_grammar.specs.Limits.{counted, nested, turned}
+use Rattle.rt_grammar.specs.Spawn.{arguments, soon, after, spawn, value}
+use Rattle.rt_grammar.specs.Simple.{Counted, bind, assign, emit, pend, call}
+use Rattle.rt_grammar.specs.Statement.{Blocks, branch, loop, further, lock, statement, one_more, block_of, braced, block, inside}
 use Rattle.rt_parse.proofs.Larger.{Grows, grows_same, grows_never, grows_then, grows_behind, grows_before, grows_or, grows_or_else, grows_repeat, grows_list, grows_adds}
 use Rattle.rt_parse.proofs.LargerExpression.{larger_expression}
 

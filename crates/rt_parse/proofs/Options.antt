@@ -3,7 +3,7 @@ use Rattle.std.proofs.Common.{◌≡◌, ◌++◌, codes, length, List, [], ◌�
 use Rattle.rt_lex.specs.Token.{Token}
 use Rattle.rt_ast.specs.declared.ident.Ident.{Ident}
 use Rattle.rt_parse.specs.Reading.{◌>>=◌, sign_at}
-use Rattle.rt_parse.specs.ReadingDeclaration.{argument_at, one_argument_at}
+use Rattle.rt_parse.specs.ReadingBodies.{argument_at, one_argument_at}
 use Rattle.std.specs.Prelude.{Vec, is_none}
 use Rattle.rt_parse.specs.DeclarationView.{items_of}
 

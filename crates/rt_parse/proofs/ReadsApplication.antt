@@ -10,10 +10,15 @@ use Rattle.rt_ast.specs.declared.app.LocalTree.{LocalTree}
 use Rattle.rt_ast.specs.Tree.{App, Body, Task}
 use Rattle.rt_grammar.specs.Language.{Language, gives, ◌>>=◌, or_else, repeat}
 use Rattle.rt_grammar.specs.Tokens.{adds}
-use Rattle.rt_grammar.specs.Declaration.{Head, OfInit, OfIdle, shared, locals, thread_body, task, application}
+use Rattle.rt_grammar.specs.Resources.{shared, locals}
+use Rattle.rt_grammar.specs.Options.{OfInit, OfIdle}
+use Rattle.rt_grammar.specs.Bodies.{thread_body, task}
+use Rattle.rt_grammar.specs.Declaration.{Head, application}
 use Rattle.rt_parse.specs.Reading as reading
-use Rattle.rt_parse.specs.Reading.{wrong_at, token_at, adds_at}
-use Rattle.rt_parse.specs.ReadingDeclaration.{task_at, application_at, text_at}
+use Rattle.rt_parse.specs.Reading.{wrong_at, token_at}
+use Rattle.rt_parse.specs.ReadingList.{adds_at}
+use Rattle.rt_parse.specs.ReadingBodies.{task_at}
+use Rattle.rt_parse.specs.ReadingDeclaration.{application_at, text_at}
 use Rattle.rt_parse.proofs.Exact.{IsExact, Avoids, Starts, nothing}
 use Rattle.rt_parse.proofs.ExactLaws.{then_then'}
 use Rattle.rt_parse.proofs.ExactThen.{Avoids-smaller}

@@ -15,7 +15,8 @@ use Rattle.rt_grammar.specs.Expression.{Operand, comparison, plain_atom, atom, d
 use Rattle.rt_grammar.specs.Reach.{goes_on}
 use Rattle.rt_parse.specs.Reading as reading
 use Rattle.rt_parse.specs.Reading.{Reader, begins_with, sign_at}
-use Rattle.rt_parse.specs.ReadingExpression.{Kept, Measured, measure, kept_if, comparison_at, is_number, is_number_kind, is_name, is_name_kind, number_atom_at, name_atom_at, parenthesized_at, closed_at, atom_or_at, nested_at, atom_at, unless_deep, expression_at, atomic}
+use Rattle.rt_parse.specs.ReadingDepth.{Kept, Measured, measure, kept_if, atomic}
+use Rattle.rt_parse.specs.ReadingExpression.{comparison_at, is_number, is_number_kind, is_name, is_name_kind, number_atom_at, name_atom_at, parenthesized_at, closed_at, atom_or_at, nested_at, atom_at, unless_deep, expression_at}
 use Rattle.rt_parse.proofs.Exact.{IsInhabited, Starts, ReadsAfter, Reads, nothing}
 use Rattle.rt_parse.proofs.ExactToken.{reads_gives}
 use Rattle.rt_parse.proofs.ExactThen.{some_then, reads_seq, reads_then, reads_map, reads_fewer, reads_no_stop, reads_same}

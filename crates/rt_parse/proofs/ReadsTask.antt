@@ -8,9 +8,12 @@ use Rattle.rt_ast.specs.declared.ident.Ident.{Ident}
 use Rattle.rt_ast.specs.Tree.{Body, Task, Block}
 use Rattle.rt_grammar.specs.Language.{Language, gives, ◌>>=◌, repeat}
 use Rattle.rt_grammar.specs.Tokens.{free, word, name}
-use Rattle.rt_grammar.specs.Statement.{Counted, nested, block, inside}
-use Rattle.rt_grammar.specs.Declaration.{Options, Owner, OfTask, at_most, options, body_of, thread_body, argument, arguments, task}
-use Rattle.rt_parse.specs.ReadingDeclaration.{thread_at, thread_body_at, argument_at, parameters_at, task_arguments_at, task_at, body_block_at}
+use Rattle.rt_grammar.specs.Limits.{nested, at_most}
+use Rattle.rt_grammar.specs.Simple.{Counted}
+use Rattle.rt_grammar.specs.Statement.{block, inside}
+use Rattle.rt_grammar.specs.Options.{Options, Owner, OfTask, options}
+use Rattle.rt_grammar.specs.Bodies.{body_of, thread_body, argument, arguments, task}
+use Rattle.rt_parse.specs.ReadingBodies.{thread_at, thread_body_at, argument_at, parameters_at, task_arguments_at, task_at, body_block_at}
 use Rattle.rt_parse.proofs.Exact.{IsInhabited, Avoids, Starts, nothing}
 use Rattle.rt_parse.proofs.ExactThen.{reads_after}
 use Rattle.rt_parse.proofs.ExactLaws.{then_then'}

@@ -5,7 +5,8 @@ use Rattle.rt_lex.specs.Token.{Token, is_this_word, is_this_sign}
 use Rattle.rt_grammar.specs.Language.{Language, gives, ◌>>=◌, ◌>>◌, ◌or◌}
 use Rattle.rt_grammar.specs.Tokens.{free, sign, list, adds}
 use Rattle.rt_parse.specs.Reading as reading
-use Rattle.rt_parse.specs.Reading.{Reader, begins_with, wrong_at, items_at, adds_at}
+use Rattle.rt_parse.specs.Reading.{Reader, begins_with, wrong_at}
+use Rattle.rt_parse.specs.ReadingList.{items_at, adds_at}
 use Rattle.rt_parse.specs.declared.stop.Found.{Found}
 use Rattle.rt_parse.proofs.Exact.{IsInhabited, Starts, ReadsAfter, Reads, nothing}
 use Rattle.rt_parse.proofs.ExactLaws.{IsWithinLanguage}

@@ -2,7 +2,10 @@
 use Rattle.std.proofs.Common.{ℕ, suc, ◌≤◌, false, codes, List, [], None}
 use Rattle.rt_ids.specs.declared.limits.TheConstants.{PARENTHESES}
 use Rattle.rt_grammar.specs.Tokens.{free}
-use Rattle.rt_grammar.specs.Declaration.{Owner, OfInit, OfIdle, OfTask, options, arguments, head, interrupts, monotonic, shared, locals, thread_body, task, application}
+use Rattle.rt_grammar.specs.Resources.{interrupts, monotonic, shared, locals}
+use Rattle.rt_grammar.specs.Options.{Owner, OfInit, OfIdle, OfTask, options}
+use Rattle.rt_grammar.specs.Bodies.{arguments, thread_body, task}
+use Rattle.rt_grammar.specs.Declaration.{head, application}
 use Rattle.rt_parse.proofs.Exact.{IsInhabited}
 use Rattle.rt_parse.proofs.ExactStarts.{some_gives, some_left}
 use Rattle.rt_parse.proofs.ReadsHead.{head_form, interrupts_form}

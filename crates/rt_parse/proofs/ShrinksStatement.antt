@@ -7,7 +7,10 @@ use Rattle.rt_ids.specs.declared.limits.TheConstants.{PARENTHESES, NESTING, NAME
 use Rattle.rt_grammar.specs.Language.{Language, gives}
 use Rattle.rt_grammar.specs.Tokens.{free, limit_if, first_of, name_limit}
 use Rattle.rt_grammar.specs.Expression.{Operand, Signs, operator, comparisons, strengths, chains, comparison, atom, ends, expression}
-use Rattle.rt_grammar.specs.Statement.{Blocks, counted, nested, turned, arguments, soon, after, spawn, value, bind, assign, emit, pend, call, branch, loop, further, lock, statement, braced, block, inside}
+use Rattle.rt_grammar.specs.Limits.{counted, nested, turned}
+use Rattle.rt_grammar.specs.Spawn.{arguments, soon, after, spawn, value}
+use Rattle.rt_grammar.specs.Simple.{bind, assign, emit, pend, call}
+use Rattle.rt_grammar.specs.Statement.{Blocks, branch, loop, further, lock, statement, braced, block, inside}
 use Rattle.rt_parse.proofs.Exact.{IsInhabited}
 use Rattle.rt_parse.proofs.ExactThen.{some_then}
 use Rattle.rt_parse.proofs.ExactStarts.{some_token, some_gives}

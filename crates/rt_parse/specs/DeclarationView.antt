@@ -1,13 +1,14 @@
 -- What the parser of declarations keeps, as the readers' values.
 use Rattle.std.specs.Prelude.{List, Option, Some, None}
 use Rattle.std.specs.Prelude.{Vec}
-use Rattle.rt_grammar.specs.Declaration as grammar
+use Rattle.rt_grammar.specs.Options as grammar
+use Rattle.rt_grammar.specs.Declaration.{Head}
 use Rattle.rt_parse.specs.declared.declaration.Opening.{Opening}
 use Rattle.rt_parse.specs.declared.body.BodyOptions.{BodyOptions}
 use Rattle.rt_parse.specs.declared.body.Owner.{Owner}
 use Rattle.rt_parse.specs.declared.body.Owner.TheVariants as owner
 
-abbrev pub opening_view : Opening → grammar.Head
+abbrev pub opening_view : Opening → Head
 opening_view h = record { name = h.name; bits = h.bits; dispatchers = h.dispatchers.items }
 
 abbrev pub owner_view : Owner → grammar.Owner

@@ -3,7 +3,7 @@ use Rattle.std.specs.Prelude.{ℕ, List, [], ◌∷◌, Option, Some, None, code
 use Rattle.rt_ids.specs.declared.op.Op.TheVariants as op
 use Rattle.rt_ast.specs.View.{expression_of}
 use Rattle.rt_grammar.specs.Expression.{Signs}
-use Rattle.rt_parse.specs.ReadingExpression as reading
+use Rattle.rt_parse.specs.ReadingDepth as reading
 use Rattle.rt_parse.specs.declared.expression.Kept.{Kept}
 use Rattle.rt_parse.specs.declared.expression.Measured.{Measured}
 use Rattle.rt_parse.specs.declared.expression.Strength.{Strength}

@@ -1,12 +1,12 @@
 -- Reading as a function on lists of tokens. A reader gives what it read and the tokens behind, or the first thing that it
 -- found wrong. It looks one token ahead.
-use Rattle.std.specs.Prelude.{◌≡◌, ℕ, zero, suc, Bool, false, not, codes, List, [], ◌∷◌, ◌++◌, length, Option, Some, None, Result, Ok, Err, if◌then◌else◌}
+use Rattle.std.specs.Prelude.{◌≡◌, ℕ, zero, suc, Bool, false, List, [], ◌∷◌, Option, Some, None, Result, Ok, Err, if◌then◌else◌}
 use Rattle.rt_ids.specs.declared.limit.Limit.{Limit}
 use Rattle.rt_ids.specs.declared.refusal.Refusal.{Refusal}
 use Rattle.rt_ids.specs.declared.refusal.Refusal.TheVariants as refusal
 use Rattle.rt_lex.specs.declared.token.Kind.{Kind}
 use Rattle.rt_lex.specs.declared.token.Kind.TheVariants as kind
-use Rattle.rt_lex.specs.Token.{Token, is_this_sign}
+use Rattle.rt_lex.specs.Token.{Token}
 use Rattle.rt_ast.specs.declared.ident.Ident.{Ident}
 use Rattle.rt_ast.specs.declared.ident.Number.{Number}
 use Rattle.rt_grammar.specs.Tokens.{free, word_of, sign_of, ident_of, number_of, name_limit, number_limit}
@@ -96,24 +96,3 @@ limited_number_at limit = token_at number_of (number_limit limit)
 
 abbrev pub number_at : Reader Number
 number_at = limited_number_at (λ _. free)
-
--- a comma, or nothing in front of the sign that closes a list
-abbrev pub comma_at : List ℕ → List Token → Result (List Token) Found
-comma_at closing tokens =
-    if begins_with (is_this_sign closing) tokens then Ok tokens else (sign_at (codes ",") tokens >>= λ got. Ok got.1)
-
--- items up to the sign that closes the list, with a comma between each two, and perhaps one behind the last; at most so many
-unfoldable pub items_at : {S : Type 0} → List ℕ → (S → Reader S) → ℕ → S → Reader S
-items_at closing item zero s tokens = sign_at closing tokens >>= λ end. Ok (s, end.1)
-items_at closing item (suc n) s tokens =
-    if begins_with (is_this_sign closing) tokens then (sign_at closing tokens >>= λ end. Ok (s, end.1))
-    else (item s tokens >>= λ x. comma_at closing x.1 >>= λ behind. items_at closing item n x.0 behind)
-
--- one more item of a list, of which there is none at the end of the text
-unfoldable pub adds_at : {A : Type 0} → (ℕ → Reader A) → List A → Reader (List A)
-adds_at item xs [] = Err (wrong_at [])
-adds_at item xs (t ∷ tokens) = item (length xs) (t ∷ tokens) >>= λ x. Ok (xs ++ x.0 ∷ [], x.1)
-
--- whether there is a token, and it is not this sign
-abbrev pub goes_past : List ℕ → List Token → Bool
-goes_past sign tokens = begins_with (λ t. not (is_this_sign sign t)) tokens

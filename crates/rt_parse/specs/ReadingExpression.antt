@@ -1,46 +1,18 @@
 -- The readers of expressions. An expression that is too deep is read on, and no tree of it is kept.
-use Rattle.std.specs.Prelude.{ℕ, zero, suc, ◌+◌, max, Bool, true, false, nat_lt, codes, List, [], ◌∷◌, length, Option, Some, None, Ok, Err, if◌then◌else◌}
+use Rattle.std.specs.Prelude.{ℕ, zero, suc, Bool, true, false, codes, List, [], ◌∷◌, length, Option, Some, None, Ok, Err, if◌then◌else◌}
 use Rattle.rt_ids.specs.declared.op.Op.{Op}
 use Rattle.rt_ids.specs.declared.limit.Limit.TheVariants as limit
-use Rattle.rt_ids.specs.declared.limits.TheConstants.{PARENTHESES, DEPTH}
+use Rattle.rt_ids.specs.declared.limits.TheConstants.{PARENTHESES}
 use Rattle.rt_ids.specs.declared.refusal.Refusal.TheVariants as refusal
 use Rattle.rt_lex.specs.declared.token.Kind.{Kind}
 use Rattle.rt_lex.specs.declared.token.Kind.TheVariants as kind
 use Rattle.rt_lex.specs.Token.{Token}
-use Rattle.rt_ast.specs.Tree.{Expression, Num, Read, Oper}
+use Rattle.rt_ast.specs.Tree.{Expression, Num, Read}
 use Rattle.rt_grammar.specs.Tokens.{free}
-use Rattle.rt_grammar.specs.Expression.{Operand, Signs, comparisons, strengths, op_of, depth}
+use Rattle.rt_grammar.specs.Expression.{Signs, comparisons, strengths, op_of}
 use Rattle.rt_grammar.specs.Reach.{is_of}
 use Rattle.rt_parse.specs.Reading.{Reader, ◌>>=◌, token_at, repeat_at, begins_with, wrong_at, limited_sign_at, sign_at, name_at, number_at}
-
--- a tree and its depth
-pub record Kept : Type 0 where
-  pub tree : Expression
-  pub depth : ℕ
-
--- an expression as it is read: the offset of its first token, and its tree unless it is too deep
-pub record Measured : Type 0 where
-  pub at : ℕ
-  pub kept : Option Kept
-
-abbrev pub kept_if : Bool → Kept → Option Kept
-kept_if deep k = if deep then None else Some k
-
-abbrev pub kept_joined : Op → Option Kept → Option Kept → Option Kept
-kept_joined o None right = None
-kept_joined o (Some left) None = None
-kept_joined o (Some left) (Some right) =
-    kept_if (nat_lt DEPTH (1 + max left.depth right.depth)) (record { tree = Oper o left.tree right.tree; depth = 1 + max left.depth right.depth })
-
-abbrev pub measured_joined : Op → Measured → Measured → Measured
-measured_joined o left right = record { at = left.at; kept = kept_joined o left.kept right.kept }
-
--- how an operand of the grammar is read
-abbrev pub measure : Operand → Measured
-measure e = record { at = e.at; kept = kept_if (nat_lt DEPTH (depth e.tree)) (record { tree = e.tree; depth = depth e.tree }) }
-
-abbrev pub atomic : ℕ → Expression → Measured
-atomic at tree = record { at = at; kept = Some (record { tree = tree; depth = 1 }) }
+use Rattle.rt_parse.specs.ReadingDepth.{Kept, Measured, measured_joined, atomic}
 
 unfoldable pub operator_at : Signs → Reader Op
 operator_at signs tokens = token_at (op_of signs) (λ _. free) tokens

@@ -3,9 +3,13 @@
 ghost use Rattle.std.specs.Prelude.{◌≡◌, ◌&&◌, [], ◌∷◌, codes, length, map, not, is_none};
 ghost use Rattle.rt_lex.specs.Token.{is_this_sign, is_this_word};
 ghost use Rattle.rt_ast.specs.View.{body_of, task_of, app_of, option_map};
-ghost use Rattle.rt_grammar.specs.Declaration.{no_options, is_task, is_init, or_empty};
-ghost use Rattle.rt_parse.specs.Reading.{Gives, begins_with, items_at, adds_at, repeat_at};
-ghost use Rattle.rt_parse.specs.ReadingDeclaration.{binds_at, priority_at, capacity_at, shared_list_at, local_list_at, takes, option_at, some_options_at, options_at, thread_at, thread_body_at, one_argument_at, argument_at, parameters_at, task_arguments_at, task_at, application_at, text_at};
+ghost use Rattle.rt_grammar.specs.Options.{no_options, is_task, is_init};
+ghost use Rattle.rt_grammar.specs.Bodies.{or_empty};
+ghost use Rattle.rt_parse.specs.Reading.{Gives, begins_with, repeat_at};
+ghost use Rattle.rt_parse.specs.ReadingList.{items_at, adds_at};
+ghost use Rattle.rt_parse.specs.ReadingOptions.{binds_at, priority_at, capacity_at, shared_list_at, local_list_at, takes, option_at, some_options_at, options_at};
+ghost use Rattle.rt_parse.specs.ReadingBodies.{thread_at, thread_body_at, one_argument_at, argument_at, parameters_at, task_arguments_at, task_at};
+ghost use Rattle.rt_parse.specs.ReadingDeclaration.{application_at, text_at};
 ghost use Rattle.rt_parse.specs.DeclarationView.{options_view, owner_view, items_of};
 
 use crate::declaration::{heading, interrupts, locals, monotonic, names, shared};
@@ -66,7 +70,7 @@ fn no_options() -> BodyOptions
     }
 }
 
-#[tactic(auto, unfolding(crate::specs::ReadingDeclaration::binds_at))]
+#[tactic(auto, unfolding(crate::specs::ReadingOptions::binds_at))]
 fn binds<'a>(
     alloc: Global,
     tokens: Tokens<'a>,
@@ -81,7 +85,7 @@ fn binds<'a>(
     Ok((BodyOptions { binds, ..options }, tokens))
 }
 
-#[tactic(auto, unfolding(crate::specs::ReadingDeclaration::priority_at))]
+#[tactic(auto, unfolding(crate::specs::ReadingOptions::priority_at))]
 fn priority<'a>(tokens: Tokens<'a>, options: BodyOptions) -> Result<(BodyOptions, Tokens<'a>), Stop>
     ensures { Gives (λ x. (options_view x.0, x.1)) result (priority_at (options_view options) tokens.entry) }
 {
@@ -98,7 +102,7 @@ fn priority<'a>(tokens: Tokens<'a>, options: BodyOptions) -> Result<(BodyOptions
     ))
 }
 
-#[tactic(auto, unfolding(crate::specs::ReadingDeclaration::capacity_at))]
+#[tactic(auto, unfolding(crate::specs::ReadingOptions::capacity_at))]
 fn capacity<'a>(tokens: Tokens<'a>, options: BodyOptions) -> Result<(BodyOptions, Tokens<'a>), Stop>
     ensures { Gives (λ x. (options_view x.0, x.1)) result (capacity_at (options_view options) tokens.entry) }
 {
@@ -115,7 +119,7 @@ fn capacity<'a>(tokens: Tokens<'a>, options: BodyOptions) -> Result<(BodyOptions
     ))
 }
 
-#[tactic(auto, unfolding(crate::specs::ReadingDeclaration::shared_list_at))]
+#[tactic(auto, unfolding(crate::specs::ReadingOptions::shared_list_at))]
 fn shared_list<'a>(
     alloc: Global,
     tokens: Tokens<'a>,
@@ -131,7 +135,7 @@ fn shared_list<'a>(
     Ok((BodyOptions { shared, ..options }, tokens))
 }
 
-#[tactic(auto, unfolding(crate::specs::ReadingDeclaration::local_list_at))]
+#[tactic(auto, unfolding(crate::specs::ReadingOptions::local_list_at))]
 fn local_list<'a>(
     alloc: Global,
     tokens: Tokens<'a>,
@@ -191,7 +195,7 @@ fn takes(tokens: &Tokens<'_>, allowed: bool, option: &[u8]) -> bool
 }
 
 /// One more option, of which each stands at most once.
-#[tactic(auto, unfolding(crate::specs::ReadingDeclaration::option_at))]
+#[tactic(auto, unfolding(crate::specs::ReadingOptions::option_at))]
 fn option<'a>(
     alloc: Global,
     tokens: Tokens<'a>,
@@ -235,7 +239,7 @@ fn option_list<'a>(
 }
 
 /// The options of a body, where there are any.
-#[tactic(auto, unfolding(crate::specs::ReadingDeclaration::options_at, crate::specs::ReadingDeclaration::some_options_at))]
+#[tactic(auto, unfolding(crate::specs::ReadingOptions::options_at, crate::specs::ReadingOptions::some_options_at))]
 fn options<'a>(
     alloc: Global,
     tokens: Tokens<'a>,
@@ -261,7 +265,7 @@ fn or_empty<T: Drop>(alloc: Global, list: Option<Vec<T>>) -> Vec<T>
 }
 
 /// The body of `init` or `idle`, where there is one.
-#[tactic(auto, unfolding(crate::specs::ReadingDeclaration::thread_body_at, crate::specs::ReadingDeclaration::thread_at))]
+#[tactic(auto, unfolding(crate::specs::ReadingBodies::thread_body_at, crate::specs::ReadingBodies::thread_at))]
 fn thread_body<'a>(
     alloc: Global,
     tokens: Tokens<'a>,
@@ -286,7 +290,7 @@ fn thread_body<'a>(
 }
 
 /// One more argument, behind so many.
-#[tactic(auto, unfolding(crate::specs::ReadingDeclaration::one_argument_at))]
+#[tactic(auto, unfolding(crate::specs::ReadingBodies::one_argument_at))]
 fn argument<'a>(
     alloc: Global,
     tokens: Tokens<'a>,
@@ -319,7 +323,7 @@ fn more_arguments<'a>(
 }
 
 /// The arguments of a task, where there are any.
-#[tactic(auto, unfolding(crate::specs::ReadingDeclaration::task_arguments_at, crate::specs::ReadingDeclaration::parameters_at))]
+#[tactic(auto, unfolding(crate::specs::ReadingBodies::task_arguments_at, crate::specs::ReadingBodies::parameters_at))]
 fn task_arguments<'a>(alloc: Global, tokens: Tokens<'a>) -> Result<(Vec<Ident>, Tokens<'a>), Stop>
     ensures { Gives (λ x. (x.0.items, x.1)) result (task_arguments_at tokens.entry) }
 {
@@ -332,7 +336,7 @@ fn task_arguments<'a>(alloc: Global, tokens: Tokens<'a>) -> Result<(Vec<Ident>, 
 }
 
 /// One more task, behind so many.
-#[tactic(auto, unfolding(crate::specs::ReadingDeclaration::task_at))]
+#[tactic(auto, unfolding(crate::specs::ReadingBodies::task_at))]
 fn task<'a>(
     alloc: Global,
     tokens: Tokens<'a>,

@@ -6,7 +6,8 @@ ghost use Rattle.rt_ast.specs.View.{expression_of};
 ghost use Rattle.rt_grammar.specs.Expression.{op_of, comparisons, strengths};
 ghost use Rattle.rt_grammar.specs.Reach.{is_of};
 ghost use Rattle.rt_parse.specs.Reading.{Gives, begins_with, repeat_at};
-ghost use Rattle.rt_parse.specs.ReadingExpression.{measured_joined, is_number, is_name, atomic, operator_at, joined_at, chain_at, chains_at, compared_at, comparison_at, number_atom_at, name_atom_at, parenthesized_at, closed_at, nested_at, atom_at, expression_at};
+ghost use Rattle.rt_parse.specs.ReadingDepth.{measured_joined, atomic};
+ghost use Rattle.rt_parse.specs.ReadingExpression.{is_number, is_name, operator_at, joined_at, chain_at, chains_at, compared_at, comparison_at, number_atom_at, name_atom_at, parenthesized_at, closed_at, nested_at, atom_at, expression_at};
 ghost use Rattle.rt_parse.specs.ExpressionView.{signs_of, stronger_than, measured_view};
 
 use crate::stop::{Found, Stop};

@@ -6,8 +6,7 @@ ghost use Rattle.rt_lex.specs.Token.{is_this_sign, is_this_word};
 ghost use Rattle.rt_grammar.specs.Tokens.{free, limit_if, word_of, sign_of, ident_of, number_of, name_limit, number_limit};
 ghost use Rattle.rt_parse.specs.Reading.{Gives, begins_with, token_at, wrong_at, limited_word_at, word_at, limited_sign_at, sign_at, limited_name_at, name_at, number_at, limited_number_at, unless_limited};
 ghost use Rattle.rt_parse.specs.ReadingExpression.{is_name};
-ghost use Rattle.rt_grammar.specs.Declaration.{within};
-ghost use Rattle.rt_grammar.specs.Statement.{turned};
+ghost use Rattle.rt_grammar.specs.Limits.{within, turned};
 
 use crate::stop::{Found, Stop};
 use rt_ast::{Ident, Number};

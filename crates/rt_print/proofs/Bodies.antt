@@ -11,12 +11,15 @@ use Rattle.rt_ast.specs.Tree.{Body, Task, Block}
 use Rattle.rt_ast.specs.Bare.{bare_name, bare_listed, bare_block, bare_body, bare_task}
 use Rattle.rt_ast.specs.CanonicalExpression.{newline, further, name_text}
 use Rattle.rt_ast.specs.CanonicalBlock.{block_text}
-use Rattle.rt_ast.specs.Canonical.{body_options, task_options, options_text, body_text, arguments_text, task_text}
+use Rattle.rt_ast.specs.CanonicalOptions.{body_options, task_options, options_text}
+use Rattle.rt_ast.specs.Canonical.{body_text, arguments_text, task_text}
 use Rattle.rt_ast.specs.Printable.{IfThere, ArePrintableNames, IsPrintableBlock, IsPrintableBody, IsPrintableInit, IsPrintableTask}
 use Rattle.rt_grammar.specs.Language.{gives, repeat}
 use Rattle.rt_grammar.specs.Tokens.{free, name, limited_name, sign, word, limited_word, adds}
 use Rattle.rt_grammar.specs.Statement.{block}
-use Rattle.rt_grammar.specs.Declaration.{at_most, Options, Owner, OfInit, OfIdle, OfTask, is_init, options, or_empty, body_of, thread_body, argument, arguments, task}
+use Rattle.rt_grammar.specs.Limits.{at_most}
+use Rattle.rt_grammar.specs.Options.{Options, Owner, OfInit, OfIdle, OfTask, is_init, options}
+use Rattle.rt_grammar.specs.Bodies.{or_empty, body_of, thread_body, argument, arguments, task}
 use Rattle.rt_print.proofs.Reading.{Reads, Any, read_gives, read_then, read_left, read_right, read_none, read_step, read_space, read_trail, read_same}
 use Rattle.rt_print.proofs.Lexemes.{IsFront, Stops, IsNamed, read_name, read_word, read_sign}
 use Rattle.rt_print.proofs.Statements.{IsBlock, body_block_reads}

@@ -9,14 +9,15 @@ use Rattle.rt_ast.specs.declared.ident.Number.{Number}
 use Rattle.rt_ast.specs.declared.app.ListedTree.{ListedTree}
 use Rattle.rt_ast.specs.Bare.{bare_name, bare_number, bare_listed}
 use Rattle.rt_ast.specs.CanonicalExpression.{separated, name_text}
-use Rattle.rt_ast.specs.Canonical.{bracketed, by_ref_text, listed_text, binds_option, priority_option, capacity_option, shared_option, local_option, options_text}
+use Rattle.rt_ast.specs.CanonicalOptions.{bracketed, by_ref_text, listed_text, binds_option, priority_option, capacity_option, shared_option, local_option, options_text}
 use Rattle.rt_ast.specs.PrintableBody.{IsPrintableName}
 use Rattle.rt_ast.specs.Printable.{IfThere, ArePrintableNames, IsPrintableListed, IsPrintablePriority, IsPrintableCapacity}
 use Rattle.rt_lex.specs.declared.token.Kind.TheVariants as kind
 use Rattle.rt_grammar.specs.Language.{Language, gives, ◌>>◌}
-use Rattle.rt_grammar.specs.Tokens.{free, name, number, limited_number, sign, word, list, adds}
-use Rattle.rt_grammar.specs.Declaration as grammar
-use Rattle.rt_grammar.specs.Declaration.{within, names, Options, no_options, Owner, OfTask, is_task, is_init, listed, option, options}
+use Rattle.rt_grammar.specs.Tokens.{free, name, number, limited_number, sign, word, list, adds, names}
+use Rattle.rt_grammar.specs.Options as grammar
+use Rattle.rt_grammar.specs.Limits.{within}
+use Rattle.rt_grammar.specs.Options.{Options, no_options, Owner, OfTask, is_task, is_init, listed, option, options}
 use Rattle.rt_print.proofs.Reading.{Reads, Any, read_gives, read_then, read_left, read_right, read_space, read_same, read_only_if}
 use Rattle.rt_print.proofs.Lexemes.{IsFront, IsNamed, IsNumber, read_name, read_number, read_word, read_sign}
 use Rattle.rt_print.proofs.Lists.{IsEnd, Items, comma_ends, list_reads, list_step, list_last}

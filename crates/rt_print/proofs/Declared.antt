@@ -10,12 +10,14 @@ use Rattle.rt_ast.specs.declared.ident.Ident.{Ident}
 use Rattle.rt_ast.specs.Tree.{App}
 use Rattle.rt_ast.specs.Bare.{bare_name}
 use Rattle.rt_ast.specs.CanonicalExpression.{separated, name_text}
-use Rattle.rt_ast.specs.Canonical.{bracketed, enclosed, dispatchers_text, head_text}
+use Rattle.rt_ast.specs.CanonicalOptions.{bracketed}
+use Rattle.rt_ast.specs.Canonical.{enclosed, dispatchers_text, head_text}
 use Rattle.rt_ast.specs.PrintableBody.{IsPrintableName}
 use Rattle.rt_ast.specs.Printable.{ArePrintableNames}
 use Rattle.rt_grammar.specs.Language.{Language, gives, ◌>>◌}
-use Rattle.rt_grammar.specs.Tokens.{free, name, limited_number, sign, word, list, adds}
-use Rattle.rt_grammar.specs.Declaration.{within, at_most, names, dispatchers, Head, head}
+use Rattle.rt_grammar.specs.Tokens.{free, name, limited_number, sign, word, list, adds, names}
+use Rattle.rt_grammar.specs.Limits.{within, at_most}
+use Rattle.rt_grammar.specs.Declaration.{dispatchers, Head, head}
 use Rattle.rt_print.proofs.Reading.{Reads, Any, read_gives, read_then, read_holds, read_left, read_right, read_space, read_trail, read_same}
 use Rattle.rt_print.proofs.Lexemes.{Stops, IsNamed, IsNumber, read_name, read_number, read_word, read_sign}
 use Rattle.rt_print.proofs.Expressions.{Plain}

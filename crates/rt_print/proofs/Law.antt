@@ -7,7 +7,10 @@ use Rattle.rt_ast.specs.Canonical.{canonical, head_text, irqs_text, mono_text, s
 use Rattle.rt_ast.specs.Printable.{IsPrintable}
 use Rattle.rt_grammar.specs.Language.{repeat}
 use Rattle.rt_grammar.specs.Tokens.{adds}
-use Rattle.rt_grammar.specs.Declaration.{OfInit, OfIdle, head, interrupts, monotonic, shared, locals, thread_body, task, application}
+use Rattle.rt_grammar.specs.Resources.{interrupts, monotonic, shared, locals}
+use Rattle.rt_grammar.specs.Options.{OfInit, OfIdle}
+use Rattle.rt_grammar.specs.Bodies.{thread_body, task}
+use Rattle.rt_grammar.specs.Declaration.{head, application}
 use Rattle.rt_print.specs.ReadsBack.{ReadsBack, CanonicalTextsAreReadAsTheirTrees}
 use Rattle.rt_print.proofs.Reading.{Reads, read_gives, read_then, read_same}
 use Rattle.rt_print.proofs.Declared.{IsHead, head_reads}

@@ -1,7 +1,7 @@
 -- Options one behind the other, and options in parentheses.
 use Rattle.std.proofs.Common.{◌≡◌, ℕ, Bool, true, false, ◌||◌, List, [], ◌∷◌, ◌++◌, Result, OnOk, codes, refl, sym, ap, ◌∙◌, append_assoc, append-nil}
 use Rattle.rt_ast.specs.CanonicalExpression.{further}
-use Rattle.rt_ast.specs.Canonical.{options_text}
+use Rattle.rt_ast.specs.CanonicalOptions.{options_text}
 use Rattle.rt_print.specs.Opened.{has_any, opening, opened_text, closing}
 use Rattle.rt_print.proofs.Lines.{on_ok}
 

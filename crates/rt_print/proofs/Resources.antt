@@ -17,7 +17,8 @@ use Rattle.rt_ast.specs.PrintableBody.{IsPrintableNumber}
 use Rattle.rt_ast.specs.Printable.{IfThere, IsPrintableIrq, IsPrintableMono, IsPrintableResource, IsPrintableLocal}
 use Rattle.rt_grammar.specs.Language.{gives, ◌or◌}
 use Rattle.rt_grammar.specs.Tokens.{free, name, limited_name, number, limited_number, sign, word, limited_word}
-use Rattle.rt_grammar.specs.Declaration.{within, at_most, interrupt, interrupts, monotonic, first_value, lock_free, locked, shared, local, locals}
+use Rattle.rt_grammar.specs.Limits.{within, at_most}
+use Rattle.rt_grammar.specs.Resources.{interrupt, interrupts, monotonic, first_value, lock_free, locked, shared, local, locals}
 use Rattle.rt_print.proofs.Reading.{Reads, Any, read_gives, read_then, read_left, read_right, read_space, read_trail, read_same}
 use Rattle.rt_print.proofs.Lexemes.{Stops, IsNamed, IsNumber, read_name, read_number, read_word, read_sign}
 use Rattle.rt_print.proofs.Lists.{IsEnd}

@@ -11,7 +11,7 @@ use Rattle.rt_ast.specs.CanonicalBlock.{call_text, spawn_text, value_text}
 use Rattle.rt_ast.specs.PrintableBody.{IsPrintableExpression, IsPrintableSpawn, IsPrintableValue}
 use Rattle.rt_grammar.specs.Tokens.{free, name, sign, word, limited_word}
 use Rattle.rt_grammar.specs.Expression.{expression}
-use Rattle.rt_grammar.specs.Statement.{arguments, soon, after, spawn, value}
+use Rattle.rt_grammar.specs.Spawn.{arguments, soon, after, spawn, value}
 use Rattle.rt_print.proofs.Reading.{Reads, Any, read_gives, read_then, read_left, read_right, read_space, read_same}
 use Rattle.rt_print.proofs.Lexemes.{IsNamed, read_name, read_word, read_sign}
 use Rattle.rt_print.proofs.Expressions.{IsTree, expression_reads, plain_closing, plain_semicolon}

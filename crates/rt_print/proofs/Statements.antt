@@ -12,7 +12,10 @@ use Rattle.rt_ast.specs.PrintableBody.{IsPrintableStatement, ArePrintable, inner
 use Rattle.rt_grammar.specs.Language.{Language, gives, ◌>>◌, or_else, repeat}
 use Rattle.rt_grammar.specs.Tokens.{free, name, limited_name, number, limited_number, sign, limited_sign, word, limited_word}
 use Rattle.rt_grammar.specs.Expression.{expression}
-use Rattle.rt_grammar.specs.Statement.{Counted, counted, nested, turned, bind, assign, emit, pend, call, branch, loop, further, lock, statement, block_of, one_more, braced, block, inside, value, spawn}
+use Rattle.rt_grammar.specs.Limits.{counted, nested, turned}
+use Rattle.rt_grammar.specs.Spawn.{value, spawn}
+use Rattle.rt_grammar.specs.Simple.{Counted, bind, assign, emit, pend, call}
+use Rattle.rt_grammar.specs.Statement.{branch, loop, further, lock, statement, block_of, one_more, braced, block, inside}
 use Rattle.rt_print.proofs.Reading.{Reads, Any, IsMargin, read_gives, read_then, read_holds, read_left, read_right, read_none, read_step, read_space, read_newline, read_margin, read_same}
 use Rattle.rt_print.proofs.Lexemes.{IsNamed, IsNumber, read_name, read_number, read_word, read_sign}
 use Rattle.rt_print.proofs.Expressions.{IsTree, expression_reads, Plain, plain_semicolon, plain_block}

@@ -1,7 +1,7 @@
 ghost use Rattle.std.specs.Prelude.{◌≡◌, ◌++◌, ◌||◌, false, IfOk, OnOk};
 ghost use Rattle.rt_ast.specs.View as view;
 ghost use Rattle.rt_ast.specs.CanonicalExpression.{further, name_text};
-ghost use Rattle.rt_ast.specs.Canonical.{bracketed, listed_text, binds_option, priority_option, capacity_option, shared_option, local_option, body_options, task_options, options_text};
+ghost use Rattle.rt_ast.specs.CanonicalOptions.{bracketed, listed_text, binds_option, priority_option, capacity_option, shared_option, local_option, body_options, task_options, options_text};
 ghost use Rattle.rt_print.specs.Opened.{has_any, opening, opened_text, closing};
 
 use crate::declarations::push_bracketed;

@@ -1,5 +1,5 @@
 use Rattle.std.proofs.Common.{codes, decimal, ap}
-use Rattle.rt_ast.specs.Canonical.{capacity_option}
+use Rattle.rt_ast.specs.CanonicalOptions.{capacity_option}
 use Rattle.rt_print.proofs.OpenText.{one_opened}
 use Rattle.rt_print.proofs.options.push_capacity.Goals as goal
 

@@ -1,7 +1,7 @@
 -- The text so far is that of the items so far.
 use Rattle.std.proofs.Common.{◌≡◌, ◌++◌, take}
 use Rattle.rt_ast.specs.CanonicalExpression.{further}
-use Rattle.rt_ast.specs.Canonical.{listed_text}
+use Rattle.rt_ast.specs.CanonicalOptions.{listed_text}
 use Rattle.rt_print.proofs.options.push_further_listed.Given as goal
 
 abbrev pub invariant-loop-resource : goal.invariant-loop-resource

@@ -1,5 +1,5 @@
 use Rattle.std.proofs.Common.{codes, decimal, ap}
-use Rattle.rt_ast.specs.Canonical.{priority_option}
+use Rattle.rt_ast.specs.CanonicalOptions.{priority_option}
 use Rattle.rt_print.proofs.OpenText.{one_opened}
 use Rattle.rt_print.proofs.options.push_priority.Goals as goal
 

@@ -1,5 +1,5 @@
 use Rattle.rt_ast.specs.View.{body_of}
-use Rattle.rt_ast.specs.Canonical.{binds_option, priority_option, capacity_option, body_options}
+use Rattle.rt_ast.specs.CanonicalOptions.{binds_option, priority_option, capacity_option, body_options}
 use Rattle.rt_print.proofs.OpenText.{options_of_task}
 use Rattle.rt_print.proofs.options.push_task_options.Goals as goal
 

@@ -1,0 +1,25 @@
+-- The limits that go by a number, by how many things stand before, or by the nesting of a block.
+use Rattle.std.specs.Prelude.{ℕ, ◌-◌, not, ◌&&◌, nat_lt, nat_le, Option}
+use Rattle.rt_ids.specs.declared.limit.Limit.{Limit}
+use Rattle.rt_ids.specs.declared.limit.Limit.TheVariants as limit
+use Rattle.rt_ids.specs.declared.limits.TheConstants.{NESTING, STATEMENTS, TURNS}
+use Rattle.rt_grammar.specs.Tokens.{limit_if}
+
+-- the limit on statements, at one behind so many
+abbrev pub counted : ℕ → Option Limit
+counted before = limit_if (nat_le STATEMENTS before) limit.Statements
+
+-- the limit on nesting, at a block of this nesting
+abbrev pub nested : ℕ → Option Limit
+nested nesting = limit_if (nat_lt NESTING nesting) limit.Nesting
+
+-- the limit on turns, at the second number
+abbrev pub turned : ℕ → ℕ → Option Limit
+turned first last = limit_if (nat_lt TURNS (last - first)) limit.Turns
+
+abbrev pub within : ℕ → ℕ → Limit → ℕ → Option Limit
+within least greatest what n = limit_if (not (nat_le least n && nat_le n greatest)) what
+
+-- the limit on a number of things, at one behind so many
+abbrev pub at_most : ℕ → Limit → ℕ → Option Limit
+at_most most what before = limit_if (nat_le most before) what

@@ -1,0 +1,52 @@
+-- Statements in which no block stands.
+--   Simple = "let" Name "=" Value ";" | Name "=" Expr ";" | "emit" Expr ";" | "pend" Name ";" | Spawn ";"
+-- A statement is told how many statements of the body stand before it; it means its tree, and how many stand before what is
+-- behind it.
+use Rattle.std.specs.Prelude.{ℕ, suc, codes}
+use Rattle.rt_ast.specs.Tree.{Statement, Bind, Assign, Emit, Pend, Spawns}
+use Rattle.rt_grammar.specs.Language.{Language, gives, ◌>>=◌, ◌>>◌}
+use Rattle.rt_grammar.specs.Tokens.{limited_word, sign, name, limited_name}
+use Rattle.rt_grammar.specs.Expression.{expression}
+use Rattle.rt_grammar.specs.Limits.{counted}
+use Rattle.rt_grammar.specs.Spawn.{spawn, value}
+
+-- what is read of a body: a tree, and the statements before what is behind it
+abbrev pub Counted : Type 0 → Type 0
+Counted A = A × ℕ
+
+abbrev pub bind : ℕ → ℕ → Language (Counted Statement)
+bind most before = do
+  limited_word (codes "let") (counted before)
+  x ← name
+  sign (codes "=")
+  v ← value most
+  sign (codes ";")
+  gives (Bind x v, suc before)
+
+abbrev pub assign : ℕ → ℕ → Language (Counted Statement)
+assign most before = do
+  x ← limited_name (counted before)
+  sign (codes "=")
+  e ← expression most
+  sign (codes ";")
+  gives (Assign x e, suc before)
+
+abbrev pub emit : ℕ → ℕ → Language (Counted Statement)
+emit most before = do
+  limited_word (codes "emit") (counted before)
+  e ← expression most
+  sign (codes ";")
+  gives (Emit e, suc before)
+
+abbrev pub pend : ℕ → Language (Counted Statement)
+pend before = do
+  limited_word (codes "pend") (counted before)
+  irq ← name
+  sign (codes ";")
+  gives (Pend irq, suc before)
+
+abbrev pub call : ℕ → ℕ → Language (Counted Statement)
+call most before = do
+  s ← spawn most (counted before)
+  sign (codes ";")
+  gives (Spawns s, suc before)

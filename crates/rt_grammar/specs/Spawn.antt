@@ -1,0 +1,39 @@
+-- Values and spawns.
+--   Value = Expr | "now" | Spawn
+--   Spawn = "spawn" Name "(" List(Expr) ")" | "spawn_after" "(" Expr ")" Name "(" List(Expr) ")"
+use Rattle.std.specs.Prelude.{ℕ, codes, List, [], Option}
+use Rattle.rt_ids.specs.declared.limit.Limit.{Limit}
+use Rattle.rt_ast.specs.Tree.{Value, Spawn, Expression, Calc, Now, Call, Soon, After}
+use Rattle.rt_grammar.specs.Language.{Language, gives, ◌>>=◌, ◌>>◌, ◌or◌}
+use Rattle.rt_grammar.specs.Tokens.{free, word, limited_word, sign, name, list, adds}
+use Rattle.rt_grammar.specs.Expression.{expression}
+
+abbrev pub arguments : ℕ → Language (List Expression)
+arguments most = sign (codes "(") >> list (codes ")") (adds (λ before. expression most)) []
+
+abbrev pub soon : ℕ → Option Limit → Language Spawn
+soon most what = do
+  limited_word (codes "spawn") what
+  task ← name
+  args ← arguments most
+  gives (Soon task args)
+
+abbrev pub after : ℕ → Option Limit → Language Spawn
+after most what = do
+  at ← limited_word (codes "spawn_after") what
+  sign (codes "(")
+  delay ← expression most
+  sign (codes ")")
+  task ← name
+  args ← arguments most
+  gives (After at delay task args)
+
+-- a spawn whose first word may pass a limit
+abbrev pub spawn : ℕ → Option Limit → Language Spawn
+spawn most what = soon most what or after most what
+
+abbrev pub value : ℕ → Language Value
+value most =
+    (do at ← word (codes "now"); gives (Now at))
+    or (do s ← spawn most free; gives (Call s))
+    or (do e ← expression most; gives (Calc e))

@@ -1,0 +1,58 @@
+-- The readers of bodies and tasks.
+use Rattle.std.specs.Prelude.{ℕ, codes, List, [], ◌∷◌, ◌++◌, length, Option, Some, None, Ok, if◌then◌else◌}
+use Rattle.rt_ids.specs.declared.limit.Limit.TheVariants as limit
+use Rattle.rt_ids.specs.declared.limits.TheConstants.{TASKS, ARGUMENTS, NESTING, STATEMENTS}
+use Rattle.rt_lex.specs.Token.{is_this_word, is_this_sign}
+use Rattle.rt_ast.specs.declared.ident.Ident.{Ident}
+use Rattle.rt_ast.specs.Tree.{Body, Task, Block}
+use Rattle.rt_grammar.specs.Limits.{at_most}
+use Rattle.rt_grammar.specs.Simple.{Counted}
+use Rattle.rt_grammar.specs.Options.{Owner, OfTask}
+use Rattle.rt_grammar.specs.Bodies.{body_of}
+use Rattle.rt_parse.specs.Reading.{Reader, ◌>>=◌, begins_with, repeat_at, limited_word_at, word_at, sign_at, limited_name_at, name_at}
+use Rattle.rt_parse.specs.ReadingStatement.{block_at}
+use Rattle.rt_parse.specs.ReadingOptions.{options_at}
+
+-- a body's block
+abbrev pub body_block_at : Reader (Counted Block)
+body_block_at = block_at NESTING STATEMENTS
+
+unfoldable pub thread_at : Owner → List ℕ → Reader (Option Body)
+thread_at owner text tokens = do
+  at ← word_at text tokens
+  o ← options_at owner at.1
+  b ← body_block_at o.1
+  Ok (Some (body_of o.0 b.0.0 at.0), b.1)
+
+unfoldable pub thread_body_at : Owner → List ℕ → Reader (Option Body)
+thread_body_at owner text tokens = if begins_with (is_this_word text) tokens then thread_at owner text tokens else Ok (None, tokens)
+
+-- one more argument behind so many
+unfoldable pub one_argument_at : ℕ → Reader Ident
+one_argument_at before tokens = do
+  a ← sign_at (codes ",") tokens
+  limited_name_at (at_most ARGUMENTS limit.Arguments before) a.1
+
+unfoldable pub argument_at : List Ident → Reader (List Ident)
+argument_at xs tokens = do
+  a ← sign_at (codes ",") tokens
+  x ← limited_name_at (at_most ARGUMENTS limit.Arguments (length xs)) a.1
+  Ok (xs ++ x.0 ∷ [], x.1)
+
+unfoldable pub parameters_at : Reader (List Ident)
+parameters_at tokens = do
+  a ← word_at (codes "with") tokens
+  x ← name_at a.1
+  repeat_at (is_this_sign (codes ",")) argument_at (length x.1) (x.0 ∷ []) x.1
+
+unfoldable pub task_arguments_at : Reader (List Ident)
+task_arguments_at tokens = if begins_with (is_this_word (codes "with")) tokens then parameters_at tokens else Ok ([], tokens)
+
+unfoldable pub task_at : ℕ → Reader Task
+task_at before tokens = do
+  a ← limited_word_at (codes "task") (at_most TASKS limit.Tasks before) tokens
+  x ← name_at a.1
+  o ← options_at OfTask x.1
+  args ← task_arguments_at o.1
+  b ← body_block_at args.1
+  Ok (record { name = x.0; binds = o.0.binds; priority = o.0.priority; capacity = o.0.capacity; args = args.0; body = body_of o.0 b.0.0 x.0.at }, b.1)

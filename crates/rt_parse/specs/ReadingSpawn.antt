@@ -1,0 +1,58 @@
+-- The readers of values and spawns.
+use Rattle.std.specs.Prelude.{Bool, ◌||◌, codes, List, [], length, Option, Ok, if◌then◌else◌}
+use Rattle.rt_ids.specs.declared.limit.Limit.{Limit}
+use Rattle.rt_lex.specs.Token.{Token, is_this_word}
+use Rattle.rt_ast.specs.Tree.{Value, Spawn, Expression, Calc, Now, Call, Soon, After}
+use Rattle.rt_grammar.specs.Tokens.{free}
+use Rattle.rt_parse.specs.Reading.{Reader, ◌>>=◌, begins_with, limited_word_at, word_at, sign_at, name_at}
+use Rattle.rt_parse.specs.ReadingList.{items_at, adds_at}
+use Rattle.rt_parse.specs.ReadingExpression.{expression_at}
+
+unfoldable pub arguments_at : Reader (List Expression)
+arguments_at tokens = do
+  a ← sign_at (codes "(") tokens
+  items_at (codes ")") (adds_at (λ before. expression_at)) (length a.1) [] a.1
+
+unfoldable pub soon_at : Option Limit → Reader Spawn
+soon_at what tokens = do
+  a ← limited_word_at (codes "spawn") what tokens
+  task ← name_at a.1
+  args ← arguments_at task.1
+  Ok (Soon task.0 args.0, args.1)
+
+unfoldable pub after_at : Option Limit → Reader Spawn
+after_at what tokens = do
+  at ← limited_word_at (codes "spawn_after") what tokens
+  a ← sign_at (codes "(") at.1
+  delay ← expression_at a.1
+  b ← sign_at (codes ")") delay.1
+  task ← name_at b.1
+  args ← arguments_at task.1
+  Ok (After at.0 delay.0 task.0 args.0, args.1)
+
+unfoldable pub spawn_at : Option Limit → Reader Spawn
+spawn_at what tokens = if begins_with (is_this_word (codes "spawn")) tokens then soon_at what tokens else after_at what tokens
+
+unfoldable pub now_at : Reader Value
+now_at tokens = do
+  at ← word_at (codes "now") tokens
+  Ok (Now at.0, at.1)
+
+unfoldable pub call_value_at : Reader Value
+call_value_at tokens = do
+  s ← spawn_at free tokens
+  Ok (Call s.0, s.1)
+
+unfoldable pub calc_at : Reader Value
+calc_at tokens = do
+  e ← expression_at tokens
+  Ok (Calc e.0, e.1)
+
+abbrev pub is_spawn : Token → Bool
+is_spawn t = is_this_word (codes "spawn") t || is_this_word (codes "spawn_after") t
+
+unfoldable pub value_at : Reader Value
+value_at tokens =
+    if begins_with (is_this_word (codes "now")) tokens then now_at tokens
+    else if begins_with is_spawn tokens then call_value_at tokens
+    else calc_at tokens
