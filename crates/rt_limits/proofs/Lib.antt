@@ -1,0 +1,6 @@
+pub mod Keeps
+pub mod KeepsTokens
+pub mod KeepsExpression
+pub mod KeepsStatement
+pub mod KeepsDeclaration
+pub mod Keeping

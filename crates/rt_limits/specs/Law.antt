@@ -1,0 +1,8 @@
+-- What is claimed of texts that are read: their trees keep the limits.
+use Rattle.std.specs.Prelude.{ℕ, List}
+use Rattle.rt_ast.specs.Tree.{App}
+use Rattle.rt_ast.specs.Printable.{IsPrintable}
+use Rattle.rt_grammar.specs.Text.{IsText}
+
+abbrev pub TextsKeepLimits : Type 0
+TextsKeepLimits = (src : List ℕ) (app : App) → IsText src app → IsPrintable app
