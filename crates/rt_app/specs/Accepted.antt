@@ -1,0 +1,90 @@
+-- The applications that are accepted, as they show it themselves: they break no rule and keep the limits, each number in them is
+-- the place of something that is declared, and a variable is in scope where it is read or assigned.
+use Rattle.std.specs.Prelude.{◌≡◌, ℕ, ◌+◌, ◌<◌, ◌==◌, IsTrue, List, [], ◌∷◌, length, Option, Some, None}
+use Rattle.std.specs.List.{AllByRecursion, list_any, range_with_len}
+use Rattle.rt_app.specs.declared.app.Mono.{Mono}
+use Rattle.rt_app.specs.declared.expr.Atom.{Atom}
+use Rattle.rt_app.specs.declared.expr.Atom.TheVariants.{Var, Shared, Local}
+use Rattle.rt_app.specs.Tree.{Expression, Num, Read, Oper, Spawn, Soon, After, Value, Calc, Now, Call, Statement, Bind, Assign, Branch, Repeat, Locked, Emit, Pend, Spawns, Block, Empty, Then, Body, Task, App}
+use Rattle.rt_app.specs.Variables.{variables, variables_in}
+use Rattle.rt_app.specs.Limits.{KeepsLimits}
+use Rattle.rt_app.specs.Rules.{violations}
+
+module _ (app : App) where
+  -- with these variables in scope
+  abbrev pub IsMeant : List ℕ → Atom → Type 0
+  IsMeant visible (Var x) = IsTrue (list_any (λ y. y == x) visible)
+  IsMeant visible (Shared r) = r < length app.shared
+  IsMeant visible (Local n) = n < length app.locals
+
+  abbrev pub AreMeant : List ℕ → Expression → Type 0
+  AreMeant visible (Num n) = Unit {0}
+  AreMeant visible (Read atom at) = IsMeant visible atom
+  AreMeant visible (Oper o left right) = AreMeant visible left × AreMeant visible right
+
+  abbrev pub IsSpawnPlaced : List ℕ → Spawn → Type 0
+  IsSpawnPlaced visible (Soon task args at) = (task < length app.tasks) × AllByRecursion (AreMeant visible) args
+  IsSpawnPlaced visible (After word delay task args at) = AreMeant visible delay × (task < length app.tasks) × AllByRecursion (AreMeant visible) args
+
+  abbrev pub IsValuePlaced : List ℕ → Value → Type 0
+  IsValuePlaced visible (Calc e) = AreMeant visible e
+  IsValuePlaced visible (Now at) = Unit {0}
+  IsValuePlaced visible (Call s) = IsSpawnPlaced visible s
+
+  -- the variables in scope behind a statement, before which there are so many
+  abbrev pub behind : ℕ → List ℕ → Statement → List ℕ
+  behind n visible (Bind x v) = n ∷ visible
+  behind n visible (Assign x e at) = visible
+  behind n visible (Branch e first second) = visible
+  behind n visible (Repeat x first last turn) = visible
+  behind n visible (Locked r inner at) = visible
+  behind n visible (Emit e) = visible
+  behind n visible (Pend i) = visible
+  behind n visible (Spawns s) = visible
+
+  -- behind so many variables of the body, and with these in scope
+  abbrev mutual
+    pub IsStatementPlaced : ℕ → List ℕ → Statement → Type 0
+    IsStatementPlaced n visible (Bind x v) = (x ≡ n) × IsValuePlaced visible v
+    IsStatementPlaced n visible (Assign x e at) = IsMeant visible x × AreMeant visible e
+    IsStatementPlaced n visible (Branch e first second) = AreMeant visible e × IsBlockPlaced n visible first × IsBlockPlaced (n + variables first) visible second
+    IsStatementPlaced n visible (Repeat x first last turn) = (x ≡ n) × IsBlockPlaced (n + 1) (n ∷ visible) turn
+    IsStatementPlaced n visible (Locked r inner at) = (r < length app.shared) × IsBlockPlaced n visible inner
+    IsStatementPlaced n visible (Emit e) = AreMeant visible e
+    IsStatementPlaced n visible (Pend i) = i < length app.irqs
+    IsStatementPlaced n visible (Spawns s) = IsSpawnPlaced visible s
+
+    pub IsBlockPlaced : ℕ → List ℕ → Block → Type 0
+    IsBlockPlaced n visible Empty = Unit {0}
+    IsBlockPlaced n visible (Then s rest) = IsStatementPlaced n visible s × IsBlockPlaced (n + variables_in s) (behind n visible s) rest
+
+  -- a body that takes so many arguments
+  pub record IsBodyPlaced (args : ℕ) (b : Body) : Type 0 where
+    pub shared : AllByRecursion (λ l. l.resource < length app.shared) b.shared
+    pub local : AllByRecursion (λ o. o.local < length app.locals) b.local
+    pub variables : b.variables ≡ args + variables b.block
+    pub block : IsBlockPlaced args (range_with_len 0 args) b.block
+
+  abbrev pub IsThreadPlaced : Option Body → Type 0
+  IsThreadPlaced None = Unit {0}
+  IsThreadPlaced (Some b) = IsBodyPlaced 0 b
+
+  abbrev pub IsBindingPlaced : Option ℕ → Type 0
+  IsBindingPlaced None = Unit {0}
+  IsBindingPlaced (Some irq) = irq < length app.irqs
+
+  abbrev pub IsMonoPlaced : Option Mono → Type 0
+  IsMonoPlaced None = Unit {0}
+  IsMonoPlaced (Some mono) = mono.irq < length app.irqs
+
+  abbrev pub IsTaskPlaced : Task → Type 0
+  IsTaskPlaced t = IsBindingPlaced t.binds × IsBodyPlaced t.args t.body
+
+pub record IsAccepted (app : App) : Type 0 where
+  pub rules : violations app ≡ []
+  pub limits : KeepsLimits app
+  pub dispatchers : AllByRecursion (λ d. d.irq < length app.irqs) app.dispatchers
+  pub mono : IsMonoPlaced app app.mono
+  pub init : IsThreadPlaced app app.init
+  pub idle : IsThreadPlaced app app.idle
+  pub tasks : AllByRecursion (IsTaskPlaced app) app.tasks

@@ -1,0 +1,51 @@
+-- The cost and the size of whole bodies and handlers, and the size of all code before each body.
+use Rattle.std.specs.Prelude.{ℕ, ◌+◌, ◌*◌, min, true, false, map, filter, sum_by, Option, Some, None}
+use Rattle.rt_app.specs.declared.app.Mono.{Mono}
+use Rattle.rt_app.specs.declared.costs.TheConstants.{MESSAGE_COST, READY_COST, READY_TASK_COST, TIMER_SECTION_COST, DISPATCHER_COST, TIMER_COST, TIMER_TASK_COST, SIZED_MESSAGES, DISPATCHER_TASK_SIZE, TIMER_TASK_SIZE, THREAD_SIZE}
+use Rattle.rt_app.specs.Tree.{Body, App}
+use Rattle.rt_app.specs.Level.{is_of_level, levels, tasks_of_level, armed_messages, armed_tasks}
+use Rattle.rt_app.specs.Ceiling.{greatest}
+use Rattle.rt_app.specs.Cost.{Measure, capped, block_cost}
+
+abbrev pub cost_measure : App → Measure
+cost_measure app = record { messages = armed_messages app; is_size = false }
+
+abbrev pub size_measure : App → Measure
+size_measure app = record { messages = min (armed_messages app) SIZED_MESSAGES; is_size = true }
+
+-- its block and its end
+abbrev pub body_cost : Measure → Body → ℕ
+body_cost m b = capped (block_cost m b.block + 1)
+
+-- a body that is not declared has its end alone
+abbrev pub cost_of : Measure → Option Body → ℕ
+cost_of m None = 1
+cost_of m (Some b) = body_cost m b
+
+-- the section of the ready queue in the dispatcher of a level
+abbrev pub dispatcher_section_cost : App → ℕ → ℕ
+dispatcher_section_cost app p = READY_COST + READY_TASK_COST * tasks_of_level app p
+
+-- a section of the timer queue
+abbrev pub timer_section_cost : App → ℕ
+timer_section_cost app = TIMER_SECTION_COST + MESSAGE_COST * armed_messages app
+
+-- it runs one body of its level, and this sum does not stop
+abbrev pub dispatcher_cost : App → ℕ → ℕ
+dispatcher_cost app p =
+    DISPATCHER_COST + READY_TASK_COST * tasks_of_level app p + greatest (map (λ t. body_cost (cost_measure app) t.body) (filter (is_of_level p) app.tasks))
+
+abbrev pub timer_cost : App → ℕ
+timer_cost app = TIMER_COST + MESSAGE_COST * armed_messages app + TIMER_TASK_COST * armed_tasks app
+
+abbrev pub dispatcher_size : App → ℕ → ℕ
+dispatcher_size app p = DISPATCHER_COST + DISPATCHER_TASK_SIZE * tasks_of_level app p
+
+-- the timer handler stands where there is a monotonic
+abbrev pub timer_size : App → Option Mono → ℕ
+timer_size app None = 0
+timer_size app (Some mono) = TIMER_COST + MESSAGE_COST * min (armed_messages app) SIZED_MESSAGES + TIMER_TASK_SIZE * armed_tasks app
+
+-- the code that belongs to no body
+abbrev pub shared_size : App → ℕ
+shared_size app = sum_by (dispatcher_size app) (levels app) + timer_size app app.mono + THREAD_SIZE

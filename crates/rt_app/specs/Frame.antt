@@ -1,0 +1,83 @@
+-- The words of a body's frame: its variables, and what its statements keep beside them at the worst. They are this
+-- project's own; frames are even, as the exception frames of ARMv7-M are multiples of 8 bytes.
+use Rattle.std.specs.Prelude.{ℕ, ◌+◌, ◌%◌, ◌==◌, max, Bool, true, false, ◌||◌, map, if◌then◌else◌}
+use Rattle.rt_app.specs.declared.costs.TheConstants.{SPAWN_WORDS, SPAWN_AFTER_WORDS}
+use Rattle.rt_app.specs.Tree.{Expression, Num, Read, Oper, Spawn, Soon, After, Value, Calc, Now, Call, Statement, Bind, Assign, Branch, Repeat, Locked, Emit, Pend, Spawns, Block, Empty, Then, Body}
+use Rattle.rt_app.specs.Spawned.{is_soon, spawns}
+use Rattle.rt_app.specs.Ceiling.{greatest}
+
+-- a number or a name is 1 deep
+abbrev pub depth : Expression → ℕ
+depth (Num n) = 1
+depth (Read atom at) = 1
+depth (Oper o left right) = 1 + max (depth left) (depth right)
+
+abbrev pub spawn_depth : Spawn → ℕ
+spawn_depth (Soon task args at) = greatest (map depth args)
+spawn_depth (After word delay task args at) = max (depth delay) (greatest (map depth args))
+
+abbrev pub value_depth : Value → ℕ
+value_depth (Calc e) = depth e
+value_depth (Now at) = 0
+value_depth (Call s) = spawn_depth s
+
+-- the greatest depth of an expression, and 0 where there is none
+abbrev mutual
+  pub statement_depth : Statement → ℕ
+  statement_depth (Bind x v) = value_depth v
+  statement_depth (Assign x e at) = depth e
+  statement_depth (Branch e first second) = max (depth e) (max (block_depth first) (block_depth second))
+  statement_depth (Repeat x first last turn) = block_depth turn
+  statement_depth (Locked r inner at) = block_depth inner
+  statement_depth (Emit e) = depth e
+  statement_depth (Pend i) = 0
+  statement_depth (Spawns s) = spawn_depth s
+
+  pub block_depth : Block → ℕ
+  block_depth Empty = 0
+  block_depth (Then s rest) = max (statement_depth s) (block_depth rest)
+
+-- whether there is a `for`
+abbrev mutual
+  pub is_loop : Statement → Bool
+  is_loop (Bind x v) = false
+  is_loop (Assign x e at) = false
+  is_loop (Branch e first second) = has_loop first || has_loop second
+  is_loop (Repeat x first last turn) = true
+  is_loop (Locked r inner at) = has_loop inner
+  is_loop (Emit e) = false
+  is_loop (Pend i) = false
+  is_loop (Spawns s) = false
+
+  pub has_loop : Block → Bool
+  has_loop Empty = false
+  has_loop (Then s rest) = is_loop s || has_loop rest
+
+-- the greatest number of resources that are locked at once
+abbrev mutual
+  pub statement_locks : Statement → ℕ
+  statement_locks (Bind x v) = 0
+  statement_locks (Assign x e at) = 0
+  statement_locks (Branch e first second) = max (locks first) (locks second)
+  statement_locks (Repeat x first last turn) = locks turn
+  statement_locks (Locked r inner at) = 1 + locks inner
+  statement_locks (Emit e) = 0
+  statement_locks (Pend i) = 0
+  statement_locks (Spawns s) = 0
+
+  pub locks : Block → ℕ
+  locks Empty = 0
+  locks (Then s rest) = max (statement_locks s) (locks rest)
+
+abbrev pub spawn_words : Spawn → ℕ
+spawn_words s = if is_soon s then SPAWN_WORDS else SPAWN_AFTER_WORDS
+
+-- where expressions are evaluated; a loop alone needs a word for its test
+abbrev pub expression_words : Block → ℕ
+expression_words b = if block_depth b == 0 then (if has_loop b then 1 else 0) else block_depth b
+
+abbrev pub even : ℕ → ℕ
+even n = n + n % 2
+
+abbrev pub frame_words : Body → ℕ
+frame_words b = even (b.variables + expression_words b.block + locks b.block + greatest (map spawn_words (spawns b.block)))

@@ -1,0 +1,58 @@
+-- How deep the one stack can get. Handlers of one level never stand on each other, so each level counts once, with the
+-- greatest need of its handlers: a maximum per level, where the machine has nested frames (Baker, 1991, on sharing a stack).
+use Rattle.std.specs.Prelude.{ℕ, zero, suc, ◌+◌, ◌*◌, ◌==◌, max, Bool, not, ◌&&◌, ◌||◌, List, map, filter, Option, Some, None, if◌then◌else◌}
+use Rattle.std.specs.List.{list_any}
+use Rattle.rt_app.specs.declared.costs.TheConstants.{DISPATCHER_WORDS, TIMER_WORDS, ENTRY_BYTES, PRIORITIES}
+use Rattle.rt_app.specs.Tree.{Body, Task, App}
+use Rattle.rt_app.specs.Level.{is_software, is_of_level, is_some_and, those_below}
+use Rattle.rt_app.specs.Ceiling.{greatest}
+use Rattle.rt_app.specs.Frame.{frame_words}
+
+-- a hardware task of this priority
+abbrev pub is_bound_at : ℕ → Task → Bool
+is_bound_at p t = not (is_software t) && (t.priority == p)
+
+abbrev pub frames_of : (Task → Bool) → App → List ℕ
+frames_of test app = map (λ t. frame_words t.body) (filter test app.tasks)
+
+abbrev pub is_timed_at : ℕ → App → Bool
+is_timed_at p app = is_some_and (λ mono. mono.priority == p) app.mono
+
+-- whether an interrupt is handled at this level: by a hardware task, a dispatcher or the timer handler
+abbrev pub has_handler : App → ℕ → Bool
+has_handler app p = list_any (λ t. t.priority == p) app.tasks || is_timed_at p app
+
+-- the words of a dispatcher, on which one of its tasks stands
+abbrev pub dispatcher_need : App → ℕ → ℕ
+dispatcher_need app p = if list_any (is_of_level p) app.tasks then DISPATCHER_WORDS + greatest (frames_of (is_of_level p) app) else 0
+
+abbrev pub timer_need : App → ℕ → ℕ
+timer_need app p = if is_timed_at p app then TIMER_WORDS else 0
+
+-- the greatest need of the handlers of this level, in words
+abbrev pub need : App → ℕ → ℕ
+need app p = max (greatest (frames_of (is_bound_at p) app)) (max (dispatcher_need app p) (timer_need app p))
+
+abbrev pub level_bytes : App → ℕ → ℕ
+level_bytes app p = if has_handler app p then ENTRY_BYTES + 4 * need app p else 0
+
+-- of the levels below this one
+unfoldable pub bytes_below : App → ℕ → ℕ
+bytes_below app zero = 0
+bytes_below app (suc p) = bytes_below app p + level_bytes app p
+
+abbrev pub thread_frame : Option Body → ℕ
+thread_frame None = 0
+thread_frame (Some b) = frame_words b
+
+-- the frame of the thread, which runs `init` and then `idle`
+abbrev pub thread_words : App → ℕ
+thread_words app = max (thread_frame app.init) (thread_frame app.idle)
+
+-- bytes of the stack at the deepest
+abbrev pub stack_bytes : App → ℕ
+stack_bytes app = 4 * thread_words app + bytes_below app PRIORITIES
+
+-- the levels that have a handler, rising
+abbrev pub handler_levels : App → List ℕ
+handler_levels app = those_below (has_handler app) PRIORITIES

@@ -1,0 +1,80 @@
+-- The rules on statements: shared resources (Baker, 1991; the RTIC 1 book), spawns, time, and what can be assigned to. A name
+-- that is not known, which is refused as such, breaks none of them.
+use Rattle.std.specs.Prelude.{ℕ, ◌==◌, Bool, true, false, not, ◌&&◌, ◌||◌, List, [], ◌++◌, length, flat_map, find, slice_get, Option, is_none}
+use Rattle.std.specs.List.{list_any}
+use Rattle.rt_ids.specs.declared.ids.BodyId.{BodyId}
+use Rattle.rt_ids.specs.declared.ids.BodyId.TheVariants as body
+use Rattle.rt_ids.specs.declared.rule.Rule.TheVariants as rule
+use Rattle.rt_app.specs.declared.expr.Atom.{Atom}
+use Rattle.rt_app.specs.declared.expr.Atom.TheVariants as atom
+use Rattle.rt_app.specs.declared.body.Listed.{Listed}
+use Rattle.rt_app.specs.declared.violation.Violation.{Violation}
+use Rattle.rt_app.specs.Tree.{Expression, Spawn, Soon, After, Task, App}
+use Rattle.rt_app.specs.Bodies.{Member, members}
+use Rattle.rt_app.specs.Level.{is_software, is_some_and}
+use Rattle.rt_app.specs.Violation.{when}
+use Rattle.rt_app.specs.Declarations.{is_known}
+use Rattle.rt_app.specs.Listing.{is_lock_free}
+use Rattle.rt_app.specs.Use.{Use, Reads, Writes, Locks, MakesSpawn, AsksTime, Placed, uses, loops}
+
+abbrev pub is_init : BodyId → Bool
+is_init body.Init = true
+is_init body.Idle = false
+is_init (body.Task t) = false
+
+-- the first listing of a resource by a body
+abbrev pub listing_in : Member → ℕ → Option Listed
+listing_in m r = find (λ l. l.resource == r) m.body.shared
+
+-- whether a body reaches a resource by locking it, as it lists it
+abbrev pub is_lockable : App → Member → ℕ → Bool
+is_lockable app m r = is_some_and (λ l. not l.by_ref && not (is_lock_free app r)) (listing_in m r)
+
+-- whether it reaches it without a lock
+abbrev pub is_free : App → Member → ℕ → Bool
+is_free app m r = is_some_and (λ l. l.by_ref || is_lock_free app r) (listing_in m r)
+
+-- `init` uses every shared resource by its name; any other body one that it locks, or that it reaches without a lock
+abbrev pub is_outside : App → Member → List ℕ → Atom → Bool
+is_outside app m locked (atom.Var x) = false
+is_outside app m locked (atom.Local n) = false
+is_outside app m locked (atom.Shared r) =
+    is_known r && (not (is_init m.id) && not (is_free app m r || (is_lockable app m r && list_any (λ q. q == r) locked)))
+
+-- `init` locks nothing, any other body what it lists to be locked
+abbrev pub is_misplaced_lock : App → Member → ℕ → Bool
+is_misplaced_lock app m r = is_known r && (is_init m.id || not (is_lockable app m r))
+
+abbrev pub is_inside_itself : List ℕ → ℕ → Bool
+is_inside_itself locked r = is_known r && list_any (λ q. q == r) locked
+
+-- the variable of a loop, and what a body other than `init` lists to be read alone
+abbrev pub is_fixed : Member → Atom → Bool
+is_fixed m (atom.Var x) = list_any (λ y. y == x) (loops m.body.block)
+is_fixed m (atom.Local n) = false
+is_fixed m (atom.Shared r) = is_known r && (not (is_init m.id) && is_some_and (λ l. l.by_ref) (listing_in m r))
+
+-- a spawn is of a software task, with as many arguments as it takes
+abbrev pub takes : List Expression → Task → Bool
+takes args t = is_software t && (length args == t.args)
+
+abbrev pub is_bad_spawn : App → ℕ → List Expression → Bool
+is_bad_spawn app n args = is_known n && not (is_some_and (takes args) (slice_get app.tasks n))
+
+abbrev pub spawn_breaks : App → Spawn → List Violation
+spawn_breaks app (Soon task args at) = when (is_bad_spawn app task args) rule.NotSoftware at
+spawn_breaks app (After word delay task args at) =
+    when (is_none app.mono) rule.NoMonotonic word ++ when (is_bad_spawn app task args) rule.NotSoftware at
+
+abbrev pub use_breaks : App → Member → List ℕ → Use → List Violation
+use_breaks app m locked (Reads x at) = when (is_outside app m locked x) rule.OutsideLock at
+use_breaks app m locked (Writes x at) = when (is_outside app m locked x) rule.OutsideLock at ++ when (is_fixed m x) rule.NotWritable at
+use_breaks app m locked (Locks r at) = when (is_misplaced_lock app m r) rule.OutsideLock at ++ when (is_inside_itself locked r) rule.LockedInsideItself at
+use_breaks app m locked (MakesSpawn s) = spawn_breaks app s
+use_breaks app m locked (AsksTime at) = when (is_none app.mono) rule.NoMonotonic at
+
+abbrev pub breaks : App → Member → Placed → List Violation
+breaks app m p = use_breaks app m p.locked p.what
+
+abbrev pub statements : App → List Violation
+statements app = flat_map (λ m. flat_map (breaks app m) (uses [] m.body.block)) (members app)

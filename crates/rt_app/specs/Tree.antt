@@ -1,0 +1,80 @@
+-- An application with its names resolved: an interrupt, a task or a resource is its place in the order of declaration, and
+-- 255 where its name is not declared. A variable is its place among the arguments, `let` and `for` statements of its body
+-- in order of the text. Offsets are the bytes of the text before.
+use Rattle.std.specs.Prelude.{ℕ, List, Option, Bool}
+use Rattle.rt_ids.specs.declared.op.Op.{Op}
+use Rattle.rt_app.specs.declared.expr.Atom.{Atom}
+use Rattle.rt_app.specs.declared.body.Listed.{Listed}
+use Rattle.rt_app.specs.declared.body.Owned.{Owned}
+use Rattle.rt_app.specs.declared.app.IrqDecl.{IrqDecl}
+use Rattle.rt_app.specs.declared.app.Dispatcher.{Dispatcher}
+use Rattle.rt_app.specs.declared.app.Mono.{Mono}
+use Rattle.rt_app.specs.declared.app.Shared.{Shared}
+use Rattle.rt_app.specs.declared.app.Local.{Local}
+
+pub data Expression : Type 0 where
+  Num : ℕ → Expression
+  -- what its name stands for, and the offset of the name
+  Read : Atom → ℕ → Expression
+  Oper : Op → Expression → Expression → Expression
+
+pub data Spawn : Type 0 where
+  -- the task, its arguments, and the offset of its name
+  Soon : ℕ → List Expression → ℕ → Spawn
+  -- the offset of the word, the delay, the task, its arguments, and the offset of its name
+  After : ℕ → Expression → ℕ → List Expression → ℕ → Spawn
+
+pub data Value : Type 0 where
+  Calc : Expression → Value
+  -- the offset of the word
+  Now : ℕ → Value
+  Call : Spawn → Value
+
+-- A block is none or a statement and the block behind it.
+mutual
+  pub data Statement : Type 0 where
+    Bind : ℕ → Value → Statement
+    Assign : Atom → Expression → ℕ → Statement
+    Branch : Expression → Block → Block → Statement
+    Repeat : ℕ → ℕ → ℕ → Block → Statement
+    Locked : ℕ → Block → ℕ → Statement
+    Emit : Expression → Statement
+    Pend : ℕ → Statement
+    Spawns : Spawn → Statement
+
+  pub data Block : Type 0 where
+    Empty : Block
+    Then : Statement → Block → Block
+
+pub record Body : Type 0 where
+  pub shared : List Listed
+  pub local : List Owned
+  -- how many variables it has: its arguments, and its `let` and `for` statements
+  pub variables : ℕ
+  pub block : Block
+  -- the offset of the word `init` or `idle`, or of the task's name
+  pub at : ℕ
+
+pub record Task : Type 0 where
+  pub name : List ℕ
+  pub at : ℕ
+  pub binds : Option ℕ
+  pub binds_at : ℕ
+  pub priority : ℕ
+  pub priority_at : ℕ
+  pub capacity : ℕ
+  pub has_capacity : Bool
+  pub args : ℕ
+  pub body : Body
+
+pub record App : Type 0 where
+  pub bits : ℕ
+  pub irqs : List IrqDecl
+  pub dispatchers : List Dispatcher
+  pub mono : Option Mono
+  pub shared : List Shared
+  pub locals : List Local
+  pub init : Option Body
+  pub idle : Option Body
+  pub tasks : List Task
+  pub name_at : ℕ

@@ -1,0 +1,65 @@
+-- What the statements of a body do that the rules speak of, in order of the text, with the resources that are locked round it.
+use Rattle.std.specs.Prelude.{ℕ, List, [], ◌∷◌, ◌++◌, flat_map}
+use Rattle.rt_app.specs.declared.expr.Atom.{Atom}
+use Rattle.rt_app.specs.Tree.{Expression, Num, Read, Oper, Spawn, Soon, After, Value, Calc, Now, Call, Statement, Bind, Assign, Branch, Repeat, Locked, Emit, Pend, Spawns, Block, Empty, Then}
+
+pub data Use : Type 0 where
+  Reads : Atom → (at : ℕ) → Use
+  Writes : Atom → (at : ℕ) → Use
+  Locks : (resource : ℕ) → (at : ℕ) → Use
+  MakesSpawn : Spawn → Use
+  AsksTime : (at : ℕ) → Use
+
+pub record Placed : Type 0 where
+  pub what : Use
+  -- innermost first
+  pub locked : List ℕ
+
+module _ (locked : List ℕ) where
+  abbrev pub placed : Use → Placed
+  placed u = record { what = u; locked = locked }
+
+  abbrev pub reads : Expression → List Placed
+  reads (Num n) = []
+  reads (Read atom at) = placed (Reads atom at) ∷ []
+  reads (Oper o left right) = reads left ++ reads right
+
+  abbrev pub spawn_uses : Spawn → List Placed
+  spawn_uses (Soon task args at) = placed (MakesSpawn (Soon task args at)) ∷ flat_map reads args
+  spawn_uses (After word delay task args at) = placed (MakesSpawn (After word delay task args at)) ∷ (reads delay ++ flat_map reads args)
+
+  abbrev pub value_uses : Value → List Placed
+  value_uses (Calc e) = reads e
+  value_uses (Now at) = placed (AsksTime at) ∷ []
+  value_uses (Call s) = spawn_uses s
+
+abbrev mutual
+  pub statement_uses : List ℕ → Statement → List Placed
+  statement_uses locked (Bind x v) = value_uses locked v
+  statement_uses locked (Assign x e at) = placed locked (Writes x at) ∷ reads locked e
+  statement_uses locked (Branch e first second) = reads locked e ++ (uses locked first ++ uses locked second)
+  statement_uses locked (Repeat x first last turn) = uses locked turn
+  statement_uses locked (Locked r inner at) = placed locked (Locks r at) ∷ uses (r ∷ locked) inner
+  statement_uses locked (Emit e) = reads locked e
+  statement_uses locked (Pend i) = []
+  statement_uses locked (Spawns s) = spawn_uses locked s
+
+  pub uses : List ℕ → Block → List Placed
+  uses locked Empty = []
+  uses locked (Then s rest) = statement_uses locked s ++ uses locked rest
+
+-- the variables of `for` statements
+abbrev mutual
+  pub statement_loops : Statement → List ℕ
+  statement_loops (Bind x v) = []
+  statement_loops (Assign x e at) = []
+  statement_loops (Branch e first second) = loops first ++ loops second
+  statement_loops (Repeat x first last turn) = x ∷ loops turn
+  statement_loops (Locked r inner at) = loops inner
+  statement_loops (Emit e) = []
+  statement_loops (Pend i) = []
+  statement_loops (Spawns s) = []
+
+  pub loops : Block → List ℕ
+  loops Empty = []
+  loops (Then s rest) = statement_loops s ++ loops rest

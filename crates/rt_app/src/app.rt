@@ -1,0 +1,91 @@
+use crate::body::Body;
+use rt_ids::{Irq, Name};
+
+/// A declared interrupt.
+#[derive(Debug, Drop)]
+pub struct IrqDecl {
+    pub name: Name,
+    pub number: Irq,
+    /// The offset of the name.
+    pub at: u32,
+    /// The offset of the number.
+    pub number_at: u32,
+}
+
+/// An interrupt that serves messages of software tasks.
+#[derive(Clone, Copy, Debug)]
+pub struct Dispatcher {
+    /// The interrupt, by its place in the order of declaration.
+    pub irq: u8,
+    /// The offset of its name.
+    pub at: u32,
+}
+
+/// The monotonic: its interrupt, and its priority.
+#[derive(Clone, Copy, Debug)]
+pub struct Mono {
+    /// The interrupt, by its place in the order of declaration.
+    pub irq: u8,
+    /// Its logical priority; one above 255 stands as 255.
+    pub priority: u8,
+    /// The offset of the interrupt's name.
+    pub at: u32,
+    /// The offset of the priority.
+    pub priority_at: u32,
+}
+
+/// A shared resource and its first value.
+#[derive(Debug, Drop)]
+pub struct Shared {
+    pub name: Name,
+    pub first: u32,
+    pub lock_free: bool,
+}
+
+/// A local resource and its first value.
+#[derive(Debug, Drop)]
+pub struct Local {
+    pub name: Name,
+    pub first: u32,
+}
+
+/// A task. One that binds an interrupt is a hardware task, any other a software task.
+#[derive(Debug, Drop)]
+pub struct Task {
+    pub name: Name,
+    /// The offset of the name.
+    pub at: u32,
+    /// The interrupt that it binds, by its place in the order of declaration.
+    pub binds: Option<u8>,
+    /// The offset of that interrupt's name, and 0 where it binds none.
+    pub binds_at: u32,
+    /// Its logical priority: 1 where none is written, and 255 for one above 255.
+    pub priority: u8,
+    /// The offset of the priority, and 0 where none is written.
+    pub priority_at: u32,
+    /// How many of its messages may be out at once: 1 where it is not written.
+    pub capacity: u8,
+    /// Whether a capacity is written.
+    pub has_capacity: bool,
+    /// How many arguments it takes.
+    pub args: u8,
+    pub body: Body,
+}
+
+/// An application with its names resolved: an interrupt, a task or a resource is its place in the order of declaration, and
+/// a name that is not declared is 255. It carries the offset of each name and number at which a rule can be found broken.
+#[derive(Debug, Drop)]
+pub struct App {
+    /// Implemented priority bits.
+    pub bits: u8,
+    pub irqs: Vec<IrqDecl>,
+    pub dispatchers: Vec<Dispatcher>,
+    pub mono: Option<Mono>,
+    pub shared: Vec<Shared>,
+    pub locals: Vec<Local>,
+    pub init: Option<Body>,
+    pub idle: Option<Body>,
+    pub tasks: Vec<Task>,
+    /// The offset of the application's name.
+    pub name_at: u32,
+}

@@ -1,0 +1,67 @@
+// What code takes: core steps, instructions, words of a frame, bytes of the stack. They are this project's own.
+
+/// Core steps of a `spawn`, its arguments aside.
+pub const SPAWN_COST: u32 = 128;
+
+/// Core steps of a `spawn_after`, its delay, its arguments and the armed messages aside.
+pub const SPAWN_AFTER_COST: u32 = 192;
+
+/// Core steps for each message that may be armed, where the timer queue is touched.
+pub const MESSAGE_COST: u32 = 48;
+
+/// Core steps of a section of a task's free places.
+pub const FREE_COST: u32 = 48;
+
+/// Core steps of a section of a ready queue.
+pub const READY_COST: u32 = 48;
+
+/// Core steps of a dispatcher, and of its section of the ready queue, for each task of its level.
+pub const READY_TASK_COST: u32 = 8;
+
+/// Core steps of a section of the timer queue, the armed messages aside.
+pub const TIMER_SECTION_COST: u32 = 80;
+
+/// Core steps of a dispatcher, its tasks and their bodies aside.
+pub const DISPATCHER_COST: u32 = 128;
+
+/// Core steps of the timer handler, the armed messages and the tasks aside.
+pub const TIMER_COST: u32 = 192;
+
+/// Core steps of the timer handler for each task that may be armed.
+pub const TIMER_TASK_COST: u32 = 8;
+
+/// Core steps of a `for` beside its turns.
+pub const LOOP_COST: u32 = 4;
+
+/// Core steps of a turn of a `for` beside its block.
+pub const TURN_COST: u32 = 6;
+
+/// Messages that may be armed, as sizes count them: more take no more code.
+pub const SIZED_MESSAGES: u32 = 8;
+
+/// Instructions of a dispatcher for each task of its level.
+pub const DISPATCHER_TASK_SIZE: u32 = 64;
+
+/// Instructions of the timer handler for each task that may be armed.
+pub const TIMER_TASK_SIZE: u32 = 32;
+
+/// Instructions of the thread: the end of an absent `init`, and the wait of an absent `idle`.
+pub const THREAD_SIZE: u32 = 2;
+
+/// Words of the frame for a `spawn`.
+pub const SPAWN_WORDS: u32 = 16;
+
+/// Words of the frame for a `spawn_after`.
+pub const SPAWN_AFTER_WORDS: u32 = 24;
+
+/// Words of a dispatcher's own frame.
+pub const DISPATCHER_WORDS: u32 = 16;
+
+/// Words of the timer handler's frame.
+pub const TIMER_WORDS: u32 = 24;
+
+/// Bytes that an exception entry pushes: the basic frame of ARMv7-M.
+pub const ENTRY_BYTES: u32 = 32;
+
+/// Priorities that a byte can tell.
+pub const PRIORITIES: u16 = 256;

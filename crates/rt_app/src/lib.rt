@@ -1,0 +1,22 @@
+// Applications with their names resolved, and what they mean: rules, ceilings, costs, frames, bounds.
+#![tactic(auto)]
+
+pub mod app;
+pub mod body;
+pub mod bounds;
+pub mod ceilings;
+pub mod costs;
+pub mod expr;
+pub mod stmt;
+pub mod violation;
+
+pub use app::{App, Dispatcher, IrqDecl, Local, Mono, Shared, Task};
+pub use body::{Body, Listed, Owned};
+pub use bounds::{BodyBound, Bounds, Wait};
+pub use ceilings::{Ceilings, ReadyCeiling};
+pub use expr::{Atom, Expr};
+pub use stmt::{Spawn, Stmt, Value};
+pub use violation::Violation;
+
+/// The number of a name that is not declared.
+pub const UNKNOWN: u8 = 255;
