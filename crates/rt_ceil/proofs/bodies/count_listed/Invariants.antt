@@ -1,0 +1,8 @@
+-- The tables after the listings so far.
+use Rattle.std.proofs.Common.{◌≡◌, take}
+use Rattle.std.specs.List.{fold}
+use Rattle.rt_ceil.specs.Tables.{listed}
+use Rattle.rt_ceil.proofs.bodies.count_listed.Given as goal
+
+abbrev pub invariant-loop-listing : goal.invariant-loop-listing
+invariant-loop-listing l = l.tables ≡ fold (listed l.priority) l.fn.tables (take l.listing-index l.listings)

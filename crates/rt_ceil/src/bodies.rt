@@ -1,0 +1,63 @@
+ghost use Rattle.std.specs.Prelude.{◌≡◌, map, option_map, IfOk};
+ghost use Rattle.std.specs.List.{fold};
+ghost use Rattle.rt_app.specs.View.{block_of, body_of, task_of, app_of};
+ghost use Rattle.rt_ceil.specs.Tables.{listed, used, used_by_thread, used_by_task, filled};
+
+use crate::spawns::count_block;
+use crate::tables::{Tables, raise};
+use rt_app::{App, Body, Listed};
+use rt_ids::NoMemory;
+use std::alloc::Global;
+
+/// Counts a listing by a body of this priority.
+fn count_listing(tables: &mut Tables, priority: u8, listing: Listed)
+    ensures { tables.new ≡ listed priority tables.old listing }
+{
+    raise(&mut tables.shared, listing.resource.0, priority);
+}
+
+/// Counts the listings of a body of this priority.
+fn count_listed(tables: &mut Tables, priority: u8, listings: &[Listed])
+    ensures { tables.new ≡ fold (listed priority) tables.old listings.now }
+{
+    for listing in listings {
+        count_listing(tables, priority, *listing);
+    }
+}
+
+/// Counts a body of this priority.
+fn count_body(tables: &mut Tables, app: &App, priority: u8, body: &Body)
+    ensures { tables.new ≡ used (app_of app.now) priority body.now.shared.items (block_of body.now.block.items) tables.old }
+{
+    count_listed(tables, priority, &body.shared);
+    count_block(tables, app, priority, &body.block);
+}
+
+/// Counts `init` or `idle`.
+fn count_thread(tables: &mut Tables, app: &App, body: &Option<Body>)
+    ensures { tables.new ≡ used_by_thread (app_of app.now) tables.old (option_map (body_of 0) body.now) }
+{
+    if let Some(body) = body {
+        count_body(tables, app, 0, body);
+    }
+}
+
+/// Counts the tasks.
+fn count_tasks(tables: &mut Tables, app: &App)
+    ensures { tables.new ≡ fold (used_by_task (app_of app.now)) tables.old (map task_of app.now.tasks.items) }
+{
+    for task in &app.tasks {
+        count_body(tables, app, task.priority, &task.body);
+    }
+}
+
+/// The tables of an application after its last body.
+pub(crate) fn fill(alloc: Global, app: &App) -> Result<Tables, NoMemory>
+    ensures { IfOk result (λ tables. tables ≡ filled (app_of app.now)) }
+{
+    let mut tables = Tables::new(alloc, app)?;
+    count_thread(&mut tables, app, &app.init);
+    count_thread(&mut tables, app, &app.idle);
+    count_tasks(&mut tables, app);
+    Ok(tables)
+}

@@ -1,0 +1,96 @@
+ghost use Rattle.std.specs.Prelude.{◌≡◌, map, slice_get};
+ghost use Rattle.std.specs.List.{fold};
+ghost use Rattle.rt_app.specs.Spawned.{statement_spawns, spawns, value_spawns};
+ghost use Rattle.rt_app.specs.View.{spawn_of, value_of, statement_of, block_of, task_of, app_of};
+ghost use Rattle.rt_ceil.specs.Tables.{level_of, level_in, mover, spawned};
+
+use crate::tables::{Tables, raise, raise_level};
+use rt_app::{App, Mono, Spawn, Stmt, Task, Value};
+use rt_ids::TaskId;
+
+/// The level of a software task.
+pub(crate) fn level(task: &Task) -> Option<u8>
+    ensures { result ≡ level_of (task_of task.now) }
+{
+    match task.binds {
+        Some(_irq) => None,
+        None => Some(task.priority),
+    }
+}
+
+/// The level of this task, where it is a software task.
+fn level_at(tasks: &[Task], task: TaskId) -> Option<u8>
+    ensures { result ≡ level_in (slice_get (map task_of tasks.now) task) }
+{
+    match tasks.get(task.0 as usize) {
+        Some(task) => level(task),
+        None => None,
+    }
+}
+
+/// The priority of the monotonic, and 0 where there is none.
+fn mover_priority(mono: Option<Mono>) -> u8
+    ensures { result ≡ mover mono }
+{
+    match mono {
+        Some(mono) => mono.priority,
+        None => 0,
+    }
+}
+
+/// Counts a spawn by a body of this priority.
+fn count_spawn(tables: &mut Tables, app: &App, priority: u8, spawn: &Spawn)
+    ensures { tables.new ≡ spawned (app_of app.now) priority tables.old (spawn_of spawn.now) }
+{
+    match spawn {
+        Spawn::Soon(task, _args, _at) => {
+            raise(&mut tables.free, task.0, priority);
+            raise_level(&mut tables.ready, level_at(&app.tasks, *task), priority);
+        }
+        Spawn::After(_word, _delay, task, _args, _at) => {
+            raise(&mut tables.free, task.0, priority);
+            let level = level_at(&app.tasks, *task);
+            raise_level(&mut tables.ready, level, mover_priority(app.mono));
+            tables.timer = tables.timer.max(priority);
+        }
+    }
+}
+
+/// Counts the spawn that a variable is bound to.
+fn count_value(tables: &mut Tables, app: &App, priority: u8, value: &Value)
+    ensures { tables.new ≡ fold (spawned (app_of app.now) priority) tables.old (value_spawns (value_of value.now)) }
+{
+    if let Value::Call(spawn) = value {
+        count_spawn(tables, app, priority, spawn);
+    }
+}
+
+/// Counts the spawns of a statement.
+#[cycle(block)]
+fn count_statement(tables: &mut Tables, app: &App, priority: u8, stmt: &Stmt)
+    ensures { tables.new ≡ fold (spawned (app_of app.now) priority) tables.old (statement_spawns (statement_of stmt.now)) }
+{
+    match stmt {
+        Stmt::Bind(_variable, value) => count_value(tables, app, priority, value),
+        Stmt::Branch(_condition, first, second) => {
+            count_block(tables, app, priority, first);
+            count_block(tables, app, priority, second);
+        }
+        Stmt::Repeat(_variable, _first, _last, turn) => count_block(tables, app, priority, turn),
+        Stmt::Locked(_resource, inner, _at) => count_block(tables, app, priority, inner),
+        Stmt::Call(spawn) => count_spawn(tables, app, priority, spawn),
+        Stmt::Assign(_target, _value, _at) => {}
+        Stmt::Emit(_value) => {}
+        Stmt::Pend(_irq) => {}
+    }
+}
+
+/// Counts the spawns of a block.
+#[cycle(block)]
+pub(crate) fn count_block(tables: &mut Tables, app: &App, priority: u8, block: &[Stmt])
+    ensures { tables.new ≡ fold (spawned (app_of app.now) priority) tables.old (spawns (block_of block.now)) }
+{
+    for stmt in block {
+        count_statement(tables, app, priority, stmt);
+    }
+}

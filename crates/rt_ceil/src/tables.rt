@@ -1,0 +1,69 @@
+ghost use Rattle.std.specs.Prelude.{◌≡◌, replicate, IfOk};
+ghost use Rattle.rt_app.specs.View.{app_of};
+ghost use Rattle.rt_ceil.specs.Tables.{untouched, raised, raised_level};
+
+use rt_app::App;
+use rt_app::costs::PRIORITIES;
+use rt_ids::NoMemory;
+use std::alloc::Global;
+use std::marker::Model;
+
+/// For each thing that a section guards, the greatest priority of the bodies so far that use it, and 0 where none does.
+#[derive(Debug, Drop)]
+pub(crate) struct Tables {
+    /// By resource.
+    pub shared: Vec<u8>,
+    /// By task.
+    pub free: Vec<u8>,
+    /// By level. Of a task that is spawned after a delay the monotonic counts, and not the body.
+    pub ready: Vec<u8>,
+    pub timer: u8,
+}
+
+impl Model for Tables {
+    ghost use Rattle.rt_ceil.specs.Tables.{Tables};
+
+    ghost Value = { Tables };
+
+    ghost view = { λ t. record { shared = t.shared.items; free = t.free.items; ready = t.ready.items; timer = t.timer } };
+}
+
+impl Tables {
+    /// The tables of an application before its first body.
+    pub(crate) fn new(alloc: Global, app: &App) -> Result<Tables, NoMemory>
+        ensures { IfOk result (λ tables. tables ≡ untouched (app_of app.now)) }
+    {
+        Ok(Tables {
+            shared: zeros(alloc, app.shared.len())?,
+            free: zeros(alloc, app.tasks.len())?,
+            ready: zeros(alloc, PRIORITIES as usize)?,
+            timer: 0,
+        })
+    }
+}
+
+/// A table of zeros.
+fn zeros(alloc: Global, length: usize) -> Result<Vec<u8>, NoMemory>
+    ensures { IfOk result (λ table. table.items ≡ replicate length 0) }
+{
+    Ok(vec![in alloc; 0; length]?)
+}
+
+/// Raises the entry at a place to at least this priority, where there is such a place.
+pub(crate) fn raise(table: &mut [u8], place: u8, priority: u8)
+    ensures { table.new ≡ raised table.old place priority }
+{
+    let place = place as usize;
+    if place < table.len() {
+        table[place] = table[place].max(priority);
+    }
+}
+
+/// Raises the entry of a level to at least this priority, where there is such a level.
+pub(crate) fn raise_level(table: &mut [u8], level: Option<u8>, priority: u8)
+    ensures { table.new ≡ raised_level table.old level priority }
+{
+    if let Some(level) = level {
+        raise(table, level, priority);
+    }
+}
