@@ -1,0 +1,10 @@
+pub mod Views
+pub mod Sums
+pub mod Flagging
+pub mod Spawners
+pub mod Below
+pub mod Frames
+pub mod Handlers
+pub mod Waits
+pub mod Within
+pub mod Unguarded

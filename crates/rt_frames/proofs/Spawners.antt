@@ -1,0 +1,133 @@
+-- The tasks that bodies arm, as the flags of all their spawns, and what is summed over them.
+use Rattle.std.proofs.Common.{◌≡◌, ℕ, zero, suc, ◌+◌, ◌<◌, ◌≤◌, ◌==◌, Bool, true, false, not, ◌&&◌, ◌||◌, List, [], ◌∷◌, ◌++◌, length, get_or, drop, min, ⊎_elim, map, filter, flat_map, Option, Some, None, refl, sym, ap, ◌∙◌, cond, if◌then◌else◌, leb, arith}
+use Rattle.std.specs.List.{list_any}
+use Rattle.std.specs.Int.{from_bool}
+use Rattle.std.proofs.lemmas.List.{get_or_past, drop_all}
+use Rattle.std.proofs.lemmas.List.Folds.{list_any-append}
+use Rattle.std.proofs.lemmas.Bool.Decides.{leb_tells}
+use Rattle.std.proofs.Math.Bool.{or-false}
+use Rattle.rt_ids.specs.declared.ids.BodyId.{BodyId}
+use Rattle.rt_ids.specs.declared.ids.BodyId.TheVariants as body
+use Rattle.rt_app.specs.Tree.{Spawn, Body, Task, App}
+use Rattle.rt_app.specs.Spawned.{spawns, is_soon, target}
+use Rattle.rt_app.specs.Bodies.{members, thread_members, task_members}
+use Rattle.rt_app.specs.Level.{arms, holds, is_armed, armed_capacities, armed_count, is_software, is_of_level}
+use Rattle.rt_app.specs.View.{task_of}
+use Rattle.rt_app.specs.declared.app.Task as code
+use Rattle.rt_frames.specs.Flags.{flagged, HasFlags, armed_by, level_numbers, thread_spawns, task_spawns}
+use Rattle.rt_frames.proofs.Flagging.{flagged_at, armed_both}
+
+any_armed_step : (soon : Bool) (n k : ℕ) (ns : List ℕ) (rest : Bool) → list_any (λ m. m == k) ns ≡ rest → list_any (λ m. m == k) (cond (not soon) (n ∷ ns) ns) ≡ ((not soon && (n == k)) || rest)
+any_armed_step true n k ns rest e = e
+any_armed_step false n k ns rest e = ap (λ b. (n == k) || b) e
+
+map_if : (b : Bool) (s : Spawn) (ss : List Spawn) → map target (cond b (s ∷ ss) ss) ≡ cond b (target s ∷ map target ss) (map target ss)
+map_if true s ss = refl
+map_if false s ss = refl
+
+any_armed : (k : ℕ) (ss : List Spawn) → list_any (λ m. m == k) (armed_by ss) ≡ list_any (arms k) ss
+any_armed k [] = refl
+any_armed k (s ∷ ss) =
+    ap (list_any (λ m. m == k)) (map_if (not (is_soon s)) s (filter (λ t. not (is_soon t)) ss))
+    ∙ any_armed_step (is_soon s) (target s) k (armed_by ss) (list_any (arms k) ss) (any_armed k ss)
+
+any_thread : (test : Spawn → Bool) (id : BodyId) (b : Option Body) → list_any (holds test) (thread_members id b) ≡ list_any test (thread_spawns b)
+any_thread test id None = refl
+any_thread test id (Some b) = or-false (list_any test (spawns b.block))
+
+any_tasks : (test : Spawn → Bool) (n : ℕ) (ts : List Task) → list_any (holds test) (task_members n ts) ≡ list_any test (flat_map task_spawns ts)
+any_tasks test n [] = refl
+any_tasks test n (t ∷ ts) = ap (λ b. list_any test (task_spawns t) || b) (any_tasks test (n + 1) ts) ∙ sym (list_any-append test (task_spawns t) (flat_map task_spawns ts))
+
+any_member : (test : Spawn → Bool) (app : App) → list_any (holds test) (members app) ≡ list_any test (thread_spawns app.init ++ (thread_spawns app.idle ++ flat_map task_spawns app.tasks))
+any_member test app =
+    rw (
+      list_any-append (holds test) (thread_members body.Init app.init) (thread_members body.Idle app.idle ++ task_members 0 app.tasks),
+      list_any-append (holds test) (thread_members body.Idle app.idle) (task_members 0 app.tasks),
+      list_any-append test (thread_spawns app.init) (thread_spawns app.idle ++ flat_map task_spawns app.tasks),
+      list_any-append test (thread_spawns app.idle) (flat_map task_spawns app.tasks),
+      any_thread test body.Init app.init,
+      any_thread test body.Idle app.idle,
+      any_tasks test 0 app.tasks,
+    )
+    refl
+
+pub armed_are : (app : App) (f0 f1 f2 f3 : List Bool) → HasFlags f0 (λ n. false) → f1 ≡ flagged (armed_by (thread_spawns app.init)) f0 → f2 ≡ flagged (armed_by (thread_spawns app.idle)) f1
+    → f3 ≡ flagged (armed_by (flat_map task_spawns app.tasks)) f2 → length f3 ≡ 256 → HasFlags f3 (is_armed app)
+armed_are app f0 f1 f2 f3 none e1 e2 e3 long = record {
+  long = long;
+  flag = λ n.
+      let I = thread_spawns app.init in
+      let D = thread_spawns app.idle in
+      let T = flat_map task_spawns app.tasks in
+      let all = armed_both I (D ++ T) f0 f1 f3 e1 (armed_both D T f1 f2 f3 e2 e3) in
+      let some : 0 < length (flagged (armed_by (I ++ (D ++ T))) f0) = rw (← all) (omega (arith, long)) in
+      ap (λ f. get_or f n false) all ∙ flagged_at (armed_by (I ++ (D ++ T))) f0 n some ∙ ap (λ b. b || list_any (λ m. m == n) (armed_by (I ++ (D ++ T)))) (none.flag n)
+      ∙ any_armed n (I ++ (D ++ T)) ∙ sym (any_member (arms n) app);
+}
+
+-- of software tasks
+any_level_step : (software : Bool) (n k : ℕ) (ns : List ℕ) (rest : Bool) → list_any (λ m. m == k) ns ≡ rest → list_any (λ m. m == k) (cond software (n ∷ ns) ns) ≡ ((software && (n == k)) || rest)
+any_level_step false n k ns rest e = e
+any_level_step true n k ns rest e = ap (λ b. (n == k) || b) e
+
+level_if : (b : Bool) (t : Task) (ts : List Task) → map (λ u. u.priority) (cond b (t ∷ ts) ts) ≡ cond b (t.priority ∷ map (λ u. u.priority) ts) (map (λ u. u.priority) ts)
+level_if true t ts = refl
+level_if false t ts = refl
+
+any_level : (k : ℕ) (ts : List Task) → list_any (λ m. m == k) (level_numbers ts) ≡ list_any (is_of_level k) ts
+any_level k [] = refl
+any_level k (t ∷ ts) =
+    ap (list_any (λ m. m == k)) (level_if (is_software t) t (filter is_software ts))
+    ∙ any_level_step (is_software t) t.priority k (level_numbers ts) (list_any (is_of_level k) ts) (any_level k ts)
+
+pub levels_are : (ts : List Task) (f0 f1 : List Bool) → HasFlags f0 (λ n. false) → f1 ≡ flagged (level_numbers ts) f0 → length f1 ≡ 256 → HasFlags f1 (λ p. list_any (is_of_level p) ts)
+levels_are ts f0 f1 none e long = record {
+  long = long;
+  flag = λ n.
+      let some : 0 < length (flagged (level_numbers ts) f0) = rw (← e) (omega (arith, long)) in
+      ap (λ f. get_or f n false) e ∙ flagged_at (level_numbers ts) f0 n some ∙ ap (λ b. b || list_any (λ m. m == n) (level_numbers ts)) (none.flag n) ∙ any_level n ts;
+}
+
+-- a number that has no flag is that of no task that is armed
+none_armed : (app : App) (flags : List Bool) → HasFlags flags (is_armed app) → (n : ℕ) → 256 ≤ n → is_armed app n ≡ false
+none_armed app flags has n h = sym (has.flag n) ∙ get_or_past flags n false (omega (arith, has.long))
+
+capacities_none : (app : App) (flags : List Bool) → HasFlags flags (is_armed app) → (n : ℕ) (ts : List Task) → 256 ≤ n → armed_capacities app n ts ≡ 0
+capacities_none app flags has n [] h = refl
+capacities_none app flags has n (t ∷ ts) h = rw (none_armed app flags has n h) (rw (capacities_none app flags has (n + 1) ts (omega arith)) refl)
+
+count_none : (app : App) (flags : List Bool) → HasFlags flags (is_armed app) → (n : ℕ) (ts : List Task) → 256 ≤ n → armed_count app n ts ≡ 0
+count_none app flags has n [] h = refl
+count_none app flags has n (t ∷ ts) h = rw (none_armed app flags has n h) (rw (count_none app flags has (n + 1) ts (omega arith)) refl)
+
+-- the tasks that are left where none is left that can be armed
+pub capacities_left : (app : App) (flags : List Bool) → HasFlags flags (is_armed app) → (ts : List code.Task) (n : ℕ) → min (length ts) 256 ≤ n → armed_capacities app n (map task_of (drop n ts)) ≡ 0
+capacities_left app flags has ts n h = ⊎_elim
+    (λ (t : leb 256 n ≡ true × (256 ≤ n)). capacities_none app flags has n (map task_of (drop n ts)) t.1)
+    (λ (t : leb 256 n ≡ false × (n < 256)). ap (λ us. armed_capacities app n (map task_of us)) (drop_all n ts (omega arith)))
+    (leb_tells 256 n)
+
+pub count_left : (app : App) (flags : List Bool) → HasFlags flags (is_armed app) → (ts : List code.Task) (n : ℕ) → min (length ts) 256 ≤ n → armed_count app n (map task_of (drop n ts)) ≡ 0
+count_left app flags has ts n h = ⊎_elim
+    (λ (t : leb 256 n ≡ true × (256 ≤ n)). count_none app flags has n (map task_of (drop n ts)) t.1)
+    (λ (t : leb 256 n ≡ false × (n < 256)). ap (λ us. armed_count app n (map task_of us)) (drop_all n ts (omega arith)))
+    (leb_tells 256 n)
+
+drop_some : {X : Type 0} (xs : List X) (n : ℕ) → n < length xs → (x : X) × (drop n xs ≡ x ∷ drop (n + 1) xs)
+drop_some [] n h = absurd (omega (arith, h))
+drop_some (x ∷ xs) zero h = (x, refl)
+drop_some (x ∷ xs) (suc n) h =
+    let d = drop_some xs n (omega (arith, h)) in
+    let e : suc n + 1 ≡ suc (n + 1) = omega arith in
+    (d.0, rw e d.1)
+
+from_bool_is : (b : Bool) → (if b then 1 else 0) ≡ from_bool b
+from_bool_is true = refl
+from_bool_is false = refl
+
+pub count_more : (app : App) (flags : List Bool) → HasFlags flags (is_armed app) → (ts : List code.Task) (n : ℕ) → n < length ts
+    → armed_count app n (map task_of (drop n ts)) ≡ from_bool (get_or flags n false) + armed_count app (n + 1) (map task_of (drop (n + 1) ts))
+count_more app flags has ts n h =
+    let d = drop_some ts n h in
+    ap (λ us. armed_count app n (map task_of us)) d.1 ∙ ap (λ b. (if b then 1 else 0) + armed_count app (n + 1) (map task_of (drop (n + 1) ts))) (sym (has.flag n)) ∙ ap (λ k. k + armed_count app (n + 1) (map task_of (drop (n + 1) ts))) (from_bool_is (get_or flags n false))

@@ -1,0 +1,147 @@
+-- Within the limits no number of a frame or of the stack reaches the greatest one of 32 bits.
+use Rattle.std.proofs.Common.{◌≡◌, ℕ, zero, suc, ◌+◌, ◌*◌, ◌≤◌, ◌==◌, max, Bool, true, false, List, [], ◌∷◌, ◌++◌, map, filter, cond, Option, Some, None, refl, ap, ◌∙◌, arith}
+use Rattle.std.specs.List.{AllByRecursion, list_any}
+use Rattle.std.proofs.lemmas.List.{map-append}
+use Rattle.rt_ids.specs.declared.ids.BodyId.{BodyId}
+use Rattle.rt_ids.specs.declared.ids.BodyId.TheVariants as body
+use Rattle.rt_app.specs.declared.bounds.BodyBound.{BodyBound}
+use Rattle.rt_app.specs.Tree.{Spawn, Soon, After, Statement, Bind, Assign, Branch, Repeat, Locked, Emit, Pend, Spawns, Block, Empty, Then, Body, Task, App}
+use Rattle.rt_app.specs.Spawned.{spawns}
+use Rattle.rt_app.specs.Bodies.{Member, members, thread_members, task_members}
+use Rattle.rt_app.specs.declared.bounds.Wait.{Wait}
+use Rattle.rt_app.specs.Cost.{Measure}
+use Rattle.rt_app.specs.BodyCost.{cost_measure}
+use Rattle.rt_app.specs.Bounds.{Bounds, body_bound, bounds}
+use Rattle.rt_app.specs.Ceiling.{greatest, Ceilings, ceilings}
+use Rattle.rt_app.specs.Level.{is_of_level}
+use Rattle.rt_app.specs.Frame.{block_depth, has_loop, statement_locks, locks, spawn_words, frame_words}
+use Rattle.rt_app.specs.Limits.{inner_blocks, blocks_of, KeepsBodyLimits, KeepsThreadLimits, KeepsTaskLimits, KeepsLimits}
+use Rattle.rt_app.specs.Stack.{is_bound_at, frames_of, is_timed_at, has_handler, need, level_bytes, bytes_below, thread_frame, thread_words, stack_bytes, handler_levels}
+use Rattle.rt_frames.specs.Saturated.{saturated}
+use Rattle.rt_frames.specs.Bounded.{saturated_bound, wait_of}
+
+-- each lock is a block inside another
+mutual
+  statement_locks_few : (s : Statement) → statement_locks s ≤ inner_blocks s
+  statement_locks_few (Bind x v) = omega arith
+  statement_locks_few (Assign x e at) = omega arith
+  statement_locks_few (Branch e a b) = omega (arith, locks_few a, locks_few b)
+  statement_locks_few (Repeat x first last turn) = omega (arith, locks_few turn)
+  statement_locks_few (Locked r inner at) = omega (arith, locks_few inner)
+  statement_locks_few (Emit e) = omega arith
+  statement_locks_few (Pend i) = omega arith
+  statement_locks_few (Spawns s) = omega arith
+
+  locks_few : (b : Block) → locks b + 1 ≤ blocks_of b
+  locks_few Empty = omega arith
+  locks_few (Then s rest) = omega (arith, statement_locks_few s, locks_few rest)
+
+word_few : (s : Spawn) → spawn_words s ≤ 24
+word_few (Soon task args at) = omega arith
+word_few (After word delay task args at) = omega arith
+
+words_few : (ss : List Spawn) → greatest (map spawn_words ss) ≤ 24
+words_few [] = omega arith
+words_few (s ∷ ss) = omega (arith, word_few s, words_few ss)
+
+choice_few : (none loops : Bool) (d : ℕ) → cond none (cond loops 1 0) d ≤ d + 1
+choice_few true true d = omega arith
+choice_few true false d = omega arith
+choice_few false loops d = omega arith
+
+frame_few : (args : ℕ) (b : Body) → KeepsBodyLimits args b → args ≤ 4 → frame_words b ≤ 1100
+frame_few args b h few =
+    omega (arith, h.variables, h.nesting, h.depth, locks_few b.block, words_few (spawns b.block), choice_few (block_depth b.block == 0) (has_loop b.block) (block_depth b.block))
+
+thread_few : (o : Option Body) → KeepsThreadLimits o → thread_frame o ≤ 1100
+thread_few None h = omega arith
+thread_few (Some b) h = frame_few 0 b h (omega arith)
+
+task_few : (t : Task) → KeepsTaskLimits t → frame_words t.body ≤ 1100
+task_few t h = frame_few t.args t.body h.body h.args
+
+thread_words_few : (app : App) → KeepsLimits app → thread_words app ≤ 1100
+thread_words_few app h = omega (arith, thread_few app.init h.init, thread_few app.idle h.idle)
+
+most_of : (m n : ℕ) → m ≤ 1100 → n ≤ 1100 → max m n ≤ 1100
+most_of m n h g = omega arith
+
+kept_few : (b : Bool) (t : Task) (ts : List Task) → frame_words t.body ≤ 1100 → greatest (map (λ u. frame_words u.body) ts) ≤ 1100 → greatest (map (λ u. frame_words u.body) (cond b (t ∷ ts) ts)) ≤ 1100
+kept_few true t ts h g = most_of (frame_words t.body) (greatest (map (λ u. frame_words u.body) ts)) h g
+kept_few false t ts h g = g
+
+frames_few : (test : Task → Bool) (ts : List Task) → AllByRecursion KeepsTaskLimits ts → greatest (map (λ u. frame_words u.body) (filter test ts)) ≤ 1100
+frames_few test [] h = omega arith
+frames_few test (t ∷ ts) h = kept_few (test t) t (filter test ts) (task_few t h.0) (frames_few test ts h.1)
+
+needed : (any timed : Bool) (bound soft : ℕ) → bound ≤ 1100 → soft ≤ 1100 → max bound (max (cond any (16 + soft) 0) (cond timed 24 0)) ≤ 1116
+needed true true bound soft h g = omega arith
+needed true false bound soft h g = omega arith
+needed false true bound soft h g = omega arith
+needed false false bound soft h g = omega arith
+
+need_few : (app : App) → KeepsLimits app → (p : ℕ) → need app p ≤ 1116
+need_few app h p = needed (list_any (is_of_level p) app.tasks) (is_timed_at p app) (greatest (frames_of (is_bound_at p) app)) (greatest (frames_of (is_of_level p) app)) (frames_few (is_bound_at p) app.tasks h.tasks) (frames_few (is_of_level p) app.tasks h.tasks)
+
+if_few : (b : Bool) (n : ℕ) → n ≤ 1116 → cond b (32 + 4 * n) 0 ≤ 4496
+if_few true n h = omega arith
+if_few false n h = omega arith
+
+more : (a b n : ℕ) → a ≤ 4496 * n → b ≤ 4496 → a + b ≤ 4496 * suc n
+more a b n h g = omega arith
+
+bytes_few : (app : App) → KeepsLimits app → (n : ℕ) → bytes_below app n ≤ 4496 * n
+unfolding bytes_below
+bytes_few app h zero = omega arith
+bytes_few app h (suc n) = more (bytes_below app n) (level_bytes app n) n (bytes_few app h n) (if_few (has_handler app n) (need app n) (need_few app h n))
+
+stack_few : (app : App) → KeepsLimits app → stack_bytes app ≤ 2000000
+stack_few app h = omega (arith, thread_words_few app h, bytes_few app h 256)
+
+whole : (n : ℕ) → n ≤ 1100 → saturated n ≡ n
+whole n h = omega arith
+
+abbrev bound_with : BodyBound → ℕ → BodyBound
+bound_with b n = record { body = b.body; frame = n; cost = b.cost }
+
+same_bound : (app : App) (id : BodyId) (p : ℕ) (b : Body) → frame_words b ≤ 1100 → saturated_bound (cost_measure app) id b ≡ body_bound app (record { id = id; priority = p; body = b })
+same_bound app id p b few = ap (bound_with (body_bound app (record { id = id; priority = p; body = b }))) (whole (frame_words b) few)
+
+same_thread : (app : App) (id : BodyId) (o : Option Body) → KeepsThreadLimits o → map (λ m. saturated_bound (cost_measure app) m.id m.body) (thread_members id o) ≡ map (body_bound app) (thread_members id o)
+same_thread app id None h = refl
+same_thread app id (Some b) h = ap (λ x. x ∷ []) (same_bound app id 0 b (thread_few (Some b) h))
+
+same_tasks : (app : App) (n : ℕ) (ts : List Task) → AllByRecursion KeepsTaskLimits ts → map (λ m. saturated_bound (cost_measure app) m.id m.body) (task_members n ts) ≡ map (body_bound app) (task_members n ts)
+same_tasks app n [] h = refl
+same_tasks app n (t ∷ ts) h =
+    ap (λ x. x ∷ map (λ m. saturated_bound (cost_measure app) m.id m.body) (task_members (n + 1) ts)) (same_bound app (body.Task n) t.priority t.body (task_few t h.0))
+    ∙ ap (λ xs. body_bound app (record { id = body.Task n; priority = t.priority; body = t.body }) ∷ xs) (same_tasks app (n + 1) ts h.1)
+
+bodies_are : (app : App) → KeepsLimits app → map (λ m. saturated_bound (cost_measure app) m.id m.body) (members app) ≡ map (body_bound app) (members app)
+bodies_are app h =
+    let f : Member → BodyBound = λ m. saturated_bound (cost_measure app) m.id m.body in
+    rw (
+      map-append f (thread_members body.Init app.init) (thread_members body.Idle app.idle ++ task_members 0 app.tasks),
+      map-append f (thread_members body.Idle app.idle) (task_members 0 app.tasks),
+      map-append (body_bound app) (thread_members body.Init app.init) (thread_members body.Idle app.idle ++ task_members 0 app.tasks),
+      map-append (body_bound app) (thread_members body.Idle app.idle) (task_members 0 app.tasks),
+      same_thread app body.Init app.init h.init,
+      same_thread app body.Idle app.idle h.idle,
+      same_tasks app 0 app.tasks h.tasks,
+    )
+    refl
+
+small : (n : ℕ) → n ≤ 2000000 → saturated n ≡ n
+small n h = omega arith
+
+same_bounds : (bodies bodies' : List BodyBound) (waits waits' : List Wait) (words words' bytes bytes' : ℕ) → bodies ≡ bodies' → waits ≡ waits' → words ≡ words' → bytes ≡ bytes'
+    → ◌≡◌ {A = Bounds} (record { bodies = bodies; waits = waits; thread_words = words; stack_bytes = bytes }) (record { bodies = bodies'; waits = waits'; thread_words = words'; stack_bytes = bytes' })
+same_bounds bodies bodies' waits waits' words words' bytes bytes' e f g h = rw (e, f, g, h) refl
+
+pub bounds_are : (app : App) (c : Ceilings) (m : Measure) (bodies : List BodyBound) (waits : List Wait) (words bytes : ℕ) → KeepsLimits app → c ≡ ceilings app → m ≡ cost_measure app
+    → bodies ≡ map (λ b. saturated_bound m b.id b.body) (members app) → waits ≡ map (wait_of app c) (handler_levels app) → words ≡ saturated (thread_words app) → bytes ≡ saturated (stack_bytes app)
+    → ◌≡◌ {A = Bounds} (record { bodies = bodies; waits = waits; thread_words = words; stack_bytes = bytes }) (bounds app)
+bounds_are app c m bodies waits words bytes limits ceil measure e f g h =
+    same_bounds bodies (bounds app).bodies waits (bounds app).waits words (thread_words app) bytes (stack_bytes app)
+    (e ∙ ap (λ n. map (λ b. saturated_bound n b.id b.body) (members app)) measure ∙ bodies_are app limits) (f ∙ ap (λ d. map (wait_of app d) (handler_levels app)) ceil)
+    (g ∙ whole (thread_words app) (thread_words_few app limits)) (h ∙ small (stack_bytes app) (stack_few app limits))

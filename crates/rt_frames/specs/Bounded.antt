@@ -1,0 +1,19 @@
+-- What bodies take and how long jobs wait, as the code finds them.
+use Rattle.std.specs.Prelude.{ℕ}
+use Rattle.rt_ids.specs.declared.ids.BodyId.{BodyId}
+use Rattle.rt_app.specs.declared.bounds.BodyBound.{BodyBound}
+use Rattle.rt_app.specs.declared.bounds.Wait.{Wait}
+use Rattle.rt_app.specs.Tree.{Body, App}
+use Rattle.rt_app.specs.Cost.{Measure}
+use Rattle.rt_app.specs.BodyCost.{body_cost}
+use Rattle.rt_app.specs.Ceiling.{Ceilings}
+use Rattle.rt_app.specs.Frame.{frame_words}
+use Rattle.rt_app.specs.Waiting.{wait_within}
+use Rattle.rt_frames.specs.Saturated.{saturated}
+
+-- its frame up to the greatest number of 32 bits
+abbrev pub saturated_bound : Measure → BodyId → Body → BodyBound
+saturated_bound m id b = record { body = id; frame = saturated (frame_words b); cost = body_cost m b }
+
+abbrev pub wait_of : App → Ceilings → ℕ → Wait
+wait_of app c p = record { level = p; steps = wait_within app c p }

@@ -1,0 +1,5 @@
+pub mod Flags
+pub mod Saturated
+pub mod FrameParts
+pub mod Needs
+pub mod Bounded

@@ -1,0 +1,5 @@
+-- Numbers that stop at the greatest one of 32 bits.
+use Rattle.std.specs.Prelude.{ℕ, ◌-◌, ◌^◌, min}
+
+abbrev pub saturated : ℕ → ℕ
+saturated n = min n (2 ^ 32 - 1)

@@ -1,0 +1,29 @@
+ghost use Rattle.std.specs.Prelude.{◌≡◌, ◌∷◌, [], count_by, false};
+ghost use Rattle.rt_frames.specs.Flags.{flagged, HasFlags};
+
+/// Numbers that a byte can tell.
+pub(crate) const NUMBERS: usize = 256;
+
+/// A flag for each number that a byte can tell.
+pub(crate) type Flags = [bool; NUMBERS];
+
+/// No flags.
+pub(crate) fn none() -> Flags
+    ensures { HasFlags result (λ n. false) }
+{
+    [false; NUMBERS]
+}
+
+/// Flags a number.
+pub(crate) fn flag(flags: &mut Flags, number: u8)
+    ensures { flags.new ≡ flagged (number ∷ []) flags.old }
+{
+    flags[usize::from(number)] = true;
+}
+
+/// How many numbers are flagged.
+pub(crate) fn count(flags: &Flags) -> usize
+    ensures { result ≡ count_by (λ flag. flag) flags.now }
+{
+    flags.iter().filter(|flag| **flag).count()
+}

@@ -1,0 +1,19 @@
+// What bodies take: core steps, instructions, words of their frames; how deep the stack gets, and how long jobs wait.
+#![tactic(auto)]
+
+pub mod armed;
+pub mod bound;
+pub mod cost;
+pub mod flags;
+pub mod frame;
+pub mod level;
+pub mod measure;
+pub mod stack;
+#[cfg(test)]
+mod tests;
+pub mod waiting;
+
+pub use bound::bounds;
+pub use cost::{body_cost, body_size, shared_size};
+pub use level::level_count;
+pub use measure::Measure;

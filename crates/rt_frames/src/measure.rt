@@ -1,0 +1,202 @@
+ghost use Rattle.std.specs.Prelude.{◌≡◌, ◌≤◌, map};
+ghost use Rattle.rt_app.specs.View.{expression_of, spawn_of, value_of, statement_of, block_of, body_of, app_of};
+ghost use Rattle.rt_app.specs.Level.{is_armed};
+ghost use Rattle.rt_app.specs.Cost as cost;
+ghost use Rattle.rt_app.specs.BodyCost as whole;
+ghost use Rattle.rt_frames.specs.Flags.{HasFlags};
+
+use crate::armed::{MOST_ARMED, armed_flags, armed_messages};
+use crate::flags::Flags;
+use rt_app::costs::{
+    LOOP_COST, MESSAGE_COST, SIZED_MESSAGES, SPAWN_AFTER_COST, SPAWN_COST, TURN_COST,
+};
+use rt_app::{App, Body, Expr, Spawn, Stmt, Value};
+use rt_ids::limits::BODY_COST;
+use std::marker::Model;
+
+/// What a sum over a body counts: core steps, or instructions.
+#[derive(Clone, Copy, Debug)]
+pub struct Measure {
+    /// The messages that may be armed at once.
+    messages: u32,
+    /// Whether code is counted, both blocks of a branch and one turn of a loop, and not steps.
+    is_size: bool,
+}
+
+impl Model for Measure {
+    ghost use Rattle.rt_app.specs.Cost.{Measure};
+    ghost use Rattle.std.specs.Prelude.{◌≤◌};
+    ghost use Rattle.rt_frames.specs.declared.armed.TheConstants.{MOST_ARMED};
+
+    ghost Value = { Measure };
+
+    ghost invariant = { λ m. m.messages ≤ MOST_ARMED };
+
+    ghost view = { λ m. record { messages = m.messages; is_size = m.is_size } };
+
+    ghost inverse = { λ m. record { messages = m.messages; is_size = m.is_size } };
+}
+
+/// A sum, stopped one above the greatest cost that a body may have.
+fn capped(sum: u32) -> u32
+    ensures { result ≡ cost.capped sum }
+{
+    sum.min(BODY_COST + 1)
+}
+
+/// The core steps of an expression, which are its instructions too.
+fn expression_cost(expr: &Expr) -> u32
+    ensures { result ≡ cost.expression_cost (expression_of expr.now) }
+{
+    match expr {
+        Expr::Num(_number) => 1,
+        Expr::Read(_atom, _at) => 1,
+        Expr::Oper(_op, left, right) => {
+            let operands = expression_cost(left).saturating_add(expression_cost(right));
+            capped(operands.saturating_add(1))
+        }
+    }
+}
+
+/// The core steps of expressions, one behind the other.
+fn expressions_cost(exprs: &[Expr]) -> u32
+    ensures { result ≡ cost.expressions_cost (map expression_of exprs.now) }
+{
+    let mut sum: u32 = 0;
+    for expr in exprs {
+        sum = capped(sum.saturating_add(expression_cost(expr)));
+    }
+    sum
+}
+
+impl Measure {
+    /// Core steps of bodies of this application, whose armed tasks these are.
+    pub(crate) fn cost_of_armed(app: &App, armed: &Flags) -> Measure
+        requires { HasFlags armed.now (is_armed (app_of app.now)) }
+        ensures { result ≡ whole.cost_measure (app_of app.now) }
+    {
+        Measure {
+            messages: armed_messages(app, armed),
+            is_size: false,
+        }
+    }
+
+    /// Core steps of bodies of this application.
+    pub fn cost(app: &App) -> Measure
+        ensures { result ≡ whole.cost_measure (app_of app.now) }
+    {
+        Measure::cost_of_armed(app, &armed_flags(app))
+    }
+
+    /// Instructions of bodies of this application.
+    pub fn size(app: &App) -> Measure
+        ensures { result ≡ whole.size_measure (app_of app.now) }
+    {
+        Measure {
+            messages: armed_messages(app, &armed_flags(app)).min(SIZED_MESSAGES),
+            is_size: true,
+        }
+    }
+
+    /// The messages that may be armed at once, as it counts them.
+    pub(crate) fn messages(&self) -> u32
+        ensures value { result ≡ self.now.messages }
+        ensures few { result ≤ MOST_ARMED }
+    {
+        self.messages
+    }
+
+    /// Of a spawn.
+    fn spawn(&self, spawn: &Spawn) -> u32
+        ensures { result ≡ cost.spawn_cost self.now (spawn_of spawn.now) }
+    {
+        match spawn {
+            Spawn::Soon(_task, args, _at) => {
+                capped(SPAWN_COST.saturating_add(expressions_cost(args)))
+            }
+            Spawn::After(_word, delay, _task, args, _at) => {
+                let queue = MESSAGE_COST.saturating_mul(self.messages);
+                let own = SPAWN_AFTER_COST.saturating_add(queue);
+                let delayed = own.saturating_add(expression_cost(delay));
+                capped(delayed.saturating_add(expressions_cost(args)))
+            }
+        }
+    }
+
+    /// Of the binding of a variable to this value.
+    fn bind(&self, value: &Value) -> u32
+        ensures { result ≡ cost.bind_cost self.now (value_of value.now) }
+    {
+        match value {
+            Value::Calc(expr) => capped(expression_cost(expr).saturating_add(1)),
+            Value::Now(_at) => 2,
+            Value::Call(spawn) => capped(self.spawn(spawn).saturating_add(1)),
+        }
+    }
+
+    /// Of the blocks of a branch: of both where code is counted, else of the longer one.
+    fn branch(&self, first: u32, second: u32) -> u32
+        ensures { result ≡ cost.capped (cost.branch_cost self.now first second) }
+    {
+        if self.is_size {
+            capped(first.saturating_add(second))
+        } else {
+            capped(first.max(second))
+        }
+    }
+
+    /// The turns of a loop from a number up to another, as they are counted.
+    fn turns(&self, first: u32, last: u32) -> u32
+        ensures { result ≡ cost.turns self.now first last }
+    {
+        if self.is_size {
+            1
+        } else {
+            last.saturating_sub(first)
+        }
+    }
+
+    /// Of a statement.
+    #[cycle(block)]
+    pub(crate) fn statement(&self, stmt: &Stmt) -> u32
+        ensures { result ≡ cost.statement_cost self.now (statement_of stmt.now) }
+    {
+        match stmt {
+            Stmt::Bind(_variable, value) => self.bind(value),
+            Stmt::Assign(_atom, expr, _at) => capped(expression_cost(expr).saturating_add(1)),
+            Stmt::Branch(condition, first, second) => {
+                let test = expression_cost(condition).saturating_add(2);
+                let blocks = self.branch(self.block(first), self.block(second));
+                capped(test.saturating_add(blocks))
+            }
+            Stmt::Repeat(_variable, first, last, turn) => {
+                let one = self.block(turn).saturating_add(TURN_COST);
+                let all = self.turns(*first, *last).saturating_mul(one);
+                capped(LOOP_COST.saturating_add(all))
+            }
+            Stmt::Locked(_resource, inner, _at) => capped(self.block(inner).saturating_add(2)),
+            Stmt::Emit(expr) => capped(expression_cost(expr).saturating_add(1)),
+            Stmt::Pend(_irq) => 1,
+            Stmt::Call(spawn) => self.spawn(spawn),
+        }
+    }
+
+    /// Of statements, one behind the other.
+    #[cycle(block)]
+    fn block(&self, stmts: &[Stmt]) -> u32
+        ensures { result ≡ cost.block_cost self.now (block_of stmts.now) }
+    {
+        let mut sum: u32 = 0;
+        for stmt in stmts {
+            sum = capped(sum.saturating_add(self.statement(stmt)));
+        }
+        sum
+    }
+
+    /// Of a body, with its end.
+    pub fn body(&self, body: &Body) -> u32
+        ensures { result ≡ whole.body_cost self.now (body_of 0 body.now) }
+    {
+        capped(self.block(&body.block).saturating_add(1))
+    }
+}

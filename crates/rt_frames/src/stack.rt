@@ -1,0 +1,126 @@
+ghost use Rattle.std.specs.Prelude.{◌≡◌, ◌+◌, ◌*◌, ◌==◌, map, false, if◌then◌else◌};
+ghost use Rattle.rt_app.specs.View.{task_of, app_of};
+ghost use Rattle.rt_app.specs.Ceiling.{greatest};
+ghost use Rattle.rt_app.specs.Level.{is_some_and};
+ghost use Rattle.rt_app.specs.Stack as stack;
+ghost use Rattle.rt_frames.specs.Flags.{flagged, HasFlags, timer_numbers};
+ghost use Rattle.rt_frames.specs.Saturated.{saturated};
+ghost use Rattle.rt_frames.specs.Needs.{task_need, need_at};
+
+use crate::flags::{self, Flags};
+use crate::frame::{frame_words, thread_words};
+use crate::level::is_software;
+use rt_app::costs::{DISPATCHER_WORDS, ENTRY_BYTES, PRIORITIES, TIMER_WORDS};
+use rt_app::{App, Mono, Task};
+
+/// Flags the priorities of tasks.
+fn flag_priorities(flags: &mut Flags, tasks: &[Task])
+    ensures { flags.new ≡ flagged (map (λ t. t.priority) (map task_of tasks.now)) flags.old }
+{
+    for task in tasks {
+        flags::flag(flags, task.priority);
+    }
+}
+
+/// Flags the priority of the monotonic, where there is one.
+fn flag_timer(flags: &mut Flags, mono: &Option<Mono>)
+    ensures { flags.new ≡ flagged (timer_numbers mono.now) flags.old }
+{
+    match mono {
+        None => {}
+        Some(mono) => flags::flag(flags, mono.priority),
+    }
+}
+
+/// Flags the levels that have a handler.
+pub(crate) fn handler_flags(app: &App) -> Flags
+    ensures { HasFlags result (stack.has_handler (app_of app.now)) }
+{
+    let mut handlers = flags::none();
+    flag_priorities(&mut handlers, &app.tasks);
+    flag_timer(&mut handlers, &app.mono);
+    handlers
+}
+
+/// The words of the handler that runs a task, up to the greatest number of 32 bits.
+fn task_need(task: &Task) -> u32
+    ensures { result ≡ saturated (task_need (task_of task.now)) }
+{
+    let words = frame_words(task.args, &task.body);
+    if is_software(task) {
+        words.saturating_add(DISPATCHER_WORDS)
+    } else {
+        words
+    }
+}
+
+/// The same, where the task has this level, and else none.
+fn need_at(task: &Task, level: u8) -> u32
+    ensures { result ≡ saturated (need_at level (task_of task.now)) }
+{
+    if task.priority == level {
+        task_need(task)
+    } else {
+        0
+    }
+}
+
+/// The greatest need of the tasks of this level, in words, up to the greatest number of 32 bits.
+fn tasks_need(tasks: &[Task], level: u8) -> u32
+    ensures { result ≡ saturated (greatest (map (need_at level) (map task_of tasks.now))) }
+{
+    let mut most: u32 = 0;
+    for task in tasks {
+        most = most.max(need_at(task, level));
+    }
+    most
+}
+
+/// The words of the timer handler, where it has this level.
+fn timer_need(mono: &Option<Mono>, level: u8) -> u32
+    ensures { result ≡ (if is_some_and (λ m. m.priority == level) mono.now then TIMER_WORDS else 0) }
+{
+    match mono {
+        None => 0,
+        Some(mono) => {
+            if mono.priority == level {
+                TIMER_WORDS
+            } else {
+                0
+            }
+        }
+    }
+}
+
+/// The greatest need of the handlers of this level, in words, up to the greatest number of 32 bits.
+fn need(app: &App, level: u8) -> u32
+    ensures { result ≡ saturated (stack.need (app_of app.now) level) }
+{
+    tasks_need(&app.tasks, level).max(timer_need(&app.mono, level))
+}
+
+/// The bytes of a level, up to the greatest number of 32 bits.
+fn level_bytes(app: &App, level: u8, has_handler: bool) -> u32
+    ensures { result ≡ saturated (if has_handler then ENTRY_BYTES + 4 * stack.need (app_of app.now) level else 0) }
+{
+    if has_handler {
+        need(app, level)
+            .saturating_mul(4)
+            .saturating_add(ENTRY_BYTES)
+    } else {
+        0
+    }
+}
+
+/// Bytes of the stack at the deepest, up to the greatest number of 32 bits.
+pub(crate) fn stack_bytes(app: &App, handlers: &Flags) -> u32
+    requires { HasFlags handlers.now (stack.has_handler (app_of app.now)) }
+    ensures { result ≡ saturated (stack.stack_bytes (app_of app.now)) }
+{
+    let mut bytes = thread_words(app).saturating_mul(4);
+    for level in 0..PRIORITIES {
+        let own = level_bytes(app, level as u8, handlers[usize::from(level)]);
+        bytes = bytes.saturating_add(own);
+    }
+    bytes
+}
