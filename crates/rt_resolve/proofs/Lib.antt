@@ -1,0 +1,9 @@
+pub mod Positions
+pub mod Blocks
+pub mod Written
+pub mod Marked
+pub mod Tested
+pub mod Few
+pub mod Appended
+pub mod KeptBody
+pub mod Kept

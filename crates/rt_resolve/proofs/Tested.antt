@@ -1,0 +1,46 @@
+-- Tests of lists that are given in another way, and the faults of names that are declared twice.
+use Rattle.std.proofs.Common.{◌≡◌, ℕ, ◌+◌, ◌<◌, ◌||◌, Bool, true, false, ◌++◌, List, [], ◌∷◌, map, reverse, take, drop, get_or, length, refl, ap, sym, ◌∙◌, Bor, append_assoc}
+use Rattle.std.specs.List.{list_any}
+use Rattle.std.proofs.lemmas.List.{take_more, drop_more, map-append, reverse-append}
+use Rattle.std.proofs.lemmas.List.Folds.{list_any-append}
+use Rattle.rt_ids.specs.declared.rule.Rule.TheVariants as rule
+use Rattle.rt_ast.specs.declared.ident.Ident.{Ident}
+use Rattle.rt_app.specs.declared.violation.Violation.{Violation}
+use Rattle.rt_app.specs.Violation.{when}
+use Rattle.rt_resolve.specs.Scope.{is_named}
+use Rattle.rt_resolve.specs.NameRules.{declared_twice}
+
+pub list_any-map : {A B : Type 0} (f : A → B) (p : B → Bool) (xs : List A) → list_any p (map f xs) ≡ list_any (λ x. p (f x)) xs
+list_any-map f p [] = refl
+list_any-map f p (x ∷ xs) = ap (λ b. p (f x) || b) (list_any-map f p xs)
+
+turned : (b c : Bool) → (c || (b || false)) ≡ (b || c)
+turned true true = refl
+turned true false = refl
+turned false true = refl
+turned false false = refl
+
+list_any-reverse : {A : Type 0} (p : A → Bool) (xs : List A) → list_any p (reverse xs) ≡ list_any p xs
+list_any-reverse p [] = refl
+list_any-reverse p (x ∷ xs) =
+    ap (list_any p) (reverse-append (x ∷ []) xs) ∙ list_any-append p (reverse xs) (x ∷ [])
+    ∙ ap (λ b. b || (p x || false)) (list_any-reverse p xs) ∙ turned (p x) (list_any p xs)
+
+abbrev pub idents : List (Bor Ident) → List Ident
+idents xs = map (λ x. x.now) xs
+
+idents_more : (all : List (Bor Ident)) (i : ℕ) (d : Bor Ident) → i < length all → d ≡ get_or all i d → reverse (idents (take (i + 1) all)) ≡ d.now ∷ reverse (idents (take i all))
+idents_more all i d h is =
+    ap (λ xs. reverse (idents xs)) (take_more all i d h) ∙ ap reverse (map-append (λ (x : Bor Ident). x.now) (take i all) (get_or all i d ∷ []))
+    ∙ reverse-append (idents (take i all)) ((get_or all i d).now ∷ []) ∙ ap (λ (x : Bor Ident). x.now ∷ reverse (idents (take i all))) (sym is)
+
+-- the faults of one name more
+pub declared_more : (all : List (Bor Ident)) (i : ℕ) (d : Bor Ident) (old new whole : List Violation) (b : Bool) → i < length all → d ≡ get_or all i d
+    → b ≡ list_any (is_named d.now.name) (idents (take i all)) → new ≡ old ++ when b rule.DeclaredTwice d.now.at
+    → old ++ declared_twice (reverse (idents (take i all))) (idents (drop i all)) ≡ whole
+    → new ++ declared_twice (reverse (idents (take (i + 1) all))) (idents (drop (i + 1) all)) ≡ whole
+declared_more all i d old new whole b h is m e f =
+    let front = idents_more all i d h is in
+    let rest : drop i all ≡ d ∷ drop (i + 1) all = drop_more all i d h ∙ ap (λ x. x ∷ drop (i + 1) all) (sym is) in
+    let twice = list_any-reverse (is_named d.now.name) (idents (take i all)) in
+    rw (e, front, append_assoc, m, ← twice) (rw rest at f)

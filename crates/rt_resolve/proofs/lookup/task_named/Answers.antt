@@ -1,0 +1,6 @@
+use Rattle.std.proofs.Common.{rules}
+use Rattle.rt_resolve.proofs.Positions.{position-map}
+use Rattle.rt_resolve.proofs.lookup.task_named.Goals as goal
+
+pub returns : goal.returns
+returns c = rw position-map (search rules)

@@ -1,0 +1,7 @@
+pub mod Scope
+pub mod Resolving
+pub mod Resolved
+pub mod Misnamed
+pub mod NameRules
+pub mod NamesView
+pub mod Followed

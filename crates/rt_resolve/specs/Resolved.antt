@@ -1,0 +1,111 @@
+-- The application of a tree, with its names resolved.
+use Rattle.std.specs.Prelude.{ℕ, ◌+◌, min, List, [], ◌∷◌, map, length, is_some, Option, Some, None, option_map}
+use Rattle.rt_ast.specs.declared.ident.Ident.{Ident}
+use Rattle.rt_ast.specs.declared.ident.Number.{Number}
+use Rattle.rt_ast.specs.declared.app.IrqTree.{IrqTree}
+use Rattle.rt_ast.specs.declared.app.MonoTree.{MonoTree}
+use Rattle.rt_ast.specs.declared.app.SharedTree.{SharedTree}
+use Rattle.rt_ast.specs.declared.app.LocalTree.{LocalTree}
+use Rattle.rt_ast.specs.declared.app.ListedTree.{ListedTree}
+use Rattle.rt_ast.specs.Tree.{Body, Task, App}
+use Rattle.rt_app.specs.declared.body.Listed.{Listed}
+use Rattle.rt_app.specs.declared.body.Owned.{Owned}
+use Rattle.rt_app.specs.declared.app.IrqDecl.{IrqDecl}
+use Rattle.rt_app.specs.declared.app.Dispatcher.{Dispatcher}
+use Rattle.rt_app.specs.declared.app.Mono.{Mono}
+use Rattle.rt_app.specs.declared.app.Shared.{Shared}
+use Rattle.rt_app.specs.declared.app.Local.{Local}
+use Rattle.rt_app.specs.Tree as tree
+use Rattle.rt_app.specs.Variables.{variables}
+use Rattle.rt_resolve.specs.Scope.{Names, irq_named, shared_named, local_named, or_unknown, inside, with_variable}
+use Rattle.rt_resolve.specs.Resolving.{block}
+
+abbrev pub irq : IrqTree → IrqDecl
+irq d = record { name = d.name.name; number = d.number.value; at = d.name.at; number_at = d.number.at }
+
+abbrev pub dispatcher : App → Ident → Dispatcher
+dispatcher app x = record { irq = or_unknown (irq_named app x.name); at = x.at }
+
+-- a priority above 255 stands as 255, which no rule takes
+abbrev pub stored : ℕ → ℕ
+stored n = min n 255
+
+abbrev pub mono : App → MonoTree → Mono
+mono app m = record { irq = or_unknown (irq_named app m.binds.name); priority = stored m.priority.value; at = m.binds.at; priority_at = m.priority.at }
+
+abbrev pub shared : SharedTree → Shared
+shared r = record { name = r.name.name; first = r.first; lock_free = r.lock_free }
+
+abbrev pub local : LocalTree → Local
+local r = record { name = r.name.name; first = r.first }
+
+abbrev pub listed : App → ListedTree → Listed
+listed app l = record { resource = or_unknown (shared_named app l.name.name); by_ref = l.by_ref; at = l.at }
+
+abbrev pub owned : App → Ident → Owned
+owned app x = record { local = or_unknown (local_named app x.name); at = x.at }
+
+-- arguments, before which so many variables stand
+abbrev pub with_arguments : Names → ℕ → List Ident → Names
+with_arguments names n [] = names
+with_arguments names n (x ∷ xs) = with_arguments (with_variable names x n) (n + 1) xs
+
+-- no variable is in scope before the arguments of a body
+abbrev pub body_names : App → Body → Names
+body_names app b = record { app = app; local = b.local; scope = record { variables = []; here = 0 } }
+
+abbrev pub body_block : App → List Ident → Body → tree.Block
+body_block app args b = block (inside (with_arguments (body_names app b) 0 args)) (length args) b.block
+
+abbrev pub body : App → List Ident → Body → tree.Body
+body app args b = record {
+  shared = map (listed app) b.shared;
+  local = map (owned app) b.local;
+  variables = length args + variables (body_block app args b);
+  block = body_block app args b;
+  at = b.at;
+}
+
+abbrev pub priority_or_one : Option Number → ℕ
+priority_or_one None = 1
+priority_or_one (Some n) = stored n.value
+
+abbrev pub number_at : Option Number → ℕ
+number_at None = 0
+number_at (Some n) = n.at
+
+abbrev pub capacity_or_one : Option ℕ → ℕ
+capacity_or_one None = 1
+capacity_or_one (Some n) = n
+
+abbrev pub ident_at : Option Ident → ℕ
+ident_at None = 0
+ident_at (Some x) = x.at
+
+abbrev pub task : App → Task → tree.Task
+task app t = record {
+  name = t.name.name;
+  at = t.name.at;
+  binds = option_map (λ x. or_unknown (irq_named app x.name)) t.binds;
+  binds_at = ident_at t.binds;
+  priority = priority_or_one t.priority;
+  priority_at = number_at t.priority;
+  capacity = capacity_or_one t.capacity;
+  has_capacity = is_some t.capacity;
+  args = length t.args;
+  body = body app t.args t.body;
+}
+
+abbrev pub resolved : App → tree.App
+resolved app = record {
+  bits = app.bits;
+  irqs = map irq app.irqs;
+  dispatchers = map (dispatcher app) app.dispatchers;
+  mono = option_map (mono app) app.mono;
+  shared = map shared app.shared;
+  locals = map local app.locals;
+  init = option_map (body app []) app.init;
+  idle = option_map (body app []) app.idle;
+  tasks = map (task app) app.tasks;
+  name_at = app.name.at;
+}

@@ -1,0 +1,71 @@
+-- The statements of a body, with the names in place of numbers: a variable is its place among the arguments, `let` and `for`
+-- statements of the body in order of the text.
+use Rattle.std.specs.Prelude.{ℕ, ◌+◌, map}
+use Rattle.rt_ast.specs.declared.ident.Ident.{Ident}
+use Rattle.rt_ast.specs.Tree as written
+use Rattle.rt_ast.specs.Tree.{Statement, Bind, Assign, Branch, Repeat, Locked, Emit, Pend, Spawns, Block, Empty, Then}
+use Rattle.rt_app.specs.Tree as tree
+use Rattle.rt_resolve.specs.Scope.{Names, irq_named, task_named, shared_named, or_unknown, inside, with_variable, atom_named}
+
+abbrev pub expression : Names → written.Expression → tree.Expression
+expression names (written.Num n) = tree.Num n
+expression names (written.Read x) = tree.Read (atom_named names x.name) x.at
+expression names (written.Oper o left right) = tree.Oper o (expression names left) (expression names right)
+
+abbrev pub spawn : Names → written.Spawn → tree.Spawn
+spawn names (written.Soon task args) = tree.Soon (or_unknown (task_named names.app task.name)) (map (expression names) args) task.at
+spawn names (written.After word delay task args) =
+    tree.After word (expression names delay) (or_unknown (task_named names.app task.name)) (map (expression names) args) task.at
+
+abbrev pub value : Names → written.Value → tree.Value
+value names (written.Calc e) = tree.Calc (expression names e)
+value names (written.Now at) = tree.Now at
+value names (written.Call s) = tree.Call (spawn names s)
+
+-- the variables that a statement brings in
+abbrev mutual
+  pub binders_in : Statement → ℕ
+  binders_in (Bind x v) = 1
+  binders_in (Assign x e) = 0
+  binders_in (Branch e first second) = binders first + binders second
+  binders_in (Repeat x first last turn) = 1 + binders turn
+  binders_in (Locked r inner) = binders inner
+  binders_in (Emit e) = 0
+  binders_in (Pend i) = 0
+  binders_in (Spawns s) = 0
+
+  pub binders : Block → ℕ
+  binders Empty = 0
+  binders (Then s rest) = binders_in s + binders rest
+
+-- the names behind a statement that so many variables stand before: a `let` holds to the end of its block
+abbrev pub behind : Names → ℕ → Statement → Names
+behind names n (Bind x v) = with_variable names x n
+behind names n (Assign x e) = names
+behind names n (Branch e first second) = names
+behind names n (Repeat x first last turn) = names
+behind names n (Locked r inner) = names
+behind names n (Emit e) = names
+behind names n (Pend i) = names
+behind names n (Spawns s) = names
+
+-- the names in the block of a `for`
+abbrev pub in_loop : Names → Ident → ℕ → Names
+in_loop names x n = inside (with_variable (inside names) x n)
+
+-- a statement, and a block, that so many variables stand before
+abbrev mutual
+  pub statement : Names → ℕ → Statement → tree.Statement
+  statement names n (Bind x v) = tree.Bind n (value names v)
+  statement names n (Assign x e) = tree.Assign (atom_named names x.name) (expression names e) x.at
+  statement names n (Branch e first second) =
+      tree.Branch (expression names e) (block (inside names) n first) (block (inside names) (n + binders first) second)
+  statement names n (Repeat x first last turn) = tree.Repeat n first last (block (in_loop names x n) (n + 1) turn)
+  statement names n (Locked r inner) = tree.Locked (or_unknown (shared_named names.app r.name)) (block (inside names) n inner) r.at
+  statement names n (Emit e) = tree.Emit (expression names e)
+  statement names n (Pend i) = tree.Pend (or_unknown (irq_named names.app i.name))
+  statement names n (Spawns s) = tree.Spawns (spawn names s)
+
+  pub block : Names → ℕ → Block → tree.Block
+  block names n Empty = tree.Empty
+  block names n (Then s rest) = tree.Then (statement names n s) (block (behind names n s) (n + binders_in s) rest)

@@ -1,0 +1,201 @@
+ghost use Rattle.std.specs.Prelude.{◌≡◌, ◌+◌, ◌≤◌, ◌++◌, [], length, map, flat_map, option_map, IfOk, OnOk};
+ghost use Rattle.std.specs.List.{AllByRecursion};
+ghost use Rattle.rt_ids.specs.declared.limits.TheConstants.{ARGUMENTS, STATEMENTS};
+ghost use Rattle.rt_ast.specs.View as written;
+ghost use Rattle.rt_ast.specs.PrintableBody.{statements_of};
+ghost use Rattle.rt_ast.specs.Printable.{IfThere, IsPrintableTask};
+ghost use Rattle.rt_app.specs.View as built;
+ghost use Rattle.rt_resolve.specs.Scope as named;
+ghost use Rattle.rt_resolve.specs.Resolving as resolving;
+ghost use Rattle.rt_resolve.specs.Resolved as meant;
+ghost use Rattle.rt_resolve.specs.Misnamed as wrong;
+ghost use Rattle.rt_resolve.specs.NameRules as rules_on;
+ghost use Rattle.rt_resolve.specs.NamesView.{names_of, IsCounted, IsShort};
+
+use crate::block::{push_if_taken, resolve_block};
+use crate::faults::known;
+use crate::listing::{push_local_twice, push_shared_twice, resolve_local, resolve_shared};
+use crate::lookup::irq_named;
+use crate::scope::{Names, Variables, inside, with_variable};
+use rt_app::{Body, Task, Violation};
+use rt_ast::{AppTree, BodyTree, Ident, Number, Stmt, TaskTree};
+use rt_ids::{Name, NoMemory};
+use std::alloc::Global;
+
+/// The statements of a body behind arguments, the first of which has the number `next`.
+fn resolve_arguments(
+    alloc: Global,
+    faults: &mut Vec<Violation>,
+    names: &Names,
+    next: u16,
+    args: &[Ident],
+    stmts: &[Stmt],
+) -> Result<Vec<rt_app::Stmt>, NoMemory>
+    requires counted { IsCounted (names_of names.now).app }
+    requires here { names.now.here ≤ next }
+    requires room { (next + length args.now) + resolving.binders (written.block_of stmts.now) ≤ 65535 }
+    ensures tree { IfOk result (λ b. built.block_of b.items ≡ resolving.block (named.inside (meant.with_arguments (names_of names.now) next args.now)) (next + length args.now) (written.block_of stmts.now)) }
+    ensures faults { OnOk result (faults.new.items ≡ faults.old.items ++ (rules_on.argument_faults (names_of names.now) next args.now ++ wrong.block_faults (named.inside (meant.with_arguments (names_of names.now) next args.now)) (next + length args.now) (written.block_of stmts.now))) }
+{
+    match args {
+        [] => {
+            let mut next = next;
+            resolve_block(alloc, faults, &inside(names), &mut next, stmts)
+        }
+        [x, rest @ ..] => {
+            push_if_taken(faults, names, x)?;
+            let behind = with_variable(&*names, x, next);
+            resolve_arguments(alloc, faults, &behind, next + 1, rest, stmts)
+        }
+    }
+}
+
+/// A body that takes these arguments.
+#[tactic(auto, using(crate::proofs::Few::few))]
+fn resolve_body<'a>(
+    alloc: Global,
+    faults: &mut Vec<Violation>,
+    app: &'a AppTree,
+    args: &[Ident],
+    body: &'a BodyTree,
+) -> Result<Body, NoMemory>
+    requires counted { IsCounted (written.app_of app.now) }
+    requires few { length args.now ≤ ARGUMENTS }
+    requires short { IsShort (written.body_of body.now) }
+    ensures tree { IfOk result (λ b. built.body_of (length args.now) b ≡ meant.body (written.app_of app.now) args.now (written.body_of body.now)) }
+    ensures faults { OnOk result (faults.new.items ≡ faults.old.items ++ rules_on.body_faults (written.app_of app.now) args.now (written.body_of body.now)) }
+{
+    let shared = resolve_shared(alloc, faults, app, &body.shared)?;
+    let local = resolve_local(alloc, faults, app, &body.local)?;
+    push_shared_twice(alloc, faults, app, &body.shared)?;
+    push_local_twice(alloc, faults, app, &body.local)?;
+    let names = Names {
+        app,
+        local: &body.local,
+        variables: Variables::Nothing,
+        here: 0,
+    };
+    let block = resolve_arguments(alloc, faults, &names, 0, args, &body.block)?;
+    Ok(Body {
+        shared,
+        local,
+        block,
+        at: body.at,
+    })
+}
+
+/// The body of `init` or `idle`, where there is one.
+pub(crate) fn resolve_thread(
+    alloc: Global,
+    faults: &mut Vec<Violation>,
+    app: &AppTree,
+    body: &Option<BodyTree>,
+) -> Result<Option<Body>, NoMemory>
+    requires counted { IsCounted (written.app_of app.now) }
+    requires short { IfThere IsShort (written.option_map written.body_of body.now) }
+    ensures tree { IfOk result (λ o. option_map (built.body_of 0) o ≡ option_map (meant.body (written.app_of app.now) []) (written.option_map written.body_of body.now)) }
+    ensures faults { OnOk result (faults.new.items ≡ faults.old.items ++ rules_on.thread_faults (written.app_of app.now) (written.option_map written.body_of body.now)) }
+{
+    match body {
+        None => Ok(None),
+        Some(body) => {
+            let body = resolve_body(alloc, faults, app, &[], body)?;
+            Ok(Some(body))
+        }
+    }
+}
+
+/// The interrupt that a task binds, where it binds one.
+fn resolve_binds(
+    faults: &mut Vec<Violation>,
+    app: &AppTree,
+    binds: &Option<Ident>,
+) -> Result<Option<u8>, NoMemory>
+    requires { IsCounted (written.app_of app.now) }
+    ensures irq { IfOk result (λ o. o ≡ option_map (λ x. named.or_unknown (named.irq_named (written.app_of app.now) x.name)) binds.now) }
+    ensures faults { OnOk result (faults.new.items ≡ faults.old.items ++ rules_on.binds_fault (written.app_of app.now) binds.now) }
+{
+    match binds {
+        None => Ok(None),
+        Some(x) => {
+            let irq = known(faults, irq_named(app, x.name.bytes()), x.at)?;
+            Ok(Some(irq))
+        }
+    }
+}
+
+/// The offset of a name, and 0 where there is none.
+fn ident_at(x: &Option<Ident>) -> u32
+    ensures { result ≡ meant.ident_at x.now }
+{
+    match x {
+        None => 0,
+        Some(x) => x.at,
+    }
+}
+
+/// The offset of a number, and 0 where there is none.
+fn number_at(number: Option<Number>) -> u32
+    ensures { result ≡ meant.number_at number }
+{
+    match number {
+        None => 0,
+        Some(number) => number.at,
+    }
+}
+
+/// A priority as it is stored: one above 255 as 255.
+pub(crate) fn stored(priority: u32) -> u8
+    ensures { result ≡ meant.stored priority }
+{
+    priority.min(255) as u8
+}
+
+/// A task's priority as it is stored, and 1 where none is written.
+fn priority_or_one(priority: Option<Number>) -> u8
+    ensures { result ≡ meant.priority_or_one priority }
+{
+    match priority {
+        None => 1,
+        Some(number) => stored(number.value),
+    }
+}
+
+/// A task's capacity, and 1 where none is written.
+fn capacity_or_one(capacity: Option<u32>) -> u8
+    requires { IfThere (λ n. n ≤ 255) capacity }
+    ensures { result ≡ meant.capacity_or_one capacity }
+{
+    match capacity {
+        None => 1,
+        Some(capacity) => capacity as u8,
+    }
+}
+
+/// A task.
+pub(crate) fn resolve_task(
+    alloc: Global,
+    faults: &mut Vec<Violation>,
+    app: &AppTree,
+    task: &TaskTree,
+) -> Result<Task, NoMemory>
+    requires counted { IsCounted (written.app_of app.now) }
+    requires printable { IsPrintableTask (written.task_of task.now) }
+    ensures tree { IfOk result (λ t. built.task_of t ≡ meant.task (written.app_of app.now) (written.task_of task.now)) }
+    ensures faults { OnOk result (faults.new.items ≡ faults.old.items ++ rules_on.task_faults (written.app_of app.now) (written.task_of task.now)) }
+{
+    let binds = resolve_binds(faults, app, &task.binds)?;
+    let body = resolve_body(alloc, faults, app, &task.args, &task.body)?;
+    Ok(Task {
+        name: Name::of(alloc, task.name.name.bytes())?,
+        at: task.name.at,
+        binds,
+        binds_at: ident_at(&task.binds),
+        priority: priority_or_one(task.priority),
+        priority_at: number_at(task.priority),
+        capacity: capacity_or_one(task.capacity),
+        has_capacity: task.capacity.is_some(),
+        args: task.args.len() as u8,
+        body,
+    })
+}

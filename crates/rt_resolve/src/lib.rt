@@ -1,0 +1,40 @@
+// From the tree of an application text to the application: names become places in their tables.
+#![tactic(auto)]
+
+ghost use Rattle.std.specs.Prelude.{◌≡◌, IfOk};
+ghost use Rattle.rt_ast.specs.View as written;
+ghost use Rattle.rt_ast.specs.Printable.{IsPrintable};
+ghost use Rattle.rt_app.specs.View.{app_of};
+ghost use Rattle.rt_app.specs.Limits.{KeepsLimits};
+ghost use Rattle.rt_resolve.specs.Resolved.{resolved};
+ghost use Rattle.rt_resolve.specs.NameRules.{name_violations};
+
+mod app;
+mod block;
+mod body;
+mod declared;
+mod expression;
+mod faults;
+mod listing;
+mod lookup;
+pub mod resolved;
+mod scope;
+#[cfg(test)]
+mod tests;
+mod twice;
+
+pub use resolved::Resolved;
+use rt_ast::AppTree;
+use rt_ids::NoMemory;
+use std::alloc::Global;
+
+pub fn resolve(alloc: Global, tree: &AppTree) -> Result<Resolved, NoMemory>
+    requires { IsPrintable (written.app_of tree.now) }
+    ensures app { IfOk result (λ r. app_of r.app ≡ resolved (written.app_of tree.now)) }
+    ensures faults { IfOk result (λ r. r.faults.items ≡ name_violations (written.app_of tree.now)) }
+    ensures limits { IfOk result (λ r. KeepsLimits (app_of r.app)) }
+{
+    let mut faults = Vec::new(alloc);
+    let app = app::resolve_app(alloc, &mut faults, tree)?;
+    Ok(Resolved { app, faults })
+}

@@ -1,0 +1,182 @@
+ghost use Rattle.std.specs.Prelude.{◌≡◌, ◌≤◌, ◌<◌, IfSome, length, position, find, unwrap_or, None, option_map, if◌then◌else◌};
+ghost use Rattle.std.specs.Option.{option_or};
+ghost use Rattle.std.specs.List.{list_any};
+ghost use Rattle.rt_app.specs.declared.expr.Atom.TheVariants as atom;
+ghost use Rattle.rt_ast.specs.View.{app_of};
+ghost use Rattle.rt_resolve.specs.Scope as named;
+ghost use Rattle.rt_resolve.specs.Misnamed as wrong;
+ghost use Rattle.rt_resolve.specs.NamesView.{variables_of, names_of, IsCounted};
+
+use crate::scope::{Names, Variables, is_named};
+use rt_app::{Atom, UNKNOWN};
+use rt_ast::{AppTree, Ident, IrqTree, LocalTree, SharedTree, TaskTree};
+use rt_ids::ResId;
+
+/// The place of what is found in its table, which has at most 255 rows.
+fn place(found: Option<usize>) -> Option<u8>
+    requires { IfSome found (λ n. n ≤ 255) }
+    ensures { result ≡ found }
+{
+    match found {
+        Some(n) => Some(n as u8),
+        None => None,
+    }
+}
+
+/// The place of the first interrupt of this name.
+fn irq_position(irqs: &[IrqTree], name: &[u8]) -> Option<usize>
+    ensures place { result ≡ position (λ d. named.is_named name.now d.name) irqs.now }
+    ensures within { IfSome result (λ n. n < length irqs.now) }
+{
+    irqs.iter().position(|d| is_named(&d.name, name))
+}
+
+/// The place of the interrupt of this name, where it is declared.
+pub(crate) fn irq_named(app: &AppTree, name: &[u8]) -> Option<u8>
+    requires { IsCounted (app_of app.now) }
+    ensures { result ≡ named.irq_named (app_of app.now) name.now }
+{
+    place(irq_position(&app.irqs, name))
+}
+
+/// The place of the first task of this name.
+fn task_position(tasks: &[TaskTree], name: &[u8]) -> Option<usize>
+    ensures place { result ≡ position (λ t. named.is_named name.now t.name) tasks.now }
+    ensures within { IfSome result (λ n. n < length tasks.now) }
+{
+    tasks.iter().position(|t| is_named(&t.name, name))
+}
+
+/// The place of the task of this name, where it is declared.
+pub(crate) fn task_named(app: &AppTree, name: &[u8]) -> Option<u8>
+    requires { IsCounted (app_of app.now) }
+    ensures { result ≡ named.task_named (app_of app.now) name.now }
+{
+    place(task_position(&app.tasks, name))
+}
+
+/// The place of the first shared resource of this name.
+fn shared_position(shared: &[SharedTree], name: &[u8]) -> Option<usize>
+    ensures place { result ≡ position (λ r. named.is_named name.now r.name) shared.now }
+    ensures within { IfSome result (λ n. n < length shared.now) }
+{
+    shared.iter().position(|r| is_named(&r.name, name))
+}
+
+/// The place of the shared resource of this name, where it is declared.
+pub(crate) fn shared_named(app: &AppTree, name: &[u8]) -> Option<u8>
+    requires { IsCounted (app_of app.now) }
+    ensures { result ≡ named.shared_named (app_of app.now) name.now }
+{
+    place(shared_position(&app.shared, name))
+}
+
+/// The place of the first local resource of this name.
+fn local_position(locals: &[LocalTree], name: &[u8]) -> Option<usize>
+    ensures place { result ≡ position (λ r. named.is_named name.now r.name) locals.now }
+    ensures within { IfSome result (λ n. n < length locals.now) }
+{
+    locals.iter().position(|r| is_named(&r.name, name))
+}
+
+/// The place of the local resource of this name, where it is declared.
+pub(crate) fn local_named(app: &AppTree, name: &[u8]) -> Option<u8>
+    requires { IsCounted (app_of app.now) }
+    ensures { result ≡ named.local_named (app_of app.now) name.now }
+{
+    place(local_position(&app.locals, name))
+}
+
+/// The number of what is found, and 255 where nothing is.
+pub(crate) fn or_unknown(found: Option<u8>) -> u8
+    ensures { result ≡ named.or_unknown found }
+{
+    found.unwrap_or(UNKNOWN)
+}
+
+/// The number of the variable of this name that is declared last.
+fn variable_named(variables: &Variables, name: &[u8]) -> Option<u16>
+    ensures { result ≡ option_map (λ v. v.number) (find (named.is_variable name.now) (variables_of variables.now)) }
+{
+    match variables {
+        Variables::Nothing => None,
+        Variables::Declared(x, number, before) => {
+            if is_named(x, name) {
+                Some(*number)
+            } else {
+                variable_named(before, name)
+            }
+        }
+    }
+}
+
+/// Whether this name is among these.
+fn is_listed(listed: &[Ident], name: &[u8]) -> bool
+    ensures { result ≡ list_any (named.is_named name.now) listed.now }
+{
+    listed.iter().any(|x| is_named(x, name))
+}
+
+/// The place of a local resource of this name, where the body lists it.
+fn owned_named(names: &Names, name: &[u8]) -> Option<u8>
+    requires { IsCounted (names_of names.now).app }
+    ensures { result ≡ (if list_any (named.is_named name.now) names.now.local.now then named.local_named (names_of names.now).app name.now else None) }
+{
+    if is_listed(names.local, name) {
+        local_named(names.app, name)
+    } else {
+        None
+    }
+}
+
+/// The resource that this name stands for where no variable has it: a shared one before a local one.
+fn resource_named(names: &Names, name: &[u8]) -> Option<Atom>
+    requires { IsCounted (names_of names.now).app }
+    ensures { let n = names_of names.now in result ≡ option_or (option_map atom.Shared (named.shared_named n.app name.now)) (named.owned_named n name.now) }
+{
+    match shared_named(names.app, name) {
+        Some(shared) => Some(Atom::Shared(ResId(shared))),
+        None => match owned_named(names, name) {
+            Some(local) => Some(Atom::Local(local)),
+            None => None,
+        },
+    }
+}
+
+/// What this name stands for: a variable before a resource.
+pub(crate) fn meaning(names: &Names, name: &[u8]) -> Option<Atom>
+    requires { IsCounted (names_of names.now).app }
+    ensures { result ≡ named.meaning (names_of names.now) name.now }
+{
+    match variable_named(&names.variables, name) {
+        Some(number) => Some(Atom::Var(number)),
+        None => resource_named(names, name),
+    }
+}
+
+/// What is found, and the shared resource 255 where nothing is.
+pub(crate) fn or_unknown_atom(found: Option<Atom>) -> Atom
+    ensures { result ≡ unwrap_or found (atom.Shared UNKNOWN) }
+{
+    found.unwrap_or(Atom::Shared(ResId(UNKNOWN)))
+}
+
+/// Whether a variable has this name.
+fn is_variable(variables: &Variables, name: &[u8]) -> bool
+    ensures { result ≡ list_any (named.is_variable name.now) (variables_of variables.now) }
+{
+    match variables {
+        Variables::Nothing => false,
+        Variables::Declared(x, _number, before) => is_named(x, name) || is_variable(before, name),
+    }
+}
+
+/// Whether a variable cannot have this name.
+pub(crate) fn is_taken(names: &Names, name: &[u8]) -> bool
+    requires { IsCounted (names_of names.now).app }
+    ensures { result ≡ wrong.is_taken (names_of names.now) name.now }
+{
+    shared_named(names.app, name).is_some()
+        || local_named(names.app, name).is_some()
+        || is_variable(&names.variables, name)
+}
