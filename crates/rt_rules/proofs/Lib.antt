@@ -1,0 +1,9 @@
+pub mod Bits
+pub mod Choices
+pub mod Declared
+pub mod Earliest
+pub mod Fold
+pub mod Sizes
+pub mod Steps
+pub mod Uses
+pub mod Walks

@@ -1,0 +1,9 @@
+-- The first violation so far is that of the tasks so far.
+use Rattle.std.proofs.Common.{◌≡◌, map, flat_map, take}
+use Rattle.rt_app.specs.View.{task_of}
+use Rattle.rt_app.specs.Declarations.{task_priority}
+use Rattle.rt_rules.specs.First.{first_of}
+use Rattle.rt_rules.proofs.declarations.judge_tasks.Given as goal
+
+abbrev pub invariant-loop-task : goal.invariant-loop-task
+invariant-loop-task l = l.first ≡ first_of l.fn.first (flat_map (task_priority l.bits) (map task_of (take l.task-index l.tasks)))
