@@ -1,0 +1,6 @@
+pub mod Judging
+pub mod Firsts
+pub mod Accepting
+pub mod PlacedNames
+pub mod PlacedStatements
+pub mod Placed

@@ -1,0 +1,140 @@
+-- A name that is no unknown name means something that is declared, and a variable is one in scope.
+use Rattle.std.proofs.Common.{◌≡◌, ◌==◌, ◌<◌, nat_lt, ◌||◌, ℕ, ◌+◌, Bool, true, false, cond, IsTrue, List, [], ◌∷◌, ◌++◌, length, map, take, find, position, Option, Some, None, IfSome, option_map, refl, sym, subst, if◌then◌else◌}
+use Rattle.std.specs.List.{AllByRecursion, list_any, position_or_len, range_with_len}
+use Rattle.std.specs.Option.{option_or, unwrap_or}
+use Rattle.std.proofs.lemmas.List.{length-map}
+use Rattle.std.proofs.lemmas.Bool.{ltb-true, eq-eqb}
+use Rattle.rt_ast.specs.declared.ident.Ident.{Ident}
+use Rattle.rt_ast.specs.Tree.{App}
+use Rattle.rt_app.specs.declared.TheConstants.{UNKNOWN}
+use Rattle.rt_app.specs.declared.expr.Atom.{Atom}
+use Rattle.rt_app.specs.declared.expr.Atom.TheVariants as atom
+use Rattle.rt_app.specs.Accepted.{IsMeant}
+use Rattle.rt_resolve.specs.Scope.{is_named, irq_named, task_named, shared_named, local_named, or_unknown, Variable, Scope, is_variable, declared, Names, with_variable, variable_named, owned_named, meaning, atom_named}
+use Rattle.rt_resolve.specs.Resolved.{resolved, irq, task, shared, local, with_arguments}
+use Rattle.rt_resolve.specs.Misnamed.{if_unknown}
+
+-- of two lists that are empty together
+pub none_left : {A : Type 0} (xs ys : List A) → xs ++ ys ≡ [] → xs ≡ []
+none_left [] ys h = refl
+none_left (x ∷ xs) ys h = cc
+
+pub none_right : {A : Type 0} (xs ys : List A) → xs ++ ys ≡ [] → ys ≡ []
+none_right [] ys h = h
+none_right (x ∷ xs) ys h = cc
+
+-- what holds of all that is found holds of what a known name means
+pub known : {X : Type 0} (P : X → Type 0) (found : Option X) (other : X) (at : ℕ) → IfSome found P → if_unknown found at ≡ [] → P (unwrap_or found other)
+known P None other at h fine = cc
+known P (Some x) other at h fine = h
+
+position_within : {X : Type 0} (p : X → Bool) (xs : List X) → IfSome (position p xs) (λ k. k < length xs)
+position_within p xs = go (position_or_len p xs) (nat_lt (position_or_len p xs) (length xs)) refl
+  where
+    go : (k : ℕ) (b : Bool) → nat_lt k (length xs) ≡ b → IfSome (cond b (Some k) None) (λ i. i < length xs)
+    go k true test = ltb-true k (length xs) test
+    go k false test = tt
+
+-- the place of a thing in a table is its place in the table of what the things stand for
+placed : {X Y : Type 0} (f : X → Y) (p : X → Bool) (xs : List X) → IfSome (position p xs) (λ k. k < length (map f xs))
+placed f p xs = subst (λ n. IfSome (position p xs) (λ k. k < n)) (sym (length-map xs f)) (position_within p xs)
+
+module _ (app : App) where
+  pub irq_placed : (name : List ℕ) (at : ℕ) → if_unknown (irq_named app name) at ≡ [] → or_unknown (irq_named app name) < length (resolved app).irqs
+  irq_placed name at = known (λ k. k < length (resolved app).irqs) (irq_named app name) UNKNOWN at (placed irq (λ d. is_named name d.name) app.irqs)
+
+  pub task_placed : (name : List ℕ) (at : ℕ) → if_unknown (task_named app name) at ≡ [] → or_unknown (task_named app name) < length (resolved app).tasks
+  task_placed name at = known (λ k. k < length (resolved app).tasks) (task_named app name) UNKNOWN at (placed (task app) (λ t. is_named name t.name) app.tasks)
+
+  pub shared_placed : (name : List ℕ) (at : ℕ) → if_unknown (shared_named app name) at ≡ [] → or_unknown (shared_named app name) < length (resolved app).shared
+  shared_placed name at = known (λ k. k < length (resolved app).shared) (shared_named app name) UNKNOWN at (placed shared (λ r. is_named name r.name) app.shared)
+
+  pub local_placed : (name : List ℕ) (at : ℕ) → if_unknown (local_named app name) at ≡ [] → or_unknown (local_named app name) < length (resolved app).locals
+  local_placed name at = known (λ k. k < length (resolved app).locals) (local_named app name) UNKNOWN at (placed local (λ r. is_named name r.name) app.locals)
+
+-- one of these numbers
+abbrev pub IsIn : List ℕ → ℕ → Type 0
+IsIn visible n = IsTrue (list_any (λ y. y == n) visible)
+
+-- each variable in scope has one of these numbers
+abbrev pub AreSeen : List ℕ → List Variable → Type 0
+AreSeen visible vs = AllByRecursion (λ v. IsIn visible v.number) vs
+
+true_or : (a b : Bool) → IsTrue b → IsTrue (a || b)
+true_or true b h = refl
+true_or false b h = h
+
+pub is_first : (n : ℕ) (visible : List ℕ) → IsIn (n ∷ visible) n
+is_first n visible = rw (eq-eqb n n refl)
+
+-- numbers that are in a list are in a longer one
+more : {X : Type 0} (number : X → ℕ) (n : ℕ) (visible : List ℕ) (xs : List X) → AllByRecursion (λ x. IsIn visible (number x)) xs → AllByRecursion (λ x. IsIn (n ∷ visible) (number x)) xs
+more number n visible [] h = tt
+more number n visible (x ∷ xs) h = (true_or (n == number x) _ h.0, more number n visible xs h.1)
+
+pub seen_more : (n : ℕ) (visible : List ℕ) (vs : List Variable) → AreSeen visible vs → AreSeen (n ∷ visible) vs
+seen_more n visible vs = more (λ v. v.number) n visible vs
+
+all_in : (xs : List ℕ) → AllByRecursion (IsIn xs) xs
+all_in [] = tt
+all_in (x ∷ xs) = (is_first x xs, more (λ k. k) x xs xs (all_in xs))
+
+pub declared_seen : (visible : List ℕ) (s : Scope) (name : List ℕ) (n : ℕ) → IsIn visible n → AreSeen visible s.variables → AreSeen visible (declared s name n).variables
+declared_seen visible s name n is seen = go (list_any (is_variable name) (take s.here s.variables))
+  where
+    go : (b : Bool) → AreSeen visible (if b then s else record { variables = record { name = name; number = n } ∷ s.variables; here = s.here + 1 }).variables
+    go true = seen
+    go false = (is, seen)
+
+found_seen : (visible : List ℕ) (p : Variable → Bool) (vs : List Variable) → AreSeen visible vs → IfSome (find p vs) (λ v. IsIn visible v.number)
+found_seen visible p [] seen = tt
+found_seen visible p (v ∷ vs) seen = go (p v) (found_seen visible p vs seen.1)
+  where
+    go : (b : Bool) → IfSome (find p vs) (λ w. IsIn visible w.number) → IfSome (cond b (Some v) (find p vs)) (λ w. IsIn visible w.number)
+    go true rest = seen.0
+    go false rest = rest
+
+of_map : {X Y : Type 0} (f : X → Y) (P : Y → Type 0) (found : Option X) → IfSome found (λ x. P (f x)) → IfSome (option_map f found) P
+of_map f P None h = tt
+of_map f P (Some x) h = h
+
+of_either : {X : Type 0} (P : X → Type 0) (first second : Option X) → IfSome first P → IfSome second P → IfSome (option_or first second) P
+of_either P None second h k = k
+of_either P (Some x) second h k = h
+
+of_choice : {X : Type 0} (P : X → Type 0) (b : Bool) (found : Option X) → IfSome found P → IfSome (if b then found else None) P
+of_choice P true found h = h
+of_choice P false found h = tt
+
+-- what a known name in an expression or an assignment stands for
+pub meant : (names : Names) (visible : List ℕ) → AreSeen visible names.scope.variables → (name : List ℕ) (at : ℕ) → if_unknown (meaning names name) at ≡ [] → IsMeant (resolved names.app) visible (atom_named names name)
+meant names visible seen name at = known P (meaning names name) (atom.Shared UNKNOWN) at
+    (of_either P (variable_named names name) (option_or (option_map atom.Shared (shared_named names.app name)) (owned_named names name)) variables (of_either P (option_map atom.Shared (shared_named names.app name)) (owned_named names name) resources owned))
+  where
+    P : Atom → Type 0
+    P = IsMeant (resolved names.app) visible
+
+    variables : IfSome (variable_named names name) P
+    variables = of_map (λ v. atom.Var v.number) P (find (is_variable name) names.scope.variables) (found_seen visible (is_variable name) names.scope.variables seen)
+
+    resources : IfSome (option_map atom.Shared (shared_named names.app name)) P
+    resources = of_map atom.Shared P (shared_named names.app name) (placed shared (λ r. is_named name r.name) names.app.shared)
+
+    owned : IfSome (owned_named names name) P
+    owned = of_choice P (list_any (is_named name) names.local) _ (of_map atom.Local P (local_named names.app name) (placed local (λ r. is_named name r.name) names.app.locals))
+
+-- the arguments of a body are the first of its variables
+arguments_in : (visible : List ℕ) (xs : List Ident) (names : Names) (n : ℕ) → AllByRecursion (IsIn visible) (range_with_len n (length xs)) → AreSeen visible names.scope.variables → AreSeen visible (with_arguments names n xs).scope.variables
+arguments_in visible [] names n in_range seen = seen
+arguments_in visible (x ∷ xs) names n in_range seen =
+    arguments_in visible xs (with_variable names x n) (n + 1) in_range.1 (declared_seen visible names.scope x.name n in_range.0 seen)
+
+pub arguments_seen : (xs : List Ident) (names : Names) → names.scope.variables ≡ [] → AreSeen (range_with_len 0 (length xs)) (with_arguments names 0 xs).scope.variables
+arguments_seen xs names none = arguments_in visible xs names 0 (all_in visible) (subst (AreSeen visible) (sym none) tt)
+  where
+    visible : List ℕ
+    visible = range_with_len 0 (length xs)
+
+pub arguments_app : (xs : List Ident) (names : Names) (n : ℕ) → (with_arguments names n xs).app ≡ names.app
+arguments_app [] names n = refl
+arguments_app (x ∷ xs) names n = arguments_app xs (with_variable names x n) (n + 1)
