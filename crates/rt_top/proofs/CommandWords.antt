@@ -2,7 +2,7 @@
 use Rattle.std.proofs.Common.{◌≡◌, ◌<◌, ◌≤◌, ℕ, Bool, IsTrue, List, [], ◌∷◌, length, get_or, codes, bytes_eq, inl, inr, refl, ap, sym, ◌∙◌, arith}
 use Rattle.std.proofs.lemmas.Slice.Eq.{bytes_eq-Decides}
 use Rattle.std.specs.Borrow.{Bor}
-use Rattle.rt_top.specs.Words.{texts, IsRun, IsFmt, IsCommand}
+use Rattle.rt_top.specs.Words.{texts, IsRun, IsCheck, IsFmt, IsCommand}
 
 -- three words are the first, and two more
 pub three : (words : List (Bor (List ℕ))) (d : Bor (List ℕ)) → 3 ≤ length words → length words < 4 → (a : List ℕ) × (b : List ℕ) × (texts words ≡ (get_or words 0 d).now ∷ a ∷ b ∷ [])
@@ -36,15 +36,20 @@ head_of_two : {a b x y : List ℕ} → a ∷ b ∷ [] ≡ x ∷ y ∷ [] → a �
 head_of_two e = cc
 
 -- the test of the first of two words
-pub is_fmt_by : (words : List (Bor (List ℕ))) (d : Bor (List ℕ)) (b : Bool) → 2 ≤ length words → length words < 3 → b ≡ bytes_eq (get_or words 0 d).now (codes "fmt") → (IsTrue b → IsFmt (texts words)) × (IsFmt (texts words) → IsTrue b)
-is_fmt_by words d b least most test =
-    let t = two words d least most in
-    let decides = bytes_eq-Decides (get_or words 0 d).now (codes "fmt") in (
-      λ yes. (t.0, t.1 ∙ ap (λ w. w ∷ t.0 ∷ []) (decides.0 (sym test ∙ yes))),
-      λ fmt. test ∙ decides.1 (head_of_two (sym t.1 ∙ fmt.1)),
-    )
+module _ (verb : List ℕ) (words : List (Bor (List ℕ))) (d : Bor (List ℕ)) (b : Bool) (least : 2 ≤ length words) (most : length words < 3) where
+  abbrev IsVerb : Type 0
+  IsVerb = (app : List ℕ) × (texts words ≡ verb ∷ app ∷ [])
 
--- words that are neither are no command
-pub no_command : (words : List (List ℕ)) → (IsRun words → ⊥) → (IsFmt words → ⊥) → IsCommand words → ⊥
-no_command words run fmt (inl is) = run is
-no_command words run fmt (inr is) = fmt is
+  pub is_verb_by : b ≡ bytes_eq (get_or words 0 d).now verb → (IsTrue b → IsVerb) × (IsVerb → IsTrue b)
+  is_verb_by test =
+      let t = two words d least most in
+      let decides = bytes_eq-Decides (get_or words 0 d).now verb in (
+        λ yes. (t.0, t.1 ∙ ap (λ w. w ∷ t.0 ∷ []) (decides.0 (sym test ∙ yes))),
+        λ is. test ∙ decides.1 (head_of_two (sym t.1 ∙ is.1)),
+      )
+
+-- words that are none of these are no command
+pub no_command : (words : List (List ℕ)) → (IsRun words → ⊥) → (IsCheck words → ⊥) → (IsFmt words → ⊥) → IsCommand words → ⊥
+no_command words run check fmt (inl is) = run is
+no_command words run check fmt (inr (inl is)) = check is
+no_command words run check fmt (inr (inr is)) = fmt is

@@ -1,3 +1,4 @@
 mod Answers
 mod Texts
 mod CommandWords
+mod Checked

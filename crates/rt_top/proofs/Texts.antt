@@ -9,11 +9,11 @@ use Rattle.rt_ast.specs.Tree as tree
 use Rattle.rt_grammar.specs.Text.{IsText, IsRefused}
 use Rattle.rt_core.specs.Application.{App}
 use Rattle.rt_core.specs.Form.{HasFirstForm, IsFirstForm}
-use Rattle.rt_top.specs.Defined.{Defined, IsUnbuilt, wrong, unbuilt}
-use Rattle.rt_top.specs.Words.{IsFmt}
+use Rattle.rt_top.specs.Defined.{Defined, IsUnbuilt, wrong, broken, unbuilt}
+use Rattle.rt_top.specs.Words.{IsRun, IsFmt}
 use Rattle.rt_ids.specs.declared.status.Status.TheVariants as status
-use Rattle.rt_top.specs.Refusal.{refusal_line, unbuilt_line}
-use Rattle.rt_top.specs.Steps.{IfRefused, IsWrong, IsRefusal}
+use Rattle.rt_top.specs.Refusal.{refusal_line}
+use Rattle.rt_top.specs.Steps.{IfRefused, IsWrong, IsUnfitBy, IsRefusal}
 use Rattle.rt_top.specs.declared.halt.Halt.{Halt}
 use Rattle.rt_top.specs.declared.halt.Halt.TheVariants as halt
 
@@ -59,13 +59,17 @@ pub refusal_by : (text : List ℕ) (h : Halt) → IfRefused h (IsWrong text) →
 refusal_by text (halt.Refused line) is = refusal_of text line.items is
 refusal_by text (halt.Ended ended) is = tt
 
--- a text of the one tree that is not of the form
-pub unbuilt_by : (text : List ℕ) (a : tree.App) → IsText text a → ((other : tree.App) → IsText text other → other ≡ a) → IsUnbuilt a → (h : Halt) → IfRefused h (λ line. line ≡ unbuilt_line) → IfRefused h (IsRefusal text)
-unbuilt_by text a is only none (halt.Refused line) says = record {
-  defined = λ words script run. subst (Defined words text script _) (sym says) (unbuilt run a is none);
+-- a text of the one tree that breaks a rule or is not of the form
+pub unfit_by : (text : List ℕ) (a : tree.App) → IsText text a → ((other : tree.App) → IsText text other → other ≡ a) → IsUnbuilt a → (h : Halt) → IfRefused h (IsUnfitBy text a) → IfRefused h (IsRefusal text)
+unfit_by text a is only none (halt.Refused line) unfit = record {
+  defined = λ words script run. says words script run unfit;
   none = λ app form. none app (subst (λ t. HasFirstForm t app) (only form.tree form.spelled) form.form);
 }
-unbuilt_by text a is only none (halt.Ended ended) says = tt
+  where
+    says : (words : List (List ℕ)) (script : List ℕ) → IsRun words → IsUnfitBy text a line.items → Defined words text script status.App line.items
+    says words script run (inl b) = subst (Defined words text script status.App) (sym b.says) (broken (inl run) a is b.fault b.broken)
+    says words script run (inr u) = subst (Defined words text script status.App) (sym u.2) (unbuilt run a is u.0 u.1 none)
+unfit_by text a is only none (halt.Ended ended) unfit = tt
 
 -- the application of the one tree
 pub only_app : (text : List ℕ) (a : tree.App) (app : App) → ((other : tree.App) → IsText text other → other ≡ a) → ((other : App) → HasFirstForm a other → other ≡ app) → (other : App) → IsFirstForm text other → other ≡ app
@@ -76,4 +80,4 @@ form_by text a app is form = record { tree = a; spelled = is; form = form }
 
 -- the same for `fmt`
 pub refused_fmt : (words : List (List ℕ)) (text script line : List ℕ) → IsFmt words → IsWrong text line → Defined words text script status.App line
-refused_fmt words text script line is_fmt is = subst (Defined words text script status.App) (sym is.says) (wrong (inr is_fmt) is.fault is.refused)
+refused_fmt words text script line is_fmt is = subst (Defined words text script status.App) (sym is.says) (wrong (inr (inr is_fmt)) is.fault is.refused)

@@ -1,5 +1,5 @@
 -- What the program is to write, and its status: for the words, the text of the application and that of the script.
-use Rattle.std.specs.Prelude.{ℕ, ◌≡◌, List, ◌++◌, codes, Option, Some, None}
+use Rattle.std.specs.Prelude.{ℕ, ◌≡◌, ◌⊎◌, List, ◌++◌, codes, Option, Some, None}
 use Rattle.rt_ids.specs.declared.refusal.Fault.{Fault}
 use Rattle.rt_ids.specs.declared.status.Status.{Status}
 use Rattle.rt_ids.specs.declared.status.Status.TheVariants as status
@@ -7,25 +7,41 @@ use Rattle.rt_outside.specs.Bytes.{Took, TookPrefix}
 use Rattle.rt_ast.specs.Tree as tree
 use Rattle.rt_ast.specs.Canonical.{canonical}
 use Rattle.rt_grammar.specs.Text.{IsText, IsRefused}
+use Rattle.rt_app.specs.Tree as application
+use Rattle.rt_app.specs.Ceiling.{ceilings}
+use Rattle.rt_app.specs.Bounds.{bounds}
+use Rattle.rt_build.specs.Accepted.{KeepsRules, IsBroken, IsApplication}
+use Rattle.rt_report.specs.Report.{report}
 use Rattle.rt_core.specs.Application.{App}
 use Rattle.rt_core.specs.Form.{HasFirstForm, IsFirstForm}
 use Rattle.rt_core.specs.Script.{script_of}
 use Rattle.rt_core.specs.Output.{IsOutput}
 use Rattle.rt_core.specs.declared.script.Order.{Order}
-use Rattle.rt_top.specs.Words.{IsRun, IsFmt, IsCommand, usage_line}
+use Rattle.rt_top.specs.Words.{IsRun, IsCheck, IsFmt, IsCommand, usage_line}
 use Rattle.rt_top.specs.Refusal.{refusal_line, unbuilt_line}
 
 -- the application is not of the form that is built
 abbrev pub IsUnbuilt : tree.App → Type 0
 IsUnbuilt a = (app : App) → HasFirstForm a app → ⊥
 
+-- the commands that want an application that keeps the rules
+abbrev pub NeedsRules : List (List ℕ) → Type 0
+NeedsRules words = IsRun words ⊎ IsCheck words
+
+abbrev pub check_report : application.App → List ℕ
+check_report app = report app (ceilings app) (bounds app)
+
 pub data Defined (words : List (List ℕ)) (text script : List ℕ) : Status → List ℕ → Type 0 where
   -- other words give the usage line
   usage : (IsCommand words → ⊥) → Defined words text script status.Usage usage_line
   -- an application text that is too long, not in the grammar, or past a limit: its first refusal
   wrong : IsCommand words → (fault : Fault) → IsRefused text fault → Defined words text script status.App (refusal_line fault)
-  -- for `run`, one whose tree is not of the form
-  unbuilt : IsRun words → (a : tree.App) → IsText text a → IsUnbuilt a → Defined words text script status.App unbuilt_line
+  -- for `run` and `check`, one that breaks a rule: the first that it breaks
+  broken : NeedsRules words → (a : tree.App) → IsText text a → (fault : Fault) → IsBroken text a fault → Defined words text script status.App (refusal_line fault)
+  -- for `run`, one that keeps the rules and is not of the form
+  unbuilt : IsRun words → (a : tree.App) → IsText text a → (app : application.App) → KeepsRules a app → IsUnbuilt a → Defined words text script status.App unbuilt_line
+  -- the ceilings, costs, frames and bounds of the application
+  checked : IsCheck words → (app : application.App) → IsApplication text app → Defined words text script status.Done (check_report app)
   -- a script that is not of the form, for an application that is
   faulty : IsRun words → (app : App) → IsFirstForm text app → script_of app script ≡ None → Defined words text script status.Text (codes "script:1 0 not built\n")
   -- the listing of a good image, and that image's trace under the script

@@ -9,8 +9,10 @@ use Rattle.rt_ast.specs.Tree as tree
 use Rattle.rt_grammar.specs.Text.{IsText, IsRefused}
 use Rattle.rt_core.specs.Application.{App}
 use Rattle.rt_core.specs.Form.{IsFirstForm}
-use Rattle.rt_top.specs.Words.{IsRun}
-use Rattle.rt_top.specs.Refusal.{refusal_line}
+use Rattle.rt_app.specs.Tree as application
+use Rattle.rt_build.specs.Accepted.{KeepsRules, IsBroken, IsApplication}
+use Rattle.rt_top.specs.Words.{IsRun, IsCheck}
+use Rattle.rt_top.specs.Refusal.{refusal_line, unbuilt_line}
 use Rattle.rt_top.specs.Defined.{Defined}
 use Rattle.rt_top.specs.declared.halt.Halt.{Halt}
 use Rattle.rt_top.specs.declared.halt.Halt.TheVariants as halt
@@ -50,6 +52,21 @@ pub record IsWrong (text line : List ℕ) : Type 0 where
   pub refused : IsRefused text fault
   pub says : line ≡ refusal_line fault
   pub none : (a : tree.App) → IsText text a → ⊥
+
+-- the line refuses the text of this tree by the first rule that it breaks
+pub record IsBrokenBy (text : List ℕ) (a : tree.App) (line : List ℕ) : Type 0 where
+  pub fault : Fault
+  pub broken : IsBroken text a fault
+  pub says : line ≡ refusal_line fault
+
+-- the line says why the application of this tree is not run: it breaks a rule, or is of a form that is not built
+abbrev pub IsUnfitBy : List ℕ → tree.App → List ℕ → Type 0
+IsUnfitBy text a line = IsBrokenBy text a line ⊎ ((app : application.App) × KeepsRules a app × (line ≡ unbuilt_line))
+
+-- the line refuses an application text as `check` does
+pub record IsCheckRefusal (text line : List ℕ) : Type 0 where
+  pub defined : (words : List (List ℕ)) (script : List ℕ) → IsCheck words → Defined words text script status.App line
+  pub none : (app : application.App) → IsApplication text app → ⊥
 
 -- the line refuses an application text that is not of the form that is built, as `run` does
 pub record IsRefusal (text line : List ℕ) : Type 0 where

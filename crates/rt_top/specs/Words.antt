@@ -14,9 +14,13 @@ IsRun words = (app : List ℕ) × (script : List ℕ) × (words ≡ codes "run" 
 abbrev pub IsFmt : List (List ℕ) → Type 0
 IsFmt words = (app : List ℕ) × (words ≡ codes "fmt" ∷ app ∷ [])
 
+-- `check APP`
+abbrev pub IsCheck : List (List ℕ) → Type 0
+IsCheck words = (app : List ℕ) × (words ≡ codes "check" ∷ app ∷ [])
+
 -- the commands that are built
 abbrev pub IsCommand : List (List ℕ) → Type 0
-IsCommand words = IsRun words ⊎ IsFmt words
+IsCommand words = IsRun words ⊎ (IsCheck words ⊎ IsFmt words)
 
 -- the line for all other words
 abbrev pub usage_line : List ℕ

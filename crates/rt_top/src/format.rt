@@ -28,12 +28,12 @@ pub(crate) fn fmt<A: Source, K: Sink>(alloc: Global, app: &mut A, out: &mut K) -
         (Rose (A.faults app.old) (A.faults app.new) → ⊥) → (Rose (K.faults out.old) (K.faults out.new) → ⊥) →
         (result ≡ Status.Done) ⊎ (result ≡ Status.Memory) }
 {
-    let tree = match read_tree(alloc, app) {
-        Ok(tree) => tree,
+    let written = match read_tree(alloc, app) {
+        Ok(written) => written,
         Err(Halt::Refused(line)) => return answer(out, &line, Status::App),
         Err(Halt::Ended(status)) => return status,
     };
-    match canonical(alloc, &tree) {
+    match canonical(alloc, &written.tree) {
         Ok(text) => answer(out, &text, Status::Done),
         Err(_) => Status::Memory,
     }

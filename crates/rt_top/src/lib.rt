@@ -2,6 +2,7 @@
 #![tactic(auto)]
 
 mod answer;
+mod check;
 mod format;
 pub mod gate;
 mod halt;
@@ -13,6 +14,8 @@ pub mod top;
 pub use gate::{Gate, NoGate};
 pub use top::rtic;
 
+#[cfg(test)]
+mod check_tests;
 #[cfg(test)]
 mod tests;
 #[cfg(test)]

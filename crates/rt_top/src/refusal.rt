@@ -1,8 +1,8 @@
 ghost use Rattle.std.specs.Prelude.{◌≡◌, ◌++◌, decimal, OnOk, IfOk};
 ghost use Rattle.rt_top.specs.Refusal.{limit_word, rule_words, refusal_words, refusal_line};
 
-use itoa::Buffer;
 use rt_ids::{Fault, Limit, NoMemory, Refusal, Rule};
+use rt_text::{push_bytes, push_number};
 use std::alloc::Global;
 
 /// The line that refuses an application text.
@@ -78,19 +78,4 @@ fn limit_word(limit: Limit) -> &'static str
         Limit::Statements => "statements",
         Limit::Turns => "turns",
     }
-}
-
-fn push_bytes(out: &mut Vec<u8>, bytes: &[u8]) -> Result<(), NoMemory>
-    ensures { OnOk result (out.new.items ≡ out.old.items ++ bytes.now) }
-{
-    out.extend_from_slice(bytes)?;
-    Ok(())
-}
-
-/// Appends a number in decimal.
-fn push_number(out: &mut Vec<u8>, number: u32) -> Result<(), NoMemory>
-    ensures { OnOk result (out.new.items ≡ out.old.items ++ decimal number) }
-{
-    let mut buffer = Buffer::new();
-    push_bytes(out, buffer.format(number).as_bytes())
 }

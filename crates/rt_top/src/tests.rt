@@ -321,6 +321,21 @@ pub(crate) fn format<R: Threads + Sync>(
     )
 }
 
+/// The words `check APP` for an application text.
+pub(crate) fn check<R: Threads + Sync>(
+    rt: &R,
+    alloc: Global,
+    text: &[u8],
+) -> Result<Ran, NoMemory> {
+    run(
+        rt,
+        alloc,
+        &["check", "app"],
+        (text, TWO_SCRIPT),
+        (&[], &[0], &[]),
+    )
+}
+
 #[test]
 fn knows_its_words(rt: HostRuntime) -> Result<(), Fail> {
     let usage =
@@ -331,7 +346,9 @@ fn knows_its_words(rt: HostRuntime) -> Result<(), Fail> {
         &["run", "x"],
         &["run", "x", "y", "z"],
         &["Run", "x", "y"],
-        &["check", "x"],
+        &["check"],
+        &["check", "x", "y"],
+        &["build", "x"],
         &["fmt"],
         &["fmt", "x", "y"],
         &["--help"],

@@ -3,14 +3,17 @@ ghost use Rattle.rt_outside.specs.Faults.{Rose};
 ghost use Rattle.rt_outside.specs.Bytes.{Took};
 ghost use Rattle.rt_ast.specs.Tree as tree;
 ghost use Rattle.rt_grammar.specs.Text.{IsText};
+ghost use Rattle.rt_app.specs.Tree as application;
+ghost use Rattle.rt_build.specs.Accepted.{IsApplication};
 ghost use Rattle.rt_core.specs.Application.{App};
 ghost use Rattle.rt_core.specs.Form.{IsFirstForm};
 ghost use Rattle.rt_core.specs.Script.{script_of};
 ghost use Rattle.rt_core.specs.declared.script.Order.{Order};
-ghost use Rattle.rt_top.specs.Words.{texts, IsRun, IsFmt, IsCommand, usage_line};
+ghost use Rattle.rt_top.specs.Words.{texts, IsRun, IsCheck, IsFmt, IsCommand, usage_line};
 ghost use Rattle.rt_top.specs.Defined.{IsAnswer, IsKept, WroteAll, WrotePart};
 
 use crate::answer::answer;
+use crate::check::check;
 use crate::format::fmt;
 use crate::gate::Gate;
 use crate::run::run;
@@ -29,6 +32,16 @@ fn is_run(words: &[&str]) -> bool
 {
     match words {
         [verb, _, _] => *verb == "run",
+        _ => false,
+    }
+}
+
+/// Whether the words are `check APP`.
+fn is_check(words: &[&str]) -> bool
+    ensures { IsTrue result ↔ IsCheck (texts words.now) }
+{
+    match words {
+        [verb, _] => *verb == "check",
         _ => false,
     }
 }
@@ -84,12 +97,17 @@ pub fn rtic<R: Threads + Sync, A: Source, B: Source, C: Source, K: Sink + Send, 
         IsRun (texts words.now) → IsFirstForm text application → script_of application script ≡ Some orders →
         (Rose (A.faults app.old) (A.faults app.new) → ⊥) → (Rose (B.faults second.old) (B.faults second.new) → ⊥) → (Rose (K.faults out.old) (K.faults out.new) → ⊥) →
         (result ≡ Status.Done) ⊎ (result ≡ Status.Memory) }
+    ensures complete_check { (text : List ℕ) (accepted : application.App) → A.left app.old ≡ Some text → IsCheck (texts words.now) → IsApplication text accepted →
+        (Rose (A.faults app.old) (A.faults app.new) → ⊥) → (Rose (K.faults out.old) (K.faults out.new) → ⊥) →
+        (result ≡ Status.Done) ⊎ (result ≡ Status.Memory) }
     ensures complete_fmt { (text : List ℕ) (application : tree.App) → A.left app.old ≡ Some text → IsFmt (texts words.now) → IsText text application →
         (Rose (A.faults app.old) (A.faults app.new) → ⊥) → (Rose (K.faults out.old) (K.faults out.new) → ⊥) →
         (result ≡ Status.Done) ⊎ (result ≡ Status.Memory) }
 {
     if is_run(words) {
         run(alloc, app, second, out)
+    } else if is_check(words) {
+        check(alloc, app, out)
     } else if is_fmt(words) {
         fmt(alloc, app, out)
     } else {

@@ -28,10 +28,10 @@ pub returns-in-Ok-canonical-clause-answered : goal.returns-in-Ok-canonical-claus
 returns-in-Ok-canonical-clause-answered g c words text script fmt told is_answer =
     let written = c.deref-in-Ok-canonical.ensures.value ∙ c.in-Ok-canonical.ensures in
     answered_by words text script c.deref-in-Ok-canonical.result.now (g.K.Sink.taken c.args.out.now) (g.K.Sink.taken c.answer-in-Ok-canonical.new.out) (g.K.Sink.faults c.args.out.now) (g.K.Sink.faults c.answer-in-Ok-canonical.new.out) status.Done c.answer-in-Ok-canonical.result
-    (subst (Defined words text script status.Done) (sym written) (formatted fmt (app_of c.in-Ok.tree) (c.in-Ok.ensures.text text told))) c.answer-in-Ok-canonical.ensures is_answer
+    (subst (Defined words text script status.Done) (sym written) (formatted fmt (app_of c.in-Ok.written.tree) (c.in-Ok.ensures.text text told))) c.answer-in-Ok-canonical.ensures is_answer
 
 pub returns-in-Ok-canonical-clause-part : goal.returns-in-Ok-canonical-clause-part
 returns-in-Ok-canonical-clause-part g c words text script fmt told is_write =
     let written = c.deref-in-Ok-canonical.ensures.value ∙ c.in-Ok-canonical.ensures in
     part_by words text script c.deref-in-Ok-canonical.result.now (g.K.Sink.taken c.args.out.now) (g.K.Sink.taken c.answer-in-Ok-canonical.new.out) (g.K.Sink.faults c.args.out.now) (g.K.Sink.faults c.answer-in-Ok-canonical.new.out) status.Done c.answer-in-Ok-canonical.result
-    (subst (Defined words text script status.Done) (sym written) (formatted fmt (app_of c.in-Ok.tree) (c.in-Ok.ensures.text text told))) c.answer-in-Ok-canonical.ensures is_write
+    (subst (Defined words text script status.Done) (sym written) (formatted fmt (app_of c.in-Ok.written.tree) (c.in-Ok.ensures.text text told))) c.answer-in-Ok-canonical.ensures is_write
