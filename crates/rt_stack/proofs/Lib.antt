@@ -1,0 +1,3 @@
+pub mod Loan
+pub mod Frames
+pub mod Rows

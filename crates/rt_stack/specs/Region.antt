@@ -1,0 +1,37 @@
+-- A region of memory that a stack lies in. In the architecture (ARMv7-M Architecture Reference Manual, section B1.5)
+-- an exception's frame is pushed at the addresses just below those in use, and no register says where the stack ends.
+-- Here the words are a list with the last pushed at its end, and they keep within a size. The code holds just the
+-- words in use, in a vector that has room for all from the start.
+use Rattle.std.specs.Prelude.{ℕ, ◌+◌, ◌-◌, ◌≤◌, List, [], ◌++◌, length, take, drop, replicate}
+
+pub record Region : Type 0 where
+  -- the words in use, each below 2 ^ 32, in the order in which they were pushed
+  pub words : List ℕ
+  -- how many words have room
+  pub size : ℕ
+
+abbrev pub empty : ℕ → Region
+empty size = record { words = []; size = size }
+
+abbrev pub used : Region → ℕ
+used r = length r.words
+
+-- so many words more have room
+abbrev pub Fits : Region → ℕ → Type 0
+Fits r n = used r + n ≤ r.size
+
+-- the last so many words
+abbrev pub top : Region → ℕ → List ℕ
+top r n = drop (used r - n) r.words
+
+-- all words but the last so many
+abbrev pub below : Region → ℕ → List ℕ
+below r n = take (used r - n) r.words
+
+-- with so many words more, each 0
+abbrev pub pushed : Region → ℕ → Region
+pushed r n = record r { words = r.words ++ replicate n 0 }
+
+-- with so many words less
+abbrev pub popped : Region → ℕ → Region
+popped r n = record r { words = below r n }
