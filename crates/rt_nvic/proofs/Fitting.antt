@@ -1,0 +1,33 @@
+-- What follows from the lengths of the arrays.
+use Rattle.std.proofs.Common.{◌≡◌, ℕ, ◌<◌, ◌≤◌, Bool, false, List, length, drop, Option, sym, ap, ◌∙◌, ⊎_elim, arith}
+use Rattle.std.proofs.Math.ListN.{drop_of_length-le}
+use Rattle.std.proofs.lemmas.Bool.{cases_lt, false≢true}
+use Rattle.std.proofs.lemmas.List.{length-drop, get_or_past}
+use Rattle.rt_ids.specs.declared.limits.TheConstants.{IRQ_NUMBERS}
+use Rattle.rt_nvic.specs.declared.sizes.TheConstants.{ACTIVE, THREAD}
+use Rattle.rt_nvic.specs.Nvic.{Nvic, IsSized, IsReady, running, value_of_first}
+use Rattle.rt_nvic.specs.Fields.{IsFixed}
+
+abbrev pub shown : List (Option ℕ) → List Bool → List ℕ → ℕ → Nvic
+shown priorities pending active top = record { priorities = priorities; pending = pending; active = drop top active }
+
+pub sized : (priorities : List (Option ℕ)) (pending : List Bool) (active : List ℕ) (top : ℕ) → IsFixed priorities pending active top → IsSized (shown priorities pending active top)
+sized priorities pending active top is =
+    let l = is.active_long in
+    let e = length-drop top active in record { priorities = is.priorities_long; pending = is.pending_long; active = omega arith }
+
+-- where no handler runs
+pub none_runs : (priorities : List (Option ℕ)) (pending : List Bool) (active : List ℕ) (top : ℕ) → IsFixed priorities pending active top → top ≡ ACTIVE → THREAD ≡ running (shown priorities pending active top)
+none_runs priorities pending active top is e =
+    let l = is.active_long in
+    let low : length active ≤ top = omega arith in
+    sym (ap (value_of_first (shown priorities pending active top)) (drop_of_length-le active low))
+
+-- an interrupt that is ready has a number in range
+pub number_of_ready : (n : Nvic) (exec irq : ℕ) → IsSized n → IsReady n exec irq → irq < IRQ_NUMBERS
+number_of_ready n exec irq is ready =
+    let l = is.pending in
+    ⊎_elim
+    (λ less. less)
+    (λ more. absurd (false≢true (sym (get_or_past n.pending irq false (omega arith)) ∙ ready.pending)))
+    (cases_lt irq IRQ_NUMBERS)

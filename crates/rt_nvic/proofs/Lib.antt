@@ -1,0 +1,5 @@
+pub mod Arriving
+pub mod Choosing
+pub mod Precedence
+pub mod Fitting
+pub mod Pending

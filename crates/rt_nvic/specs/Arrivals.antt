@@ -1,0 +1,22 @@
+-- The requests of a word of pending bits, bit b of word k being interrupt 32 * k + b, as in the set-pending registers of
+-- the interrupt controller (ARMv7-M Architecture Reference Manual, section B3.4). They are a list of numbers; the code
+-- tests bit after bit.
+use Rattle.std.specs.Prelude.{ℕ, ◌+◌, ◌*◌, ◌/◌, ◌%◌, ◌==◌, ◌&&◌, Bool, true, List, [], ◌∷◌, map, filter, slice_set}
+use Rattle.std.specs.Int.{bit_at}
+use Rattle.rt_nvic.specs.Nvic.{numbers_below}
+
+-- the word of this number holds the interrupt's bit
+abbrev pub holds : ℕ → ℕ → ℕ → Bool
+holds k bits irq = (irq / 32 == k) && (bit_at bits (irq % 32) == 1)
+
+-- the numbers of the bits of this word that are set and below this place, rising
+abbrev pub arrivals_below : ℕ → ℕ → ℕ → List ℕ
+arrivals_below k bits places = map (λ bit. 32 * k + bit) (filter (λ bit. bit_at bits bit == 1) (numbers_below places))
+
+abbrev pub arrivals : ℕ → ℕ → List ℕ
+arrivals k bits = arrivals_below k bits 32
+
+-- with these pending too
+abbrev pub pended : List ℕ → List Bool → List Bool
+pended [] pending = pending
+pended (irq ∷ irqs) pending = pended irqs (slice_set pending irq true)

@@ -1,0 +1,3 @@
+pub mod Nvic
+pub mod Arrivals
+pub mod Fields

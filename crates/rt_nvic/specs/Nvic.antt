@@ -1,0 +1,69 @@
+-- The external interrupts of the nested vectored interrupt controller (ARMv7-M Architecture Reference Manual, section
+-- B1.5): which of them are enabled, pending and active, and which one is taken. There are no sub-priorities. The choice
+-- is one among all numbers; the code scans fixed arrays once, and keeps the active ones in an array that fills downwards.
+use Rattle.std.specs.Prelude.{◌≡◌, ℕ, ◌<◌, ◌≤◌, ◌⊎◌, ◌&&◌, Bool, false, nat_lt, nat_le, List, [], ◌∷◌, ◌++◌, length, slice_index_or, Option, Some, None, unwrap_or, zero, suc, IsTrue, IsSome}
+use Rattle.rt_ids.specs.declared.limits.TheConstants.{IRQ_NUMBERS}
+use Rattle.rt_ids.specs.Choice.{best}
+use Rattle.rt_nvic.specs.declared.sizes.TheConstants.{ACTIVE, THREAD}
+
+pub record Nvic : Type 0 where
+  -- by number, the priority value of an enabled interrupt, and None for another
+  pub priorities : List (Option ℕ)
+  -- by number
+  pub pending : List Bool
+  -- their numbers, last entered first
+  pub active : List ℕ
+
+pub record IsSized (n : Nvic) : Type 0 where
+  pub priorities : length n.priorities ≡ IRQ_NUMBERS
+  pub pending : length n.pending ≡ IRQ_NUMBERS
+  pub active : length n.active ≤ ACTIVE
+
+abbrev pub is_pending : Nvic → ℕ → Bool
+is_pending n irq = slice_index_or n.pending irq false
+
+-- the priority value of an enabled interrupt: a smaller value is a higher priority
+abbrev pub priority_of : Nvic → ℕ → Option ℕ
+priority_of n irq = slice_index_or n.priorities irq None
+
+-- and that of the thread for one that is not enabled
+abbrev pub value_of : Nvic → ℕ → ℕ
+value_of n irq = unwrap_or (priority_of n irq) THREAD
+
+abbrev pub value_of_first : Nvic → List ℕ → ℕ
+value_of_first n [] = THREAD
+value_of_first n (irq ∷ irqs) = value_of n irq
+
+-- the priority value of the handler that runs
+abbrev pub running : Nvic → ℕ
+running n = value_of_first n n.active
+
+-- It may be taken at this execution priority: it is pending and enabled, and its priority is higher.
+pub record IsReady (n : Nvic) (exec irq : ℕ) : Type 0 where
+  pub pending : IsTrue (is_pending n irq)
+  pub enabled : IsSome (priority_of n irq)
+  pub higher : value_of n irq < exec
+
+-- Of two that are ready it is taken first: it has the higher priority, or one that is the same and no greater number.
+abbrev pub Precedes : Nvic → ℕ → ℕ → Type 0
+Precedes n irq other = (value_of n irq < value_of n other) ⊎ ((value_of n irq ≡ value_of n other) × (irq ≤ other))
+
+-- The same choice as one function: of those that pass the test, the one that no later one beats.
+
+abbrev pub is_below : Option ℕ → ℕ → Bool
+is_below None exec = false
+is_below (Some value) exec = nat_lt value exec
+
+abbrev pub is_ready : Nvic → ℕ → ℕ → Bool
+is_ready n exec irq = is_pending n irq && is_below (priority_of n irq) exec
+
+abbrev pub beats : Nvic → ℕ → ℕ → Bool
+beats n irq later = nat_le (value_of n irq) (value_of n later)
+
+-- the numbers below this one, rising
+unfoldable pub numbers_below : ℕ → List ℕ
+numbers_below zero = []
+numbers_below (suc n) = numbers_below n ++ n ∷ []
+
+abbrev pub picked : Nvic → ℕ → Option ℕ
+picked n exec = best (is_ready n exec) (beats n) (numbers_below IRQ_NUMBERS)

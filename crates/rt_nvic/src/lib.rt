@@ -1,0 +1,9 @@
+// The interrupt controller: which interrupts are enabled, pending and active, and which one is taken.
+#![tactic(auto)]
+
+pub mod nvic;
+pub mod sizes;
+#[cfg(test)]
+mod tests;
+
+pub use nvic::Nvic;

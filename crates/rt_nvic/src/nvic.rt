@@ -1,0 +1,172 @@
+ghost use Rattle.std.specs.Prelude.{◌≡◌, ℕ, ◌+◌, ◌*◌, ◌<◌, ◌||◌, true, false, if◌then◌else◌, [], ◌∷◌, length, replicate, slice_set, Some, None, IsTrue, IsSome, IfSome, IfNone};
+ghost use Rattle.std.specs.Int.{bit_at};
+ghost use Rattle.rt_ids.specs.declared.limits.TheConstants.{IRQ_NUMBERS};
+ghost use Rattle.rt_nvic.specs.declared.sizes.TheConstants.{ACTIVE};
+ghost use Rattle.rt_nvic.specs.Nvic as spec;
+ghost use Rattle.rt_nvic.specs.Arrivals.{arrivals, pended, holds};
+
+use crate::sizes::{ACTIVE, NUMBERS, THREAD};
+use rt_ids::Irq;
+use rt_ids::limits::IRQ_NUMBERS;
+use std::marker::Model;
+
+/// The state of each external interrupt: whether it is enabled and with which priority value, whether it is pending, and
+/// which ones are active. An interrupt may be active and pending.
+#[derive(Debug, Drop)]
+pub struct Nvic {
+    /// By number, the priority value of an enabled interrupt.
+    priorities: [Option<u8>; NUMBERS],
+    /// By number.
+    pending: [bool; NUMBERS],
+    /// From `top` on, the active ones, last entered first.
+    active: [Irq; ACTIVE],
+    /// From 0, where all places are taken, to `ACTIVE`, where none is.
+    top: usize,
+}
+
+impl Model for Nvic {
+    ghost use Rattle.std.specs.Prelude.{drop};
+    ghost use Rattle.rt_nvic.specs.Nvic.{Nvic};
+    ghost use Rattle.rt_nvic.specs.Fields.{IsFixed};
+
+    ghost Value = { Nvic };
+
+    ghost view = { λ n. record { priorities = n.priorities; pending = n.pending; active = drop n.top n.active } };
+
+    ghost invariant = { λ n. IsFixed n.priorities n.pending n.active n.top };
+}
+
+/// Sets the interrupts pending whose bits the word of this number holds.
+fn set_pending(pending: &mut [bool], k: u8, bits: u32)
+    requires { (bit : ℕ) → bit < 32 → bit_at bits bit ≡ 1 → 32 * k + bit < length pending.old }
+    ensures { pending.new ≡ pended (arrivals k bits) pending.old }
+{
+    for bit in 0..32 {
+        if (bits >> bit) & 1 == 1 {
+            pending[32 * usize::from(k) + bit] = true;
+        }
+    }
+}
+
+impl Nvic {
+    /// A controller with nothing enabled, pending or active.
+    pub fn new() -> Nvic
+        ensures { result ≡ record { priorities = replicate IRQ_NUMBERS None; pending = replicate IRQ_NUMBERS false; active = [] } }
+    {
+        let Some(irq) = Irq::new(0) else {
+            unreachable!()
+        };
+        Nvic {
+            priorities: [None; NUMBERS],
+            pending: [false; NUMBERS],
+            active: [irq; ACTIVE],
+            top: ACTIVE,
+        }
+    }
+
+    /// Enables an interrupt with this priority value, 0 to 255: a smaller value is a higher priority.
+    pub fn enable(&mut self, irq: Irq, prio: u8)
+        ensures { self.new ≡ record self.old { priorities = slice_set self.old.priorities irq (Some prio) } }
+    {
+        self.priorities[usize::from(irq.get())] = Some(prio);
+    }
+
+    /// Sets the interrupts pending whose bits this word holds: bit b of word k is interrupt 32 * k + b.
+    pub fn arrive(&mut self, k: u8, bits: u32)
+        requires in_range { (bit : ℕ) → bit < 32 → bit_at bits bit ≡ 1 → 32 * k + bit < IRQ_NUMBERS }
+        ensures state { self.new ≡ record self.old { pending = pended (arrivals k bits) self.old.pending } }
+        ensures each { (irq : ℕ) → irq < IRQ_NUMBERS → spec.is_pending self.new irq ≡ (spec.is_pending self.old irq || holds k bits irq) }
+    {
+        set_pending(&mut self.pending, k, bits);
+    }
+
+    /// Sets an interrupt pending. One that is active is then active and pending; one that is pending stays as it is.
+    pub fn post(&mut self, irq: Irq)
+        ensures { self.new ≡ record self.old { pending = slice_set self.old.pending irq true } }
+    {
+        self.pending[usize::from(irq.get())] = true;
+    }
+
+    /// Whether an interrupt is pending.
+    pub fn is_pending(&self, irq: Irq) -> bool
+        ensures { result ≡ spec.is_pending self.now irq }
+    {
+        self.pending[usize::from(irq.get())]
+    }
+
+    /// The priority value of a pending interrupt that is enabled with a value below a limit.
+    fn value_below(&self, limit: u16, number: u16) -> Option<u16>
+        requires { number < IRQ_NUMBERS }
+        ensures { result ≡ (if spec.is_ready self.now limit number then Some (spec.value_of self.now number) else None) }
+    {
+        let number = usize::from(number);
+        let value = u16::from(self.priorities[number]?);
+        if self.pending[number] && value < limit {
+            Some(value)
+        } else {
+            None
+        }
+    }
+
+    /// The interrupt that is taken at an execution priority, which is 256 where nothing runs or masks: of those that are
+    /// ready the one of the smallest priority value, and of equal ones the one of the lowest number.
+    pub fn pick(&self, exec: u16) -> Option<Irq>
+        ensures value { result ≡ spec.picked self.now exec }
+        ensures ready { IfSome result (λ irq. spec.IsReady self.now exec irq) }
+        ensures first { IfSome result (λ irq. (other : ℕ) → spec.IsReady self.now exec other → spec.Precedes self.now irq other) }
+        ensures none { IfNone result ((irq : ℕ) → ¬ spec.IsReady self.now exec irq) }
+        ensures sizes { spec.IsSized self.now }
+    {
+        // The clauses need the lengths, which are known where a field is used.
+        let _ = &self.top;
+        let mut first = None;
+        let mut limit = exec;
+        for number in 0..IRQ_NUMBERS {
+            if let Some(value) = self.value_below(limit, number) {
+                first = Irq::new(number);
+                limit = value;
+            }
+        }
+        first
+    }
+
+    /// Enters an interrupt: it is pending no more, and active.
+    pub fn enter(&mut self, irq: Irq)
+        requires enabled { IsSome (spec.priority_of self.old irq) }
+        requires pending { IsTrue (spec.is_pending self.old irq) }
+        requires room { length self.old.active < ACTIVE }
+        ensures pending { self.new.pending ≡ slice_set self.old.pending irq false }
+        ensures active { self.new.active ≡ irq ∷ self.old.active }
+        ensures priorities { self.new.priorities ≡ self.old.priorities }
+    {
+        self.pending[usize::from(irq.get())] = false;
+        self.top -= 1;
+        self.active[self.top] = irq;
+    }
+
+    /// Leaves the interrupt that was entered last.
+    pub fn leave(&mut self) -> Irq
+        requires { 0 < length self.old.active }
+        ensures active { self.old.active ≡ result ∷ self.new.active }
+        ensures pending { self.new.pending ≡ self.old.pending }
+        ensures priorities { self.new.priorities ≡ self.old.priorities }
+    {
+        let irq = self.active[self.top];
+        self.top += 1;
+        irq
+    }
+
+    /// The priority value of the interrupt that was entered last, and 256 where none is active.
+    pub fn running(&self) -> u16
+        ensures { result ≡ spec.running self.now }
+    {
+        if self.top == ACTIVE {
+            return THREAD;
+        }
+        let irq = self.active[self.top];
+        match self.priorities[usize::from(irq.get())] {
+            Some(value) => u16::from(value),
+            None => THREAD,
+        }
+    }
+}

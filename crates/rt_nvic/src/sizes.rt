@@ -1,0 +1,11 @@
+// How much an interrupt controller holds.
+use rt_ids::limits::IRQ_NUMBERS;
+
+/// Interrupts that may be enabled or pending: one for each number from 0 on.
+pub const NUMBERS: usize = IRQ_NUMBERS as usize;
+
+/// Interrupts that may be active at once: one for each priority value where 7 bits are implemented.
+pub const ACTIVE: usize = 128;
+
+/// The execution priority where nothing runs or masks. It is lower than every priority value.
+pub const THREAD: u16 = 256;
