@@ -1,5 +1,5 @@
 -- Software tasks, the levels that dispatchers serve, and the tasks whose messages can be armed (the RTIC 1 book, software
--- tasks and the monotonic). The code fills tables in one pass.
+-- tasks and the monotonic). The code keeps a table by priority for the levels, and one by task for the armed tasks.
 use Rattle.std.specs.Prelude.{ℕ, zero, suc, ◌+◌, ◌==◌, Bool, not, ◌&&◌, is_none, false, List, [], ◌∷◌, ◌++◌, count_by, Option, Some, None, if◌then◌else◌}
 use Rattle.std.specs.List.{list_any}
 use Rattle.rt_app.specs.declared.costs.TheConstants.{PRIORITIES}

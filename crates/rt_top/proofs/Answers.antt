@@ -1,6 +1,6 @@
 -- From what a piece of work wrote to what the top call says of its answer.
 use Rattle.std.proofs.Common.{◌≡◌, ℕ, List, Option, inl, inr, subst, sym, ◌∙◌, Bool, true, false, IsTrue, ◌↔◌, Some, None}
-use Rattle.rt_core.specs.declared.script.Order.{Order}
+use Rattle.rt_first.specs.declared.script.Order.{Order}
 use Rattle.rt_ids.specs.declared.status.Status.{Status}
 use Rattle.rt_ids.specs.declared.status.Status.TheVariants as status
 use Rattle.rt_top.specs.Defined.{Defined, IsAnswer, WroteAll, WrotePart}

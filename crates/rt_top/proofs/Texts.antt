@@ -7,8 +7,8 @@ use Rattle.rt_ids.specs.declared.refusal.Refusal.TheVariants as refusal
 use Rattle.rt_outside.specs.Bytes.{GaveAll, GaveCount}
 use Rattle.rt_ast.specs.Tree as tree
 use Rattle.rt_grammar.specs.Text.{IsText, IsRefused}
-use Rattle.rt_core.specs.Application.{App}
-use Rattle.rt_core.specs.Form.{HasFirstForm, IsFirstForm}
+use Rattle.rt_first.specs.Application.{App}
+use Rattle.rt_first.specs.Form.{HasFirstForm, IsFirstForm}
 use Rattle.rt_top.specs.Defined.{Defined, IsUnbuilt, wrong, broken, unbuilt}
 use Rattle.rt_top.specs.Words.{IsRun, IsFmt}
 use Rattle.rt_ids.specs.declared.status.Status.TheVariants as status

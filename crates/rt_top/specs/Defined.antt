@@ -12,11 +12,11 @@ use Rattle.rt_app.specs.Ceiling.{ceilings}
 use Rattle.rt_app.specs.Bounds.{bounds}
 use Rattle.rt_build.specs.Accepted.{KeepsRules, IsBroken, IsApplication}
 use Rattle.rt_report.specs.Report.{report}
-use Rattle.rt_core.specs.Application.{App}
-use Rattle.rt_core.specs.Form.{HasFirstForm, IsFirstForm}
-use Rattle.rt_core.specs.Script.{script_of}
-use Rattle.rt_core.specs.Output.{IsOutput}
-use Rattle.rt_core.specs.declared.script.Order.{Order}
+use Rattle.rt_first.specs.Application.{App}
+use Rattle.rt_first.specs.Form.{HasFirstForm, IsFirstForm}
+use Rattle.rt_first.specs.Script.{script_of}
+use Rattle.rt_first.specs.Output.{IsOutput}
+use Rattle.rt_first.specs.declared.script.Order.{Order}
 use Rattle.rt_top.specs.Words.{IsRun, IsCheck, IsFmt, IsCommand, usage_line}
 use Rattle.rt_top.specs.Refusal.{refusal_line, unbuilt_line}
 

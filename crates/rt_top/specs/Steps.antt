@@ -7,8 +7,8 @@ use Rattle.rt_outside.specs.Bytes.{Took, TookPrefix}
 use Rattle.rt_ids.specs.declared.refusal.Fault.{Fault}
 use Rattle.rt_ast.specs.Tree as tree
 use Rattle.rt_grammar.specs.Text.{IsText, IsRefused}
-use Rattle.rt_core.specs.Application.{App}
-use Rattle.rt_core.specs.Form.{IsFirstForm}
+use Rattle.rt_first.specs.Application.{App}
+use Rattle.rt_first.specs.Form.{IsFirstForm}
 use Rattle.rt_app.specs.Tree as application
 use Rattle.rt_build.specs.Accepted.{KeepsRules, IsBroken, IsApplication}
 use Rattle.rt_top.specs.Words.{IsRun, IsCheck}
@@ -16,9 +16,9 @@ use Rattle.rt_top.specs.Refusal.{refusal_line, unbuilt_line}
 use Rattle.rt_top.specs.Defined.{Defined}
 use Rattle.rt_top.specs.declared.halt.Halt.{Halt}
 use Rattle.rt_top.specs.declared.halt.Halt.TheVariants as halt
-use Rattle.rt_core.specs.Script.{script_of}
-use Rattle.rt_core.specs.Output.{IsOutput}
-use Rattle.rt_core.specs.declared.script.Order.{Order}
+use Rattle.rt_first.specs.Script.{script_of}
+use Rattle.rt_first.specs.Output.{IsOutput}
+use Rattle.rt_first.specs.declared.script.Order.{Order}
 
 -- all bytes were written and the status is the wanted one, or the sink failed behind a beginning of them
 abbrev pub Wrote : Option (List ℕ) → Option (List ℕ) → ℕ → ℕ → Status → Status → List ℕ → Type 0

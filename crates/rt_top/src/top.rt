@@ -5,10 +5,10 @@ ghost use Rattle.rt_ast.specs.Tree as tree;
 ghost use Rattle.rt_grammar.specs.Text.{IsText};
 ghost use Rattle.rt_app.specs.Tree as application;
 ghost use Rattle.rt_build.specs.Accepted.{IsApplication};
-ghost use Rattle.rt_core.specs.Application.{App};
-ghost use Rattle.rt_core.specs.Form.{IsFirstForm};
-ghost use Rattle.rt_core.specs.Script.{script_of};
-ghost use Rattle.rt_core.specs.declared.script.Order.{Order};
+ghost use Rattle.rt_first.specs.Application.{App};
+ghost use Rattle.rt_first.specs.Form.{IsFirstForm};
+ghost use Rattle.rt_first.specs.Script.{script_of};
+ghost use Rattle.rt_first.specs.declared.script.Order.{Order};
 ghost use Rattle.rt_top.specs.Words.{texts, IsRun, IsCheck, IsFmt, IsCommand, usage_line};
 ghost use Rattle.rt_top.specs.Defined.{IsAnswer, IsKept, WroteAll, WrotePart};
 

@@ -1,7 +1,7 @@
 use Rattle.std.proofs.Common.{subst, sym, ap, ◌∙◌, codes, ◌++◌, ℕ, Vec, Global}
 use Rattle.rt_ids.specs.declared.status.Status.TheVariants as status
-use Rattle.rt_core.specs.Application.{App}
-use Rattle.rt_core.specs.Script.{script_of}
+use Rattle.rt_first.specs.Application.{App}
+use Rattle.rt_first.specs.Script.{script_of}
 use Rattle.rt_top.specs.Defined.{Defined, faulty, done}
 use Rattle.rt_top.specs.Steps.{IsRefusal}
 use Rattle.rt_top.proofs.Answers.{answered_by, part_by, not_both}
