@@ -3,3 +3,5 @@ pub mod Event
 pub mod Choice
 pub mod Doing
 pub mod Status
+pub mod Operation
+pub mod Names

@@ -1,12 +1,14 @@
 // The names and numbers that every crate of rtic speaks of: interrupts, priorities, tasks, sections, limits, statuses.
 #![tactic(auto)]
 
+pub mod cell;
 pub mod ids;
 pub mod irq;
 pub mod limit;
 pub mod limits;
 pub mod memory;
 pub mod name;
+pub mod names;
 pub mod op;
 pub mod place;
 pub mod priority;
@@ -14,11 +16,13 @@ pub mod refusal;
 pub mod rule;
 pub mod status;
 
+pub use cell::CellRow;
 pub use ids::{BodyId, ResId, Section, TaskId};
 pub use irq::Irq;
 pub use limit::Limit;
 pub use memory::NoMemory;
 pub use name::Name;
+pub use names::Names;
 pub use op::Op;
 pub use place::Place;
 pub use priority::Prio;

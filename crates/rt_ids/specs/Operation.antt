@@ -1,0 +1,33 @@
+-- What a binary operation gives on two numbers of 32 bits. The data processing instructions of the ARMv7-M Architecture
+-- Reference Manual (section A5.3) wrap so, and take a shift by 32 or more as 0. That a quotient by 0 is 0, as with
+-- DIV_0_TRP clear (section B3.2.8), is theirs too; that the rest of a division by 0 is the dividend, and that a
+-- comparison gives 1 or 0, is the language's own. The code has no powers of 2: it shifts, and wraps as it counts.
+use Rattle.std.specs.Prelude.{ℕ, ◌+◌, ◌-◌, ◌*◌, ◌/◌, ◌%◌, ◌^◌, ◌==◌, Bool, not, nat_lt, nat_le, if◌then◌else◌, bit_and, bit_or, bit_xor}
+use Rattle.rt_ids.specs.declared.op.Op.{Op}
+use Rattle.rt_ids.specs.declared.op.Op.TheVariants as op
+
+-- what 32 bits keep of a number
+abbrev pub wrapped : ℕ → ℕ
+wrapped n = n % 2 ^ 32
+
+-- 1 for true
+abbrev pub number_of : Bool → ℕ
+number_of holds = if holds then 1 else 0
+
+abbrev pub operate : Op → ℕ → ℕ → ℕ
+operate op.Add a b = wrapped (a + b)
+operate op.Sub a b = wrapped (a + (2 ^ 32 - b))
+operate op.Mul a b = wrapped (a * b)
+operate op.Div a b = if b == 0 then 0 else a / b
+operate op.Rem a b = if b == 0 then a else a % b
+operate op.And a b = bit_and a b
+operate op.Or a b = bit_or a b
+operate op.Xor a b = bit_xor a b
+operate op.Shl a b = if nat_lt b 32 then wrapped (a * 2 ^ b) else 0
+operate op.Shr a b = if nat_lt b 32 then a / 2 ^ b else 0
+operate op.Eq a b = number_of (a == b)
+operate op.Ne a b = number_of (not (a == b))
+operate op.Lt a b = number_of (nat_lt a b)
+operate op.Le a b = number_of (nat_le a b)
+operate op.Gt a b = number_of (nat_lt b a)
+operate op.Ge a b = number_of (nat_le b a)

@@ -1,0 +1,8 @@
+use crate::name::Name;
+
+/// A cell of the memory that code reads and writes by `load` and `store`: its name, and its value after reset.
+#[derive(Debug, Drop)]
+pub struct CellRow {
+    pub name: Name,
+    pub first: u32,
+}
