@@ -1,4 +1,4 @@
-ghost use Rattle.std.specs.Prelude.{◌≡◌, ℕ, ◌+◌, ◌*◌, ◌<◌, ◌||◌, true, false, if◌then◌else◌, [], ◌∷◌, length, replicate, slice_set, Some, None, IsTrue, IsSome, IfSome, IfNone};
+ghost use Rattle.std.specs.Prelude.{◌≡◌, ℕ, ◌+◌, ◌*◌, ◌<◌, ◌||◌, true, false, if◌then◌else◌, [], ◌∷◌, length, replicate, slice_get, slice_set, Some, None, IsTrue, IsSome, IfSome, IfNone};
 ghost use Rattle.std.specs.Int.{bit_at};
 ghost use Rattle.rt_ids.specs.declared.limits.TheConstants.{IRQ_NUMBERS};
 ghost use Rattle.rt_nvic.specs.declared.sizes.TheConstants.{ACTIVE};
@@ -154,6 +154,13 @@ impl Nvic {
         let irq = self.active[self.top];
         self.top += 1;
         irq
+    }
+
+    /// The interrupt that was entered last, and None where none is active.
+    pub fn last_entered(&self) -> Option<Irq>
+        ensures { result ≡ slice_get self.now.active 0 }
+    {
+        self.active.get(self.top).copied()
     }
 
     /// The priority value of the interrupt that was entered last, and 256 where none is active.
