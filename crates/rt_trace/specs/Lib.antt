@@ -1,0 +1,4 @@
+pub mod Padded
+pub mod Given
+pub mod Label
+pub mod Shown

@@ -1,0 +1,10 @@
+-- At most four numbers in a fixed array, with 0 behind them.
+use Rattle.std.specs.Prelude.{◌≡◌, ℕ, ◌-◌, ◌≤◌, List, ◌++◌, length, drop, replicate}
+
+pub record IsPadded (count : ℕ) (values : List ℕ) : Type 0 where
+  pub few : count ≤ 4
+  pub long : length values ≡ 4
+  pub rest : drop count values ≡ replicate (4 - count) 0
+
+abbrev pub padded : List ℕ → List ℕ
+padded values = values ++ replicate (4 - length values) 0
