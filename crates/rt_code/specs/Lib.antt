@@ -1,0 +1,9 @@
+pub mod Image
+pub mod Processor
+pub mod Operands
+pub mod Effect
+pub mod Does
+pub mod Trap
+pub mod Runnable
+pub mod Naming
+pub mod Listable

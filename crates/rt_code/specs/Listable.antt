@@ -1,0 +1,85 @@
+-- Which images have a text that no other image over the same names has: each name that the text needs is in the tables of
+-- names, and no name can be taken for another word or for two.
+use Rattle.std.specs.Prelude.{◌≡◌, ◌≢◌, ℕ, ◌<◌, List, length, map, codes, Option, Some, None, IsSome, slice_get, [], ◌∷◌}
+use Rattle.std.specs.List.{Contains, AllByRecursion}
+use Rattle.rt_ids.specs.Names.{Names}
+use Rattle.rt_ids.specs.declared.ids.BodyId.{BodyId}
+use Rattle.rt_ids.specs.declared.ids.BodyId.TheVariants as body
+use Rattle.rt_ids.specs.declared.ids.Section.{Section}
+use Rattle.rt_ids.specs.declared.ids.Section.TheVariants as section
+use Rattle.rt_code.specs.Image.{Image}
+use Rattle.rt_code.specs.Naming.{irq_named}
+use Rattle.rt_code.specs.declared.instr.Instr.{Instr}
+use Rattle.rt_code.specs.declared.instr.Instr.TheVariants as instr
+use Rattle.rt_code.specs.declared.instr.Note.{Note}
+use Rattle.rt_code.specs.declared.instr.Note.TheVariants as note
+
+-- a tab, a line feed, a carriage return or a space
+abbrev pub blanks : List ℕ
+blanks = 9 ∷ 10 ∷ 13 ∷ 32 ∷ []
+
+-- one word of a line
+abbrev pub IsWord : List ℕ → Type 0
+IsWord bytes = AllByRecursion (λ byte. ¬ Contains blanks byte) bytes
+
+-- a word without a dot
+pub record IsPlain (bytes : List ℕ) : Type 0 where
+  pub word : IsWord bytes
+  pub plain : AllByRecursion (λ byte. byte ≢ 46) bytes
+
+-- no name stands twice
+abbrev pub AreDistinct : List (List ℕ) → Type 0
+AreDistinct names = (i j : ℕ) (name : List ℕ) → slice_get names i ≡ Some name → slice_get names j ≡ Some name → i ≡ j
+
+pub record AreWritable (names : Names) : Type 0 where
+  pub irqs : AllByRecursion (λ irq. IsPlain irq.0) names.irqs
+  pub tasks : AllByRecursion IsPlain names.tasks
+  pub shared : AllByRecursion IsPlain names.shared
+  -- no task has the word of another body
+  pub no_init : ¬ Contains names.tasks (codes "init")
+  pub no_idle : ¬ Contains names.tasks (codes "idle")
+  pub irqs_differ : AreDistinct (map (λ irq. irq.0) names.irqs)
+  pub tasks_differ : AreDistinct names.tasks
+  pub shared_differ : AreDistinct names.shared
+
+abbrev pub HasIrq : Names → ℕ → Type 0
+HasIrq names irq = IsSome (irq_named names irq)
+
+abbrev pub HasTask : Names → ℕ → Type 0
+HasTask names task = task < length names.tasks
+
+abbrev pub HasSection : Names → Section → Type 0
+HasSection names (section.Res r) = r < length names.shared
+HasSection names (section.Free t) = HasTask names t
+HasSection names s = Unit {0}
+
+abbrev pub HasBody : Names → BodyId → Type 0
+HasBody names (body.Task t) = HasTask names t
+HasBody names b = Unit {0}
+
+abbrev pub HasInstr : Names → Instr → Type 0
+HasInstr names (instr.Post irq) = HasIrq names irq
+HasInstr names (instr.Alarm s irq) = HasIrq names irq
+HasInstr names i = Unit {0}
+
+abbrev pub HasNote : Names → Option Note → Type 0
+HasNote names (Some (note.Enter s)) = HasSection names s
+HasNote names (Some (note.Leave s)) = HasSection names s
+HasNote names (Some (note.Placed t)) = HasTask names t
+HasNote names (Some (note.Full t)) = HasTask names t
+HasNote names (Some (note.Ready t)) = HasTask names t
+HasNote names (Some (note.Start t s)) = HasTask names t
+HasNote names (Some (note.Free t)) = HasTask names t
+HasNote names (Some (note.Arm t s)) = HasTask names t
+HasNote names (Some (note.Fire t)) = HasTask names t
+HasNote names (Some (note.End b)) = HasBody names b
+HasNote names None = Unit {0}
+
+pub record IsListable (img : Image) : Type 0 where
+  pub names : AreWritable img.names
+  -- the name of a cell is one word
+  pub cells : AllByRecursion (λ cell. IsWord cell.name) img.cells
+  pub irqs : AllByRecursion (λ row. IsPlain row.name) img.irqs
+  pub bodies : AllByRecursion (λ row. HasTask img.names row.task) img.bodies
+  pub instrs : AllByRecursion (λ line. HasInstr img.names line.0) img.code
+  pub notes : AllByRecursion (λ line. HasNote img.names line.1) img.code

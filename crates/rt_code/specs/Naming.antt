@@ -1,0 +1,32 @@
+-- How interrupts, tasks, sections and bodies stand by name in the text of an image: interrupts, tasks and resources by the
+-- names that the application declares, queues by the name of their task or the number of their level behind a dot.
+use Rattle.std.specs.Prelude.{ℕ, ◌==◌, List, [], ◌++◌, codes, decimal, find, option_map, unwrap_or, slice_index_or, Option}
+use Rattle.rt_ids.specs.Names.{Names}
+use Rattle.rt_ids.specs.declared.ids.BodyId.{BodyId}
+use Rattle.rt_ids.specs.declared.ids.BodyId.TheVariants as body
+use Rattle.rt_ids.specs.declared.ids.Section.{Section}
+use Rattle.rt_ids.specs.declared.ids.Section.TheVariants as section
+
+-- the first declared interrupt of this number
+abbrev pub irq_named : Names → ℕ → Option (List ℕ × ℕ)
+irq_named names number = find (λ irq. irq.1 == number) names.irqs
+
+abbrev pub irq_name : Names → ℕ → List ℕ
+irq_name names number = unwrap_or (option_map (λ irq. irq.0) (irq_named names number)) []
+
+abbrev pub task_name : Names → ℕ → List ℕ
+task_name names task = slice_index_or names.tasks task []
+
+abbrev pub resource_name : Names → ℕ → List ℕ
+resource_name names resource = slice_index_or names.shared resource []
+
+abbrev pub body_name : Names → BodyId → List ℕ
+body_name names body.Init = codes "init"
+body_name names body.Idle = codes "idle"
+body_name names (body.Task t) = task_name names t
+
+abbrev pub section_name : Names → Section → List ℕ
+section_name names (section.Res r) = resource_name names r
+section_name names (section.Free t) = codes "free." ++ task_name names t
+section_name names (section.Ready p) = codes "ready." ++ decimal p
+section_name names section.Timer = codes "timer.0"

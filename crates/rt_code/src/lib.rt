@@ -1,0 +1,14 @@
+// Compiled code: instructions with their notes, the image that a core runs, and what one instruction does.
+#![tactic(auto)]
+
+pub mod execution;
+pub mod image;
+pub mod instr;
+pub mod processor;
+#[cfg(test)]
+mod tests;
+
+pub use execution::execute;
+pub use image::{BodyRow, Handler, Image, IrqRow};
+pub use instr::{Instr, Note};
+pub use processor::{Registers, Request, Trap};
