@@ -1,0 +1,10 @@
+-- Different images have different texts, where the same names are declared for both.
+use Rattle.std.specs.Prelude.{◌≡◌}
+use Rattle.rt_code.specs.Image.{Image}
+use Rattle.rt_code.specs.Listable.{IsListable}
+use Rattle.rt_listing.specs.Listing.{listing}
+use Rattle.rt_listing.specs.Numbers.{HasShortNumbers}
+
+abbrev pub TellsImagesApart : Type 0
+TellsImagesApart =
+    (a b : Image) → IsListable a → IsListable b → HasShortNumbers a → HasShortNumbers b → a.names ≡ b.names → listing a ≡ listing b → a ≡ b

@@ -1,0 +1,5 @@
+pub mod Words
+pub mod Listing
+pub mod Injective
+pub mod Numbers
+pub mod Short

@@ -1,0 +1,47 @@
+-- The one text of an image: a line of its sizes, then a line for each cell, declared interrupt, body of a software task and
+-- instruction. Words stand one space apart, numbers are decimal, and each line ends with a line feed.
+use Rattle.std.specs.Prelude.{ℕ, suc, List, [], ◌∷◌, ◌++◌, flat_map, length, codes, Option, Some, None}
+use Rattle.rt_ids.specs.Names.{Names}
+use Rattle.rt_ids.specs.declared.cell.CellRow.{CellRow}
+use Rattle.rt_code.specs.Image.{Image}
+use Rattle.rt_code.specs.Naming.{task_name}
+use Rattle.rt_code.specs.declared.image.IrqRow.{IrqRow}
+use Rattle.rt_code.specs.declared.image.Handler.{Handler}
+use Rattle.rt_code.specs.declared.image.BodyRow.{BodyRow}
+use Rattle.rt_code.specs.declared.instr.Instr.{Instr}
+use Rattle.rt_code.specs.declared.instr.Note.{Note}
+use Rattle.rt_listing.specs.Words.{spaced, instr_text, note_text}
+
+-- priority bits, stack bytes, words of the thread's frame, instructions, cells
+abbrev pub sizes_line : Image → List ℕ
+sizes_line img =
+    codes "image 1" ++ spaced img.bits ++ spaced img.stack_bytes ++ spaced img.thread_words
+    ++ spaced (length img.code) ++ spaced (length img.cells) ++ 10 ∷ []
+
+-- a line for each thing, which says its number
+abbrev pub numbered : {A : Type 0} → (ℕ → A → List ℕ) → ℕ → List A → List ℕ
+numbered line n [] = []
+numbered line n (x ∷ xs) = line n x ++ numbered line (suc n) xs
+
+abbrev pub cell_line : ℕ → CellRow → List ℕ
+cell_line n cell = codes "cell" ++ spaced n ++ spaced cell.first ++ 32 ∷ cell.name ++ 10 ∷ []
+
+-- the priority value, the entry's address and the frame's words, or a dash where the interrupt is not enabled
+abbrev pub handler_text : Option Handler → List ℕ
+handler_text None = codes " -"
+handler_text (Some h) = spaced h.value ++ spaced h.entry ++ spaced h.frame
+
+abbrev pub irq_line : IrqRow → List ℕ
+irq_line row = codes "irq " ++ row.name ++ spaced row.number ++ handler_text row.handler ++ 10 ∷ []
+
+abbrev pub body_line : Names → BodyRow → List ℕ
+body_line names row =
+    codes "body " ++ task_name names row.task ++ spaced row.entry ++ spaced row.frame ++ spaced row.args ++ 10 ∷ []
+
+abbrev pub code_line : Names → ℕ → Instr × Option Note → List ℕ
+code_line names n line = codes "code" ++ spaced n ++ 32 ∷ instr_text names line.0 ++ note_text names line.1 ++ 10 ∷ []
+
+abbrev pub listing : Image → List ℕ
+listing img =
+    sizes_line img ++ numbered cell_line 0 img.cells ++ flat_map irq_line img.irqs
+    ++ flat_map (body_line img.names) img.bodies ++ numbered (code_line img.names) 0 img.code

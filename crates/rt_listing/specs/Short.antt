@@ -1,0 +1,23 @@
+-- Rows of an image that have only short numbers.
+use Rattle.std.specs.Prelude.{[], ◌∷◌, Option}
+use Rattle.rt_ids.specs.declared.cell.CellRow.{CellRow}
+use Rattle.rt_code.specs.declared.image.IrqRow.{IrqRow}
+use Rattle.rt_code.specs.declared.image.BodyRow.{BodyRow}
+use Rattle.rt_code.specs.declared.instr.Instr.{Instr}
+use Rattle.rt_code.specs.declared.instr.Note.{Note}
+use Rattle.rt_listing.specs.Numbers.{IsShort, AreShort, handler_numbers, instr_numbers, note_numbers}
+
+abbrev pub IsShortCell : CellRow → Type 0
+IsShortCell cell = IsShort cell.first
+
+abbrev pub IsShortIrq : IrqRow → Type 0
+IsShortIrq row = AreShort (row.number ∷ handler_numbers row.handler)
+
+abbrev pub IsShortBody : BodyRow → Type 0
+IsShortBody row = AreShort (row.entry ∷ row.frame ∷ row.args ∷ [])
+
+abbrev pub HasShortInstr : Instr × Option Note → Type 0
+HasShortInstr line = AreShort (instr_numbers line.0)
+
+abbrev pub HasShortNote : Instr × Option Note → Type 0
+HasShortNote line = AreShort (note_numbers line.1)

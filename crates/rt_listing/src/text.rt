@@ -1,0 +1,131 @@
+ghost use Rattle.std.specs.Prelude.{◌≡◌, [], ◌∷◌, ◌++◌, flat_map, All, IfOk, OnOk};
+ghost use Rattle.rt_listing.specs.Listing.{sizes_line, numbered, cell_line, irq_line, body_line, code_line};
+ghost use Rattle.rt_listing.specs.Listing as spec;
+ghost use Rattle.rt_listing.specs.Numbers.{AreShort, HasShortNumbers};
+ghost use Rattle.rt_listing.specs.Short.{IsShortCell, IsShortIrq, IsShortBody, HasShortInstr, HasShortNote};
+
+use crate::line::{push_count, push_instr, push_note, push_spaced};
+use crate::names::task_name;
+use rt_code::{BodyRow, Image, Instr, IrqRow, Note};
+use rt_ids::{CellRow, Names, NoMemory};
+use rt_text::push_bytes;
+use std::alloc::Global;
+
+/// The text of an image.
+pub fn listing(alloc: Global, image: &Image) -> Result<Vec<u8>, NoMemory>
+    ensures text { IfOk result (λ text. text.items ≡ spec.listing image.now) }
+    ensures numbers { IfOk result (λ _. HasShortNumbers image.now) }
+{
+    let mut out = Vec::new(alloc);
+    push_sizes(&mut out, image)?;
+    push_cells(&mut out, &image.cells)?;
+    push_irqs(&mut out, &image.irqs)?;
+    push_bodies(&mut out, &image.bodies, &image.names)?;
+    push_code(&mut out, &image.code, &image.names)?;
+    Ok(out)
+}
+
+/// Appends the line of an image's sizes.
+fn push_sizes(out: &mut Vec<u8>, image: &Image) -> Result<(), NoMemory>
+    ensures text { OnOk result (out.new.items ≡ out.old.items ++ sizes_line image.now) }
+    ensures short { OnOk result (AreShort (image.now.bits ∷ image.now.stack_bytes ∷ image.now.thread_words ∷ [])) }
+{
+    push_bytes(out, b"image 1")?;
+    push_spaced(out, u32::from(image.bits))?;
+    push_spaced(out, image.stack_bytes)?;
+    push_spaced(out, image.thread_words)?;
+    push_count(out, image.code.len())?;
+    push_count(out, image.cells.len())?;
+    push_bytes(out, b"\n")
+}
+
+/// Appends a line for each cell, by number.
+fn push_cells(out: &mut Vec<u8>, cells: &[CellRow]) -> Result<(), NoMemory>
+    ensures text { OnOk result (out.new.items ≡ out.old.items ++ numbered cell_line 0 cells.now) }
+    ensures short { OnOk result (All IsShortCell cells.now) }
+{
+    for (number, cell) in cells.iter().enumerate() {
+        push_bytes(out, b"cell")?;
+        push_count(out, number)?;
+        push_spaced(out, cell.first)?;
+        push_bytes(out, b" ")?;
+        push_bytes(out, cell.name.bytes())?;
+        push_bytes(out, b"\n")?;
+    }
+    Ok(())
+}
+
+/// Appends a line for each declared interrupt.
+fn push_irqs(out: &mut Vec<u8>, irqs: &[IrqRow]) -> Result<(), NoMemory>
+    ensures text { OnOk result (out.new.items ≡ out.old.items ++ flat_map irq_line irqs.now) }
+    ensures short { OnOk result (All IsShortIrq irqs.now) }
+{
+    for row in irqs {
+        push_irq(out, row)?;
+    }
+    Ok(())
+}
+
+/// Appends the line of a declared interrupt.
+fn push_irq(out: &mut Vec<u8>, row: &IrqRow) -> Result<(), NoMemory>
+    ensures text { OnOk result (out.new.items ≡ out.old.items ++ irq_line row.now) }
+    ensures short { OnOk result (IsShortIrq row.now) }
+{
+    push_bytes(out, b"irq ")?;
+    push_bytes(out, row.name.bytes())?;
+    push_spaced(out, u32::from(row.number.get()))?;
+    match row.handler {
+        Some(handler) => {
+            push_spaced(out, u32::from(handler.value))?;
+            push_spaced(out, handler.entry)?;
+            push_spaced(out, handler.frame)?;
+        }
+        None => push_bytes(out, b" -")?,
+    }
+    push_bytes(out, b"\n")
+}
+
+/// Appends a line for each body of a software task.
+fn push_bodies(out: &mut Vec<u8>, bodies: &[BodyRow], names: &Names) -> Result<(), NoMemory>
+    ensures text { OnOk result (out.new.items ≡ out.old.items ++ flat_map (body_line names.now) bodies.now) }
+    ensures short { OnOk result (All IsShortBody bodies.now) }
+{
+    for row in bodies {
+        push_body(out, *row, names)?;
+    }
+    Ok(())
+}
+
+/// Appends the line of a body of a software task.
+fn push_body(out: &mut Vec<u8>, row: BodyRow, names: &Names) -> Result<(), NoMemory>
+    ensures text { OnOk result (out.new.items ≡ out.old.items ++ body_line names.now row) }
+    ensures short { IsShortBody row }
+{
+    push_bytes(out, b"body ")?;
+    push_bytes(out, task_name(names, row.task))?;
+    push_spaced(out, row.entry)?;
+    push_spaced(out, row.frame)?;
+    push_spaced(out, u32::from(row.args))?;
+    push_bytes(out, b"\n")
+}
+
+/// Appends a line for each instruction with its note, by address.
+fn push_code(
+    out: &mut Vec<u8>,
+    code: &[(Instr, Option<Note>)],
+    names: &Names,
+) -> Result<(), NoMemory>
+    ensures text { OnOk result (out.new.items ≡ out.old.items ++ numbered (code_line names.now) 0 code.now) }
+    ensures instrs_short { OnOk result (All HasShortInstr code.now) }
+    ensures notes_short { OnOk result (All HasShortNote code.now) }
+{
+    for (address, (instr, note)) in code.iter().enumerate() {
+        push_bytes(out, b"code")?;
+        push_count(out, address)?;
+        push_bytes(out, b" ")?;
+        push_instr(out, *instr, names)?;
+        push_note(out, *note, names)?;
+        push_bytes(out, b"\n")?;
+    }
+    Ok(())
+}
