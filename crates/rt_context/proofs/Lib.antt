@@ -1,0 +1,7 @@
+pub mod Spelling
+pub mod Counting
+pub mod Running
+pub mod Entering
+pub mod Returning
+pub mod Calling
+pub mod Writing

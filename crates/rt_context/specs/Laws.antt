@@ -1,0 +1,7 @@
+-- What holds of all frames.
+use Rattle.std.specs.Prelude.{◌≡◌, ◌*◌, length}
+use Rattle.rt_context.specs.Frames.{Frames, words, depth}
+
+-- the depth counts the words, four bytes each
+abbrev pub DepthCountsTheWords : Type 0
+DepthCountsTheWords = (f : Frames) → depth f ≡ 4 * length (words f)

@@ -1,0 +1,4 @@
+pub mod Frames
+pub mod Laws
+pub mod Moves
+pub mod Parts

@@ -1,0 +1,189 @@
+ghost use Rattle.std.specs.Prelude.{◌≡◌, ℕ, ◌+◌, ◌*◌, ◌/◌, ◌%◌, ◌^◌, ◌<◌, ◌≤◌, ◌↔◌, IsTrue, IfOk, Some, None, false, length, slice_index};
+ghost use Rattle.rt_code.specs.Processor.{processor, Gives};
+ghost use Rattle.rt_code.specs.Effect.{effect};
+ghost use Rattle.rt_context.specs.declared.sizes.TheConstants.{EXCEPTION_WORDS, CONTEXTS, STACK_WORDS};
+ghost use Rattle.rt_context.specs.Frames as spec;
+ghost use Rattle.rt_context.specs.Moves as moves;
+
+use crate::sizes::{CONTEXTS, EXCEPTION_WORDS};
+use crate::{body, exception};
+use arrayvec::ArrayVec;
+use rt_code::{BodyRow, Instr, Registers, Request, Trap, execute};
+use rt_ids::NoMemory;
+use rt_stack::Region;
+use std::alloc::Global;
+use std::marker::Model;
+
+/// The frames on the stack of a core, in one region of words. All its room is made with it, so that no later call takes
+/// memory. Contracts see the frames.
+#[derive(Drop)]
+pub struct Frames {
+    region: Region,
+    /// Words of the running frame.
+    frame: u32,
+    /// Where a called body runs, the words of the frame of the handler that called it.
+    caller: Option<u32>,
+    /// The same of what each entered handler interrupted, the last entered behind.
+    callers: ArrayVec<Option<u32>, CONTEXTS>,
+}
+
+impl Model for Frames {
+    ghost use Rattle.rt_context.specs.Frames.{Frames};
+
+    ghost Value = { Frames };
+
+    ghost use Rattle.rt_context.specs.Parts.{frames, IsSpelled};
+
+    ghost view = { frames };
+
+    ghost invariant = { IsSpelled };
+}
+
+impl Frames {
+    /// The thread's frame of so many words of 0, alone in a stack of so many bytes.
+    pub fn new(alloc: Global, stack_bytes: u32, thread_words: u32) -> Result<Frames, NoMemory>
+        requires pairs { stack_bytes % 8 ≡ 0 }
+        requires small { stack_bytes ≤ 2 ^ 20 }
+        requires fits { 4 * thread_words ≤ stack_bytes }
+        ensures { IfOk result (λ made. made ≡ moves.thread (stack_bytes / 4) thread_words) }
+    {
+        let mut region = Region::new(alloc, stack_bytes)?;
+        region.push(thread_words);
+        Ok(Frames {
+            region,
+            frame: thread_words,
+            caller: None,
+            callers: ArrayVec::new(),
+        })
+    }
+
+    /// The stack bytes in use.
+    pub fn depth(&self) -> u32
+        ensures bytes { result ≡ spec.depth self.now }
+        ensures within { result ≤ 4 * self.now.size }
+    {
+        4 * self.region.used()
+    }
+
+    /// The words of the running frame.
+    pub fn slots(&self) -> &[u32]
+        ensures { result.now ≡ self.now.slots }
+    {
+        self.region.top_ref(self.frame)
+    }
+
+    /// All words in use, the lowest first.
+    pub fn words(&self) -> &[u32]
+        ensures { result.now ≡ spec.words self.now }
+    {
+        let used = self.region.used();
+        self.region.top_ref(used)
+    }
+
+    /// Whether a handler's own code runs, with a slot for the return address of a call.
+    pub fn may_call(&self) -> bool
+        ensures { result ≡ moves.may_call self.now }
+    {
+        self.caller.is_none() && !self.callers.is_empty() && self.frame > 0
+    }
+
+    /// Exception entry: pushes the architecture's frame for what is interrupted, the exception of a number at a code
+    /// address, and a frame of so many words of 0. It answers whether they fit; where they do not, nothing is pushed.
+    pub fn enter(&mut self, number: u32, address: u32, words: u32) -> bool
+        requires few { length self.old.below < CONTEXTS }
+        ensures fits { result ≡ moves.has_room self.old (EXCEPTION_WORDS + words) }
+        ensures entered { IsTrue result → self.new ≡ moves.entered self.old number address words }
+        ensures unchanged { result ≡ false → self.new ≡ self.old }
+    {
+        if !self.has_room(EXCEPTION_WORDS.saturating_add(words)) {
+            return false;
+        }
+        exception::enter(&mut self.region, self.frame, number, address, words);
+        self.callers.push(self.caller);
+        self.caller = None;
+        self.frame = words;
+        true
+    }
+
+    /// Exception return: pops the handler's frame and the architecture's, and answers the address that runs on. It
+    /// answers None exactly in a called body and in the thread, and changes nothing then.
+    pub fn leave(&mut self) -> Option<u32>
+        ensures left { (address : ℕ) → result ≡ Some address → moves.left self.old ≡ Some (self.new, address) }
+        ensures none { result ≡ None → (moves.left self.old ≡ None) × (self.new ≡ self.old) }
+    {
+        if self.caller.is_some() {
+            return None;
+        }
+        let caller = self.callers.pop()?;
+        let interrupted = exception::leave(&mut self.region, self.frame);
+        self.frame = interrupted.frame;
+        self.caller = caller;
+        Some(interrupted.address)
+    }
+
+    /// Whether so many words more have room.
+    fn has_room(&self, words: u32) -> bool
+        ensures fits { result ≡ moves.has_room self.now words }
+        ensures small { self.now.size ≤ STACK_WORDS }
+    {
+        self.region.fits(words)
+    }
+
+    /// Whether a body's arguments are in the running frame, from a slot on, and in the body's, and that has room.
+    fn call_fits(&self, row: &BodyRow, from: u32) -> bool
+        ensures { result ≡ moves.call_fits self.now row.now from }
+    {
+        let args = u32::from(row.args);
+        body::arguments_fit(self.frame, from, args) && args <= row.frame && self.has_room(row.frame)
+    }
+
+    /// A call of the body of a row, whose arguments stand in the slots from one on; it will return to the address. It
+    /// answers whether the arguments are in both frames and the body's frame fits; where not, nothing changes.
+    pub fn call(&mut self, row: BodyRow, from: u32, address: u32) -> bool
+        requires may { IsTrue (moves.may_call self.old) }
+        ensures fits { result ≡ moves.call_fits self.old row from }
+        ensures called { IsTrue result → self.new ≡ moves.called self.old row from address }
+        ensures unchanged { result ≡ false → self.new ≡ self.old }
+    {
+        if !self.call_fits(&row, from) {
+            return false;
+        }
+        let caller = self.frame;
+        let args = u32::from(row.args);
+        body::push(&mut self.region, caller, row.frame, from, args, address);
+        self.caller = Some(caller);
+        self.frame = row.frame;
+        true
+    }
+
+    /// Return from a called body: pops its frame, and answers the return address. It answers None exactly where no called
+    /// body runs, and changes nothing then.
+    pub fn back(&mut self) -> Option<u32>
+        ensures back { (address : ℕ) → result ≡ Some address → moves.back self.old ≡ Some (self.new, address) }
+        ensures none { result ≡ None → (moves.back self.old ≡ None) × (self.new ≡ self.old) }
+    {
+        let caller = self.caller?;
+        self.region.pop(self.frame);
+        self.frame = caller;
+        self.caller = None;
+        Some(self.region.top_ref(caller)[caller as usize - 1])
+    }
+
+    /// One instruction at a time, on the running frame.
+    pub fn execute(
+        &mut self,
+        instr: Instr,
+        time: u32,
+        registers: &mut Registers,
+        cells: &mut [u32],
+    ) -> Result<Request, Trap>
+        requires next { registers.old.address + 1 < 2 ^ 32 }
+        ensures effect { Gives result (processor registers.old self.old.slots cells.old) (processor registers.new self.new.slots cells.new)
+            (effect instr time (processor registers.old self.old.slots cells.old)) }
+        ensures rest { self.new ≡ record self.old { slots = self.new.slots } }
+        ensures words { length self.new.slots ≡ length self.old.slots }
+    {
+        let slots = self.region.top(self.frame);
+        execute(instr, time, registers, slots, cells)
+    }
+}

@@ -1,0 +1,14 @@
+// The frames on a core's stack: the running one, that of a handler whose called body runs, and below them what each entered
+// handler interrupted. They lie in one region of words, with the architecture's frame at each exception entry.
+#![tactic(auto)]
+
+mod body;
+mod exception;
+pub mod frames;
+mod laws;
+pub mod sizes;
+#[cfg(test)]
+mod tests;
+
+pub use frames::Frames;
+pub use laws::depth_counts_the_words;
