@@ -1,0 +1,11 @@
+-- The tables that the code keeps beside an image: each has the answer for each number in its turn.
+use Rattle.std.specs.Prelude.{◌≡◌, map}
+use Rattle.rt_ids.specs.declared.limits.TheConstants.{IRQ_NUMBERS}
+use Rattle.rt_program.specs.declared.tables.TheConstants.{TASK_NUMBERS}
+use Rattle.rt_program.specs.declared.program.Program.TheInside.{Inside}
+use Rattle.rt_program.specs.Found.{IsTable, handler_in, cell_named, arguments_in}
+
+pub record HasTables (p : Inside) : Type 0 where
+  pub handlers : IsTable (handler_in p.image.irqs) IRQ_NUMBERS p.handlers.items
+  pub resources : p.resources.items ≡ map (cell_named p.image.cells) p.image.names.shared
+  pub arguments : IsTable (arguments_in p.image.bodies) TASK_NUMBERS p.arguments.items
