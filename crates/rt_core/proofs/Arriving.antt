@@ -1,0 +1,11 @@
+-- Arrivals one by one make pending what they name.
+use Rattle.std.proofs.Common.{◌≡◌, ℕ, List, [], ◌∷◌, map, true, slice_set, refl}
+use Rattle.rt_ids.specs.Event.{Arrive}
+use Rattle.rt_code.specs.Image.{Image}
+use Rattle.rt_nvic.specs.Arrivals.{pended}
+use Rattle.rt_core.specs.Core.{Core}
+use Rattle.rt_core.specs.Trace.{core_after}
+
+pub arrivals_pend : (img : Image) (irqs : List ℕ) (c : Core) → record c { pending = pended irqs c.pending } ≡ core_after img c (map Arrive irqs)
+arrivals_pend img [] c = refl
+arrivals_pend img (irq ∷ irqs) c = arrivals_pend img irqs (record c { pending = slice_set c.pending irq true })

@@ -1,0 +1,73 @@
+-- The core with its interrupt controller, after the exception model of the ARMv7-M Architecture Reference Manual (section
+-- B1.5): what is pending, which handlers are active, the execution priority, and which interrupt is taken. The frames are
+-- a structure; `stack_words` says how they lie in the stack region. Time and alarm stand for the system timer (section
+-- B3.3), in ticks; the alarm, and that PRIMASK is 1 after reset, are this model's own. The code keeps arrays and a region.
+use Rattle.std.specs.Prelude.{ℕ, ◌+◌, ◌*◌, ◌/◌, Bool, true, false, List, [], ◌∷◌, length, map, replicate, sum_by, Option, None}
+use Rattle.rt_ids.specs.declared.limits.TheConstants.{IRQ_NUMBERS}
+use Rattle.rt_code.specs.Image.{Image}
+use Rattle.rt_code.specs.Processor.{Processor}
+use Rattle.rt_context.specs.declared.sizes.TheConstants.{EXCEPTION_WORDS}
+use Rattle.rt_context.specs.Frames.{Saved, Frames, words_of, words}
+use Rattle.rt_core.specs.declared.alarm.Alarm.{Alarm}
+
+-- a handler that was entered, and what it interrupted
+pub record Context : Type 0 where
+  -- the interrupt that was entered, and its priority value
+  pub irq : ℕ
+  pub value : ℕ
+  -- the code address to return to
+  pub address : ℕ
+  -- the words of the interrupted frame
+  pub slots : List ℕ
+  -- where a called body was interrupted, the frame of the handler that called it
+  pub caller : Option (List ℕ)
+
+pub record Core : Type 0 where
+  -- ticks since reset
+  pub time : ℕ
+  pub alarm : Option Alarm
+  -- by interrupt number
+  pub pending : List Bool
+  pub processor : Processor
+  -- where a called body runs, the frame of the handler that called it
+  pub caller : Option (List ℕ)
+  -- the handlers entered and not left, the last entered first
+  pub below : List Context
+  -- a trap came
+  pub stopped : Bool
+
+abbrev pub reset : Image → Core
+reset img = record {
+  time = 0;
+  alarm = None;
+  pending = replicate IRQ_NUMBERS false;
+  processor = record { address = 0; basepri = 0; primask = true; slots = replicate img.thread_words 0; cells = map (λ cell. cell.first) img.cells };
+  caller = None;
+  below = [];
+  stopped = false;
+}
+
+-- the stack words of what a handler interrupted, with those that exception entry pushed
+abbrev pub context_words : Context → ℕ
+context_words x = length (words_of x.caller) + length x.slots + EXCEPTION_WORDS
+
+-- the stack bytes in use
+abbrev pub depth : Core → ℕ
+depth c = 4 * (length (words_of c.caller) + length c.processor.slots + sum_by context_words c.below)
+
+-- the exception number of what runs: interrupt n is the exception 16 + n, and the thread has 0
+abbrev pub exception_number : List Context → ℕ
+exception_number [] = 0
+exception_number (x ∷ below) = 16 + x.irq
+
+abbrev pub saved : List Context → List Saved
+saved [] = []
+saved (x ∷ below) =
+    record { number = exception_number below; address = x.address; slots = x.slots; caller = x.caller } ∷ saved below
+
+abbrev pub frames_of : Image → Core → Frames
+frames_of img c = record { size = img.stack_bytes / 4; slots = c.processor.slots; caller = c.caller; below = saved c.below }
+
+-- the words of the stack region
+abbrev pub stack_words : Image → Core → List ℕ
+stack_words img c = words (frames_of img c)

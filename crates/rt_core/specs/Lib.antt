@@ -1,0 +1,12 @@
+pub mod Core
+pub mod Priority
+pub mod Outcome
+pub mod Note
+pub mod Transfer
+pub mod Stepping
+pub mod Trace
+pub mod Machine
+pub mod Parts
+pub mod Came
+pub mod Enabling
+pub mod Taken

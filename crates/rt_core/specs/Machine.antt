@@ -1,0 +1,9 @@
+-- What a core is to those who use it: its image, its state, and the number of core steps that it has taken.
+use Rattle.std.specs.Prelude.{ℕ}
+use Rattle.rt_code.specs.Image.{Image}
+use Rattle.rt_core.specs.Core.{Core}
+
+pub record Machine : Type 0 where
+  pub image : Image
+  pub core : Core
+  pub steps : ℕ

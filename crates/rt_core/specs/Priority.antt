@@ -1,0 +1,42 @@
+-- The execution priority, and which interrupt is taken (ARMv7-M Architecture Reference Manual, section B1.5.4). There are no
+-- sub-priorities. The code scans the interrupt numbers once.
+use Rattle.std.specs.Prelude.{ℕ, ◌==◌, Bool, false, ◌&&◌, ◌||◌, nat_lt, if◌then◌else◌, List, [], ◌∷◌, min, slice_index_or, Option, Some, None}
+use Rattle.rt_ids.specs.Choice.{best}
+use Rattle.rt_code.specs.Image.{Image}
+use Rattle.rt_code.specs.declared.image.IrqRow.{IrqRow}
+use Rattle.rt_code.specs.declared.image.Handler.{Handler}
+use Rattle.rt_core.specs.Core.{Core, Context}
+
+-- the value of a handler, and for none 256, which is lower than every priority
+abbrev pub value_or_none : Option Handler → ℕ
+value_or_none None = 256
+value_or_none (Some h) = h.value
+
+abbrev pub running_value : List Context → ℕ
+running_value [] = 256
+running_value (x ∷ below) = x.value
+
+-- the value that BASEPRI holds the execution priority to
+abbrev pub base_value : ℕ → ℕ
+base_value basepri = if basepri == 0 then 256 else basepri
+
+abbrev pub mask_value : Bool → ℕ
+mask_value primask = if primask then 0 else 256
+
+-- the execution priority
+abbrev pub execution : Core → ℕ
+execution c = min (running_value c.below) (min (base_value c.processor.basepri) (mask_value c.processor.primask))
+
+-- pending, enabled and of a priority strictly higher than the execution priority
+abbrev pub can_preempt : Core → IrqRow → Bool
+can_preempt c row = slice_index_or c.pending row.number false && nat_lt (value_or_none row.handler) (execution c)
+
+-- of a higher priority, and of equal ones with the lower exception number
+abbrev pub precedes : IrqRow → IrqRow → Bool
+precedes row other =
+    nat_lt (value_or_none row.handler) (value_or_none other.handler)
+    || ((value_or_none row.handler == value_or_none other.handler) && nat_lt row.number other.number)
+
+-- the interrupt that is taken next
+abbrev pub pick : Image → Core → Option IrqRow
+pick img c = best (can_preempt c) precedes img.irqs

@@ -1,0 +1,13 @@
+// The core with its interrupt controller: one call is one event.
+#![tactic(auto)]
+
+pub mod alarm;
+mod laws;
+pub mod machine;
+mod step;
+#[cfg(test)]
+mod tests;
+
+pub use alarm::Alarm;
+pub use laws::the_first_interrupt_is_taken;
+pub use machine::Core;

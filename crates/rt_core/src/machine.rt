@@ -1,0 +1,182 @@
+ghost use Rattle.std.specs.Prelude.{◌≡◌, ℕ, suc, ◌+◌, ◌*◌, ◌<◌, ◌≤◌, ◌^◌, [], ◌∷◌, map, replicate, false, IfOk, if◌then◌else◌};
+ghost use Rattle.std.specs.Int.{bit_at};
+ghost use Rattle.rt_ids.specs.declared.limits.TheConstants.{IRQ_NUMBERS};
+ghost use Rattle.rt_ids.specs.Event.{Arrive, Tick};
+ghost use Rattle.rt_nvic.specs.Arrivals.{arrivals};
+ghost use Rattle.rt_code.specs.Runnable.{IsRunnable};
+ghost use Rattle.rt_trace.specs.Label.{Ticked, Rang};
+ghost use Rattle.rt_core.specs.Core as spec;
+ghost use Rattle.rt_core.specs.Trace as trace;
+ghost use Rattle.rt_core.specs.Parts.{HasPriorities};
+ghost use Rattle.rt_core.specs.Enabling.{HasPrioritiesBelow};
+
+use crate::alarm::Alarm;
+use rt_code::{Image, Registers};
+use rt_context::Frames;
+use rt_ids::limits::IRQ_NUMBERS;
+use rt_ids::{CellRow, Irq, NoMemory};
+use rt_nvic::Nvic;
+use rt_program::Program;
+use std::alloc::Global;
+use std::marker::Model;
+
+/// A core with an image. Contracts see the image, the state of the core, and how many core steps it has taken. All memory
+/// is taken when it is made.
+#[derive(Drop)]
+pub struct Core {
+    pub(crate) program: Program,
+    pub(crate) time: u32,
+    pub(crate) alarm: Option<Alarm>,
+    pub(crate) nvic: Nvic,
+    pub(crate) frames: Frames,
+    pub(crate) registers: Registers,
+    pub(crate) cells: Vec<u32>,
+    pub(crate) stopped: bool,
+    pub(crate) steps: u64,
+}
+
+impl Model for Core {
+    ghost use Rattle.rt_core.specs.Machine.{Machine};
+
+    ghost Value = { Machine };
+
+    ghost use Rattle.rt_core.specs.Parts.{machine, IsSound};
+
+    ghost view = { machine };
+
+    ghost invariant = { IsSound };
+}
+
+/// The first values of cells.
+fn first_values(alloc: Global, rows: &[CellRow]) -> Result<Vec<u32>, NoMemory>
+    ensures { IfOk result (λ cells. cells.items ≡ map (λ row. row.first) rows.now) }
+{
+    let mut cells = Vec::with_capacity(alloc, rows.len())?;
+    for row in rows {
+        cells.push(row.first)?;
+    }
+    Ok(cells)
+}
+
+/// Enables the interrupt of a number, where the image does.
+fn enable(nvic: &mut Nvic, program: &Program, number: u16)
+    requires { number < IRQ_NUMBERS }
+    ensures pending { nvic.new.pending ≡ nvic.old.pending }
+    ensures active { nvic.new.active ≡ nvic.old.active }
+    ensures priorities { HasPrioritiesBelow number program.now nvic.old → HasPrioritiesBelow (number + 1) program.now nvic.new }
+{
+    let Some(irq) = Irq::new(number) else {
+        return;
+    };
+    if let Some(handler) = program.handler(irq) {
+        nvic.enable(irq, handler.value);
+    }
+}
+
+/// A controller with the priority values of an image, and nothing pending or active.
+fn controller(program: &Program) -> Nvic
+    ensures priorities { HasPriorities program.now result }
+    ensures pending { result.pending ≡ replicate IRQ_NUMBERS false }
+    ensures active { result.active ≡ [] }
+{
+    let mut nvic = Nvic::new();
+    for number in 0..IRQ_NUMBERS {
+        enable(&mut nvic, program, number);
+    }
+    nvic
+}
+
+impl Core {
+    /// A core after reset, with PRIMASK 1: the time is 0, nothing is pending, and no event has come.
+    pub fn new(alloc: Global, image: Image) -> Result<Core, NoMemory>
+        requires { IsRunnable image }
+        ensures { IfOk result (λ made. made ≡ record { image = image; core = spec.reset image; steps = 0 }) }
+    {
+        let cells = first_values(alloc, &image.cells)?;
+        let frames = Frames::new(alloc, image.stack_bytes, image.thread_words)?;
+        let program = Program::new(alloc, image)?;
+        let nvic = controller(&program);
+        Ok(Core {
+            program,
+            time: 0,
+            alarm: None,
+            nvic,
+            frames,
+            registers: Registers {
+                address: 0,
+                basepri: 0,
+                primask: true,
+            },
+            cells,
+            stopped: false,
+            steps: 0,
+        })
+    }
+
+    /// A core after reset with an image that is the same.
+    pub fn fresh(&self, alloc: Global) -> Result<Core, NoMemory>
+        ensures { IfOk result (λ made. made ≡ record { image = self.now.image; core = spec.reset self.now.image; steps = 0 }) }
+    {
+        let _ = &self.stopped;
+        let image = self.program.copy_of_image(alloc)?;
+        Core::new(alloc, image)
+    }
+
+    /// An interrupt request arrives for each set bit of a word, the lowest first: bit b of word k is the interrupt 32 k + b.
+    pub fn arrive(&mut self, k: u8, bits: u32)
+        requires { (bit : ℕ) → bit < 32 → bit_at bits bit ≡ 1 → 32 * k + bit < IRQ_NUMBERS }
+        ensures { self.new ≡ record self.old { core = trace.core_after self.old.image self.old.core (map Arrive (arrivals k bits)) } }
+    {
+        self.nvic.arrive(k, bits);
+    }
+
+    /// The time rises by one. It answers whether the alarm came.
+    pub fn tick(&mut self) -> bool
+        requires { self.old.core.time < 2 ^ 31 }
+        ensures state { self.new ≡ record self.old { core = (trace.happen self.old.image self.old.core Tick).0 } }
+        ensures shown { (trace.happen self.old.image self.old.core Tick).1 ≡ Ticked ∷ (if result then Rang ∷ [] else []) }
+    {
+        self.time += 1;
+        let Some(alarm) = self.alarm else {
+            return false;
+        };
+        if alarm.instant > self.time {
+            return false;
+        }
+        self.nvic.post(alarm.irq);
+        self.alarm = None;
+        true
+    }
+
+    /// The stack bytes in use.
+    pub fn depth(&self) -> u32
+        ensures bytes { result ≡ spec.depth self.now.core }
+        ensures within { result ≤ self.now.image.stack_bytes }
+    {
+        let _ = &self.stopped;
+        self.frames.depth()
+    }
+
+    /// The words of the stack region in use, the lowest first: the frames, with the architecture's frame at each exception
+    /// entry.
+    pub fn stack(&self) -> &[u32]
+        ensures { result.now ≡ spec.stack_words self.now.image self.now.core }
+    {
+        let _ = &self.stopped;
+        self.frames.words()
+    }
+
+    /// How many core steps it has taken.
+    pub fn steps(&self) -> u64
+        ensures { result ≡ self.now.steps }
+    {
+        self.steps
+    }
+
+    /// The image.
+    pub fn image(&self) -> &Image
+        ensures { result.now ≡ self.now.image }
+    {
+        self.program.image()
+    }
+}

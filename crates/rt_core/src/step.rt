@@ -1,0 +1,274 @@
+ghost use Rattle.std.specs.Prelude.{◌≡◌, ℕ, suc, ◌+◌, ◌<◌, ◌^◌, Some, None, option_map, slice_get, IfOk, IfErr, OnErr};
+ghost use Rattle.rt_code.specs.Effect.{effect};
+ghost use Rattle.rt_code.specs.Processor.{Traps, Leads};
+ghost use Rattle.rt_code.specs.declared.processor.Request.TheVariants as request;
+ghost use Rattle.rt_core.specs.Core as spec;
+ghost use Rattle.rt_core.specs.Priority as priority;
+ghost use Rattle.rt_core.specs.Outcome.{Outcome, settle};
+ghost use Rattle.rt_core.specs.Note as notes;
+ghost use Rattle.rt_core.specs.Stepping as stepping;
+ghost use Rattle.rt_core.specs.Came.{Comes};
+
+use crate::alarm::Alarm;
+use crate::machine::Core;
+use rt_code::{Instr, Note, Request, Trap};
+use rt_ids::{Irq, Section};
+use rt_trace::{Args, What};
+
+/// The number of the first external interrupt's exception.
+const FIRST_EXCEPTION: u32 = 16;
+
+impl Core {
+    /// The execution priority: 0 to 256.
+    fn execution(&self) -> u16
+        ensures { result ≡ priority.execution self.now.core }
+    {
+        let running = u32::from(self.nvic.running());
+        let base = if self.registers.basepri == 0 {
+            256
+        } else {
+            self.registers.basepri
+        };
+        let mask = if self.registers.primask { 0 } else { 256 };
+        running.min(base.min(mask)) as u16
+    }
+
+    /// The interrupt that is taken next.
+    fn picked(&self) -> Option<Irq>
+        ensures { result ≡ option_map (λ row. row.number) (priority.pick self.now.image self.now.core) }
+    {
+        self.nvic.pick(self.execution())
+    }
+
+    /// The exception number of what runs, and 0 for the thread.
+    fn exception_number(&self) -> u32
+        ensures { result ≡ spec.exception_number self.now.core.below }
+    {
+        match self.nvic.last_entered() {
+            Some(irq) => FIRST_EXCEPTION + u32::from(irq.get()),
+            None => 0,
+        }
+    }
+
+    /// Exception entry.
+    fn enter(&mut self, irq: Irq) -> Result<Option<What>, Trap>
+        requires { option_map (λ row. row.number) (priority.pick self.old.image self.old.core) ≡ Some irq }
+        ensures outcome { Comes result self.new.core (stepping.attempt self.old.image self.old.core (priority.pick self.old.image self.old.core)) }
+        ensures rest { self.new ≡ record self.old { core = self.new.core } }
+    {
+        let Some(handler) = self.program.handler(irq) else {
+            return Ok(None);
+        };
+        let number = self.exception_number();
+        if !self
+            .frames
+            .enter(number, self.registers.address, handler.frame)
+        {
+            return Err(Trap::Stack);
+        }
+        self.nvic.enter(irq);
+        self.registers.address = handler.entry;
+        Ok(Some(What::Take(irq, self.frames.depth())))
+    }
+
+    /// Exception return.
+    fn leave(&mut self) -> Result<Option<What>, Trap>
+        ensures outcome { Comes result self.new.core (stepping.answer self.old.image self.old.core request.Return) }
+        ensures rest { self.new ≡ record self.old { core = self.new.core } }
+    {
+        let Some(address) = self.frames.leave() else {
+            return Err(Trap::Stack);
+        };
+        self.registers.address = address;
+        Ok(Some(What::Ret(self.nvic.leave())))
+    }
+
+    /// A call of a body.
+    fn call(&mut self, row: u32, from: u32) -> Result<Option<What>, Trap>
+        requires { self.old.core.processor.address + 1 < 2 ^ 32 }
+        ensures outcome { Comes result self.new.core (stepping.answer self.old.image self.old.core (request.Call row from)) }
+        ensures rest { self.new ≡ record self.old { core = self.new.core } }
+    {
+        if !self.frames.may_call() {
+            return Err(Trap::Stack);
+        }
+        let Some(body) = self.program.body(row) else {
+            return Err(Trap::Jump);
+        };
+        let entry = body.entry;
+        let next = self.registers.address + 1;
+        if !self.frames.call(body, from, next) {
+            return Err(Trap::Stack);
+        }
+        self.registers.address = entry;
+        Ok(None)
+    }
+
+    /// A body's return.
+    fn back(&mut self) -> Result<Option<What>, Trap>
+        ensures outcome { Comes result self.new.core (stepping.answer self.old.image self.old.core request.Back) }
+        ensures rest { self.new ≡ record self.old { core = self.new.core } }
+    {
+        let Some(address) = self.frames.back() else {
+            return Err(Trap::Stack);
+        };
+        self.registers.address = address;
+        Ok(None)
+    }
+
+    /// Sets the alarm to an instant, for an interrupt, which becomes pending at once where the instant has come.
+    fn set_alarm(&mut self, instant: u32, irq: Irq) -> Result<Option<What>, Trap>
+        ensures outcome { Comes result self.new.core (stepping.answer self.old.image self.old.core (request.Alarm instant irq)) }
+        ensures rest { self.new ≡ record self.old { core = self.new.core } }
+    {
+        if instant <= self.time {
+            self.nvic.post(irq);
+            self.alarm = None;
+            return Ok(Some(What::Alarm));
+        }
+        self.alarm = Some(Alarm { instant, irq });
+        Ok(Some(What::AlarmSet))
+    }
+
+    /// What an instruction asks of the core.
+    fn answer(&mut self, asked: Request) -> Result<Option<What>, Trap>
+        requires { (row from : ℕ) → asked ≡ request.Call row from → self.old.core.processor.address + 1 < 2 ^ 32 }
+        ensures outcome { Comes result self.new.core (stepping.answer self.old.image self.old.core asked) }
+        ensures rest { self.new ≡ record self.old { core = self.new.core } }
+    {
+        match asked {
+            Request::Nothing => Ok(None),
+            Request::Emit(value) => Ok(Some(What::Emit(value))),
+            Request::Post(irq) => {
+                self.nvic.post(irq);
+                Ok(Some(What::Post(irq)))
+            }
+            Request::Clock(time) => Ok(Some(What::Clock(time))),
+            Request::Alarm(instant, irq) => self.set_alarm(instant, irq),
+            Request::NoAlarm => {
+                self.alarm = None;
+                Ok(Some(What::AlarmSet))
+            }
+            Request::Call(row, from) => self.call(row, from),
+            Request::Back => self.back(),
+            Request::Return => self.leave(),
+        }
+    }
+
+    /// The value that a leave of a section shows.
+    fn left_value(&self, section: &Section) -> Option<u32>
+        ensures { result ≡ notes.left_value self.now.image self.now.core section.now }
+    {
+        match section {
+            Section::Res(resource) => {
+                let cell = self.program.resource_cell(*resource)?;
+                self.cells.get(cell).copied()
+            }
+            Section::Free(_) | Section::Ready(_) | Section::Timer => None,
+        }
+    }
+
+    /// So many slots from one on, at most four, where they are in the frame.
+    fn slots_from(&self, from: u32, count: u8) -> Option<Args>
+        requires { count < 5 }
+        ensures { result ≡ notes.slots_from self.now.core from count }
+    {
+        if count == 0 {
+            return Some(Args::of(&[]));
+        }
+        let from = from as usize;
+        let slots = self.frames.slots();
+        let end = from + usize::from(count);
+        if end > slots.len() {
+            return None;
+        }
+        Some(Args::of(&slots[from..end]))
+    }
+
+    /// The item of a note, and None where a slot that it names is not in the frame.
+    fn shown_by(&self, note: Note) -> Option<What>
+        ensures { result ≡ notes.shown_by self.now.image self.now.core note }
+    {
+        match note {
+            Note::Enter(section) => Some(What::Enter(section)),
+            Note::Leave(section) => {
+                let value = self.left_value(&section);
+                Some(What::Leave(section, value))
+            }
+            Note::Placed(task) => Some(What::Placed(task)),
+            Note::Full(task) => Some(What::Full(task)),
+            Note::Ready(task) => Some(What::Ready(task)),
+            Note::Start(task, from) => {
+                let count = self.program.argument_count(task);
+                let args = self.slots_from(from, count)?;
+                Some(What::Start(task, args))
+            }
+            Note::Free(task) => Some(What::Free(task)),
+            Note::Arm(task, slot) => {
+                let instant = self.frames.slots().get(slot as usize).copied()?;
+                Some(What::Arm(task, instant))
+            }
+            Note::Fire(task) => Some(What::Fire(task)),
+            Note::End(body) => Some(What::End(body)),
+        }
+    }
+    /// The instruction's own effect. A trap changes nothing.
+    fn execute(&mut self, instr: Instr) -> Result<Request, Trap>
+        requires { self.old.core.processor.address + 1 < 2 ^ 32 }
+        ensures ok { IfOk result (λ asked. effect instr self.old.core.time self.old.core.processor ≡ Leads self.new.core.processor asked) }
+        ensures err { IfErr result (λ trap. effect instr self.old.core.time self.old.core.processor ≡ Traps trap) }
+        ensures unchanged { OnErr result (self.new ≡ self.old) }
+        ensures rest { self.new ≡ record self.old { core = record self.old.core { processor = self.new.core.processor } } }
+    {
+        self.frames
+            .execute(instr, self.time, &mut self.registers, &mut self.cells)
+    }
+
+    /// The instruction at the code address, with its note.
+    fn run(&mut self) -> Result<Option<What>, Trap>
+        ensures outcome { Comes result self.new.core (stepping.run self.old.image self.old.core (slice_get self.old.image.code self.old.core.processor.address)) }
+        ensures rest { self.new ≡ record self.old { core = self.new.core } }
+    {
+        let Some((instr, note)) = self.program.line(self.registers.address) else {
+            return Err(Trap::Jump);
+        };
+        let asked = self.execute(instr)?;
+        let shown = self.answer(asked)?;
+        match (note, shown) {
+            (Some(note), None) => Ok(Some(self.shown_by(note).ok_or(Trap::Stack)?)),
+            (_, shown) => Ok(shown),
+        }
+    }
+
+    /// A trap stops the core and shows its number.
+    fn settle(&mut self, came: Result<Option<What>, Trap>) -> Option<What>
+        ensures settled { (outcome : Outcome) → Comes came self.old.core outcome → settle outcome ≡ (self.new.core, result) }
+        ensures rest { self.new ≡ record self.old { core = self.new.core } }
+    {
+        match came {
+            Ok(shown) => shown,
+            Err(trap) => {
+                self.stopped = true;
+                Some(What::Trap(trap.number()))
+            }
+        }
+    }
+
+    /// One core step: the entry of the interrupt that is to be taken, else one instruction. It answers the item that the
+    /// step gives, and None where it gives none. A trap gives its item and stops the core, and every later step is silent.
+    pub fn step(&mut self) -> Option<What>
+        requires { self.old.steps < 2 ^ 31 }
+        ensures item { result ≡ (stepping.step self.old.image self.old.core).1 }
+        ensures state { self.new ≡ record self.old { core = (stepping.step self.old.image self.old.core).0; steps = suc self.old.steps } }
+    {
+        self.steps += 1;
+        if self.stopped {
+            return None;
+        }
+        let came = match self.picked() {
+            Some(irq) => self.enter(irq),
+            None => self.run(),
+        };
+        self.settle(came)
+    }
+}
