@@ -20,3 +20,4 @@ pub mod Length
 pub mod Rules
 pub mod Limits
 pub mod Accepted
+pub mod Names
