@@ -1,5 +1,5 @@
--- The applications that are accepted, as they show it themselves: they break no rule and keep the limits, each number in them is
--- the place of something that is declared, and a variable is in scope where it is read or assigned.
+-- The applications that are accepted, as they show it themselves: they break no rule and keep the limits, their names are names
+-- and differ, each number in them is the place of something that is declared, and a variable is in scope where it is read or assigned.
 use Rattle.std.specs.Prelude.{◌≡◌, ℕ, ◌+◌, ◌<◌, ◌==◌, IsTrue, List, [], ◌∷◌, length, Option, Some, None}
 use Rattle.std.specs.List.{AllByRecursion, list_any, range_with_len}
 use Rattle.rt_app.specs.declared.app.Mono.{Mono}
@@ -8,6 +8,7 @@ use Rattle.rt_app.specs.declared.expr.Atom.TheVariants.{Var, Shared, Local}
 use Rattle.rt_app.specs.Tree.{Expression, Num, Read, Oper, Spawn, Soon, After, Value, Calc, Now, Call, Statement, Bind, Assign, Branch, Repeat, Locked, Emit, Pend, Spawns, Block, Empty, Then, Body, Task, App}
 use Rattle.rt_app.specs.Variables.{variables, variables_in}
 use Rattle.rt_app.specs.Limits.{KeepsLimits}
+use Rattle.rt_app.specs.Names.{HasNames}
 use Rattle.rt_app.specs.Rules.{violations}
 
 module _ (app : App) where
@@ -83,6 +84,7 @@ module _ (app : App) where
 pub record IsAccepted (app : App) : Type 0 where
   pub rules : violations app ≡ []
   pub limits : KeepsLimits app
+  pub names : HasNames app
   pub dispatchers : AllByRecursion (λ d. d.irq < length app.irqs) app.dispatchers
   pub mono : IsMonoPlaced app app.mono
   pub init : IsThreadPlaced app app.init

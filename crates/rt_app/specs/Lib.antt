@@ -19,5 +19,5 @@ pub mod Statements
 pub mod Length
 pub mod Rules
 pub mod Limits
-pub mod Accepted
 pub mod Names
+pub mod Accepted

@@ -3,4 +3,5 @@ pub mod Firsts
 pub mod Accepting
 pub mod PlacedNames
 pub mod PlacedStatements
+pub mod Named
 pub mod Placed

@@ -5,6 +5,7 @@ use Rattle.rt_ids.specs.declared.refusal.Refused.{Refused}
 use Rattle.rt_ast.specs.declared.ident.Ident.{Ident}
 use Rattle.rt_ast.specs.declared.app.MonoTree.{MonoTree}
 use Rattle.rt_ast.specs.Tree.{Body, Task, App}
+use Rattle.rt_ast.specs.Printable.{IsPrintable}
 use Rattle.rt_app.specs.declared.app.App as code
 use Rattle.rt_app.specs.declared.violation.Violation.{Violation}
 use Rattle.rt_app.specs.View.{app_of}
@@ -18,6 +19,7 @@ use Rattle.rt_resolve.specs.Misnamed.{if_unknown, block_faults}
 use Rattle.rt_resolve.specs.NameRules.{declaration_faults, listing_faults, argument_faults, body_faults, thread_faults, binds_fault, task_faults, mono_fault, name_violations, listed_twice, listing_of}
 use Rattle.rt_build.proofs.PlacedNames.{none_left, none_right, irq_placed, shared_placed, local_placed, arguments_seen, arguments_app}
 use Rattle.rt_build.proofs.PlacedStatements.{block_placed}
+use Rattle.rt_build.proofs.Named.{named}
 
 -- what holds of the picture of each element without a fault
 all_of : {X Y : Type 0} (f : X → Y) (P : Y → Type 0) (faults : X → List Violation) → ((x : X) → faults x ≡ [] → P (f x)) → (xs : List X) → flat_map faults xs ≡ [] → AllByRecursion P (map f xs)
@@ -74,10 +76,11 @@ module _ (app : App) where
   task_placed : (t : Task) → task_faults app t ≡ [] → IsTaskPlaced (resolved app) (resolve.task app t)
   task_placed t fine = (binding_placed t.binds (none_left (binds_fault app t.binds) (body_faults app t.args t.body) fine), body_placed t.args t.body (none_right (binds_fault app t.binds) (body_faults app t.args t.body) fine))
 
-  pub accepted : name_violations app ≡ [] → violations (resolved app) ≡ [] → KeepsLimits (resolved app) → IsAccepted (resolved app)
-  accepted fine rules limits = record {
+  pub accepted : IsPrintable app → name_violations app ≡ [] → violations (resolved app) ≡ [] → KeepsLimits (resolved app) → IsAccepted (resolved app)
+  accepted printable fine rules limits = record {
     rules = rules;
     limits = limits;
+    names = named app printable (none_left (declaration_faults app) (on_dispatchers ++ (on_mono ++ (on_init ++ (on_idle ++ on_tasks)))) fine);
     dispatchers = all_of (resolve.dispatcher app) _ (λ x. if_unknown (irq_named app x.name) x.at) (λ x. irq_placed app x.name x.at) app.dispatchers (none_left on_dispatchers (on_mono ++ (on_init ++ (on_idle ++ on_tasks))) behind_declarations);
     mono = mono_placed app.mono (none_left on_mono (on_init ++ (on_idle ++ on_tasks)) behind_dispatchers);
     init = thread_placed app.init (none_left on_init (on_idle ++ on_tasks) behind_mono);
@@ -113,10 +116,10 @@ module _ (app : App) where
       behind_init = none_right on_init (on_idle ++ on_tasks) behind_mono
 
 -- what the rules let through
-pub placed_by : (tree : App) (app : code.App) (faults : List Violation) → app_of app ≡ resolved tree → faults ≡ name_violations tree → KeepsLimits (app_of app)
+pub placed_by : (tree : App) → IsPrintable tree → (app : code.App) (faults : List Violation) → app_of app ≡ resolved tree → faults ≡ name_violations tree → KeepsLimits (app_of app)
     → (r : Result code.App Refused) → IfOk r (λ a. (a ≡ app) × (faults ≡ []) × (violations (app_of a) ≡ [])) → IfOk r (λ a. IsAccepted (app_of a))
-placed_by tree app faults same all limits (Ok a) h = subst IsAccepted (sym this) (accepted tree (sym all ∙ h.1) (subst (λ b. violations b ≡ []) this h.2) (subst KeepsLimits same limits))
+placed_by tree printable app faults same all limits (Ok a) h = subst IsAccepted (sym this) (accepted tree printable (sym all ∙ h.1) (subst (λ b. violations b ≡ []) this h.2) (subst KeepsLimits same limits))
   where
     this : app_of a ≡ resolved tree
     this = ap app_of h.0 ∙ same
-placed_by tree app faults same all limits (Err e) h = tt
+placed_by tree printable app faults same all limits (Err e) h = tt

@@ -16,7 +16,7 @@ returns-in-Ok-clause-limits c =
 
 pub returns-in-Ok-clause-accepted : goal.returns-in-Ok-clause-accepted
 returns-in-Ok-clause-accepted c =
-    placed_by (written.app_of c.args.tree.now) c.in-Ok.resolved.app c.in-Ok.resolved.faults.items c.in-Ok.ensures.app c.in-Ok.ensures.faults c.in-Ok.ensures.limits c.rules.result c.rules.ensures.ok
+    placed_by (written.app_of c.args.tree.now) (c.texts_keep_limits.ensures.law c.args.src.now (written.app_of c.args.tree.now) c.requires.text) c.in-Ok.resolved.app c.in-Ok.resolved.faults.items c.in-Ok.ensures.app c.in-Ok.ensures.faults c.in-Ok.ensures.limits c.rules.result c.rules.ensures.ok
 
 pub returns-in-Ok-clause-refused : goal.returns-in-Ok-clause-refused
 returns-in-Ok-clause-refused c =
