@@ -1,8 +1,10 @@
 -- The applications that are accepted, as they show it themselves: they break no rule and keep the limits, their names are names
--- and differ, each number in them is the place of something that is declared, and a variable is in scope where it is read or assigned.
+-- and differ, each number in them is the place of something that is declared, a variable is in scope where it is read or assigned,
+-- and the body lists the local resources that it uses, as a task of RTIC 1 does.
 use Rattle.std.specs.Prelude.{◌≡◌, ℕ, ◌+◌, ◌<◌, ◌==◌, IsTrue, List, [], ◌∷◌, length, Option, Some, None}
 use Rattle.std.specs.List.{AllByRecursion, list_any, range_with_len}
 use Rattle.rt_app.specs.declared.app.Mono.{Mono}
+use Rattle.rt_app.specs.declared.body.Owned.{Owned}
 use Rattle.rt_app.specs.declared.expr.Atom.{Atom}
 use Rattle.rt_app.specs.declared.expr.Atom.TheVariants.{Var, Shared, Local}
 use Rattle.rt_app.specs.Tree.{Expression, Num, Read, Oper, Spawn, Soon, After, Value, Calc, Now, Call, Statement, Bind, Assign, Branch, Repeat, Locked, Emit, Pend, Spawns, Block, Empty, Then, Body, Task, App}
@@ -11,12 +13,13 @@ use Rattle.rt_app.specs.Limits.{KeepsLimits}
 use Rattle.rt_app.specs.Names.{HasNames}
 use Rattle.rt_app.specs.Rules.{violations}
 
-module _ (app : App) where
+-- in a body that lists these local resources
+module _ (app : App) (listed : List Owned) where
   -- with these variables in scope
   abbrev pub IsMeant : List ℕ → Atom → Type 0
   IsMeant visible (Var x) = IsTrue (list_any (λ y. y == x) visible)
   IsMeant visible (Shared r) = r < length app.shared
-  IsMeant visible (Local n) = n < length app.locals
+  IsMeant visible (Local n) = (n < length app.locals) × IsTrue (list_any (λ o. o.local == n) listed)
 
   abbrev pub AreMeant : List ℕ → Expression → Type 0
   AreMeant visible (Num n) = Unit {0}
@@ -59,12 +62,13 @@ module _ (app : App) where
     IsBlockPlaced n visible Empty = Unit {0}
     IsBlockPlaced n visible (Then s rest) = IsStatementPlaced n visible s × IsBlockPlaced (n + variables_in s) (behind n visible s) rest
 
+module _ (app : App) where
   -- a body that takes so many arguments
   pub record IsBodyPlaced (args : ℕ) (b : Body) : Type 0 where
     pub shared : AllByRecursion (λ l. l.resource < length app.shared) b.shared
     pub local : AllByRecursion (λ o. o.local < length app.locals) b.local
     pub variables : b.variables ≡ args + variables b.block
-    pub block : IsBlockPlaced args (range_with_len 0 args) b.block
+    pub block : IsBlockPlaced app b.local args (range_with_len 0 args) b.block
 
   abbrev pub IsThreadPlaced : Option Body → Type 0
   IsThreadPlaced None = Unit {0}

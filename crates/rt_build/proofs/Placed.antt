@@ -17,7 +17,7 @@ use Rattle.rt_resolve.specs.Resolved as resolve
 use Rattle.rt_resolve.specs.Resolved.{resolved, with_arguments, body_names, body_block}
 use Rattle.rt_resolve.specs.Misnamed.{if_unknown, block_faults}
 use Rattle.rt_resolve.specs.NameRules.{declaration_faults, listing_faults, argument_faults, body_faults, thread_faults, binds_fault, task_faults, mono_fault, name_violations, listed_twice, listing_of}
-use Rattle.rt_build.proofs.PlacedNames.{none_left, none_right, irq_placed, shared_placed, local_placed, arguments_seen, arguments_app}
+use Rattle.rt_build.proofs.PlacedNames.{none_left, none_right, irq_placed, shared_placed, local_placed, arguments_seen, before_arguments}
 use Rattle.rt_build.proofs.PlacedStatements.{block_placed}
 use Rattle.rt_build.proofs.Named.{named}
 
@@ -57,8 +57,8 @@ module _ (app : App) where
       local : AllByRecursion (λ o. o.local < length (resolved app).locals) (map (resolve.owned app) b.local)
       local = all_of (resolve.owned app) _ (λ x. if_unknown (local_named app x.name) x.at) (λ x. local_placed app x.name x.at) b.local (none_left on_local twice (none_right on_shared (on_local ++ twice) listings))
 
-      block : IsBlockPlaced (resolved app) (length args) (range_with_len 0 (length args)) (body_block app args b)
-      block = subst (λ a. IsBlockPlaced (resolved a) (length args) (range_with_len 0 (length args)) (body_block app args b)) (arguments_app args (body_names app b) 0)
+      block : IsBlockPlaced (resolved app) (map (resolve.owned app) b.local) (length args) (range_with_len 0 (length args)) (body_block app args b)
+      block = before_arguments (λ a xs. IsBlockPlaced (resolved a) (map (resolve.owned a) xs) (length args) (range_with_len 0 (length args)) (body_block app args b)) args (body_names app b) 0
           (block_placed b.block (inside names) (length args) (range_with_len 0 (length args)) (arguments_seen args (body_names app b) refl) (none_right on_arguments on_block (none_right (listing_faults app b) (on_arguments ++ on_block) fine)))
 
   thread_placed : (b : Option Body) → thread_faults app b ≡ [] → IsThreadPlaced (resolved app) (option_map (resolve.body app []) b)

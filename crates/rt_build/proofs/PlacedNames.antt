@@ -1,16 +1,19 @@
 -- A name that is no unknown name means something that is declared, and a variable is one in scope.
-use Rattle.std.proofs.Common.{◌≡◌, ◌==◌, ◌<◌, nat_lt, ◌||◌, ℕ, ◌+◌, Bool, true, false, cond, IsTrue, List, [], ◌∷◌, ◌++◌, length, map, take, find, position, Option, Some, None, IfSome, option_map, refl, sym, subst, if◌then◌else◌}
+use Rattle.std.proofs.Common.{◌≡◌, ◌==◌, ◌<◌, nat_lt, ◌||◌, ℕ, ◌+◌, Bool, true, false, cond, IsTrue, List, [], ◌∷◌, ◌++◌, length, map, take, find, position, Option, Some, None, IfSome, option_map, refl, sym, ap, subst, ◌∙◌, if◌then◌else◌}
 use Rattle.std.specs.List.{AllByRecursion, list_any, position_or_len, range_with_len}
 use Rattle.std.specs.Option.{option_or, unwrap_or}
 use Rattle.std.proofs.lemmas.List.{length-map}
 use Rattle.std.proofs.lemmas.Bool.{ltb-true, eq-eqb}
+use Rattle.std.proofs.lemmas.Slice.Eq.{bytes_eq-Decides}
 use Rattle.rt_ast.specs.declared.ident.Ident.{Ident}
 use Rattle.rt_ast.specs.Tree.{App}
 use Rattle.rt_app.specs.declared.TheConstants.{UNKNOWN}
+use Rattle.rt_app.specs.declared.body.Owned.{Owned}
 use Rattle.rt_app.specs.declared.expr.Atom.{Atom}
 use Rattle.rt_app.specs.declared.expr.Atom.TheVariants as atom
 use Rattle.rt_app.specs.Accepted.{IsMeant}
 use Rattle.rt_resolve.specs.Scope.{is_named, irq_named, task_named, shared_named, local_named, or_unknown, Variable, Scope, is_variable, declared, Names, with_variable, variable_named, owned_named, meaning, atom_named}
+use Rattle.rt_resolve.specs.Resolved as resolve
 use Rattle.rt_resolve.specs.Resolved.{resolved, irq, task, shared, local, with_arguments}
 use Rattle.rt_resolve.specs.Misnamed.{if_unknown}
 
@@ -102,17 +105,33 @@ of_either : {X : Type 0} (P : X → Type 0) (first second : Option X) → IfSome
 of_either P None second h k = k
 of_either P (Some x) second h k = h
 
-of_choice : {X : Type 0} (P : X → Type 0) (b : Bool) (found : Option X) → IfSome found P → IfSome (if b then found else None) P
-of_choice P true found h = h
-of_choice P false found h = tt
+-- the local resources that a body lists
+abbrev pub listings : Names → List Owned
+listings names = map (resolve.owned names.app) names.local
+
+-- a name that a body lists is that of a resource that it lists
+listed_here : (app : App) (name : List ℕ) (n : ℕ) → local_named app name ≡ Some n → (xs : List Ident) → list_any (is_named name) xs ≡ true → IsTrue (list_any (λ o. o.local == n) (map (resolve.owned app) xs))
+listed_here app name n is [] test = absurd (cc)
+listed_here app name n is (x ∷ xs) test = go (is_named name x) refl (listed_here app name n is xs)
+  where
+    others : List Owned
+    others = map (resolve.owned app) xs
+
+    go : (b : Bool) → is_named name x ≡ b → (list_any (is_named name) xs ≡ true → IsTrue (list_any (λ o. o.local == n) others)) → IsTrue ((or_unknown (local_named app x.name) == n) || list_any (λ o. o.local == n) others)
+    go true e behind =
+        let same : x.name ≡ name = (bytes_eq-Decides x.name name).0 e in
+        let number : or_unknown (local_named app x.name) ≡ n = ap (λ t. or_unknown (local_named app t)) same ∙ ap or_unknown is in
+        rw (eq-eqb (or_unknown (local_named app x.name)) n number) refl
+    go false e behind =
+        true_or (or_unknown (local_named app x.name) == n) (list_any (λ o. o.local == n) others) (behind (ap (λ b. b || list_any (is_named name) xs) (sym e) ∙ test))
 
 -- what a known name in an expression or an assignment stands for
-pub meant : (names : Names) (visible : List ℕ) → AreSeen visible names.scope.variables → (name : List ℕ) (at : ℕ) → if_unknown (meaning names name) at ≡ [] → IsMeant (resolved names.app) visible (atom_named names name)
+pub meant : (names : Names) (visible : List ℕ) → AreSeen visible names.scope.variables → (name : List ℕ) (at : ℕ) → if_unknown (meaning names name) at ≡ [] → IsMeant (resolved names.app) (listings names) visible (atom_named names name)
 meant names visible seen name at = known P (meaning names name) (atom.Shared UNKNOWN) at
     (of_either P (variable_named names name) (option_or (option_map atom.Shared (shared_named names.app name)) (owned_named names name)) variables (of_either P (option_map atom.Shared (shared_named names.app name)) (owned_named names name) resources owned))
   where
     P : Atom → Type 0
-    P = IsMeant (resolved names.app) visible
+    P = IsMeant (resolved names.app) (listings names) visible
 
     variables : IfSome (variable_named names name) P
     variables = of_map (λ v. atom.Var v.number) P (find (is_variable name) names.scope.variables) (found_seen visible (is_variable name) names.scope.variables seen)
@@ -120,8 +139,14 @@ meant names visible seen name at = known P (meaning names name) (atom.Shared UNK
     resources : IfSome (option_map atom.Shared (shared_named names.app name)) P
     resources = of_map atom.Shared P (shared_named names.app name) (placed shared (λ r. is_named name r.name) names.app.shared)
 
+    owned_when : (b : Bool) (found : Option ℕ) → list_any (is_named name) names.local ≡ b → local_named names.app name ≡ found → IfSome found (λ n. n < length (resolved names.app).locals)
+        → IfSome (if b then option_map atom.Local found else None) P
+    owned_when false found test is h = tt
+    owned_when true None test is h = tt
+    owned_when true (Some n) test is h = (h, listed_here names.app name n is names.local test)
+
     owned : IfSome (owned_named names name) P
-    owned = of_choice P (list_any (is_named name) names.local) _ (of_map atom.Local P (local_named names.app name) (placed local (λ r. is_named name r.name) names.app.locals))
+    owned = owned_when (list_any (is_named name) names.local) (local_named names.app name) refl refl (placed local (λ r. is_named name r.name) names.app.locals)
 
 -- the arguments of a body are the first of its variables
 arguments_in : (visible : List ℕ) (xs : List Ident) (names : Names) (n : ℕ) → AllByRecursion (IsIn visible) (range_with_len n (length xs)) → AreSeen visible names.scope.variables → AreSeen visible (with_arguments names n xs).scope.variables
@@ -135,6 +160,7 @@ arguments_seen xs names none = arguments_in visible xs names 0 (all_in visible) 
     visible : List ℕ
     visible = range_with_len 0 (length xs)
 
-pub arguments_app : (xs : List Ident) (names : Names) (n : ℕ) → (with_arguments names n xs).app ≡ names.app
-arguments_app [] names n = refl
-arguments_app (x ∷ xs) names n = arguments_app xs (with_variable names x n) (n + 1)
+-- what is said of the tree and of what a body lists holds behind its arguments
+pub before_arguments : (P : App → List Ident → Type 0) (xs : List Ident) (names : Names) (n : ℕ) → P (with_arguments names n xs).app (with_arguments names n xs).local → P names.app names.local
+before_arguments P [] names n h = h
+before_arguments P (x ∷ xs) names n h = before_arguments P xs (with_variable names x n) (n + 1) h

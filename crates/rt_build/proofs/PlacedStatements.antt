@@ -2,31 +2,31 @@
 use Rattle.std.proofs.Common.{◌≡◌, ℕ, ◌+◌, ◌<◌, List, [], ◌∷◌, ◌++◌, length, map, flat_map, refl, sym, ap, subst}
 use Rattle.std.specs.List.{AllByRecursion}
 use Rattle.rt_ast.specs.declared.ident.Ident.{Ident}
-use Rattle.rt_ast.specs.Tree.{Expression, Num, Read, Oper, Spawn, Soon, After, Value, Calc, Now, Call, Statement, Bind, Assign, Branch, Repeat, Locked, Emit, Pend, Spawns, Block, Empty, Then}
+use Rattle.rt_ast.specs.Tree.{App, Expression, Num, Read, Oper, Spawn, Soon, After, Value, Calc, Now, Call, Statement, Bind, Assign, Branch, Repeat, Locked, Emit, Pend, Spawns, Block, Empty, Then}
 use Rattle.rt_app.specs.declared.violation.Violation.{Violation}
 use Rattle.rt_app.specs.Variables.{variables, variables_in}
 use Rattle.rt_app.specs.Accepted as accepted
 use Rattle.rt_app.specs.Accepted.{AreMeant, IsSpawnPlaced, IsValuePlaced, IsStatementPlaced, IsBlockPlaced}
 use Rattle.rt_resolve.specs.Scope.{task_named, shared_named, or_unknown, Names, inside, with_variable, meaning}
 use Rattle.rt_resolve.specs.Resolving.{expression, spawn, value, statement, block, binders_in, binders, behind, in_loop}
-use Rattle.rt_resolve.specs.Resolved.{resolved}
+use Rattle.rt_resolve.specs.Resolved.{resolved, owned}
 use Rattle.rt_resolve.specs.Misnamed.{if_unknown, if_taken, expression_faults, call_faults, spawn_faults, value_faults, statement_faults, block_faults}
-use Rattle.rt_build.proofs.PlacedNames.{none_left, none_right, irq_placed, task_placed, shared_placed, AreSeen, is_first, seen_more, declared_seen, meant}
+use Rattle.rt_build.proofs.PlacedNames.{none_left, none_right, irq_placed, task_placed, shared_placed, AreSeen, is_first, seen_more, declared_seen, listings, meant}
 
 module _ (names : Names) (visible : List ℕ) (seen : AreSeen visible names.scope.variables) where
-  pub expression_meant : (e : Expression) → expression_faults names e ≡ [] → AreMeant (resolved names.app) visible (expression names e)
+  pub expression_meant : (e : Expression) → expression_faults names e ≡ [] → AreMeant (resolved names.app) (listings names) visible (expression names e)
   expression_meant (Num n) fine = tt
   expression_meant (Read x) fine = meant names visible seen x.name x.at fine
   expression_meant (Oper o left right) fine =
       (expression_meant left (none_left (expression_faults names left) (expression_faults names right) fine), expression_meant right (none_right (expression_faults names left) (expression_faults names right) fine))
 
-  expressions_meant : (es : List Expression) → flat_map (expression_faults names) es ≡ [] → AllByRecursion (AreMeant (resolved names.app) visible) (map (expression names) es)
+  expressions_meant : (es : List Expression) → flat_map (expression_faults names) es ≡ [] → AllByRecursion (AreMeant (resolved names.app) (listings names) visible) (map (expression names) es)
   expressions_meant [] fine = tt
   expressions_meant (e ∷ es) fine =
       (expression_meant e (none_left (expression_faults names e) (flat_map (expression_faults names) es) fine), expressions_meant es (none_right (expression_faults names e) (flat_map (expression_faults names) es) fine))
 
   call_placed : (t : Ident) (args : List Expression) → call_faults names t args ≡ []
-      → (or_unknown (task_named names.app t.name) < length (resolved names.app).tasks) × AllByRecursion (AreMeant (resolved names.app) visible) (map (expression names) args)
+      → (or_unknown (task_named names.app t.name) < length (resolved names.app).tasks) × AllByRecursion (AreMeant (resolved names.app) (listings names) visible) (map (expression names) args)
   call_placed t args fine = (task_placed names.app t.name t.at (none_left task_fault arg_faults fine), expressions_meant args (none_right task_fault arg_faults fine))
     where
       task_fault : List Violation
@@ -35,13 +35,13 @@ module _ (names : Names) (visible : List ℕ) (seen : AreSeen visible names.scop
       arg_faults : List Violation
       arg_faults = flat_map (expression_faults names) args
 
-  pub spawn_placed : (s : Spawn) → spawn_faults names s ≡ [] → IsSpawnPlaced (resolved names.app) visible (spawn names s)
+  pub spawn_placed : (s : Spawn) → spawn_faults names s ≡ [] → IsSpawnPlaced (resolved names.app) (listings names) visible (spawn names s)
   spawn_placed (Soon t args) fine = call_placed t args fine
   spawn_placed (After word delay t args) fine =
       let call = call_placed t args (none_right (expression_faults names delay) (call_faults names t args) fine) in
       (expression_meant delay (none_left (expression_faults names delay) (call_faults names t args) fine), call.0, call.1)
 
-  pub value_placed : (v : Value) → value_faults names v ≡ [] → IsValuePlaced (resolved names.app) visible (value names v)
+  pub value_placed : (v : Value) → value_faults names v ≡ [] → IsValuePlaced (resolved names.app) (listings names) visible (value names v)
   value_placed (Calc e) fine = expression_meant e fine
   value_placed (Now at) fine = tt
   value_placed (Call s) fine = spawn_placed s fine
@@ -62,21 +62,22 @@ mutual
   same_variables Empty names n = refl
   same_variables (Then s rest) names n = rw (same_variables_in s names n, same_variables rest (behind names n s) (n + binders_in s)) refl
 
-behind_app : (names : Names) (n : ℕ) (s : Statement) → (behind names n s).app ≡ names.app
-behind_app names n (Bind x v) = refl
-behind_app names n (Assign x e) = refl
-behind_app names n (Branch e first second) = refl
-behind_app names n (Repeat x first last turn) = refl
-behind_app names n (Locked r inner) = refl
-behind_app names n (Emit e) = refl
-behind_app names n (Pend i) = refl
-behind_app names n (Spawns s) = refl
+-- what is said of the tree and of what a body lists holds before a statement
+before : (P : App → List Ident → Type 0) (names : Names) (n : ℕ) (s : Statement) → P (behind names n s).app (behind names n s).local → P names.app names.local
+before P names n (Bind x v) h = h
+before P names n (Assign x e) h = h
+before P names n (Branch e first second) h = h
+before P names n (Repeat x first last turn) h = h
+before P names n (Locked r inner) h = h
+before P names n (Emit e) h = h
+before P names n (Pend i) h = h
+before P names n (Spawns s) h = h
 
 -- a variable that is declared has its number, and those before have theirs
 with_seen : (names : Names) (visible : List ℕ) (x : Ident) (n : ℕ) → AreSeen visible names.scope.variables → AreSeen (n ∷ visible) (with_variable names x n).scope.variables
 with_seen names visible x n seen = declared_seen (n ∷ visible) names.scope x.name n (is_first n visible) (seen_more n visible names.scope.variables seen)
 
-behind_seen : (names : Names) (n : ℕ) (visible : List ℕ) → AreSeen visible names.scope.variables → (s : Statement) → AreSeen (accepted.behind (resolved names.app) n visible (statement names n s)) (behind names n s).scope.variables
+behind_seen : (names : Names) (n : ℕ) (visible : List ℕ) → AreSeen visible names.scope.variables → (s : Statement) → AreSeen (accepted.behind (resolved names.app) (listings names) n visible (statement names n s)) (behind names n s).scope.variables
 behind_seen names n visible seen (Bind x v) = with_seen names visible x n seen
 behind_seen names n visible seen (Assign x e) = seen
 behind_seen names n visible seen (Branch e first second) = seen
@@ -87,7 +88,7 @@ behind_seen names n visible seen (Pend i) = seen
 behind_seen names n visible seen (Spawns s) = seen
 
 mutual
-  statement_placed : (s : Statement) (names : Names) (n : ℕ) (visible : List ℕ) → AreSeen visible names.scope.variables → statement_faults names n s ≡ [] → IsStatementPlaced (resolved names.app) n visible (statement names n s)
+  statement_placed : (s : Statement) (names : Names) (n : ℕ) (visible : List ℕ) → AreSeen visible names.scope.variables → statement_faults names n s ≡ [] → IsStatementPlaced (resolved names.app) (listings names) n visible (statement names n s)
   statement_placed (Bind x v) names n visible seen fine = (refl, value_placed names visible seen v (none_left (value_faults names v) (if_taken names x) fine))
   statement_placed (Assign x e) names n visible seen fine =
       let at = if_unknown (meaning names x.name) x.at in
@@ -99,7 +100,7 @@ mutual
       let placed_second = block_placed second (inside names) (n + binders first) visible seen (none_right on_first on_second blocks) in (
         expression_meant names visible seen e (none_left (expression_faults names e) (on_first ++ on_second) fine),
         block_placed first (inside names) n visible seen (none_left on_first on_second blocks),
-        subst (λ k. IsBlockPlaced (resolved names.app) (n + k) visible (block (inside names) (n + binders first) second)) (sym (same_variables first (inside names) n)) placed_second,
+        subst (λ k. IsBlockPlaced (resolved names.app) (listings names) (n + k) visible (block (inside names) (n + binders first) second)) (sym (same_variables first (inside names) n)) placed_second,
       )
   statement_placed (Repeat x first last turn) names n visible seen fine =
       (refl, block_placed turn (in_loop names x n) (n + 1) (n ∷ visible) (with_seen (inside names) visible x n seen) (none_right (if_taken names x) (block_faults (in_loop names x n) (n + 1) turn) fine))
@@ -110,13 +111,13 @@ mutual
   statement_placed (Pend i) names n visible seen fine = irq_placed names.app i.name i.at fine
   statement_placed (Spawns s) names n visible seen fine = spawn_placed names visible seen s fine
 
-  pub block_placed : (b : Block) (names : Names) (n : ℕ) (visible : List ℕ) → AreSeen visible names.scope.variables → block_faults names n b ≡ [] → IsBlockPlaced (resolved names.app) n visible (block names n b)
+  pub block_placed : (b : Block) (names : Names) (n : ℕ) (visible : List ℕ) → AreSeen visible names.scope.variables → block_faults names n b ≡ [] → IsBlockPlaced (resolved names.app) (listings names) n visible (block names n b)
   block_placed Empty names n visible seen fine = tt
   block_placed (Then s rest) names n visible seen fine =
       let on_rest = block_faults (behind names n s) (n + binders_in s) rest in
-      let wider = accepted.behind (resolved names.app) n visible (statement names n s) in
+      let wider = accepted.behind (resolved names.app) (listings names) n visible (statement names n s) in
       let placed_rest = block_placed rest (behind names n s) (n + binders_in s) wider (behind_seen names n visible seen s) (none_right (statement_faults names n s) on_rest fine) in
-      let of_app = subst (λ a. IsBlockPlaced (resolved a) (n + binders_in s) wider (block (behind names n s) (n + binders_in s) rest)) (behind_app names n s) placed_rest in (
+      let of_app = before (λ a xs. IsBlockPlaced (resolved a) (map (owned a) xs) (n + binders_in s) wider (block (behind names n s) (n + binders_in s) rest)) names n s placed_rest in (
         statement_placed s names n visible seen (none_left (statement_faults names n s) on_rest fine),
-        subst (λ k. IsBlockPlaced (resolved names.app) (n + k) wider (block (behind names n s) (n + binders_in s) rest)) (sym (same_variables_in s names n)) of_app,
+        subst (λ k. IsBlockPlaced (resolved names.app) (listings names) (n + k) wider (block (behind names n s) (n + binders_in s) rest)) (sym (same_variables_in s names n)) of_app,
       )
