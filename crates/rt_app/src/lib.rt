@@ -9,8 +9,6 @@ pub mod costs;
 pub mod expr;
 pub mod names;
 pub mod stmt;
-#[cfg(test)]
-mod tests;
 pub mod violation;
 
 pub use app::{App, Dispatcher, IrqDecl, Local, Mono, Shared, Task};

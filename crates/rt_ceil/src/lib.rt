@@ -6,7 +6,5 @@ pub mod guarded;
 pub mod rows;
 pub mod spawns;
 pub mod tables;
-#[cfg(test)]
-mod tests;
 
 pub use guarded::ceilings;

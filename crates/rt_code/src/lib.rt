@@ -5,8 +5,6 @@ pub mod execution;
 pub mod image;
 pub mod instr;
 pub mod processor;
-#[cfg(test)]
-mod tests;
 
 pub use execution::execute;
 pub use image::{BodyRow, Handler, Image, IrqRow};

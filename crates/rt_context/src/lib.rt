@@ -7,8 +7,6 @@ mod exception;
 pub mod frames;
 mod laws;
 pub mod sizes;
-#[cfg(test)]
-mod tests;
 
 pub use frames::Frames;
 pub use laws::depth_counts_the_words;

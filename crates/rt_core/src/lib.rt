@@ -5,8 +5,6 @@ pub mod alarm;
 mod laws;
 pub mod machine;
 mod step;
-#[cfg(test)]
-mod tests;
 
 pub use alarm::Alarm;
 pub use laws::the_first_interrupt_is_taken;

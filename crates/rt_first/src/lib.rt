@@ -12,13 +12,9 @@ pub mod output;
 mod rules;
 mod run;
 pub mod script;
-#[cfg(test)]
-mod tests;
 mod text;
 mod trace_text;
 mod tree;
-#[cfg(test)]
-mod trees;
 
 pub use application::Application;
 pub use output::Output;

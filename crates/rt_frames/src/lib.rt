@@ -9,8 +9,6 @@ pub mod frame;
 pub mod level;
 pub mod measure;
 pub mod stack;
-#[cfg(test)]
-mod tests;
 pub mod waiting;
 
 pub use bound::bounds;

@@ -4,8 +4,6 @@
 mod front;
 mod laws;
 mod line;
-#[cfg(test)]
-mod tests;
 mod token;
 mod tokens;
 

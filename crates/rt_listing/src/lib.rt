@@ -4,8 +4,6 @@
 mod law;
 mod line;
 mod names;
-#[cfg(test)]
-mod tests;
 pub mod text;
 
 pub use law::listings_tell_images_apart;

@@ -3,7 +3,5 @@
 
 pub mod nvic;
 pub mod sizes;
-#[cfg(test)]
-mod tests;
 
 pub use nvic::Nvic;

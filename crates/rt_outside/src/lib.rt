@@ -16,10 +16,6 @@ pub use never_fails::NeverFails;
 pub use out_sink::OutSink;
 pub use sink::{Sink, put_all};
 pub use source::{ReadFail, Source, read_text};
-
-#[cfg(test)]
-mod tests;
-
 use thiserror::Error;
 
 /// A read or a write failed, and the object counted it.

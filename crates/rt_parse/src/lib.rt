@@ -7,8 +7,6 @@ mod expression;
 mod list;
 mod statement;
 mod stop;
-#[cfg(test)]
-mod tests;
 mod text;
 mod tokens;
 

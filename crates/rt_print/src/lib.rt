@@ -8,8 +8,6 @@ pub mod expr;
 pub mod laws;
 pub mod options;
 pub mod separated;
-#[cfg(test)]
-mod tests;
 pub mod text;
 
 pub use app::canonical;

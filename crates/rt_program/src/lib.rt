@@ -5,8 +5,6 @@ mod copy;
 pub mod program;
 pub mod runnable;
 mod tables;
-#[cfg(test)]
-mod tests;
 
 pub use program::Program;
 pub use runnable::is_runnable;

@@ -19,8 +19,6 @@ mod listing;
 mod lookup;
 pub mod resolved;
 mod scope;
-#[cfg(test)]
-mod tests;
 mod twice;
 
 pub use resolved::Resolved;

@@ -12,8 +12,6 @@ pub mod member;
 pub mod numbers;
 pub mod owned;
 pub mod statements;
-#[cfg(test)]
-mod tests;
 pub mod used;
 pub mod verdict;
 

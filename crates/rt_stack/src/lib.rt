@@ -2,7 +2,5 @@
 #![tactic(auto)]
 
 pub mod region;
-#[cfg(test)]
-mod tests;
 
 pub use region::Region;

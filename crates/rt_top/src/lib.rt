@@ -13,10 +13,3 @@ pub mod top;
 
 pub use gate::{Gate, NoGate};
 pub use top::rtic;
-
-#[cfg(test)]
-mod check_tests;
-#[cfg(test)]
-mod tests;
-#[cfg(test)]
-mod text_tests;

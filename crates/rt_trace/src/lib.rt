@@ -4,8 +4,6 @@
 pub mod args;
 pub mod item;
 pub mod labels;
-#[cfg(test)]
-mod tests;
 
 pub use args::Args;
 pub use item::{Item, What};

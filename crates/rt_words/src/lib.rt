@@ -15,6 +15,3 @@ pub use core_line::CoreLine;
 pub use device_line::{DeviceLine, Tally};
 pub use view::Part;
 pub use words::{Left, Words};
-
-#[cfg(test)]
-mod tests;
