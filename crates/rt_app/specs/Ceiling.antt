@@ -8,17 +8,14 @@ use Rattle.rt_app.specs.declared.ceilings.ReadyCeiling.{ReadyCeiling}
 use Rattle.rt_app.specs.Tree.{Task, App, Spawn}
 use Rattle.rt_app.specs.Bodies.{Member, members}
 use Rattle.rt_app.specs.Spawned.{is_soon, target}
-use Rattle.rt_app.specs.Level.{is_software, is_of_level, is_some_and, levels, holds}
+use Rattle.rt_app.specs.Level.{is_software, is_of_level, levels, holds}
+use Rattle.rt_ids.specs.Lists.{is_some_and, greatest}
 
 pub record Ceilings : Type 0 where
   pub shared : List ℕ
   pub free : List (Option ℕ)
   pub ready : List ReadyCeiling
   pub timer : Option ℕ
-
-abbrev pub greatest : List ℕ → ℕ
-greatest [] = 0
-greatest (x ∷ xs) = max x (greatest xs)
 
 -- the greatest priority of the bodies that pass, and 0 where none does
 abbrev pub greatest_priority : (Member → Bool) → App → ℕ

@@ -4,7 +4,7 @@ use Rattle.std.specs.Prelude.{ℕ, ◌+◌, ◌%◌, ◌==◌, max, Bool, true, 
 use Rattle.rt_app.specs.declared.costs.TheConstants.{SPAWN_WORDS, SPAWN_AFTER_WORDS}
 use Rattle.rt_app.specs.Tree.{Expression, Num, Read, Oper, Spawn, Soon, After, Value, Calc, Now, Call, Statement, Bind, Assign, Branch, Repeat, Locked, Emit, Pend, Spawns, Block, Empty, Then, Body}
 use Rattle.rt_app.specs.Spawned.{is_soon, spawns}
-use Rattle.rt_app.specs.Ceiling.{greatest}
+use Rattle.rt_ids.specs.Lists.{greatest}
 
 -- a number or a name is 1 deep
 abbrev pub depth : Expression → ℕ

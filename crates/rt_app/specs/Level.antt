@@ -2,6 +2,7 @@
 -- tasks and the monotonic). The code keeps a table by priority for the levels, and one by task for the armed tasks.
 use Rattle.std.specs.Prelude.{ℕ, zero, suc, ◌+◌, ◌==◌, Bool, not, ◌&&◌, is_none, false, List, [], ◌∷◌, ◌++◌, count_by, Option, Some, None, if◌then◌else◌}
 use Rattle.std.specs.List.{list_any}
+use Rattle.rt_ids.specs.Lists.{those_below, is_some_and}
 use Rattle.rt_app.specs.declared.costs.TheConstants.{PRIORITIES}
 use Rattle.rt_app.specs.Tree.{Task, App, Spawn}
 use Rattle.rt_app.specs.Bodies.{Member, members}
@@ -14,16 +15,6 @@ is_software t = is_none t.binds
 -- a software task of this level
 abbrev pub is_of_level : ℕ → Task → Bool
 is_of_level p t = is_software t && (t.priority == p)
-
--- whether there is a thing, and it passes
-abbrev pub is_some_and : {A : Type 0} → (A → Bool) → Option A → Bool
-is_some_and test None = false
-is_some_and test (Some x) = test x
-
--- the numbers below this one that pass, rising
-unfoldable pub those_below : (ℕ → Bool) → ℕ → List ℕ
-those_below test zero = []
-those_below test (suc n) = those_below test n ++ (if test n then n ∷ [] else [])
 
 -- the distinct priorities of software tasks, rising
 abbrev pub levels : App → List ℕ

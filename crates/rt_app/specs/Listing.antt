@@ -6,7 +6,7 @@ use Rattle.rt_app.specs.declared.body.Listed.{Listed}
 use Rattle.rt_app.specs.declared.violation.Violation.{Violation}
 use Rattle.rt_app.specs.Tree.{App}
 use Rattle.rt_app.specs.Bodies.{Member, members}
-use Rattle.rt_app.specs.Level.{is_some_and}
+use Rattle.rt_ids.specs.Lists.{is_some_and}
 use Rattle.rt_app.specs.Violation.{when}
 use Rattle.rt_app.specs.Declarations.{is_known}
 

@@ -4,8 +4,8 @@ use Rattle.std.specs.Prelude.{ℕ, zero, suc, ◌+◌, ◌*◌, ◌==◌, max, B
 use Rattle.std.specs.List.{list_any}
 use Rattle.rt_app.specs.declared.costs.TheConstants.{DISPATCHER_WORDS, TIMER_WORDS, ENTRY_BYTES, PRIORITIES}
 use Rattle.rt_app.specs.Tree.{Body, Task, App}
-use Rattle.rt_app.specs.Level.{is_software, is_of_level, is_some_and, those_below}
-use Rattle.rt_app.specs.Ceiling.{greatest}
+use Rattle.rt_app.specs.Level.{is_software, is_of_level}
+use Rattle.rt_ids.specs.Lists.{is_some_and, those_below, greatest}
 use Rattle.rt_app.specs.Frame.{frame_words}
 
 -- a hardware task of this priority

@@ -2,6 +2,7 @@
 -- since no other can begin while it is pending (Baker, 1991, on blocking). A section counts where its ceiling is at least the
 -- priority, it stands in a body of lower priority, and in no other such section. `init` counts for nothing.
 use Rattle.std.specs.Prelude.{ℕ, ◌+◌, ◌==◌, max, nat_lt, nat_le, List, [], ◌∷◌, get_or, slice_get, find, Option, Some, None, if◌then◌else◌}
+use Rattle.rt_ids.specs.Lists.{or_zero}
 use Rattle.rt_app.specs.declared.app.Mono.{Mono}
 use Rattle.rt_app.specs.declared.ceilings.ReadyCeiling.{ReadyCeiling}
 use Rattle.rt_app.specs.declared.costs.TheConstants.{FREE_COST, READY_COST}
@@ -10,11 +11,6 @@ use Rattle.rt_app.specs.Level.{is_software, is_armed}
 use Rattle.rt_app.specs.Ceiling.{Ceilings, ceilings}
 use Rattle.rt_app.specs.Cost.{statement_cost}
 use Rattle.rt_app.specs.BodyCost.{cost_measure, dispatcher_section_cost, timer_section_cost}
-
--- a ceiling that is not there is 0
-abbrev pub or_zero : Option ℕ → ℕ
-or_zero None = 0
-or_zero (Some p) = p
 
 abbrev pub flat : Option (Option ℕ) → ℕ
 flat None = 0

@@ -3,14 +3,13 @@
 use Rattle.std.specs.Prelude.{◌≡◌, ℕ, ◌+◌, ◌-◌, ◌^◌, ◌<◌, ◌≤◌, max, true, false, length}
 use Rattle.std.specs.List.{AllByRecursion}
 use Rattle.rt_ids.specs.declared.limits.TheConstants.{NAME_BYTES, DEPTH, TURNS}
-use Rattle.rt_lex.specs.Spelling.{is_word}
-use Rattle.rt_lex.specs.Split.{is_name}
+use Rattle.rt_ids.specs.Word.{is_word, is_identifier}
 use Rattle.rt_ast.specs.declared.ident.Ident.{Ident}
 use Rattle.rt_ast.specs.Tree.{Expression, Num, Read, Oper, Spawn, Soon, After, Value, Calc, Now, Call, Statement, Bind, Assign, Branch, Repeat, Locked, Emit, Pend, Spawns, Block, Empty, Then}
 
 -- a letter or `_`, then letters, digits and `_`, which is no word of the grammar
 pub record IsPrintableName (x : Ident) : Type 0 where
-  pub name : is_name x.name ≡ true
+  pub name : is_identifier x.name ≡ true
   pub no_word : is_word x.name ≡ false
   pub short : length x.name ≤ NAME_BYTES
 

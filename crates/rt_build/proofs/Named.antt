@@ -6,19 +6,20 @@ use Rattle.std.proofs.lemmas.Option.{same_Some}
 use Rattle.std.proofs.lemmas.Slice.Eq.{bytes_eq-Decides}
 use Rattle.rt_ids.specs.declared.rule.Rule.{Rule}
 use Rattle.rt_ids.specs.declared.rule.Rule.TheVariants as rule
-use Rattle.rt_lex.specs.Split.{is_name}
+use Rattle.rt_ids.specs.Word.{is_identifier, IsName}
 use Rattle.rt_ast.specs.declared.ident.Ident.{Ident}
 use Rattle.rt_ast.specs.Tree.{App}
 use Rattle.rt_ast.specs.PrintableBody.{IsPrintableName}
 use Rattle.rt_ast.specs.Printable.{IsPrintable}
 use Rattle.rt_app.specs.Violation.{when}
-use Rattle.rt_app.specs.Names.{is_identifier, IsName, AreDifferent, HasNames}
+use Rattle.rt_app.specs.Names.{HasNames}
+use Rattle.rt_ids.specs.Lists.{AreDifferent}
 use Rattle.rt_resolve.specs.Scope.{is_named}
 use Rattle.rt_resolve.specs.Resolved.{resolved, irq, task, shared, local}
 use Rattle.rt_resolve.specs.NameRules.{declared_twice, declaration_faults}
 use Rattle.rt_build.proofs.PlacedNames.{none_left, none_right}
 
-identifier : (text : List ℕ) → is_name text ≡ true → (1 ≤ length text) × (is_identifier text ≡ true)
+identifier : (text : List ℕ) → is_identifier text ≡ true → (1 ≤ length text) × (is_identifier text ≡ true)
 identifier [] is = absurd (cc)
 identifier (b ∷ rest) is = (omega arith, is)
 

@@ -13,7 +13,8 @@ use Rattle.rt_app.specs.declared.costs.TheConstants.{PRIORITIES}
 use Rattle.rt_app.specs.Tree.{App, Task}
 use Rattle.rt_app.specs.Bodies.{members}
 use Rattle.rt_app.specs.Spawned.{target}
-use Rattle.rt_app.specs.Level.{is_of_level, those_below, levels, holds}
+use Rattle.rt_app.specs.Level.{is_of_level, levels, holds}
+use Rattle.rt_ids.specs.Lists.{those_below}
 use Rattle.rt_app.specs.Ceiling.{greatest_priority, resource_ceiling, free_ceilings, readies, arms_level, mover_priority, ready_ceiling, ready_ceilings, timer_ceiling, Ceilings, ceilings}
 use Rattle.rt_ceil.specs.Tables.{Tables, level_of, mover, filled}
 use Rattle.rt_ceil.specs.Rows.{free_row, free_rows, marked, served_levels, ready_row, ready_rows, timer_row}

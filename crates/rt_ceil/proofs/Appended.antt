@@ -4,7 +4,7 @@ use Rattle.std.proofs.lemmas.List.{take_more, map-append, append-nil, length-map
 use Rattle.rt_app.specs.Tree.{Task}
 use Rattle.rt_app.specs.View.{task_of}
 use Rattle.rt_app.specs.declared.app.Task as code
-use Rattle.rt_app.specs.Level.{those_below}
+use Rattle.rt_ids.specs.Lists.{those_below}
 use Rattle.rt_ceil.specs.Rows.{free_row, free_rows, ready_row, ready_rows}
 
 pub free_rows-append : (table : List ℕ) (n : ℕ) (xs ys : List Task) → free_rows table n (xs ++ ys) ≡ free_rows table n xs ++ free_rows table (n + length xs) ys

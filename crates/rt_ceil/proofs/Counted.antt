@@ -4,8 +4,9 @@ use Rattle.std.specs.List.{fold, list_any}
 use Rattle.rt_app.specs.declared.body.Listed.{Listed}
 use Rattle.rt_app.specs.Tree.{App, Block, Spawn, Soon, After}
 use Rattle.rt_app.specs.Spawned.{spawns, is_soon, target}
-use Rattle.rt_app.specs.Level.{is_of_level, is_some_and}
-use Rattle.rt_app.specs.Ceiling.{greatest, readies, arms_level}
+use Rattle.rt_app.specs.Level.{is_of_level}
+use Rattle.rt_ids.specs.Lists.{is_some_and, greatest}
+use Rattle.rt_app.specs.Ceiling.{readies, arms_level}
 use Rattle.rt_ceil.specs.Tables.{Tables, level_in, mover, spawned, listed, used}
 use Rattle.rt_ceil.proofs.Greatest.{folded_keeps, folded_leaves, folded_raises, greatest_any, greatest_both}
 use Rattle.rt_ceil.proofs.Raised.{length-raised, length-raised_level, raised_at, raised_level_at, level_in_is}

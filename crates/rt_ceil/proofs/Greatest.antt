@@ -1,7 +1,7 @@
 -- The greatest of some numbers, what a fold that takes maxima comes to, and whether an item passes.
 use Rattle.std.proofs.Common.{◌≡◌, ℕ, max, Bool, true, false, cond, ◌||◌, if◌then◌else◌, List, [], ◌∷◌, map, refl, ap, ◌∙◌, arith}
 use Rattle.std.specs.List.{fold, filter, list_any}
-use Rattle.rt_app.specs.Ceiling.{greatest}
+use Rattle.rt_ids.specs.Lists.{greatest}
 
 -- a fold keeps what each step keeps
 pub folded_keeps : {S A : Type 0} (f : S → A → S) (P : S → Type 0) → ((s : S) (a : A) → P s → P (f s a)) → (s : S) (items : List A) → P s → P (fold f s items)

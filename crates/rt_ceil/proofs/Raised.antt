@@ -4,7 +4,8 @@ use Rattle.std.proofs.lemmas.List.{length-set}
 use Rattle.std.proofs.lemmas.Grind.{get_or-set_at}
 use Rattle.std.proofs.lemmas.Bool.Decides.{nat_tests}
 use Rattle.rt_app.specs.Tree.{Task}
-use Rattle.rt_app.specs.Level.{is_software, is_of_level, is_some_and}
+use Rattle.rt_app.specs.Level.{is_software, is_of_level}
+use Rattle.rt_ids.specs.Lists.{is_some_and}
 use Rattle.rt_ceil.specs.Tables.{raised, raised_level, level_of, level_in}
 use Rattle.rt_ceil.specs.Rows.{marked}
 

@@ -5,7 +5,8 @@ use Rattle.rt_app.specs.declared.app.Mono.{Mono}
 use Rattle.rt_app.specs.declared.ceilings.ReadyCeiling.{ReadyCeiling}
 use Rattle.rt_app.specs.declared.costs.TheConstants.{PRIORITIES}
 use Rattle.rt_app.specs.Tree.{Task}
-use Rattle.rt_app.specs.Level.{is_software, those_below}
+use Rattle.rt_app.specs.Level.{is_software}
+use Rattle.rt_ids.specs.Lists.{those_below}
 use Rattle.rt_ceil.specs.Tables.{level_of}
 
 abbrev pub free_row : Task → ℕ → Option ℕ

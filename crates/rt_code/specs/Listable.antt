@@ -2,6 +2,7 @@
 -- names, and no name can be taken for another word or for two.
 use Rattle.std.specs.Prelude.{◌≡◌, ◌≢◌, ℕ, ◌<◌, List, length, map, codes, Option, Some, None, IsSome, slice_get, [], ◌∷◌}
 use Rattle.std.specs.List.{Contains, AllByRecursion}
+use Rattle.rt_ids.specs.Lists.{AreDifferent}
 use Rattle.rt_ids.specs.Names.{Names}
 use Rattle.rt_ids.specs.declared.ids.BodyId.{BodyId}
 use Rattle.rt_ids.specs.declared.ids.BodyId.TheVariants as body
@@ -27,10 +28,6 @@ pub record IsPlain (bytes : List ℕ) : Type 0 where
   pub word : IsWord bytes
   pub plain : AllByRecursion (λ byte. byte ≢ 46) bytes
 
--- no name stands twice
-abbrev pub AreDistinct : List (List ℕ) → Type 0
-AreDistinct names = (i j : ℕ) (name : List ℕ) → slice_get names i ≡ Some name → slice_get names j ≡ Some name → i ≡ j
-
 pub record AreWritable (names : Names) : Type 0 where
   pub irqs : AllByRecursion (λ irq. IsPlain irq.0) names.irqs
   pub tasks : AllByRecursion IsPlain names.tasks
@@ -38,9 +35,9 @@ pub record AreWritable (names : Names) : Type 0 where
   -- no task has the word of another body
   pub no_init : ¬ Contains names.tasks (codes "init")
   pub no_idle : ¬ Contains names.tasks (codes "idle")
-  pub irqs_differ : AreDistinct (map (λ irq. irq.0) names.irqs)
-  pub tasks_differ : AreDistinct names.tasks
-  pub shared_differ : AreDistinct names.shared
+  pub irqs_differ : AreDifferent (map (λ irq. irq.0) names.irqs)
+  pub tasks_differ : AreDifferent names.tasks
+  pub shared_differ : AreDifferent names.shared
 
 abbrev pub HasIrq : Names → ℕ → Type 0
 HasIrq names irq = IsSome (irq_named names irq)

@@ -9,7 +9,8 @@ use Rattle.rt_code.specs.declared.image.BodyRow.{BodyRow}
 use Rattle.rt_stack.proofs.Frames.{top-behind, below-behind, with_top-same}
 use Rattle.rt_context.specs.declared.frames.Frames.TheInside.{Inside}
 use Rattle.rt_context.specs.Frames.{Frames, words_of, words_below}
-use Rattle.rt_context.specs.Moves.{has_room, is_empty, may_call, last_slot, call_fits, called}
+use Rattle.rt_context.specs.Moves.{has_room, may_call, last_slot, call_fits, called}
+use Rattle.rt_ids.specs.Lists.{is_empty}
 use Rattle.rt_context.specs.Parts.{Spells}
 use Rattle.rt_context.proofs.Running.{top_is, below_is}
 

@@ -1,6 +1,7 @@
 -- What exception entry and return, and a call of a body and its return, do to the frames (ARMv7-M Architecture Reference
 -- Manual, sections B1.5.6 and B1.5.8; calls of bodies are this model's own).
 use Rattle.std.specs.Prelude.{ℕ, ◌+◌, ◌-◌, ◌&&◌, ◌||◌, ◌==◌, Bool, true, false, nat_le, List, [], ◌∷◌, ◌++◌, length, replicate, take, drop, slice_index, slice_set, Option, Some, None, is_none, not}
+use Rattle.rt_ids.specs.Lists.{is_empty}
 use Rattle.rt_code.specs.declared.image.BodyRow.{BodyRow}
 use Rattle.rt_context.specs.Frames.{Saved, Frames, used}
 
@@ -27,10 +28,6 @@ returned f caller below = None
 
 abbrev pub left : Frames → Option (Frames × ℕ)
 left f = returned f f.caller f.below
-
-abbrev pub is_empty : {A : Type 0} → List A → Bool
-is_empty [] = true
-is_empty (x ∷ xs) = false
 
 -- a handler's own code runs, with a slot for the return address
 abbrev pub may_call : Frames → Bool

@@ -2,7 +2,7 @@
 use Rattle.std.proofs.Common.{◌≡◌, ℕ, List, [], ◌∷◌, map, true, slice_set, refl}
 use Rattle.rt_ids.specs.Event.{Arrive}
 use Rattle.rt_code.specs.Image.{Image}
-use Rattle.rt_nvic.specs.Arrivals.{pended}
+use Rattle.rt_ids.specs.Arrivals.{pended}
 use Rattle.rt_core.specs.Core.{Core}
 use Rattle.rt_core.specs.Trace.{core_after}
 

@@ -9,11 +9,12 @@ use Rattle.rt_code.specs.Runnable.{IsRunnable}
 use Rattle.rt_code.specs.declared.image.IrqRow.{IrqRow}
 use Rattle.rt_code.specs.declared.image.Handler.{Handler}
 use Rattle.rt_nvic.specs.Nvic.{Nvic, IsSized, IsReady, Precedes, is_pending, priority_of, value_of}
-use Rattle.rt_program.specs.Tables.{then_from}
+use Rattle.rt_ids.specs.Lists.{then_from}
 use Rattle.rt_core.specs.Core.{Core}
 use Rattle.rt_core.specs.Priority.{value_or_none, can_preempt, pick, execution, running_value, base_value, mask_value}
 use Rattle.rt_core.specs.Parts.{HasPriorities}
-use Rattle.rt_core.specs.Taken.{NoLater, IsIn}
+use Rattle.rt_core.specs.Taken.{NoLater}
+use Rattle.rt_ids.specs.Choice.{IsIn}
 use Rattle.rt_core.proofs.Picking.{IsChoice, choice, all_at, picked_row, found_passes, handler_of_row}
 
 -- the controller's answer, in the words of its contract

@@ -4,12 +4,13 @@ use Rattle.std.specs.List.{AllByRecursion}
 use Rattle.std.proofs.lemmas.Option.{same_Some, none-some}
 use Rattle.std.proofs.lemmas.Bool.{false≢true}
 use Rattle.std.proofs.lemmas.Bool.Decides.{nat_tests}
-use Rattle.rt_ids.specs.Choice.{best, better_of}
+use Rattle.rt_ids.specs.Choice.{best, better_of, IsIn}
 use Rattle.rt_code.specs.Image.{Image}
 use Rattle.rt_code.specs.Runnable.{IsRunnable}
 use Rattle.rt_code.specs.declared.image.IrqRow.{IrqRow}
-use Rattle.rt_program.specs.Tables.{handler_of, then_from}
-use Rattle.rt_core.specs.Taken.{NoLater, IsIn, IsTaken}
+use Rattle.rt_program.specs.Tables.{handler_of}
+use Rattle.rt_ids.specs.Lists.{then_from}
+use Rattle.rt_core.specs.Taken.{NoLater, IsTaken}
 use Rattle.rt_core.specs.Core.{Core}
 use Rattle.rt_core.specs.Priority.{precedes, can_preempt, pick}
 

@@ -1,6 +1,6 @@
 -- The core that the code's parts are, and what they keep.
 use Rattle.std.specs.Prelude.{◌≡◌, ℕ, ◌%◌, ◌<◌, List, [], ◌∷◌, Option, None, option_map, slice_index_or, unwrap_or, length}
-use Rattle.rt_ids.specs.declared.limits.TheConstants.{IRQ_NUMBERS}
+use Rattle.rt_ids.specs.declared.limits.TheConstants.{IRQ_NUMBERS, THREAD_VALUE}
 use Rattle.rt_code.specs.Image.{Image}
 use Rattle.rt_code.specs.Processor.{processor}
 use Rattle.rt_code.specs.Runnable.{IsRunnable}
@@ -17,7 +17,7 @@ abbrev pub contexts : List (Option ℕ) → List ℕ → List Saved → List Con
 contexts priorities [] below = []
 contexts priorities (irq ∷ active) [] = []
 contexts priorities (irq ∷ active) (s ∷ below) =
-    record { irq = irq; value = unwrap_or (slice_index_or priorities irq None) 256; address = s.address; slots = s.slots; caller = s.caller }
+    record { irq = irq; value = unwrap_or (slice_index_or priorities irq None) THREAD_VALUE; address = s.address; slots = s.slots; caller = s.caller }
     ∷ contexts priorities active below
 
 abbrev pub core : Inside → Core

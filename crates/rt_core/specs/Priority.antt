@@ -1,27 +1,28 @@
 -- The execution priority, and which interrupt is taken (ARMv7-M Architecture Reference Manual, section B1.5.4). There are no
 -- sub-priorities. The code scans the interrupt numbers once.
 use Rattle.std.specs.Prelude.{ℕ, ◌==◌, Bool, false, ◌&&◌, ◌||◌, nat_lt, if◌then◌else◌, List, [], ◌∷◌, min, slice_index_or, Option, Some, None}
+use Rattle.rt_ids.specs.declared.limits.TheConstants.{THREAD_VALUE}
 use Rattle.rt_ids.specs.Choice.{best}
 use Rattle.rt_code.specs.Image.{Image}
 use Rattle.rt_code.specs.declared.image.IrqRow.{IrqRow}
 use Rattle.rt_code.specs.declared.image.Handler.{Handler}
 use Rattle.rt_core.specs.Core.{Core, Context}
 
--- the value of a handler, and for none 256, which is lower than every priority
+-- the value of a handler, and for none that of the thread, which is lower than every priority
 abbrev pub value_or_none : Option Handler → ℕ
-value_or_none None = 256
+value_or_none None = THREAD_VALUE
 value_or_none (Some h) = h.value
 
 abbrev pub running_value : List Context → ℕ
-running_value [] = 256
+running_value [] = THREAD_VALUE
 running_value (x ∷ below) = x.value
 
 -- the value that BASEPRI holds the execution priority to
 abbrev pub base_value : ℕ → ℕ
-base_value basepri = if basepri == 0 then 256 else basepri
+base_value basepri = if basepri == 0 then THREAD_VALUE else basepri
 
 abbrev pub mask_value : Bool → ℕ
-mask_value primask = if primask then 0 else 256
+mask_value primask = if primask then 0 else THREAD_VALUE
 
 -- the execution priority
 abbrev pub execution : Core → ℕ

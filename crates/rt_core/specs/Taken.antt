@@ -3,6 +3,7 @@
 -- the one of the lowest number. The choice that the core makes is one pass over the rows.
 use Rattle.std.specs.Prelude.{◌≡◌, ℕ, ◌<◌, ◌≤◌, ◌⊎◌, true, false, List, slice_get, Option, Some, None}
 use Rattle.std.specs.List.{AllByRecursion}
+use Rattle.rt_ids.specs.Choice.{IsIn}
 use Rattle.rt_code.specs.Image.{Image}
 use Rattle.rt_code.specs.declared.image.IrqRow.{IrqRow}
 use Rattle.rt_core.specs.Core.{Core}
@@ -11,9 +12,6 @@ use Rattle.rt_core.specs.Priority.{value_or_none, can_preempt, pick}
 -- the first is of a higher priority, or of the same with no greater number
 abbrev pub NoLater : IrqRow → IrqRow → Type 0
 NoLater x y = (value_or_none x.handler < value_or_none y.handler) ⊎ ((value_or_none x.handler ≡ value_or_none y.handler) × (x.number ≤ y.number))
-
-abbrev pub IsIn : List IrqRow → IrqRow → Type 0
-IsIn rows x = (i : ℕ) × (slice_get rows i ≡ Some x)
 
 abbrev pub IsTaken : Image → Core → Option IrqRow → Type 0
 IsTaken img c None = AllByRecursion (λ row. can_preempt c row ≡ false) img.irqs

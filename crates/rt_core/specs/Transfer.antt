@@ -6,7 +6,8 @@ use Rattle.rt_code.specs.declared.image.Handler.{Handler}
 use Rattle.rt_code.specs.declared.image.BodyRow.{BodyRow}
 use Rattle.rt_code.specs.declared.processor.Trap.TheVariants as trap
 use Rattle.rt_context.specs.declared.sizes.TheConstants.{EXCEPTION_WORDS}
-use Rattle.rt_context.specs.Moves.{is_empty, last_slot}
+use Rattle.rt_context.specs.Moves.{last_slot}
+use Rattle.rt_ids.specs.Lists.{is_empty}
 use Rattle.rt_trace.specs.declared.item.What.TheVariants as what
 use Rattle.rt_core.specs.Core.{Core, Context, depth}
 use Rattle.rt_core.specs.Outcome.{Outcome, Trapped, Done}

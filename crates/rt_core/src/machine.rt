@@ -2,7 +2,7 @@ ghost use Rattle.std.specs.Prelude.{◌≡◌, ℕ, suc, ◌+◌, ◌*◌, ◌<�
 ghost use Rattle.std.specs.Int.{bit_at};
 ghost use Rattle.rt_ids.specs.declared.limits.TheConstants.{IRQ_NUMBERS};
 ghost use Rattle.rt_ids.specs.Event.{Arrive, Tick};
-ghost use Rattle.rt_nvic.specs.Arrivals.{arrivals};
+ghost use Rattle.rt_ids.specs.Arrivals.{arrivals};
 ghost use Rattle.rt_code.specs.Runnable.{IsRunnable};
 ghost use Rattle.rt_trace.specs.Label.{Ticked, Rang};
 ghost use Rattle.rt_core.specs.Core as spec;

@@ -4,7 +4,6 @@ mod ScriptLemmas
 pub mod SimulationRuns
 pub mod SimulationShown
 pub mod SimulationChoice
-pub mod SimulationValues
 pub mod SimulationBounds
 pub mod SimulationCode
 pub mod SimulationPick

@@ -1,7 +1,7 @@
 -- How the core that runs a compiled image agrees with Baker's machine: before its first step, where it waits, and in
 -- the two places of a statement where it serves an interrupt.
 use Rattle.std.proofs.Common.{◌≡◌, ℕ, suc, ◌+◌, ◌*◌, ◌<◌, ◌≤◌, ◌^◌, ◌==◌, Bool, true, false, List, [], ◌∷◌, ◌++◌, length, flat_map, Some, None, slice_set, le_trans, zero-le, arith}
-use Rattle.rt_ids.specs.Doing.{Doing}
+use Rattle.rt_first.specs.Doing.{Doing}
 use Rattle.rt_ids.specs.Priority.{hardware}
 use Rattle.rt_first.specs.Accepted.{IsAccepted}
 use Rattle.rt_first.specs.Application.{App, Task, task_of}

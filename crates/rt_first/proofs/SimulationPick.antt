@@ -10,7 +10,7 @@ use Rattle.rt_first.specs.Compiled.{image_of, row_of, thread_code}
 use Rattle.rt_first.specs.Core.{Core, execution, can_preempt, precedes, pick, value_or_none}
 use Rattle.rt_first.proofs.SimulationChoice.{best-map, best-alike, best_of_none, find_has}
 use Rattle.rt_first.proofs.SimulationCode.{row_value}
-use Rattle.rt_first.proofs.SimulationValues.{hardware_of_none, hardware_order, hardware_same}
+use Rattle.rt_ids.proofs.Hardware.{hardware_of_none, hardware_order, hardware_same}
 
 -- the declared interrupt that is to be taken, where there is one
 abbrev pub chosen : App → State → Option Irq

@@ -1,7 +1,7 @@
 -- One step of the core while it serves an interrupt is a step of Baker's machine, and they agree again.
 use Rattle.std.proofs.Common.{◌≡◌, ℕ, zero, suc, ◌<◌, ◌≤◌, ◌^◌, ◌==◌, max, Bool, List, [], ◌∷◌, length, Option, Some, None, if◌then◌else◌, refl, sym, ap, subst, ◌∙◌, lt-ltb, zero-le, le_of_eq, zero-lt-suc, lt_irrefl, pred, arith}
 use Rattle.std.specs.List.{AllByRecursion}
-use Rattle.rt_ids.specs.Doing.{Doing, Emits, Returns}
+use Rattle.rt_first.specs.Doing.{Doing, Emits, Returns}
 use Rattle.rt_ids.specs.Priority.{hardware}
 use Rattle.rt_first.specs.Accepted.{IsAccepted}
 use Rattle.rt_first.specs.Application.{App, Task, task_of, priority_of, priority_or}

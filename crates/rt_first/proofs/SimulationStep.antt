@@ -1,7 +1,7 @@
 -- One step of the core that agrees with Baker's machine is a step of that machine, and they agree again: where no
 -- interrupt is taken.
 use Rattle.std.proofs.Common.{◌≡◌, ℕ, ◌≤◌, ◌^◌, max, Bool, List, [], ◌∷◌, ◌++◌, Option, Some, None, option_map, slice_get, if◌then◌else◌, refl, sym, ap, subst, ◌∙◌, le-leb, zero-le, le_of_eq, arith}
-use Rattle.rt_ids.specs.Doing.{Ends}
+use Rattle.rt_first.specs.Doing.{Ends}
 use Rattle.rt_ids.specs.Priority.{hardware}
 use Rattle.rt_ids.specs.declared.ids.BodyId.TheVariants as body
 use Rattle.rt_first.specs.Accepted.{IsAccepted}
@@ -18,7 +18,7 @@ use Rattle.rt_first.specs.declared.item.What.TheVariants as what
 use Rattle.rt_first.proofs.Simulation.{Agrees, waits, starting_core, waiting_core, starting_state, waiting_state}
 use Rattle.rt_first.proofs.SimulationCode.{Line}
 use Rattle.rt_first.proofs.SimulationPick.{candidate_is, pick_is, none_above, priority_within}
-use Rattle.rt_first.proofs.SimulationValues.{hardware_of_all}
+use Rattle.rt_ids.proofs.Hardware.{hardware_of_all}
 
 -- a step of both
 pub record Steps (app : App) (c : Core) (s : State) : Type 0 where

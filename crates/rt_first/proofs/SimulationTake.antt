@@ -17,7 +17,7 @@ use Rattle.rt_first.proofs.SimulationChoice.{best_passes}
 use Rattle.rt_first.proofs.SimulationCode.{row_stands}
 use Rattle.rt_first.proofs.SimulationPick.{chosen, candidate_is, pick_is}
 use Rattle.rt_first.proofs.SimulationStep.{Steps, steps_waiting}
-use Rattle.rt_first.proofs.SimulationValues.{hardware_of_none}
+use Rattle.rt_ids.proofs.Hardware.{hardware_of_none}
 
 -- a body with a statement has a slot
 frame_room : (t : Task) → 0 < length t.emits → 0 < frame t

@@ -1,6 +1,6 @@
 -- What Baker's machine allows next, and what that changes: the two columns of one table.
 use Rattle.std.specs.Prelude.{ℕ, suc, pred, ◌≡◌, ◌<◌, true, false, IsTrue, [], ◌∷◌, ◌++◌, slice_set, Option, Some, None}
-use Rattle.rt_ids.specs.Doing.{Action, Emits, Ends, Returns, Doing, over, does}
+use Rattle.rt_first.specs.Doing.{Action, Emits, Ends, Returns, Doing, over, does}
 use Rattle.rt_first.specs.Application.{App, is_declared, task_of}
 use Rattle.rt_first.specs.Move.{Move, Arrived, Ticked, Rang, Stepped}
 use Rattle.rt_first.specs.declared.item.What.TheVariants as what

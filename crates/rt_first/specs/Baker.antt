@@ -3,7 +3,7 @@
 -- are no frames, masks, code addresses or instructions here.
 use Rattle.std.specs.Prelude.{ℕ, ◌^◌, max, Bool, false, ◌&&◌, ◌||◌, ◌==◌, nat_lt, nat_le, if◌then◌else◌, List, [], ◌∷◌, ◌++◌, map, replicate, slice_index_or, Option, Some, None}
 use Rattle.rt_ids.specs.Choice.{best}
-use Rattle.rt_ids.specs.Doing.{Emits, Ends, Returns, Doing, over, does}
+use Rattle.rt_first.specs.Doing.{Emits, Ends, Returns, Doing, over, does}
 use Rattle.rt_ids.specs.declared.ids.BodyId.TheVariants as body
 use Rattle.rt_ids.specs.declared.limits.TheConstants.{IRQ_NUMBERS}
 use Rattle.rt_first.specs.Application.{App, Task, priority_of}

@@ -5,6 +5,7 @@ pub mod Image
 pub mod Move
 pub mod Core
 pub mod Stepping
+pub mod Doing
 pub mod Baker
 pub mod Allowed
 pub mod Run

@@ -7,7 +7,7 @@ use Rattle.std.specs.List.{list_all, slice_split}
 use Rattle.std.specs.Str.Lines.{lines}
 use Rattle.rt_ids.specs.Event.{Event, Arrive, Step}
 use Rattle.rt_ids.specs.declared.limits.TheConstants.{SCRIPT_BYTES, SCRIPT_EVENTS}
-use Rattle.rt_lex.specs.Bytes.{is_digit}
+use Rattle.rt_ids.specs.Byte.{is_digit}
 use Rattle.rt_lex.specs.Number.{value_of}
 use Rattle.rt_first.specs.Application.{App}
 use Rattle.rt_first.specs.declared.script.Order.{Order}

@@ -1,7 +1,7 @@
 ghost use Rattle.std.specs.Prelude.{◌≡◌, ℕ, List, Option, IfOk, map, option_map, slice_get, length, IsTrue, nat_le, sum_by, ◌==◌, ◌||◌, ◌&&◌, ◌≤◌, true};
 ghost use Rattle.std.specs.Str.Lines.{lines, strip_carriage_return};
 ghost use Rattle.std.specs.List.{slice_split, list_all};
-ghost use Rattle.rt_lex.specs.Bytes.{is_digit};
+ghost use Rattle.rt_ids.specs.Byte.{is_digit};
 ghost use Rattle.rt_lex.specs.Number.{value_of as decimal_value};
 ghost use Rattle.rt_ids.specs.declared.limits.TheConstants.{SCRIPT_EVENTS};
 ghost use Rattle.rt_ids.specs.Event.{steps as event_steps};

@@ -7,7 +7,8 @@ use Rattle.std.proofs.lemmas.List.Sums.{sum_by-append, sum_by-cons, sum_by_push}
 use Rattle.std.proofs.lemmas.Bool.Decides.{nat_tests}
 use Rattle.std.proofs.Math.Seq.{take-suc}
 use Rattle.rt_app.specs.Tree.{Task, App}
-use Rattle.rt_app.specs.Level.{those_below, is_software, is_of_level, tasks_of_level, levels}
+use Rattle.rt_app.specs.Level.{is_software, is_of_level, tasks_of_level, levels}
+use Rattle.rt_ids.specs.Lists.{those_below}
 use Rattle.rt_app.specs.BodyCost.{dispatcher_size}
 use Rattle.rt_frames.specs.Flags.{HasFlags, level_numbers}
 

@@ -5,7 +5,7 @@ use Rattle.rt_app.specs.Tree.{Expression, Spawn, Statement, Branch, Repeat, Lock
 use Rattle.rt_app.specs.View.{expression_of, statement_of, block_of}
 use Rattle.rt_app.specs.declared.expr.Expr.{Expr}
 use Rattle.rt_app.specs.declared.stmt.Stmt.{Stmt}
-use Rattle.rt_app.specs.Ceiling.{greatest}
+use Rattle.rt_ids.specs.Lists.{greatest}
 use Rattle.rt_app.specs.Spawned.{statement_spawns, spawns}
 use Rattle.rt_app.specs.Frame.{depth, is_loop, spawn_words}
 use Rattle.rt_frames.specs.declared.frame.Parts.{Parts}

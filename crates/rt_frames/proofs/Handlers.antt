@@ -8,8 +8,8 @@ use Rattle.rt_app.specs.declared.app.Mono.{Mono}
 use Rattle.rt_app.specs.declared.app.Task as code
 use Rattle.rt_app.specs.Tree.{Task, App}
 use Rattle.rt_app.specs.View.{task_of}
-use Rattle.rt_app.specs.Ceiling.{greatest}
-use Rattle.rt_app.specs.Level.{is_software, is_of_level, is_some_and}
+use Rattle.rt_ids.specs.Lists.{greatest, is_some_and}
+use Rattle.rt_app.specs.Level.{is_software, is_of_level}
 use Rattle.rt_app.specs.Frame.{frame_words}
 use Rattle.rt_app.specs.Stack.{is_bound_at, has_handler, timer_need, need, level_bytes, bytes_below}
 use Rattle.rt_frames.specs.Flags.{flagged, HasFlags, timer_numbers}

@@ -12,7 +12,8 @@ use Rattle.rt_app.specs.declared.bounds.Wait.{Wait}
 use Rattle.rt_app.specs.Cost.{Measure}
 use Rattle.rt_app.specs.BodyCost.{cost_measure}
 use Rattle.rt_app.specs.Bounds.{Bounds, body_bound, bounds}
-use Rattle.rt_app.specs.Ceiling.{greatest, Ceilings, ceilings}
+use Rattle.rt_app.specs.Ceiling.{Ceilings, ceilings}
+use Rattle.rt_ids.specs.Lists.{greatest}
 use Rattle.rt_app.specs.Level.{is_of_level}
 use Rattle.rt_app.specs.Frame.{block_depth, has_loop, statement_locks, locks, spawn_words, frame_words}
 use Rattle.rt_app.specs.Limits.{inner_blocks, blocks_of, KeepsBodyLimits, KeepsThreadLimits, KeepsTaskLimits, KeepsLimits}

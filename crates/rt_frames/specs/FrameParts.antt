@@ -1,7 +1,7 @@
 -- What statements need of a frame, as one walk over a body finds it.
 use Rattle.std.specs.Prelude.{◌+◌, max, false, ◌||◌, map}
 use Rattle.rt_app.specs.Tree.{Expression, Spawn, Value, Statement, Block}
-use Rattle.rt_app.specs.Ceiling.{greatest}
+use Rattle.rt_ids.specs.Lists.{greatest}
 use Rattle.rt_app.specs.Variables.{variables_in, variables}
 use Rattle.rt_app.specs.Spawned.{value_spawns, statement_spawns, spawns}
 use Rattle.rt_app.specs.Frame.{depth, spawn_depth, value_depth, statement_depth, block_depth, is_loop, has_loop, statement_locks, locks, spawn_words}

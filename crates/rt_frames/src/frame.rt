@@ -1,6 +1,6 @@
 ghost use Rattle.std.specs.Prelude.{◌≡◌, ◌+◌, ◌==◌, map, option_map, true, if◌then◌else◌};
 ghost use Rattle.rt_app.specs.View.{expression_of, spawn_of, value_of, statement_of, block_of, body_of, app_of};
-ghost use Rattle.rt_app.specs.Ceiling.{greatest};
+ghost use Rattle.rt_ids.specs.Lists.{greatest};
 ghost use Rattle.rt_app.specs.Frame as frame;
 ghost use Rattle.rt_app.specs.Stack as stack;
 ghost use Rattle.rt_frames.specs.Saturated.{saturated};

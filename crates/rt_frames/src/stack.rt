@@ -1,7 +1,6 @@
 ghost use Rattle.std.specs.Prelude.{◌≡◌, ◌+◌, ◌*◌, ◌==◌, map, false, if◌then◌else◌};
 ghost use Rattle.rt_app.specs.View.{task_of, app_of};
-ghost use Rattle.rt_app.specs.Ceiling.{greatest};
-ghost use Rattle.rt_app.specs.Level.{is_some_and};
+ghost use Rattle.rt_ids.specs.Lists.{greatest, is_some_and};
 ghost use Rattle.rt_app.specs.Stack as stack;
 ghost use Rattle.rt_frames.specs.Flags.{flagged, HasFlags, timer_numbers};
 ghost use Rattle.rt_frames.specs.Saturated.{saturated};

@@ -1,1 +1,3 @@
 mod Shifts
+pub mod Hardware
+pub mod Best

@@ -4,6 +4,7 @@
 pub mod cell;
 pub mod ids;
 pub mod irq;
+pub mod laws;
 pub mod limit;
 pub mod limits;
 pub mod memory;
@@ -19,6 +20,7 @@ pub mod status;
 pub use cell::CellRow;
 pub use ids::{BodyId, ResId, Section, TaskId};
 pub use irq::Irq;
+pub use laws::values_tell_priorities;
 pub use limit::Limit;
 pub use memory::NoMemory;
 pub use name::Name;

@@ -12,6 +12,9 @@ pub const SCRIPT_EVENTS: u32 = 1_000_000;
 /// Interrupt numbers that there are: 0 to 239.
 pub const IRQ_NUMBERS: u16 = 240;
 
+/// The priority value of the thread: it is lower than the priority of every interrupt, and masks nothing.
+pub const THREAD_VALUE: u16 = 256;
+
 /// Interrupts that an application may declare.
 pub const IRQS: usize = 240;
 

@@ -9,7 +9,8 @@ use Rattle.std.proofs.lemmas.List.Sums.{fold-append}
 use Rattle.std.proofs.lemmas.List.Folds.{length-prefix_len}
 use Rattle.rt_lex.specs.declared.token.Kind.{Kind}
 use Rattle.rt_lex.specs.declared.token.Kind.TheVariants as kind
-use Rattle.rt_lex.specs.Bytes.{is_blank, is_digit, is_letter, is_name_byte}
+use Rattle.rt_lex.specs.Bytes.{is_blank}
+use Rattle.rt_ids.specs.Byte.{is_digit, is_letter, is_name_byte}
 use Rattle.rt_lex.specs.Spelling.{is_long_sign, is_short_sign}
 use Rattle.rt_lex.specs.Token.{Token}
 use Rattle.rt_lex.specs.Front.{Front, skips, makes, comment, front_of, name_front, number_front, sign_front, hex_digits}

@@ -9,7 +9,8 @@ use Rattle.std.proofs.lemmas.List.Sums.{prefix_len-le-length}
 use Rattle.std.proofs.lemmas.List.Folds.{length-prefix_len}
 use Rattle.std.proofs.lemmas.Slice.Eq.{bytes_eq-Decides}
 use Rattle.rt_lex.specs.declared.token.Kind.TheVariants as kind
-use Rattle.rt_lex.specs.Bytes.{is_name_byte, is_digit, is_hex_digit, is_blank, is_letter}
+use Rattle.rt_lex.specs.Bytes.{is_hex_digit, is_blank}
+use Rattle.rt_ids.specs.Byte.{is_name_byte, is_digit, is_letter}
 use Rattle.rt_lex.specs.Spelling.{is_long_sign, is_short_sign, long_signs}
 use Rattle.rt_lex.specs.Front.{Front, skips, makes, comment, front_of, name_front, number_front, sign_front, hex_digits}
 use Rattle.rt_lex.specs.Tokens.{tokens_at, tokens_behind, with_front}

@@ -7,10 +7,12 @@ use Rattle.std.proofs.lemmas.List.{length-take-le}
 use Rattle.std.proofs.lemmas.List.Folds.{length-prefix_len}
 use Rattle.rt_lex.specs.declared.token.Kind.{Kind}
 use Rattle.rt_lex.specs.declared.token.Kind.TheVariants as kind
-use Rattle.rt_lex.specs.Bytes.{is_name_byte, is_digit, is_hex_digit, is_blank, is_letter, is_lower, is_upper}
+use Rattle.rt_lex.specs.Bytes.{is_hex_digit, is_blank}
+use Rattle.rt_ids.specs.Byte.{is_name_byte, is_digit, is_letter, is_lower, is_upper}
 use Rattle.rt_lex.specs.Spelling.{is_long_sign, is_short_sign, long_signs}
 use Rattle.rt_lex.specs.Front.{Front, skips, makes, comment, front_of, name_front, number_front, sign_front, hex_digits}
-use Rattle.rt_lex.specs.Split.{is_name, is_run, is_hex, is_number, is_sign, is_whole}
+use Rattle.rt_lex.specs.Split.{is_run, is_hex, is_number, is_sign, is_whole}
+use Rattle.rt_ids.specs.Word.{is_identifier}
 use Rattle.rt_lex.proofs.Lexing.{or_cases, or_left, and_left, and_right, by_test, any_is, long_has_two, front_fits}
 
 pub clash : (x : Bool) → x ≡ true → x ≡ false → ⊥
@@ -57,12 +59,12 @@ none_of false false false f g h = refl
 
 -- a text that is no name, no number and no sign
 record Excludes (p : List ℕ) : Type 0 where
-  name : is_name p ≡ true → ⊥
+  name : is_identifier p ≡ true → ⊥
   number : is_number p ≡ true → ⊥
   sign : is_sign p ≡ true → ⊥
 
 no_whole : (p : List ℕ) → Excludes p → is_whole p ≡ false
-no_whole p e = none_of (is_name p) (is_number p) (is_sign p) e.name e.number e.sign
+no_whole p e = none_of (is_identifier p) (is_number p) (is_sign p) e.name e.number e.sign
 
 zero_first : (b x : ℕ) (r : List ℕ) → starts_with eqb (b ∷ x ∷ r) (48 ∷ 120 ∷ []) ≡ true → 48 ≡ b
 zero_first b x r h = eqb-true 48 b (and_left (eqb 48 b) _ h)

@@ -5,10 +5,12 @@ use Rattle.std.proofs.lemmas.Bool.{eqb-false}
 use Rattle.std.proofs.lemmas.List.Folds.{length-prefix_len}
 use Rattle.rt_lex.specs.declared.token.Kind.{Kind}
 use Rattle.rt_lex.specs.declared.token.Kind.TheVariants as kind
-use Rattle.rt_lex.specs.Bytes.{is_name_byte, is_digit, is_hex_digit, is_blank, is_letter}
-use Rattle.rt_lex.specs.Spelling.{is_word, is_long_sign, is_short_sign}
+use Rattle.rt_lex.specs.Bytes.{is_hex_digit, is_blank}
+use Rattle.rt_ids.specs.Byte.{is_name_byte, is_digit, is_letter}
+use Rattle.rt_lex.specs.Spelling.{is_long_sign, is_short_sign}
+use Rattle.rt_ids.specs.Word.{is_word, is_identifier}
 use Rattle.rt_lex.specs.Front.{Front, skips, makes, comment, front_of, name_front, number_front, sign_front, hex_digits}
-use Rattle.rt_lex.specs.Split.{is_name, is_run, is_hex, is_number, is_sign, is_whole, has_kind}
+use Rattle.rt_lex.specs.Split.{is_run, is_hex, is_number, is_sign, is_whole, has_kind}
 use Rattle.rt_lex.proofs.Lexing.{or_left, or_right, or_cases, and_left, and_right, by_test, long_has_two}
 use Rattle.rt_lex.proofs.Longest.{and_both, clash, none_of}
 
@@ -43,15 +45,15 @@ some_is j k e = cc
 of_kind : (whole : List ℕ) (len : ℕ) (j : Kind) → has_kind j (take len whole) ≡ true → HasOwnKind whole (makes len j)
 of_kind whole len j h k e = subst (λ (i : Kind). has_kind i (take len whole) ≡ true) (some_is j k e) h
 
-name_or_word : (test : Bool) (text : List ℕ) → is_word text ≡ test → is_name text ≡ true → has_kind (cond test kind.Word kind.Name) text ≡ true
-name_or_word true text e h = and_both (is_name text) (is_word text) h e
-name_or_word false text e h = and_both (is_name text) (not (is_word text)) h (rw e refl)
+name_or_word : (test : Bool) (text : List ℕ) → is_word text ≡ test → is_identifier text ≡ true → has_kind (cond test kind.Word kind.Name) text ≡ true
+name_or_word true text e h = and_both (is_identifier text) (is_word text) h e
+name_or_word false text e h = and_both (is_identifier text) (not (is_word text)) h (rw e refl)
 
 name_kind : (b : ℕ) (text : List ℕ) → is_letter b ≡ true → HasOwnKind (b ∷ text) (name_front (take_while is_name_byte (b ∷ text)))
 name_kind b text letter =
     let name = take_while is_name_byte (b ∷ text) in
     let e : name ≡ b ∷ take_while is_name_byte text = run_from is_name_byte b text (or_left (is_letter b) (is_digit b) letter) in
-    let h : is_name name ≡ true = subst (λ (t : List ℕ). is_name t ≡ true) (sym e) (and_both (is_letter b) (list_all is_name_byte (take_while is_name_byte text)) letter (run_passes is_name_byte text)) in
+    let h : is_identifier name ≡ true = subst (λ (t : List ℕ). is_identifier t ≡ true) (sym e) (and_both (is_letter b) (list_all is_name_byte (take_while is_name_byte text)) letter (run_passes is_name_byte text)) in
     let j = cond (is_word name) kind.Word kind.Name in
     of_kind (b ∷ text) (length name) j (subst (λ (t : List ℕ). has_kind j t ≡ true) (sym (whole_run is_name_byte (b ∷ text))) (name_or_word (is_word name) name refl h))
 
@@ -106,7 +108,7 @@ long_kind b (x ∷ rest) h = h
 
 one_is_none : (b : ℕ) → is_letter b ≡ false → is_digit b ≡ false → is_short_sign b ≡ false → is_whole (b ∷ []) ≡ false
 one_is_none b no_letter no_digit no_sign =
-    none_of (is_name (b ∷ [])) (is_number (b ∷ [])) (is_sign (b ∷ [])) (λ h. clash (is_letter b) (and_left (is_letter b) true h) no_letter)
+    none_of (is_identifier (b ∷ [])) (is_number (b ∷ [])) (is_sign (b ∷ [])) (λ h. clash (is_letter b) (and_left (is_letter b) true h) no_letter)
     (λ h. elim (or_cases (is_run is_digit (b ∷ [])) (is_hex (b ∷ [])) h) [
       | inl decimal ↦ clash (is_digit b) (and_left (is_digit b) true decimal) no_digit
       | inr hex ↦ one_is_no_hex b (and_left (starts_with eqb (b ∷ []) (48 ∷ 120 ∷ [])) _ hex)

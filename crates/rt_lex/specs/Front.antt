@@ -3,8 +3,10 @@ use Rattle.std.specs.Prelude.{ℕ, ◌+◌, not, ◌==◌, nat_eq, codes, List, 
 use Rattle.std.specs.List.{starts_with}
 use Rattle.rt_lex.specs.declared.token.Kind.{Kind}
 use Rattle.rt_lex.specs.declared.token.Kind.TheVariants as kind
-use Rattle.rt_lex.specs.Bytes.{is_blank, is_digit, is_letter, is_name_byte, is_hex_digit}
-use Rattle.rt_lex.specs.Spelling.{is_word, is_long_sign, is_short_sign}
+use Rattle.rt_lex.specs.Bytes.{is_blank, is_hex_digit}
+use Rattle.rt_ids.specs.Byte.{is_digit, is_letter, is_name_byte}
+use Rattle.rt_lex.specs.Spelling.{is_long_sign, is_short_sign}
+use Rattle.rt_ids.specs.Word.{is_word}
 
 -- so many bytes, which are a token of this kind; of no kind where they are a blank or a comment
 pub record Front : Type 0 where

@@ -2,17 +2,6 @@
 use Rattle.std.specs.Prelude.{ℕ, Bool, bytes_eq, ◌==◌, codes, List, [], ◌∷◌}
 use Rattle.std.specs.List.{list_any}
 
--- the names that the grammar keeps for itself
-abbrev pub words : List (List ℕ)
-words =
-    codes "app" ∷ codes "bits" ∷ codes "dispatchers" ∷ codes "interrupts" ∷ codes "monotonic" ∷ codes "binds" ∷ codes "priority"
-    ∷ codes "capacity" ∷ codes "shared" ∷ codes "local" ∷ codes "lock_free" ∷ codes "init" ∷ codes "idle" ∷ codes "task" ∷ codes "with"
-    ∷ codes "let" ∷ codes "if" ∷ codes "else" ∷ codes "for" ∷ codes "in" ∷ codes "lock" ∷ codes "emit" ∷ codes "pend" ∷ codes "spawn"
-    ∷ codes "spawn_after" ∷ codes "now" ∷ []
-
-abbrev pub is_word : List ℕ → Bool
-is_word text = list_any (λ w. bytes_eq text w) words
-
 -- the signs of two bytes and of one
 abbrev pub long_signs : List (List ℕ)
 long_signs = codes "<<" ∷ codes ">>" ∷ codes "==" ∷ codes "!=" ∷ codes "<=" ∷ codes ">=" ∷ codes ".." ∷ []

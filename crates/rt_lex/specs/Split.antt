@@ -4,14 +4,11 @@ use Rattle.std.specs.Prelude.{◌≡◌, ℕ, ◌+◌, ◌<◌, ◌≤◌, Bool,
 use Rattle.std.specs.List.{list_all, starts_with}
 use Rattle.rt_lex.specs.declared.token.Kind.{Kind}
 use Rattle.rt_lex.specs.declared.token.Kind.TheVariants as kind
-use Rattle.rt_lex.specs.Bytes.{is_digit, is_letter, is_name_byte, is_hex_digit}
-use Rattle.rt_lex.specs.Spelling.{is_word, is_long_sign, is_short_sign}
+use Rattle.rt_lex.specs.Bytes.{is_hex_digit}
+use Rattle.rt_ids.specs.Byte.{is_digit, is_letter, is_name_byte}
+use Rattle.rt_lex.specs.Spelling.{is_long_sign, is_short_sign}
+use Rattle.rt_ids.specs.Word.{is_word, is_identifier}
 use Rattle.rt_lex.specs.Token.{Token}
-
--- a letter, and name bytes behind it
-abbrev pub is_name : List ℕ → Bool
-is_name [] = false
-is_name (b ∷ text) = is_letter b && list_all is_name_byte text
 
 -- at least one byte, all of which pass
 abbrev pub is_run : (ℕ → Bool) → List ℕ → Bool
@@ -31,12 +28,12 @@ is_sign (b ∷ c ∷ text) = is_long_sign (b ∷ c ∷ text)
 
 -- whether a text is a name, a number or a sign
 abbrev pub is_whole : List ℕ → Bool
-is_whole text = is_name text || is_number text || is_sign text
+is_whole text = is_identifier text || is_number text || is_sign text
 
 -- whether a text is one token of this kind
 abbrev pub has_kind : Kind → List ℕ → Bool
-has_kind kind.Name text = is_name text && not (is_word text)
-has_kind kind.Word text = is_name text && is_word text
+has_kind kind.Name text = is_identifier text && not (is_word text)
+has_kind kind.Word text = is_identifier text && is_word text
 has_kind kind.Num text = is_number text
 has_kind kind.Sign text = is_sign text
 has_kind kind.Foreign text = not (is_whole text)

@@ -1,8 +1,10 @@
 // What a text begins with: a blank, a comment, or the longest token that fits.
 
 ghost use Rattle.std.specs.Prelude.{◌≡◌, not, ◌==◌, ◌∷◌, List, ℕ, take, take_while};
-ghost use Rattle.rt_lex.specs.Bytes.{is_blank, is_digit, is_letter, is_name_byte, is_hex_digit};
-ghost use Rattle.rt_lex.specs.Spelling.{is_word, is_long_sign, is_short_sign};
+ghost use Rattle.rt_lex.specs.Bytes.{is_blank, is_hex_digit};
+ghost use Rattle.rt_ids.specs.Byte.{is_digit, is_letter, is_name_byte};
+ghost use Rattle.rt_lex.specs.Spelling.{is_long_sign, is_short_sign};
+ghost use Rattle.rt_ids.specs.Word.{is_word};
 ghost use Rattle.rt_lex.specs.Front.{comment, hex_digits, front_of, name_front, number_front, sign_front};
 ghost use Rattle.rt_lex.specs.FrontView.{front_view};
 

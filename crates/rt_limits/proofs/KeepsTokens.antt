@@ -8,8 +8,8 @@ use Rattle.rt_ids.specs.declared.limits.TheConstants.{NAME_BYTES}
 use Rattle.rt_lex.specs.declared.token.Kind.{Kind}
 use Rattle.rt_lex.specs.declared.token.Kind.TheVariants as kind
 use Rattle.rt_lex.specs.Token.{Token}
-use Rattle.rt_lex.specs.Spelling.{is_word}
-use Rattle.rt_lex.specs.Split.{is_name, has_kind}
+use Rattle.rt_ids.specs.Word.{is_word, is_identifier}
+use Rattle.rt_lex.specs.Split.{has_kind}
 use Rattle.rt_ast.specs.declared.ident.Ident.{Ident}
 use Rattle.rt_ast.specs.declared.ident.Number.{Number}
 use Rattle.rt_ast.specs.PrintableBody.{IsPrintableName, IsPrintableNumber}
@@ -83,10 +83,10 @@ pub record IsNameTaken (what : Option Limit) (x : Ident) : Type 0 where
   pub name : IsPrintableName x
   pub free : what ≡ None
 
-name_text : (k : Kind) (text : List ℕ) (at : ℕ) (x : Ident) → ident_at k text at ≡ Some x → has_kind k text ≡ true → (is_name x.name ≡ true) × (is_word x.name ≡ false)
+name_text : (k : Kind) (text : List ℕ) (at : ℕ) (x : Ident) → ident_at k text at ≡ Some x → has_kind k text ≡ true → (is_identifier x.name ≡ true) × (is_word x.name ≡ false)
 name_text kind.Name text at x e h =
     let is : text ≡ x.name = cc in
-    subst (λ (s : List ℕ). (is_name s ≡ true) × (is_word s ≡ false)) is (and_first (is_name text) (not (is_word text)) h, turned (is_word text) (and_second (is_name text) (not (is_word text)) h))
+    subst (λ (s : List ℕ). (is_identifier s ≡ true) × (is_word s ≡ false)) is (and_first (is_identifier text) (not (is_word text)) h, turned (is_word text) (and_second (is_identifier text) (not (is_word text)) h))
   where
     turned : (b : Bool) → not b ≡ true → b ≡ false
     turned true e = absurd cc

@@ -15,14 +15,15 @@ use Rattle.rt_ids.specs.declared.ids.BodyId.TheVariants as body
 use Rattle.rt_ids.specs.declared.ids.Section.{Section}
 use Rattle.rt_ids.specs.declared.ids.Section.TheVariants as section
 use Rattle.rt_code.specs.Naming.{irq_name, task_name, section_name, body_name}
-use Rattle.rt_code.specs.Listable.{IsPlain, AreDistinct, AreWritable, HasIrq, HasTask, HasSection, HasBody}
+use Rattle.rt_code.specs.Listable.{IsPlain, AreWritable, HasIrq, HasTask, HasSection, HasBody}
+use Rattle.rt_ids.specs.Lists.{AreDifferent}
 use Rattle.rt_listing.specs.Numbers.{AreShort, section_numbers}
 use Rattle.rt_listing.proofs.Reading.{word_has_no_blank, literal_before, Shows, number_shows}
 
 abbrev place_of : List (List ℕ) → List ℕ → ℕ
 place_of names w = position_or_len (λ name. bytes_eq name w) names
 
-place_reads : (names : List (List ℕ)) (i : ℕ) → AreDistinct names → i < length names → place_of names (get_or names i []) ≡ i
+place_reads : (names : List (List ℕ)) (i : ℕ) → AreDifferent names → i < length names → place_of names (get_or names i []) ≡ i
 place_reads names i distinct below =
     let other = λ (k : ℕ) (before : k < i). false_from_ne_true (bytes_eq (get_or names k []) (get_or names i [])) (λ e.
     let same : get_or names k [] ≡ get_or names i [] = (bytes_eq-Decides _ _).0 e in

@@ -6,8 +6,8 @@ use Rattle.std.proofs.lemmas.List.{map-append, append-nil}
 use Rattle.std.proofs.lemmas.List.Elements.{filter-append}
 use Rattle.std.proofs.lemmas.Bool.Decides.{nat_tests}
 use Rattle.std.proofs.lemmas.Nat.Bits.{shr_and_one}
-use Rattle.rt_nvic.specs.Nvic.{numbers_below}
-use Rattle.rt_nvic.specs.Arrivals.{arrivals_below, pended}
+use Rattle.rt_ids.specs.Lists.{numbers_below}
+use Rattle.rt_ids.specs.Arrivals.{arrivals_below, pended}
 
 pub numbers_below-none : numbers_below 0 ≡ []
 unfolding numbers_below

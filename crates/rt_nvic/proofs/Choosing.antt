@@ -2,8 +2,9 @@
 use Rattle.std.proofs.Common.{◌≡◌, ℕ, ◌+◌, ◌<◌, ◌⊎◌, inl, inr, ◌&&◌, Bool, true, false, nat_lt, nat_le, if◌then◌else◌, List, [], ◌∷◌, ◌++◌, Option, Some, None, unwrap_or, IsTrue, IsSome, IfSome, refl, sym, ap, ◌∙◌, arith}
 use Rattle.std.proofs.lemmas.Bool.Decides.{nat_tests}
 use Rattle.rt_ids.specs.Choice.{best, better_of}
-use Rattle.rt_nvic.specs.declared.sizes.TheConstants.{THREAD}
-use Rattle.rt_nvic.specs.Nvic.{Nvic, value_of, is_below, is_pending, priority_of, is_ready, beats, numbers_below, IsReady}
+use Rattle.rt_ids.specs.declared.limits.TheConstants.{THREAD_VALUE}
+use Rattle.rt_nvic.specs.Nvic.{Nvic, value_of, is_below, is_pending, priority_of, is_ready, beats, IsReady}
+use Rattle.rt_ids.specs.Lists.{numbers_below}
 use Rattle.rt_nvic.proofs.Arriving.{numbers_below-more}
 
 abbrev pub chosen : Nvic → ℕ → List ℕ → Option ℕ
@@ -15,12 +16,12 @@ limit_of n exec None = exec
 limit_of n exec (Some irq) = value_of n irq
 
 -- what the test tells, part by part
-parts_from_test : (p : Bool) (o : Option ℕ) (exec : ℕ) → (p && is_below o exec) ≡ true → IsTrue p × IsSome o × (unwrap_or o THREAD < exec)
+parts_from_test : (p : Bool) (o : Option ℕ) (exec : ℕ) → (p && is_below o exec) ≡ true → IsTrue p × IsSome o × (unwrap_or o THREAD_VALUE < exec)
 parts_from_test false o exec h = cc
 parts_from_test true None exec h = cc
 parts_from_test true (Some value) exec h = (refl, refl, grind (arith, nat_tests))
 
-test_from_parts : (p : Bool) (o : Option ℕ) (exec : ℕ) → IsTrue p → IsSome o → unwrap_or o THREAD < exec → (p && is_below o exec) ≡ true
+test_from_parts : (p : Bool) (o : Option ℕ) (exec : ℕ) → IsTrue p → IsSome o → unwrap_or o THREAD_VALUE < exec → (p && is_below o exec) ≡ true
 test_from_parts false o exec h is l = cc
 test_from_parts true None exec h is l = cc
 test_from_parts true (Some value) exec h is l = grind (arith, nat_tests)
@@ -32,7 +33,7 @@ ready_from_test n exec irq h =
 pub test_from_ready : (n : Nvic) (exec irq : ℕ) → IsReady n exec irq → is_ready n exec irq ≡ true
 test_from_ready n exec irq is = test_from_parts (is_pending n irq) (priority_of n irq) exec is.pending is.enabled is.higher
 
-tells_by : (p : Bool) (o : Option ℕ) → ((limit : ℕ) → (p && is_below o limit) ≡ false) ⊎ ((limit : ℕ) → (p && is_below o limit) ≡ nat_lt (unwrap_or o THREAD) limit)
+tells_by : (p : Bool) (o : Option ℕ) → ((limit : ℕ) → (p && is_below o limit) ≡ false) ⊎ ((limit : ℕ) → (p && is_below o limit) ≡ nat_lt (unwrap_or o THREAD_VALUE) limit)
 tells_by false o = inl (λ limit. refl)
 tells_by true None = inl (λ limit. refl)
 tells_by true (Some value) = inr (λ limit. refl)

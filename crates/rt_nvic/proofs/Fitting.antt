@@ -3,8 +3,8 @@ use Rattle.std.proofs.Common.{◌≡◌, ℕ, ◌<◌, ◌≤◌, Bool, false, L
 use Rattle.std.proofs.Math.ListN.{drop_of_length-le}
 use Rattle.std.proofs.lemmas.Bool.{cases_lt, false≢true}
 use Rattle.std.proofs.lemmas.List.{length-drop, get_or_past}
-use Rattle.rt_ids.specs.declared.limits.TheConstants.{IRQ_NUMBERS}
-use Rattle.rt_nvic.specs.declared.sizes.TheConstants.{ACTIVE, THREAD}
+use Rattle.rt_ids.specs.declared.limits.TheConstants.{IRQ_NUMBERS, THREAD_VALUE}
+use Rattle.rt_nvic.specs.declared.sizes.TheConstants.{ACTIVE}
 use Rattle.rt_nvic.specs.Nvic.{Nvic, IsSized, IsReady, running, value_of_first}
 use Rattle.rt_nvic.specs.Fields.{IsFixed}
 
@@ -17,7 +17,7 @@ sized priorities pending active top is =
     let e = length-drop top active in record { priorities = is.priorities_long; pending = is.pending_long; active = omega arith }
 
 -- where no handler runs
-pub none_runs : (priorities : List (Option ℕ)) (pending : List Bool) (active : List ℕ) (top : ℕ) → IsFixed priorities pending active top → top ≡ ACTIVE → THREAD ≡ running (shown priorities pending active top)
+pub none_runs : (priorities : List (Option ℕ)) (pending : List Bool) (active : List ℕ) (top : ℕ) → IsFixed priorities pending active top → top ≡ ACTIVE → THREAD_VALUE ≡ running (shown priorities pending active top)
 none_runs priorities pending active top is e =
     let l = is.active_long in
     let low : length active ≤ top = omega arith in

@@ -4,7 +4,7 @@ use Rattle.std.specs.Int.{bit_at}
 use Rattle.std.proofs.lemmas.Bool.Decides.{nat_tests}
 use Rattle.std.proofs.lemmas.Nat.Bits.{shr_and_one}
 use native.Mathlib.Decide.{ℕ_discrete}
-use Rattle.rt_nvic.specs.Arrivals.{arrivals, arrivals_below, pended, holds}
+use Rattle.rt_ids.specs.Arrivals.{arrivals, arrivals_below, pended, holds}
 use Rattle.rt_nvic.proofs.Arriving.{pended_none, pended_set, pended_clear}
 
 length-pended : (irqs : List ℕ) (pending : List Bool) → length (pended irqs pending) ≡ length pending

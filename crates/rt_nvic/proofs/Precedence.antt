@@ -2,7 +2,8 @@
 use Rattle.std.proofs.Common.{◌≡◌, ℕ, zero, suc, ◌<◌, ◌≤◌, inl, inr, Bool, true, false, if◌then◌else◌, Option, Some, None, refl, sym, subst, ⊎_elim, ◌∙◌, IfSome, IfNone, arith}
 use Rattle.std.proofs.lemmas.Bool.{cases_lt, false≢true}
 use Rattle.rt_ids.specs.declared.limits.TheConstants.{IRQ_NUMBERS}
-use Rattle.rt_nvic.specs.Nvic.{Nvic, IsSized, value_of, is_ready, numbers_below, picked, IsReady, Precedes}
+use Rattle.rt_nvic.specs.Nvic.{Nvic, IsSized, value_of, is_ready, picked, IsReady, Precedes}
+use Rattle.rt_ids.specs.Lists.{numbers_below}
 use Rattle.rt_nvic.proofs.Choosing.{limit_of, chosen, chosen_more, ready_from_test, test_from_ready}
 use Rattle.rt_nvic.proofs.Fitting.{number_of_ready}
 

@@ -1,3 +1,2 @@
 pub mod Nvic
-pub mod Arrivals
 pub mod Fields

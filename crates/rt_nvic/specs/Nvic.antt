@@ -2,9 +2,10 @@
 -- B1.5): which of them are enabled, pending and active, and which one is taken. There are no sub-priorities. The choice
 -- is one among all numbers; the code scans fixed arrays once, and keeps the active ones in an array that fills downwards.
 use Rattle.std.specs.Prelude.{◌≡◌, ℕ, ◌<◌, ◌≤◌, ◌⊎◌, ◌&&◌, Bool, false, nat_lt, nat_le, List, [], ◌∷◌, ◌++◌, length, slice_index_or, Option, Some, None, unwrap_or, zero, suc, IsTrue, IsSome}
-use Rattle.rt_ids.specs.declared.limits.TheConstants.{IRQ_NUMBERS}
+use Rattle.rt_ids.specs.Lists.{numbers_below}
+use Rattle.rt_ids.specs.declared.limits.TheConstants.{IRQ_NUMBERS, THREAD_VALUE}
 use Rattle.rt_ids.specs.Choice.{best}
-use Rattle.rt_nvic.specs.declared.sizes.TheConstants.{ACTIVE, THREAD}
+use Rattle.rt_nvic.specs.declared.sizes.TheConstants.{ACTIVE}
 
 pub record Nvic : Type 0 where
   -- by number, the priority value of an enabled interrupt, and None for another
@@ -28,10 +29,10 @@ priority_of n irq = slice_index_or n.priorities irq None
 
 -- and that of the thread for one that is not enabled
 abbrev pub value_of : Nvic → ℕ → ℕ
-value_of n irq = unwrap_or (priority_of n irq) THREAD
+value_of n irq = unwrap_or (priority_of n irq) THREAD_VALUE
 
 abbrev pub value_of_first : Nvic → List ℕ → ℕ
-value_of_first n [] = THREAD
+value_of_first n [] = THREAD_VALUE
 value_of_first n (irq ∷ irqs) = value_of n irq
 
 -- the priority value of the handler that runs
@@ -59,11 +60,6 @@ is_ready n exec irq = is_pending n irq && is_below (priority_of n irq) exec
 
 abbrev pub beats : Nvic → ℕ → ℕ → Bool
 beats n irq later = nat_le (value_of n irq) (value_of n later)
-
--- the numbers below this one, rising
-unfoldable pub numbers_below : ℕ → List ℕ
-numbers_below zero = []
-numbers_below (suc n) = numbers_below n ++ n ∷ []
 
 abbrev pub picked : Nvic → ℕ → Option ℕ
 picked n exec = best (is_ready n exec) (beats n) (numbers_below IRQ_NUMBERS)

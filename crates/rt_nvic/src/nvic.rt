@@ -3,11 +3,11 @@ ghost use Rattle.std.specs.Int.{bit_at};
 ghost use Rattle.rt_ids.specs.declared.limits.TheConstants.{IRQ_NUMBERS};
 ghost use Rattle.rt_nvic.specs.declared.sizes.TheConstants.{ACTIVE};
 ghost use Rattle.rt_nvic.specs.Nvic as spec;
-ghost use Rattle.rt_nvic.specs.Arrivals.{arrivals, pended, holds};
+ghost use Rattle.rt_ids.specs.Arrivals.{arrivals, pended, holds};
 
-use crate::sizes::{ACTIVE, NUMBERS, THREAD};
+use crate::sizes::{ACTIVE, NUMBERS};
 use rt_ids::Irq;
-use rt_ids::limits::IRQ_NUMBERS;
+use rt_ids::limits::{IRQ_NUMBERS, THREAD_VALUE};
 use std::marker::Model;
 
 /// The state of each external interrupt: whether it is enabled and with which priority value, whether it is pending, and
@@ -168,12 +168,12 @@ impl Nvic {
         ensures { result ≡ spec.running self.now }
     {
         if self.top == ACTIVE {
-            return THREAD;
+            return THREAD_VALUE;
         }
         let irq = self.active[self.top];
         match self.priorities[usize::from(irq.get())] {
             Some(value) => u16::from(value),
-            None => THREAD,
+            None => THREAD_VALUE,
         }
     }
 }

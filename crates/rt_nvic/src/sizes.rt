@@ -6,6 +6,3 @@ pub const NUMBERS: usize = IRQ_NUMBERS as usize;
 
 /// Interrupts that may be active at once: one for each priority value where 7 bits are implemented.
 pub const ACTIVE: usize = 128;
-
-/// The execution priority where nothing runs or masks. It is lower than every priority value.
-pub const THREAD: u16 = 256;

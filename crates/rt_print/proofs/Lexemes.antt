@@ -14,14 +14,14 @@ use Rattle.rt_ids.specs.declared.limits.TheConstants.{NAME_BYTES}
 use Rattle.rt_ast.specs.declared.ident.Ident.{Ident}
 use Rattle.rt_ast.specs.declared.ident.Number.{Number}
 use Rattle.rt_ast.specs.PrintableBody.{IsPrintableName}
-use Rattle.rt_lex.specs.Spelling.{is_word}
-use Rattle.rt_lex.specs.Split.{is_name}
+use Rattle.rt_ids.specs.Word.{is_word, is_identifier}
 use Rattle.rt_lex.specs.Number.{number_value}
 use Rattle.rt_ids.specs.declared.limit.Limit.{Limit}
 use Rattle.rt_lex.specs.declared.token.Kind.{Kind}
 use Rattle.rt_lex.specs.declared.token.Kind.TheVariants as kind
 use Rattle.rt_lex.specs.Tokens.{tokens_at, with_front}
-use Rattle.rt_lex.specs.Bytes.{is_blank, is_digit, is_letter, is_lower, is_upper, is_name_byte, digit_value}
+use Rattle.rt_lex.specs.Bytes.{is_blank, digit_value}
+use Rattle.rt_ids.specs.Byte.{is_digit, is_letter, is_lower, is_upper, is_name_byte}
 use Rattle.rt_lex.specs.Front.{Front, skips, makes, front_of, name_front, number_front, sign_front, hex_digits, comment}
 use Rattle.rt_lex.proofs.Lexing.{takes, or_cases, and_left, and_right, or_left}
 use Rattle.rt_grammar.specs.Tokens.{word_of, sign_of, ident_of, number_of, name_limit, number_limit, limited_word, limited_sign, limited_name, limited_number}
@@ -130,7 +130,7 @@ front_of_digit b X high low digit =
     ∙ cond_false (is_letter b) (name_front (take_while is_name_byte (b ∷ X))) _ (no_letter b low (is_letter b) refl)
     ∙ cond_true (is_digit b) (number_front (take_while is_digit (b ∷ X)) (hex_digits (b ∷ X))) (sign_front b (take 2 (b ∷ X))) digit
 
-name_is_front : (text Y : List ℕ) → is_name text ≡ true → is_word text ≡ false → Stops Y → IsFront text kind.Name Y
+name_is_front : (text Y : List ℕ) → is_identifier text ≡ true → is_word text ≡ false → Stops Y → IsFront text kind.Name Y
 name_is_front [] Y h no_word stop = absurd cc
 name_is_front (b ∷ text) Y h no_word stop =
     let letter = and_left (is_letter b) _ h in

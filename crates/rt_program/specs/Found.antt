@@ -4,7 +4,7 @@ use Rattle.rt_ids.specs.declared.cell.CellRow.{CellRow}
 use Rattle.rt_code.specs.declared.image.IrqRow.{IrqRow}
 use Rattle.rt_code.specs.declared.image.Handler.{Handler}
 use Rattle.rt_code.specs.declared.image.BodyRow.{BodyRow}
-use Rattle.rt_program.specs.Tables.{then_from}
+use Rattle.rt_ids.specs.Lists.{then_from}
 
 abbrev pub handler_in : List IrqRow → ℕ → Option Handler
 handler_in irqs number = then_from (find (λ row. row.number == number) irqs) (λ row. row.handler)

@@ -1,12 +1,8 @@
 -- What the tables of an image say of an interrupt, a resource and a task by its number. The code keeps tables by number.
 use Rattle.std.specs.Prelude.{ℕ, ◌==◌, List, find, position, bytes_eq, slice_get, option_map, unwrap_or, Option, Some, None}
+use Rattle.rt_ids.specs.Lists.{then_from}
 use Rattle.rt_code.specs.Image.{Image}
 use Rattle.rt_code.specs.declared.image.Handler.{Handler}
-
--- what a value that may not be there leads to
-abbrev pub then_from : {A B : Type 0} → Option A → (A → Option B) → Option B
-then_from None f = None
-then_from (Some x) f = f x
 
 -- the handler of the interrupt of a number
 abbrev pub handler_of : Image → ℕ → Option Handler

@@ -8,7 +8,7 @@ use Rattle.rt_ast.specs.PrintableBody as source
 use Rattle.rt_ast.specs.PrintableBody.{depth_of, IsPrintableExpression, IsPrintableSpawn, IsPrintableValue, IsPrintableStatement, ArePrintable}
 use Rattle.rt_app.specs.Variables.{variables_in, variables}
 use Rattle.rt_app.specs.Limits as kept
-use Rattle.rt_app.specs.Ceiling.{greatest}
+use Rattle.rt_ids.specs.Lists.{greatest}
 use Rattle.rt_app.specs.Frame.{depth, spawn_depth, value_depth, statement_depth, block_depth}
 use Rattle.rt_resolve.specs.Scope.{Names, inside}
 use Rattle.rt_resolve.specs.Resolving.{expression, spawn, value, statement, block, behind, in_loop, binders_in, binders}

@@ -1,7 +1,8 @@
 ghost use Rattle.std.specs.Prelude.{◌≡◌, ◌==◌, ◌&&◌, ℕ, map, option_map, is_none, slice_get, IfOk};
 ghost use Rattle.std.specs.List.{list_any};
 ghost use Rattle.rt_app.specs.View.{app_of, expression_of};
-ghost use Rattle.rt_app.specs.Level.{is_software, is_some_and};
+ghost use Rattle.rt_app.specs.Level.{is_software};
+ghost use Rattle.rt_ids.specs.Lists.{is_some_and};
 ghost use Rattle.rt_app.specs.Use.{loops as loops_of};
 ghost use Rattle.rt_app.specs.Statements.{listing_in, is_lockable, is_free, is_outside, is_misplaced_lock, is_inside_itself, is_fixed, is_bad_spawn};
 ghost use Rattle.rt_rules.specs.Locked.{locked_of};

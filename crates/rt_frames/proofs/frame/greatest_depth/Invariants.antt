@@ -1,7 +1,7 @@
 -- The greatest depth of the expressions so far.
 use Rattle.std.proofs.Common.{◌≡◌, map, take}
 use Rattle.rt_app.specs.View.{expression_of}
-use Rattle.rt_app.specs.Ceiling.{greatest}
+use Rattle.rt_ids.specs.Lists.{greatest}
 use Rattle.rt_app.specs.Frame.{depth}
 use Rattle.rt_frames.specs.Saturated.{saturated}
 use Rattle.rt_frames.proofs.frame.greatest_depth.Given as goal

@@ -1,7 +1,7 @@
 -- The greatest need of the tasks so far.
 use Rattle.std.proofs.Common.{◌≡◌, map, take}
 use Rattle.rt_app.specs.View.{task_of}
-use Rattle.rt_app.specs.Ceiling.{greatest}
+use Rattle.rt_ids.specs.Lists.{greatest}
 use Rattle.rt_frames.specs.Saturated.{saturated}
 use Rattle.rt_frames.specs.Needs.{need_at}
 use Rattle.rt_frames.proofs.stack.tasks_need.Given as goal

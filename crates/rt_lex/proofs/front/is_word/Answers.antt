@@ -1,5 +1,5 @@
 use Rattle.std.proofs.Common.{◌∙◌}
-use Rattle.rt_lex.specs.Spelling.{words}
+use Rattle.rt_ids.specs.Word.{words}
 use Rattle.rt_lex.proofs.Lexing.{same_any}
 use Rattle.rt_lex.proofs.front.is_word.Goals as goal
 

@@ -3,7 +3,7 @@ use Rattle.std.proofs.lemmas.Iterator.{YieldsList-from_slice}
 use Rattle.std.proofs.lemmas.Iterator.Consumers.{count_from_yields_List}
 use Rattle.std.proofs.lemmas.Iterator.Search.{YieldsList-from_take_while}
 use Rattle.std.proofs.lemmas.List.Folds.{length-prefix_len}
-use Rattle.rt_lex.specs.Bytes.{is_name_byte}
+use Rattle.rt_ids.specs.Byte.{is_name_byte}
 use Rattle.rt_lex.proofs.front.name.Goals as goal
 
 pub returns : goal.returns

@@ -1,6 +1,6 @@
 use Rattle.std.proofs.Common.{◌||◌, List, Bool, false, get_or, ap, ◌∙◌, arith}
 use Rattle.rt_nvic.specs.Nvic.{Nvic, is_pending}
-use Rattle.rt_nvic.specs.Arrivals.{holds}
+use Rattle.rt_ids.specs.Arrivals.{holds}
 use Rattle.rt_nvic.proofs.Pending.{each}
 use Rattle.rt_nvic.proofs.nvic.Nvic.arrive.Goals as goal
 

@@ -1,6 +1,7 @@
 use Rattle.std.proofs.Common.{◌≡◌, refl, ap, ◌∙◌, sym, subst, arith}
 use Rattle.rt_ids.specs.declared.limits.TheConstants.{IRQ_NUMBERS}
-use Rattle.rt_nvic.specs.Nvic.{numbers_below, IsSized, picked}
+use Rattle.rt_nvic.specs.Nvic.{IsSized, picked}
+use Rattle.rt_ids.specs.Lists.{numbers_below}
 use Rattle.rt_nvic.proofs.Arriving.{numbers_below-none}
 use Rattle.rt_nvic.proofs.Choosing.{chosen, limit_of, takes, passes_by, made}
 use Rattle.rt_nvic.proofs.Fitting.{sized}

@@ -1,6 +1,6 @@
 -- The choice among the numbers so far, and the value that the next choice must be below.
 use Rattle.std.proofs.Common.{◌≡◌}
-use Rattle.rt_nvic.specs.Nvic.{numbers_below}
+use Rattle.rt_ids.specs.Lists.{numbers_below}
 use Rattle.rt_nvic.proofs.Choosing.{chosen, limit_of}
 use Rattle.rt_nvic.proofs.nvic.Nvic.pick.Given as goal
 

@@ -1,9 +1,13 @@
 -- The requests of a word of pending bits, bit b of word k being interrupt 32 * k + b, as in the set-pending registers of
 -- the interrupt controller (ARMv7-M Architecture Reference Manual, section B3.4). They are a list of numbers; the code
 -- tests bit after bit.
-use Rattle.std.specs.Prelude.{ℕ, ◌+◌, ◌*◌, ◌/◌, ◌%◌, ◌==◌, ◌&&◌, Bool, true, List, [], ◌∷◌, map, filter, slice_set}
+use Rattle.std.specs.Prelude.{ℕ, ◌+◌, ◌*◌, ◌/◌, ◌%◌, ◌==◌, ◌&&◌, Bool, true, List, [], ◌∷◌, map, filter, slice_index, slice_set}
 use Rattle.std.specs.Int.{bit_at}
-use Rattle.rt_nvic.specs.Nvic.{numbers_below}
+use Rattle.rt_ids.specs.Lists.{numbers_below}
+
+-- the bit of an interrupt in these words: 1 where it stands, else 0
+abbrev pub bit_of : List ℕ → ℕ → ℕ
+bit_of words irq = bit_at (slice_index words (irq / 32)) (irq % 32)
 
 -- the word of this number holds the interrupt's bit
 abbrev pub holds : ℕ → ℕ → ℕ → Bool

@@ -1,0 +1,46 @@
+-- What a body of code does that others can see, one action at a time, for the whole language (the RTIC 1 book; Baker, Stack-Based
+-- Scheduling of Realtime Processes, 1991, for sections). The actions of queues, dispatchers and the timer are this project's own.
+use Rattle.std.specs.Prelude.{ℕ, ◌+◌, ◌-◌, [], ◌∷◌, ◌++◌, drop}
+use Rattle.rt_ids.specs.declared.ids.BodyId.{BodyId}
+use Rattle.rt_ids.specs.declared.ids.Section.{Section}
+use Rattle.rt_ids.specs.declared.ids.Section.TheVariants as section
+use Rattle.rt_ids.specs.Holder.{Guarded}
+use Rattle.rt_ids.specs.Content.{Message, Number, Messages, Delays, Values, number, messages, delays, put_at, without_least}
+
+pub data Action : Type 0 where
+  -- it enters a section, which takes so many core steps at most, the entering and the leaving counted
+  Enters : (section : Section) → (cost : ℕ) → Action
+  Leaves : (section : Section) → Action
+  -- it emits a value
+  Emits : (value : ℕ) → Action
+  -- it makes an interrupt pending, by its number
+  Posts : (irq : ℕ) → Action
+  -- it reads the time, which is answered
+  Clocks : Action
+  -- it takes a place of a task, or finds none
+  Takes : (task : ℕ) → Action
+  Refuses : (task : ℕ) → Action
+  -- it puts a message last among the ready ones of a level, or takes the oldest of them to start it
+  Readies : (level : ℕ) → (message : Message) → Action
+  Starts : (level : ℕ) → (message : Message) → Action
+  -- it gives a place of a task back
+  Frees : (task : ℕ) → Action
+  -- it arms a message for an instant, or takes the least armed one
+  Arms : (instant : ℕ) → (message : Message) → Action
+  Fires : (message : Message) → Action
+  -- it sets the alarm to the least instant that is armed
+  SetsAlarm : Action
+  -- its body ends, and the code goes on
+  Ends : (body : BodyId) → Action
+  -- it returns from its interrupt
+  Returns : Action
+
+-- what an action changes in the contents of sections: the column of changes in the table of actions
+abbrev pub effect : Action → Values → Values
+effect (Takes t) vs = put_at vs (Guarded (section.Free t)) (Number (number (vs (Guarded (section.Free t))) + 1))
+effect (Frees t) vs = put_at vs (Guarded (section.Free t)) (Number (number (vs (Guarded (section.Free t))) - 1))
+effect (Readies p m) vs = put_at vs (Guarded (section.Ready p)) (Messages (messages (vs (Guarded (section.Ready p))) ++ m ∷ []))
+effect (Starts p m) vs = put_at vs (Guarded (section.Ready p)) (Messages (drop 1 (messages (vs (Guarded (section.Ready p))))))
+effect (Arms i m) vs = put_at vs (Guarded section.Timer) (Delays (delays (vs (Guarded section.Timer)) ++ record { instant = i; message = m } ∷ []))
+effect (Fires m) vs = put_at vs (Guarded section.Timer) (Delays (without_least (delays (vs (Guarded section.Timer)))))
+effect a vs = vs
