@@ -1,6 +1,7 @@
 -- Calls of bodies on the frames are calls of bodies on the core.
 use Rattle.std.proofs.Common.{◌≡◌, ℕ, ◌+◌, ◌*◌, ◌/◌, ◌%◌, ◌&&◌, ◌||◌, ◌==◌, Bool, true, false, not, nat_le, if◌then◌else◌, List, [], ◌∷◌, length, is_none, Some, None, slice_get, refl, sym, ap, ◌∙◌, arith}
 use Rattle.std.proofs.lemmas.Bool.Decides.{nat_tests}
+use Rattle.rt_ids.specs.Lists.{is_empty}
 use Rattle.rt_code.specs.Image.{Image}
 use Rattle.rt_code.specs.Runnable.{IsRunnable}
 use Rattle.rt_code.specs.declared.image.BodyRow.{BodyRow}
@@ -20,12 +21,12 @@ pub room_alike : (img : Image) → IsRunnable img → (c : Core) (n : ℕ) → m
 room_alike img runnable c n =
     within_alike (used (frames_of img c)) img.stack_bytes n runnable.stack_pairs ∙ ap (λ d. nat_le (d + 4 * n) img.stack_bytes) (depth_is img c)
 
-emptiness_alike : (below : List Context) → moves.is_empty (saved below) ≡ moves.is_empty below
+emptiness_alike : (below : List Context) → is_empty (saved below) ≡ is_empty below
 emptiness_alike [] = refl
 emptiness_alike (x ∷ below) = refl
 
 may_alike : (img : Image) (c : Core) → moves.may_call (frames_of img c) ≡ transfer.may_call c
-may_alike img c = ap (λ e. is_none c.caller && (not e && not (moves.is_empty c.processor.slots))) (emptiness_alike c.below)
+may_alike img c = ap (λ e. is_none c.caller && (not e && not (is_empty c.processor.slots))) (emptiness_alike c.below)
 
 fits_alike : (img : Image) → IsRunnable img → (c : Core) (row : BodyRow) (from : ℕ) → moves.call_fits (frames_of img c) row from ≡ transfer.call_fits img c row from
 fits_alike img runnable c row from =

@@ -1,4 +1,5 @@
 ghost use Rattle.std.specs.Prelude.{◌≡◌, ◌+◌, ◌*◌, ◌<◌, ◌≤◌, ◌==◌, length, map, find, option_map, if◌then◌else◌};
+ghost use Rattle.rt_ids.specs.Lists.{or_zero};
 ghost use Rattle.rt_app.specs.View.{spawn_of, value_of, statement_of, block_of, body_of, task_of, app_of};
 ghost use Rattle.rt_app.specs.Level as level;
 ghost use Rattle.rt_app.specs.BodyCost as cost;
@@ -52,7 +53,7 @@ fn ready_at(ceilings: &Ceilings, level: u8) -> u8
 
 /// The ceiling of the timer queue, and 0 where there is none.
 fn timer_at(ceilings: &Ceilings) -> u8
-    ensures { result ≡ waiting.or_zero ceilings.now.timer }
+    ensures { result ≡ or_zero ceilings.now.timer }
 {
     ceilings.timer.unwrap_or(0)
 }
