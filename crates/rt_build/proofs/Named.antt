@@ -4,6 +4,8 @@ use Rattle.std.specs.List.{AllByRecursion, list_any, slice_get}
 use Rattle.std.proofs.lemmas.List.{map-append}
 use Rattle.std.proofs.lemmas.Option.{same_Some}
 use Rattle.std.proofs.lemmas.Slice.Eq.{bytes_eq-Decides}
+use Rattle.rt_lemmas.proofs.Lists.{all_map, append_none_left, append_none_right}
+use Rattle.rt_lemmas.proofs.Bools.{both_of_none}
 use Rattle.rt_ids.specs.declared.rule.Rule.{Rule}
 use Rattle.rt_ids.specs.declared.rule.Rule.TheVariants as rule
 use Rattle.rt_ids.specs.Word.{is_identifier, IsName}
@@ -17,7 +19,6 @@ use Rattle.rt_ids.specs.Lists.{AreDifferent}
 use Rattle.rt_resolve.specs.Scope.{is_named}
 use Rattle.rt_resolve.specs.Resolved.{resolved, irq, task, shared, local}
 use Rattle.rt_resolve.specs.NameRules.{declared_twice, declaration_faults}
-use Rattle.rt_build.proofs.PlacedNames.{none_left, none_right}
 
 identifier : (text : List ℕ) → is_identifier text ≡ true → (1 ≤ length text) × (is_identifier text ≡ true)
 identifier [] is = absurd (cc)
@@ -26,11 +27,6 @@ identifier (b ∷ rest) is = (omega arith, is)
 name_is : (x : Ident) → IsPrintableName x → IsName x.name
 name_is x is = let spelled = identifier x.name is.name in record { some = spelled.0; short = is.short; identifier = spelled.1; no_word = is.no_word }
 
--- what holds of the picture of each element
-all_map : {X Y : Type 0} (f : X → Y) (P : X → Type 0) (Q : Y → Type 0) → ((x : X) → P x → Q (f x)) → (xs : List X) → AllByRecursion P xs → AllByRecursion Q (map f xs)
-all_map f P Q one [] all = tt
-all_map f P Q one (x ∷ xs) all = (one x all.0, all_map f P Q one xs all.1)
-
 abbrev texts : List Ident → List (List ℕ)
 texts xs = map (λ x. x.name) xs
 
@@ -38,27 +34,23 @@ not_broken : (b : Bool) (r : Rule) (at : ℕ) → when b r at ≡ [] → b ≡ f
 not_broken true r at fine = absurd (cc)
 not_broken false r at fine = refl
 
-neither : (b c : Bool) → (b || c) ≡ false → (b ≡ false) × (c ≡ false)
-neither true c e = absurd (cc)
-neither false c e = (refl, e)
-
 module _ (x : Ident) (before xs : List Ident) (fine : declared_twice before (x ∷ xs) ≡ []) where
   first_fine : list_any (is_named x.name) before ≡ false
-  first_fine = not_broken (list_any (is_named x.name) before) rule.DeclaredTwice x.at (none_left (when (list_any (is_named x.name) before) rule.DeclaredTwice x.at) (declared_twice (x ∷ before) xs) fine)
+  first_fine = not_broken (list_any (is_named x.name) before) rule.DeclaredTwice x.at (append_none_left (when (list_any (is_named x.name) before) rule.DeclaredTwice x.at) (declared_twice (x ∷ before) xs) fine)
 
   rest_fine : declared_twice (x ∷ before) xs ≡ []
-  rest_fine = none_right (when (list_any (is_named x.name) before) rule.DeclaredTwice x.at) (declared_twice (x ∷ before) xs) fine
+  rest_fine = append_none_right (when (list_any (is_named x.name) before) rule.DeclaredTwice x.at) (declared_twice (x ∷ before) xs) fine
 
 -- where nothing is declared twice, no name stands among those before
 fresh : (before xs : List Ident) → declared_twice before xs ≡ [] → (i : ℕ) (name : List ℕ) → slice_get (texts xs) i ≡ Some name → list_any (is_named name) before ≡ false
 fresh before [] fine i name e = absurd (cc)
 fresh before (x ∷ xs) fine zero name e = subst (λ n. list_any (is_named n) before ≡ false) (same_Some x.name name e) (first_fine x before xs fine)
-fresh before (x ∷ xs) fine (suc i) name e = (neither (is_named name x) (list_any (is_named name) before) (fresh (x ∷ before) xs (rest_fine x before xs fine) i name e)).1
+fresh before (x ∷ xs) fine (suc i) name e = (both_of_none (is_named name x) (list_any (is_named name) before) (fresh (x ∷ before) xs (rest_fine x before xs fine) i name e)).1
 
 -- nor does the first name stand behind itself
 no_second : (x : Ident) (before xs : List Ident) → declared_twice before (x ∷ xs) ≡ [] → (i : ℕ) (name : List ℕ) → Some x.name ≡ Some name → slice_get (texts xs) i ≡ Some name → ⊥
 no_second x before xs fine i name first e =
-    let other = (neither (is_named name x) (list_any (is_named name) before) (fresh (x ∷ before) xs (rest_fine x before xs fine) i name e)).0 in
+    let other = (both_of_none (is_named name x) (list_any (is_named name) before) (fresh (x ∷ before) xs (rest_fine x before xs fine) i name e)).0 in
     let same = (bytes_eq-Decides x.name name).1 (same_Some x.name name first) in
     cc
 
@@ -81,9 +73,9 @@ module _ (app : App) (printable : IsPrintable app) (fine : declaration_faults ap
     tasks = all_map (task app) _ _ (λ t is. name_is t.name is.name) app.tasks printable.tasks;
     shared = all_map shared _ _ (λ r is. name_is r.name is.0) app.shared printable.shared;
     locals = all_map local _ _ (λ r is. name_is r.name is.0) app.locals printable.locals;
-    irqs_differ = subst AreDifferent irq_texts (different [] irqs (none_left (declared_twice [] irqs) (declared_twice [] resources ++ declared_twice [] tasks) fine));
-    tasks_differ = subst AreDifferent task_texts (different [] tasks (none_right (declared_twice [] resources) (declared_twice [] tasks) behind_irqs));
-    resources_differ = subst AreDifferent resource_texts (different [] resources (none_left (declared_twice [] resources) (declared_twice [] tasks) behind_irqs));
+    irqs_differ = subst AreDifferent irq_texts (different [] irqs (append_none_left (declared_twice [] irqs) (declared_twice [] resources ++ declared_twice [] tasks) fine));
+    tasks_differ = subst AreDifferent task_texts (different [] tasks (append_none_right (declared_twice [] resources) (declared_twice [] tasks) behind_irqs));
+    resources_differ = subst AreDifferent resource_texts (different [] resources (append_none_left (declared_twice [] resources) (declared_twice [] tasks) behind_irqs));
   }
     where
       irqs : List Ident
@@ -96,7 +88,7 @@ module _ (app : App) (printable : IsPrintable app) (fine : declaration_faults ap
       tasks = map (λ t. t.name) app.tasks
 
       behind_irqs : declared_twice [] resources ++ declared_twice [] tasks ≡ []
-      behind_irqs = none_right (declared_twice [] irqs) (declared_twice [] resources ++ declared_twice [] tasks) fine
+      behind_irqs = append_none_right (declared_twice [] irqs) (declared_twice [] resources ++ declared_twice [] tasks) fine
 
       irq_texts : texts irqs ≡ map (λ d. d.name) (resolved app).irqs
       irq_texts = same_texts irq _ _ (λ d. refl) app.irqs

@@ -1,6 +1,7 @@
 -- The application of a tree whose names are all known is placed.
 use Rattle.std.proofs.Common.{◌≡◌, ◌<◌, List, [], ◌∷◌, ◌++◌, length, map, flat_map, Option, Some, None, option_map, Result, Ok, Err, IfOk, refl, sym, ap, subst, ◌∙◌}
 use Rattle.std.specs.List.{AllByRecursion, range_with_len}
+use Rattle.rt_lemmas.proofs.Lists.{append_none_left, append_none_right}
 use Rattle.rt_ids.specs.declared.refusal.Refused.{Refused}
 use Rattle.rt_ast.specs.declared.ident.Ident.{Ident}
 use Rattle.rt_ast.specs.declared.app.MonoTree.{MonoTree}
@@ -17,14 +18,14 @@ use Rattle.rt_resolve.specs.Resolved as resolve
 use Rattle.rt_resolve.specs.Resolved.{resolved, with_arguments, body_names, body_block}
 use Rattle.rt_resolve.specs.Misnamed.{if_unknown, block_faults}
 use Rattle.rt_resolve.specs.NameRules.{declaration_faults, listing_faults, argument_faults, body_faults, thread_faults, binds_fault, task_faults, mono_fault, name_violations, listed_twice, listing_of}
-use Rattle.rt_build.proofs.PlacedNames.{none_left, none_right, irq_placed, shared_placed, local_placed, arguments_seen, before_arguments}
+use Rattle.rt_build.proofs.PlacedNames.{irq_placed, shared_placed, local_placed, arguments_seen, before_arguments}
 use Rattle.rt_build.proofs.PlacedStatements.{block_placed}
 use Rattle.rt_build.proofs.Named.{named}
 
 -- what holds of the picture of each element without a fault
 all_of : {X Y : Type 0} (f : X → Y) (P : Y → Type 0) (faults : X → List Violation) → ((x : X) → faults x ≡ [] → P (f x)) → (xs : List X) → flat_map faults xs ≡ [] → AllByRecursion P (map f xs)
 all_of f P faults one [] fine = tt
-all_of f P faults one (x ∷ xs) fine = (one x (none_left (faults x) (flat_map faults xs) fine), all_of f P faults one xs (none_right (faults x) (flat_map faults xs) fine))
+all_of f P faults one (x ∷ xs) fine = (one x (append_none_left (faults x) (flat_map faults xs) fine), all_of f P faults one xs (append_none_right (faults x) (flat_map faults xs) fine))
 
 module _ (app : App) where
   body_placed : (args : List Ident) (b : Body) → body_faults app args b ≡ [] → IsBodyPlaced (resolved app) (length args) (resolve.body app args b)
@@ -49,17 +50,17 @@ module _ (app : App) where
       on_block = block_faults (inside names) (length args) b.block
 
       listings : listing_faults app b ≡ []
-      listings = none_left (listing_faults app b) (on_arguments ++ on_block) fine
+      listings = append_none_left (listing_faults app b) (on_arguments ++ on_block) fine
 
       shared : AllByRecursion (λ l. l.resource < length (resolved app).shared) (map (resolve.listed app) b.shared)
-      shared = all_of (resolve.listed app) _ (λ l. if_unknown (shared_named app l.name.name) l.name.at) (λ l. shared_placed app l.name.name l.name.at) b.shared (none_left on_shared (on_local ++ twice) listings)
+      shared = all_of (resolve.listed app) _ (λ l. if_unknown (shared_named app l.name.name) l.name.at) (λ l. shared_placed app l.name.name l.name.at) b.shared (append_none_left on_shared (on_local ++ twice) listings)
 
       local : AllByRecursion (λ o. o.local < length (resolved app).locals) (map (resolve.owned app) b.local)
-      local = all_of (resolve.owned app) _ (λ x. if_unknown (local_named app x.name) x.at) (λ x. local_placed app x.name x.at) b.local (none_left on_local twice (none_right on_shared (on_local ++ twice) listings))
+      local = all_of (resolve.owned app) _ (λ x. if_unknown (local_named app x.name) x.at) (λ x. local_placed app x.name x.at) b.local (append_none_left on_local twice (append_none_right on_shared (on_local ++ twice) listings))
 
       block : IsBlockPlaced (resolved app) (map (resolve.owned app) b.local) (length args) (range_with_len 0 (length args)) (body_block app args b)
       block = before_arguments (λ a xs. IsBlockPlaced (resolved a) (map (resolve.owned a) xs) (length args) (range_with_len 0 (length args)) (body_block app args b)) args (body_names app b) 0
-          (block_placed b.block (inside names) (length args) (range_with_len 0 (length args)) (arguments_seen args (body_names app b) refl) (none_right on_arguments on_block (none_right (listing_faults app b) (on_arguments ++ on_block) fine)))
+          (block_placed b.block (inside names) (length args) (range_with_len 0 (length args)) (arguments_seen args (body_names app b) refl) (append_none_right on_arguments on_block (append_none_right (listing_faults app b) (on_arguments ++ on_block) fine)))
 
   thread_placed : (b : Option Body) → thread_faults app b ≡ [] → IsThreadPlaced (resolved app) (option_map (resolve.body app []) b)
   thread_placed None fine = tt
@@ -74,18 +75,18 @@ module _ (app : App) where
   binding_placed (Some x) fine = irq_placed app x.name x.at fine
 
   task_placed : (t : Task) → task_faults app t ≡ [] → IsTaskPlaced (resolved app) (resolve.task app t)
-  task_placed t fine = (binding_placed t.binds (none_left (binds_fault app t.binds) (body_faults app t.args t.body) fine), body_placed t.args t.body (none_right (binds_fault app t.binds) (body_faults app t.args t.body) fine))
+  task_placed t fine = (binding_placed t.binds (append_none_left (binds_fault app t.binds) (body_faults app t.args t.body) fine), body_placed t.args t.body (append_none_right (binds_fault app t.binds) (body_faults app t.args t.body) fine))
 
   pub accepted : IsPrintable app → name_violations app ≡ [] → violations (resolved app) ≡ [] → KeepsLimits (resolved app) → IsAccepted (resolved app)
   accepted printable fine rules limits = record {
     rules = rules;
     limits = limits;
-    names = named app printable (none_left (declaration_faults app) (on_dispatchers ++ (on_mono ++ (on_init ++ (on_idle ++ on_tasks)))) fine);
-    dispatchers = all_of (resolve.dispatcher app) _ (λ x. if_unknown (irq_named app x.name) x.at) (λ x. irq_placed app x.name x.at) app.dispatchers (none_left on_dispatchers (on_mono ++ (on_init ++ (on_idle ++ on_tasks))) behind_declarations);
-    mono = mono_placed app.mono (none_left on_mono (on_init ++ (on_idle ++ on_tasks)) behind_dispatchers);
-    init = thread_placed app.init (none_left on_init (on_idle ++ on_tasks) behind_mono);
-    idle = thread_placed app.idle (none_left on_idle on_tasks behind_init);
-    tasks = all_of (resolve.task app) (IsTaskPlaced (resolved app)) (task_faults app) task_placed app.tasks (none_right on_idle on_tasks behind_init);
+    names = named app printable (append_none_left (declaration_faults app) (on_dispatchers ++ (on_mono ++ (on_init ++ (on_idle ++ on_tasks)))) fine);
+    dispatchers = all_of (resolve.dispatcher app) _ (λ x. if_unknown (irq_named app x.name) x.at) (λ x. irq_placed app x.name x.at) app.dispatchers (append_none_left on_dispatchers (on_mono ++ (on_init ++ (on_idle ++ on_tasks))) behind_declarations);
+    mono = mono_placed app.mono (append_none_left on_mono (on_init ++ (on_idle ++ on_tasks)) behind_dispatchers);
+    init = thread_placed app.init (append_none_left on_init (on_idle ++ on_tasks) behind_mono);
+    idle = thread_placed app.idle (append_none_left on_idle on_tasks behind_init);
+    tasks = all_of (resolve.task app) (IsTaskPlaced (resolved app)) (task_faults app) task_placed app.tasks (append_none_right on_idle on_tasks behind_init);
   }
     where
       on_dispatchers : List Violation
@@ -104,16 +105,16 @@ module _ (app : App) where
       on_tasks = flat_map (task_faults app) app.tasks
 
       behind_declarations : on_dispatchers ++ (on_mono ++ (on_init ++ (on_idle ++ on_tasks))) ≡ []
-      behind_declarations = none_right (declaration_faults app) (on_dispatchers ++ (on_mono ++ (on_init ++ (on_idle ++ on_tasks)))) fine
+      behind_declarations = append_none_right (declaration_faults app) (on_dispatchers ++ (on_mono ++ (on_init ++ (on_idle ++ on_tasks)))) fine
 
       behind_dispatchers : on_mono ++ (on_init ++ (on_idle ++ on_tasks)) ≡ []
-      behind_dispatchers = none_right on_dispatchers (on_mono ++ (on_init ++ (on_idle ++ on_tasks))) behind_declarations
+      behind_dispatchers = append_none_right on_dispatchers (on_mono ++ (on_init ++ (on_idle ++ on_tasks))) behind_declarations
 
       behind_mono : on_init ++ (on_idle ++ on_tasks) ≡ []
-      behind_mono = none_right on_mono (on_init ++ (on_idle ++ on_tasks)) behind_dispatchers
+      behind_mono = append_none_right on_mono (on_init ++ (on_idle ++ on_tasks)) behind_dispatchers
 
       behind_init : on_idle ++ on_tasks ≡ []
-      behind_init = none_right on_init (on_idle ++ on_tasks) behind_mono
+      behind_init = append_none_right on_init (on_idle ++ on_tasks) behind_mono
 
 -- what the rules let through
 pub placed_by : (tree : App) → IsPrintable tree → (app : code.App) (faults : List Violation) → app_of app ≡ resolved tree → faults ≡ name_violations tree → KeepsLimits (app_of app)

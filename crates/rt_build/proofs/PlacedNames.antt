@@ -5,6 +5,9 @@ use Rattle.std.specs.Option.{option_or, unwrap_or}
 use Rattle.std.proofs.lemmas.List.{length-map}
 use Rattle.std.proofs.lemmas.Bool.{ltb-true, eq-eqb}
 use Rattle.std.proofs.lemmas.Slice.Eq.{bytes_eq-Decides}
+use Rattle.rt_lemmas.proofs.Lists.{position_within}
+use Rattle.rt_lemmas.proofs.Bools.{true_right}
+use Rattle.rt_lemmas.proofs.Options.{if_some-map, if_some_either}
 use Rattle.rt_ast.specs.declared.ident.Ident.{Ident}
 use Rattle.rt_ast.specs.Tree.{App}
 use Rattle.rt_app.specs.declared.TheConstants.{UNKNOWN}
@@ -17,26 +20,10 @@ use Rattle.rt_resolve.specs.Resolved as resolve
 use Rattle.rt_resolve.specs.Resolved.{resolved, irq, task, shared, local, with_arguments}
 use Rattle.rt_resolve.specs.Misnamed.{if_unknown}
 
--- of two lists that are empty together
-pub none_left : {A : Type 0} (xs ys : List A) → xs ++ ys ≡ [] → xs ≡ []
-none_left [] ys h = refl
-none_left (x ∷ xs) ys h = cc
-
-pub none_right : {A : Type 0} (xs ys : List A) → xs ++ ys ≡ [] → ys ≡ []
-none_right [] ys h = h
-none_right (x ∷ xs) ys h = cc
-
 -- what holds of all that is found holds of what a known name means
 pub known : {X : Type 0} (P : X → Type 0) (found : Option X) (other : X) (at : ℕ) → IfSome found P → if_unknown found at ≡ [] → P (unwrap_or found other)
 known P None other at h fine = cc
 known P (Some x) other at h fine = h
-
-position_within : {X : Type 0} (p : X → Bool) (xs : List X) → IfSome (position p xs) (λ k. k < length xs)
-position_within p xs = go (position_or_len p xs) (nat_lt (position_or_len p xs) (length xs)) refl
-  where
-    go : (k : ℕ) (b : Bool) → nat_lt k (length xs) ≡ b → IfSome (cond b (Some k) None) (λ i. i < length xs)
-    go k true test = ltb-true k (length xs) test
-    go k false test = tt
 
 -- the place of a thing in a table is its place in the table of what the things stand for
 placed : {X Y : Type 0} (f : X → Y) (p : X → Bool) (xs : List X) → IfSome (position p xs) (λ k. k < length (map f xs))
@@ -63,17 +50,13 @@ IsIn visible n = IsTrue (list_any (λ y. y == n) visible)
 abbrev pub AreSeen : List ℕ → List Variable → Type 0
 AreSeen visible vs = AllByRecursion (λ v. IsIn visible v.number) vs
 
-true_or : (a b : Bool) → IsTrue b → IsTrue (a || b)
-true_or true b h = refl
-true_or false b h = h
-
 pub is_first : (n : ℕ) (visible : List ℕ) → IsIn (n ∷ visible) n
 is_first n visible = rw (eq-eqb n n refl)
 
 -- numbers that are in a list are in a longer one
 more : {X : Type 0} (number : X → ℕ) (n : ℕ) (visible : List ℕ) (xs : List X) → AllByRecursion (λ x. IsIn visible (number x)) xs → AllByRecursion (λ x. IsIn (n ∷ visible) (number x)) xs
 more number n visible [] h = tt
-more number n visible (x ∷ xs) h = (true_or (n == number x) _ h.0, more number n visible xs h.1)
+more number n visible (x ∷ xs) h = (true_right (n == number x) _ h.0, more number n visible xs h.1)
 
 pub seen_more : (n : ℕ) (visible : List ℕ) (vs : List Variable) → AreSeen visible vs → AreSeen (n ∷ visible) vs
 seen_more n visible vs = more (λ v. v.number) n visible vs
@@ -97,14 +80,6 @@ found_seen visible p (v ∷ vs) seen = go (p v) (found_seen visible p vs seen.1)
     go true rest = seen.0
     go false rest = rest
 
-of_map : {X Y : Type 0} (f : X → Y) (P : Y → Type 0) (found : Option X) → IfSome found (λ x. P (f x)) → IfSome (option_map f found) P
-of_map f P None h = tt
-of_map f P (Some x) h = h
-
-of_either : {X : Type 0} (P : X → Type 0) (first second : Option X) → IfSome first P → IfSome second P → IfSome (option_or first second) P
-of_either P None second h k = k
-of_either P (Some x) second h k = h
-
 -- the local resources that a body lists
 abbrev pub listings : Names → List Owned
 listings names = map (resolve.owned names.app) names.local
@@ -123,21 +98,21 @@ listed_here app name n is (x ∷ xs) test = go (is_named name x) refl (listed_he
         let number : or_unknown (local_named app x.name) ≡ n = ap (λ t. or_unknown (local_named app t)) same ∙ ap or_unknown is in
         rw (eq-eqb (or_unknown (local_named app x.name)) n number) refl
     go false e behind =
-        true_or (or_unknown (local_named app x.name) == n) (list_any (λ o. o.local == n) others) (behind (ap (λ b. b || list_any (is_named name) xs) (sym e) ∙ test))
+        true_right (or_unknown (local_named app x.name) == n) (list_any (λ o. o.local == n) others) (behind (ap (λ b. b || list_any (is_named name) xs) (sym e) ∙ test))
 
 -- what a known name in an expression or an assignment stands for
 pub meant : (names : Names) (visible : List ℕ) → AreSeen visible names.scope.variables → (name : List ℕ) (at : ℕ) → if_unknown (meaning names name) at ≡ [] → IsMeant (resolved names.app) (listings names) visible (atom_named names name)
 meant names visible seen name at = known P (meaning names name) (atom.Shared UNKNOWN) at
-    (of_either P (variable_named names name) (option_or (option_map atom.Shared (shared_named names.app name)) (owned_named names name)) variables (of_either P (option_map atom.Shared (shared_named names.app name)) (owned_named names name) resources owned))
+    (if_some_either P (variable_named names name) (option_or (option_map atom.Shared (shared_named names.app name)) (owned_named names name)) variables (if_some_either P (option_map atom.Shared (shared_named names.app name)) (owned_named names name) resources owned))
   where
     P : Atom → Type 0
     P = IsMeant (resolved names.app) (listings names) visible
 
     variables : IfSome (variable_named names name) P
-    variables = of_map (λ v. atom.Var v.number) P (find (is_variable name) names.scope.variables) (found_seen visible (is_variable name) names.scope.variables seen)
+    variables = if_some-map (λ v. atom.Var v.number) P (find (is_variable name) names.scope.variables) (found_seen visible (is_variable name) names.scope.variables seen)
 
     resources : IfSome (option_map atom.Shared (shared_named names.app name)) P
-    resources = of_map atom.Shared P (shared_named names.app name) (placed shared (λ r. is_named name r.name) names.app.shared)
+    resources = if_some-map atom.Shared P (shared_named names.app name) (placed shared (λ r. is_named name r.name) names.app.shared)
 
     owned_when : (b : Bool) (found : Option ℕ) → list_any (is_named name) names.local ≡ b → local_named names.app name ≡ found → IfSome found (λ n. n < length (resolved names.app).locals)
         → IfSome (if b then option_map atom.Local found else None) P

@@ -1,6 +1,7 @@
 -- The statements of a body whose names are all known are placed.
 use Rattle.std.proofs.Common.{◌≡◌, ℕ, ◌+◌, ◌<◌, List, [], ◌∷◌, ◌++◌, length, map, flat_map, refl, sym, ap, subst}
 use Rattle.std.specs.List.{AllByRecursion}
+use Rattle.rt_lemmas.proofs.Lists.{append_none_left, append_none_right}
 use Rattle.rt_ast.specs.declared.ident.Ident.{Ident}
 use Rattle.rt_ast.specs.Tree.{App, Expression, Num, Read, Oper, Spawn, Soon, After, Value, Calc, Now, Call, Statement, Bind, Assign, Branch, Repeat, Locked, Emit, Pend, Spawns, Block, Empty, Then}
 use Rattle.rt_app.specs.declared.violation.Violation.{Violation}
@@ -11,23 +12,23 @@ use Rattle.rt_resolve.specs.Scope.{task_named, shared_named, or_unknown, Names, 
 use Rattle.rt_resolve.specs.Resolving.{expression, spawn, value, statement, block, binders_in, binders, behind, in_loop}
 use Rattle.rt_resolve.specs.Resolved.{resolved, owned}
 use Rattle.rt_resolve.specs.Misnamed.{if_unknown, if_taken, expression_faults, call_faults, spawn_faults, value_faults, statement_faults, block_faults}
-use Rattle.rt_build.proofs.PlacedNames.{none_left, none_right, irq_placed, task_placed, shared_placed, AreSeen, is_first, seen_more, declared_seen, listings, meant}
+use Rattle.rt_build.proofs.PlacedNames.{irq_placed, task_placed, shared_placed, AreSeen, is_first, seen_more, declared_seen, listings, meant}
 
 module _ (names : Names) (visible : List ℕ) (seen : AreSeen visible names.scope.variables) where
   pub expression_meant : (e : Expression) → expression_faults names e ≡ [] → AreMeant (resolved names.app) (listings names) visible (expression names e)
   expression_meant (Num n) fine = tt
   expression_meant (Read x) fine = meant names visible seen x.name x.at fine
   expression_meant (Oper o left right) fine =
-      (expression_meant left (none_left (expression_faults names left) (expression_faults names right) fine), expression_meant right (none_right (expression_faults names left) (expression_faults names right) fine))
+      (expression_meant left (append_none_left (expression_faults names left) (expression_faults names right) fine), expression_meant right (append_none_right (expression_faults names left) (expression_faults names right) fine))
 
   expressions_meant : (es : List Expression) → flat_map (expression_faults names) es ≡ [] → AllByRecursion (AreMeant (resolved names.app) (listings names) visible) (map (expression names) es)
   expressions_meant [] fine = tt
   expressions_meant (e ∷ es) fine =
-      (expression_meant e (none_left (expression_faults names e) (flat_map (expression_faults names) es) fine), expressions_meant es (none_right (expression_faults names e) (flat_map (expression_faults names) es) fine))
+      (expression_meant e (append_none_left (expression_faults names e) (flat_map (expression_faults names) es) fine), expressions_meant es (append_none_right (expression_faults names e) (flat_map (expression_faults names) es) fine))
 
   call_placed : (t : Ident) (args : List Expression) → call_faults names t args ≡ []
       → (or_unknown (task_named names.app t.name) < length (resolved names.app).tasks) × AllByRecursion (AreMeant (resolved names.app) (listings names) visible) (map (expression names) args)
-  call_placed t args fine = (task_placed names.app t.name t.at (none_left task_fault arg_faults fine), expressions_meant args (none_right task_fault arg_faults fine))
+  call_placed t args fine = (task_placed names.app t.name t.at (append_none_left task_fault arg_faults fine), expressions_meant args (append_none_right task_fault arg_faults fine))
     where
       task_fault : List Violation
       task_fault = if_unknown (task_named names.app t.name) t.at
@@ -38,8 +39,8 @@ module _ (names : Names) (visible : List ℕ) (seen : AreSeen visible names.scop
   pub spawn_placed : (s : Spawn) → spawn_faults names s ≡ [] → IsSpawnPlaced (resolved names.app) (listings names) visible (spawn names s)
   spawn_placed (Soon t args) fine = call_placed t args fine
   spawn_placed (After word delay t args) fine =
-      let call = call_placed t args (none_right (expression_faults names delay) (call_faults names t args) fine) in
-      (expression_meant delay (none_left (expression_faults names delay) (call_faults names t args) fine), call.0, call.1)
+      let call = call_placed t args (append_none_right (expression_faults names delay) (call_faults names t args) fine) in
+      (expression_meant delay (append_none_left (expression_faults names delay) (call_faults names t args) fine), call.0, call.1)
 
   pub value_placed : (v : Value) → value_faults names v ≡ [] → IsValuePlaced (resolved names.app) (listings names) visible (value names v)
   value_placed (Calc e) fine = expression_meant e fine
@@ -89,24 +90,24 @@ behind_seen names n visible seen (Spawns s) = seen
 
 mutual
   statement_placed : (s : Statement) (names : Names) (n : ℕ) (visible : List ℕ) → AreSeen visible names.scope.variables → statement_faults names n s ≡ [] → IsStatementPlaced (resolved names.app) (listings names) n visible (statement names n s)
-  statement_placed (Bind x v) names n visible seen fine = (refl, value_placed names visible seen v (none_left (value_faults names v) (if_taken names x) fine))
+  statement_placed (Bind x v) names n visible seen fine = (refl, value_placed names visible seen v (append_none_left (value_faults names v) (if_taken names x) fine))
   statement_placed (Assign x e) names n visible seen fine =
       let at = if_unknown (meaning names x.name) x.at in
-      (meant names visible seen x.name x.at (none_left at (expression_faults names e) fine), expression_meant names visible seen e (none_right at (expression_faults names e) fine))
+      (meant names visible seen x.name x.at (append_none_left at (expression_faults names e) fine), expression_meant names visible seen e (append_none_right at (expression_faults names e) fine))
   statement_placed (Branch e first second) names n visible seen fine =
       let on_first = block_faults (inside names) n first in
       let on_second = block_faults (inside names) (n + binders first) second in
-      let blocks = none_right (expression_faults names e) (on_first ++ on_second) fine in
-      let placed_second = block_placed second (inside names) (n + binders first) visible seen (none_right on_first on_second blocks) in (
-        expression_meant names visible seen e (none_left (expression_faults names e) (on_first ++ on_second) fine),
-        block_placed first (inside names) n visible seen (none_left on_first on_second blocks),
+      let blocks = append_none_right (expression_faults names e) (on_first ++ on_second) fine in
+      let placed_second = block_placed second (inside names) (n + binders first) visible seen (append_none_right on_first on_second blocks) in (
+        expression_meant names visible seen e (append_none_left (expression_faults names e) (on_first ++ on_second) fine),
+        block_placed first (inside names) n visible seen (append_none_left on_first on_second blocks),
         subst (λ k. IsBlockPlaced (resolved names.app) (listings names) (n + k) visible (block (inside names) (n + binders first) second)) (sym (same_variables first (inside names) n)) placed_second,
       )
   statement_placed (Repeat x first last turn) names n visible seen fine =
-      (refl, block_placed turn (in_loop names x n) (n + 1) (n ∷ visible) (with_seen (inside names) visible x n seen) (none_right (if_taken names x) (block_faults (in_loop names x n) (n + 1) turn) fine))
+      (refl, block_placed turn (in_loop names x n) (n + 1) (n ∷ visible) (with_seen (inside names) visible x n seen) (append_none_right (if_taken names x) (block_faults (in_loop names x n) (n + 1) turn) fine))
   statement_placed (Locked r inner) names n visible seen fine =
       let at = if_unknown (shared_named names.app r.name) r.at in
-      (shared_placed names.app r.name r.at (none_left at (block_faults (inside names) n inner) fine), block_placed inner (inside names) n visible seen (none_right at (block_faults (inside names) n inner) fine))
+      (shared_placed names.app r.name r.at (append_none_left at (block_faults (inside names) n inner) fine), block_placed inner (inside names) n visible seen (append_none_right at (block_faults (inside names) n inner) fine))
   statement_placed (Emit e) names n visible seen fine = expression_meant names visible seen e fine
   statement_placed (Pend i) names n visible seen fine = irq_placed names.app i.name i.at fine
   statement_placed (Spawns s) names n visible seen fine = spawn_placed names visible seen s fine
@@ -116,8 +117,8 @@ mutual
   block_placed (Then s rest) names n visible seen fine =
       let on_rest = block_faults (behind names n s) (n + binders_in s) rest in
       let wider = accepted.behind (resolved names.app) (listings names) n visible (statement names n s) in
-      let placed_rest = block_placed rest (behind names n s) (n + binders_in s) wider (behind_seen names n visible seen s) (none_right (statement_faults names n s) on_rest fine) in
+      let placed_rest = block_placed rest (behind names n s) (n + binders_in s) wider (behind_seen names n visible seen s) (append_none_right (statement_faults names n s) on_rest fine) in
       let of_app = before (λ a xs. IsBlockPlaced (resolved a) (map (owned a) xs) (n + binders_in s) wider (block (behind names n s) (n + binders_in s) rest)) names n s placed_rest in (
-        statement_placed s names n visible seen (none_left (statement_faults names n s) on_rest fine),
+        statement_placed s names n visible seen (append_none_left (statement_faults names n s) on_rest fine),
         subst (λ k. IsBlockPlaced (resolved names.app) (listings names) (n + k) wider (block (behind names n s) (n + binders_in s) rest)) (sym (same_variables_in s names n)) of_app,
       )

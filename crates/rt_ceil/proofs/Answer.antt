@@ -4,6 +4,7 @@ use Rattle.std.specs.List.{list_any, range_with_len}
 use Rattle.std.proofs.lemmas.List.{length-map, length-replicate, get_or-replicate, map-append}
 use Rattle.std.proofs.lemmas.List.FromFn.{get_or-map-range_with_len, length-map-range_with_len}
 use Rattle.std.proofs.lemmas.Grind.{same_number_lists}
+use Rattle.rt_lemmas.proofs.Lists.{fold_keeps}
 use Rattle.rt_app.specs.View.{task_of, app_of}
 use Rattle.rt_app.specs.declared.app.App as code
 use Rattle.rt_app.specs.declared.app.Task as code_task
@@ -18,7 +19,7 @@ use Rattle.rt_ids.specs.Lists.{those_below}
 use Rattle.rt_app.specs.Ceiling.{greatest_priority, resource_ceiling, free_ceilings, readies, arms_level, mover_priority, ready_ceiling, ready_ceilings, timer_ceiling, Ceilings, ceilings}
 use Rattle.rt_ceil.specs.Tables.{Tables, level_of, mover, filled}
 use Rattle.rt_ceil.specs.Rows.{free_row, free_rows, marked, served_levels, ready_row, ready_rows, timer_row}
-use Rattle.rt_ceil.proofs.Greatest.{folded_keeps, folded_marks}
+use Rattle.rt_ceil.proofs.Greatest.{folded_marks}
 use Rattle.rt_ceil.proofs.Raised.{length-marked, marked_at, level_of_is}
 use Rattle.rt_ceil.proofs.Members.{filled_sized, filled_shared, filled_free, filled_ready, filled_timer}
 
@@ -47,7 +48,7 @@ mark_keeps : (served : List Bool) (t : Task) → length served ≡ PRIORITIES �
 mark_keeps served t h = length-marked served (level_of t) ∙ h
 
 pub served_sized : (ts : List Task) → length (served_levels ts) ≡ PRIORITIES
-served_sized ts = folded_keeps (λ served t. marked served (level_of t)) (λ served. length served ≡ PRIORITIES) mark_keeps (replicate PRIORITIES false) ts (length-replicate PRIORITIES false)
+served_sized ts = fold_keeps (λ served t. marked served (level_of t)) (λ served. length served ≡ PRIORITIES) mark_keeps (replicate PRIORITIES false) ts (length-replicate PRIORITIES false)
 
 served_is : (ts : List Task) (p : ℕ) → p < PRIORITIES → get_or (served_levels ts) p false ≡ list_any (is_of_level p) ts
 served_is ts p b =

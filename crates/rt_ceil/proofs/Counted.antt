@@ -1,6 +1,7 @@
 -- What the spawns and the listings of a body raise, seen at one place of each table.
 use Rattle.std.proofs.Common.{◌≡◌, ℕ, ◌<◌, ◌==◌, max, Bool, not, if◌then◌else◌, List, map, length, get_or, slice_get, refl, ap, ◌∙◌, arith}
 use Rattle.std.specs.List.{fold, list_any}
+use Rattle.rt_lemmas.proofs.Lists.{fold_keeps, fold_leaves}
 use Rattle.rt_app.specs.declared.body.Listed.{Listed}
 use Rattle.rt_app.specs.Tree.{App, Block, Spawn, Soon, After}
 use Rattle.rt_app.specs.Spawned.{spawns, is_soon, target}
@@ -8,7 +9,7 @@ use Rattle.rt_app.specs.Level.{is_of_level}
 use Rattle.rt_ids.specs.Lists.{is_some_and, greatest}
 use Rattle.rt_app.specs.Ceiling.{readies, arms_level}
 use Rattle.rt_ceil.specs.Tables.{Tables, level_in, mover, spawned, listed, used}
-use Rattle.rt_ceil.proofs.Greatest.{folded_keeps, folded_leaves, folded_raises, greatest_any, greatest_both}
+use Rattle.rt_ceil.proofs.Greatest.{folded_raises, greatest_any, greatest_both}
 use Rattle.rt_ceil.proofs.Raised.{length-raised, length-raised_level, raised_at, raised_level_at, level_in_is}
 
 -- tables with so many resources, tasks and levels
@@ -34,7 +35,7 @@ listed_keeps q i j k t l h = record { shared = length-raised t.shared l.resource
 
 pub used_keeps : (app : App) (q i j k : ℕ) (ls : List Listed) (block : Block) (t : Tables) → IsSized i j k t → IsSized i j k (used app q ls block t)
 used_keeps app q i j k ls block t h =
-    folded_keeps (spawned app q) (IsSized i j k) (spawned_keeps app q i j k) (fold (listed q) t ls) (spawns block) (folded_keeps (listed q) (IsSized i j k) (listed_keeps q i j k) t ls h)
+    fold_keeps (spawned app q) (IsSized i j k) (spawned_keeps app q i j k) (fold (listed q) t ls) (spawns block) (fold_keeps (listed q) (IsSized i j k) (listed_keeps q i j k) t ls h)
 
 -- a spawn at each table
 spawned_free : (app : App) (q n i j k : ℕ) → n < j → (t : Tables) (s : Spawn) → IsSized i j k t → get_or (spawned app q t s).free n 0 ≡ max (get_or t.free n 0) (if target s == n then q else 0)
@@ -70,7 +71,7 @@ spawned_shared app q t (After word delay task args at) = refl
 pub used_shared : (app : App) (q r i j k : ℕ) → r < i → (ls : List Listed) (block : Block) (t : Tables) → IsSized i j k t
     → get_or (used app q ls block t).shared r 0 ≡ max (get_or t.shared r 0) (if list_any (λ l. l.resource == r) ls then q else 0)
 used_shared app q r i j k b ls block t h =
-    ap (λ (xs : List ℕ). get_or xs r 0) (folded_leaves (spawned app q) (λ u. u.shared) (spawned_shared app q) (fold (listed q) t ls) (spawns block))
+    ap (λ (xs : List ℕ). get_or xs r 0) (fold_leaves (spawned app q) (λ u. u.shared) (spawned_shared app q) (fold (listed q) t ls) (spawns block))
     ∙ folded_raises (listed q) (IsSized i j k) (listed_keeps q i j k) (λ u. get_or u.shared r 0) (λ l. if l.resource == r then q else 0) (λ u l v. raised_at u.shared l.resource q r (omega (arith, v.shared))) t ls h
     ∙ ap (max (get_or t.shared r 0)) (greatest_any (λ (l : Listed). l.resource == r) q ls)
 
@@ -78,8 +79,8 @@ pub used_free : (app : App) (q n i j k : ℕ) → n < j → (ls : List Listed) (
     → get_or (used app q ls block t).free n 0 ≡ max (get_or t.free n 0) (if list_any (λ s. target s == n) (spawns block) then q else 0)
 used_free app q n i j k b ls block t h =
     folded_raises (spawned app q) (IsSized i j k) (spawned_keeps app q i j k) (λ u. get_or u.free n 0) (λ s. if target s == n then q else 0) (spawned_free app q n i j k b) (fold (listed q) t ls) (spawns block)
-    (folded_keeps (listed q) (IsSized i j k) (listed_keeps q i j k) t ls h)
-    ∙ ap (λ (xs : List ℕ). max (get_or xs n 0) (greatest (map (λ s. if target s == n then q else 0) (spawns block)))) (folded_leaves (listed q) (λ u. u.free) (λ u l. refl) t ls)
+    (fold_keeps (listed q) (IsSized i j k) (listed_keeps q i j k) t ls h)
+    ∙ ap (λ (xs : List ℕ). max (get_or xs n 0) (greatest (map (λ s. if target s == n then q else 0) (spawns block)))) (fold_leaves (listed q) (λ u. u.free) (λ u l. refl) t ls)
     ∙ ap (max (get_or t.free n 0)) (greatest_any (λ (s : Spawn). target s == n) q (spawns block))
 
 pub used_ready : (app : App) (q p i j k : ℕ) → p < k → (ls : List Listed) (block : Block) (t : Tables) → IsSized i j k t
@@ -88,8 +89,8 @@ used_ready app q p i j k b ls block t h =
     let soon : Spawn → ℕ = λ s. if readies app p s then q else 0 in
     let after : Spawn → ℕ = λ s. if arms_level app p s then mover app.mono else 0 in
     folded_raises (spawned app q) (IsSized i j k) (spawned_keeps app q i j k) (λ u. get_or u.ready p 0) (λ s. max (soon s) (after s)) (spawned_ready app q p i j k b) (fold (listed q) t ls) (spawns block)
-    (folded_keeps (listed q) (IsSized i j k) (listed_keeps q i j k) t ls h)
-    ∙ ap (λ (xs : List ℕ). max (get_or xs p 0) (greatest (map (λ s. max (soon s) (after s)) (spawns block)))) (folded_leaves (listed q) (λ u. u.ready) (λ u l. refl) t ls)
+    (fold_keeps (listed q) (IsSized i j k) (listed_keeps q i j k) t ls h)
+    ∙ ap (λ (xs : List ℕ). max (get_or xs p 0) (greatest (map (λ s. max (soon s) (after s)) (spawns block)))) (fold_leaves (listed q) (λ u. u.ready) (λ u l. refl) t ls)
     ∙ ap (max (get_or t.ready p 0)) (greatest_both soon after (spawns block) ∙ ap (λ x. max x (greatest (map after (spawns block)))) (greatest_any (readies app p) q (spawns block))
     ∙ ap (max (if list_any (readies app p) (spawns block) then q else 0)) (greatest_any (arms_level app p) (mover app.mono) (spawns block)))
 
@@ -97,6 +98,6 @@ pub used_timer : (app : App) (q i j k : ℕ) (ls : List Listed) (block : Block) 
     → (used app q ls block t).timer ≡ max t.timer (if list_any (λ s. not (is_soon s)) (spawns block) then q else 0)
 used_timer app q i j k ls block t h =
     folded_raises (spawned app q) (IsSized i j k) (spawned_keeps app q i j k) (λ u. u.timer) (λ s. if not (is_soon s) then q else 0) (spawned_timer app q i j k) (fold (listed q) t ls) (spawns block)
-    (folded_keeps (listed q) (IsSized i j k) (listed_keeps q i j k) t ls h)
-    ∙ ap (λ x. max x (greatest (map (λ s. if not (is_soon s) then q else 0) (spawns block)))) (folded_leaves (listed q) (λ u. u.timer) (λ u l. refl) t ls)
+    (fold_keeps (listed q) (IsSized i j k) (listed_keeps q i j k) t ls h)
+    ∙ ap (λ x. max x (greatest (map (λ s. if not (is_soon s) then q else 0) (spawns block)))) (fold_leaves (listed q) (λ u. u.timer) (λ u l. refl) t ls)
     ∙ ap (max t.timer) (greatest_any (λ (s : Spawn). not (is_soon s)) q (spawns block))

@@ -3,6 +3,7 @@ use Rattle.std.proofs.Common.{◌≡◌, ℕ, ◌+◌, ◌<◌, ◌==◌, max, n
 use Rattle.std.specs.List.{fold, list_any}
 use Rattle.std.proofs.lemmas.List.{length-replicate, get_or-replicate}
 use Rattle.std.proofs.lemmas.List.Sums.{fold-append}
+use Rattle.rt_lemmas.proofs.Lists.{fold_keeps}
 use Rattle.rt_ids.specs.declared.ids.BodyId.{BodyId}
 use Rattle.rt_ids.specs.declared.ids.BodyId.TheVariants as body
 use Rattle.rt_app.specs.declared.costs.TheConstants.{PRIORITIES}
@@ -13,7 +14,7 @@ use Rattle.rt_app.specs.Level.{holds}
 use Rattle.rt_app.specs.Ceiling.{greatest_priority, lists, readies, arms_level}
 use Rattle.rt_ids.specs.Lists.{greatest}
 use Rattle.rt_ceil.specs.Tables.{Tables, untouched, mover, used, used_by_thread, used_by_task, filled}
-use Rattle.rt_ceil.proofs.Greatest.{folded_keeps, folded_raises, greatest_any, greatest_both, greatest_filtered}
+use Rattle.rt_ceil.proofs.Greatest.{folded_raises, greatest_any, greatest_both, greatest_filtered}
 use Rattle.rt_ceil.proofs.Counted.{IsSized, used_keeps, used_shared, used_free, used_ready, used_timer}
 
 -- after a body
@@ -49,7 +50,7 @@ keeps : (app : App) (t : Tables) (m : Member) → IsSizedFor app t → IsSizedFo
 keeps app t m h = used_keeps app m.priority (length app.shared) (length app.tasks) PRIORITIES m.body.shared m.body.block t h
 
 pub filled_sized : (app : App) → IsSizedFor app (filled app)
-filled_sized app = let e = filled_is app in rw e (folded_keeps (used_by app) (IsSizedFor app) (keeps app) (untouched app) (members app) (untouched_sized app))
+filled_sized app = let e = filled_is app in rw e (fold_keeps (used_by app) (IsSizedFor app) (keeps app) (untouched app) (members app) (untouched_sized app))
 
 from_zero : (x y : ℕ) → x ≡ 0 → max x y ≡ y
 from_zero x y h = omega arith

@@ -3,6 +3,8 @@ use Rattle.std.proofs.Common.{◌≡◌, ℕ, zero, suc, ◌+◌, ◌-◌, ◌<�
 use Rattle.std.proofs.lemmas.Bool.{leb-true}
 use Rattle.std.proofs.lemmas.Bool.Decides.{nat_tests}
 use Rattle.std.proofs.lemmas.List.{length-replicate, take-append-drop, take-append-le, drop-append-le, take_at, drop_at, drop-drop, drop-replicate, set-append_left}
+use Rattle.rt_lemmas.proofs.Lists.{take-drop-front, length-take-drop}
+use Rattle.rt_lemmas.proofs.Bools.{both_true}
 use Rattle.rt_stack.specs.Region.{Region, used, top, below, pushed}
 use Rattle.rt_stack.specs.Top.{with_top}
 use Rattle.rt_code.specs.declared.image.BodyRow.{BodyRow}
@@ -13,20 +15,6 @@ use Rattle.rt_context.specs.Moves.{has_room, may_call, last_slot, call_fits, cal
 use Rattle.rt_ids.specs.Lists.{is_empty}
 use Rattle.rt_context.specs.Parts.{Spells}
 use Rattle.rt_context.proofs.Running.{top_is, below_is}
-
--- as many from a place on, all in front
-take-drop-front : (n from : ℕ) (xs ys : List ℕ) → (0 < n → from + n ≤ length xs) → take n (drop from (xs ++ ys)) ≡ take n (drop from xs)
-take-drop-front zero from xs ys within = refl
-take-drop-front (suc n) from xs ys within =
-    let all : from + suc n ≤ length xs = within (omega arith) in
-    ap (take (suc n)) (drop-append-le from xs ys (omega arith))
-    ∙ take-append-le (suc n) (drop from xs) ys (omega (arith, length-drop from xs))
-
-length-take-drop : (n from : ℕ) (xs : List ℕ) → (0 < n → from + n ≤ length xs) → length (take n (drop from xs)) ≡ n
-length-take-drop zero from xs within = refl
-length-take-drop (suc n) from xs within =
-    let all : from + suc n ≤ length xs = within (omega arith) in
-    omega (arith, length-take (suc n) (drop from xs), length-drop from xs)
 
 -- the slots of a caller and of a body above it, with the arguments copied
 abbrev pub copied : ℕ → ℕ → ℕ → List ℕ → List ℕ
@@ -78,10 +66,6 @@ body_pushed r caller frame from args address slot within there taken =
     ∙ ap (with_top q n) written
     ∙ with_top-same q n result (omega (arith, length-append xs (ys ++ zs))) (length-called_with caller from args frame slots same there taken)
     ∙ (λ i. record r { words = below-behind r xs (ys ++ zs) n both i ++ result })
-
-both_true : (a b : Bool) → IsTrue (a && b) → IsTrue a × IsTrue b
-both_true true b h = (refl, h)
-both_true false b h = cc
 
 none_from_test : (caller : Option (List ℕ)) → IsTrue (is_none caller) → caller ≡ None
 none_from_test None h = refl

@@ -2,6 +2,7 @@
 use Rattle.std.proofs.Common.{◌≡◌, ℕ, suc, ◌+◌, ◌-◌, ◌*◌, ◌%◌, ◌^◌, ◌<◌, ◌≤◌, Bool, true, false, nat_lt, min, if◌then◌else◌, List, [], ◌∷◌, length, replicate, Option, Some, None, option_map, unwrap_or, slice_index_or, slice_set, refl, sym, ap, subst, ⊎_elim, ◌∙◌, arith}
 use Rattle.std.proofs.lemmas.Bool.{cases_lt}
 use Rattle.std.proofs.lemmas.Bool.Decides.{nat_tests}
+use Rattle.rt_lemmas.proofs.Bools.{and_parts}
 use Rattle.rt_ids.specs.declared.limits.TheConstants.{IRQ_NUMBERS}
 use Rattle.rt_code.specs.declared.image.IrqRow.{IrqRow}
 use Rattle.rt_code.specs.declared.image.Handler.{Handler}
@@ -22,7 +23,6 @@ use Rattle.rt_core.specs.Parts.{contexts, core, IsFalling, IsSound, machine}
 use Rattle.rt_core.specs.declared.machine.Core.TheInside.{Inside}
 use Rattle.rt_core.specs.Machine.{Machine}
 use Rattle.rt_core.proofs.Picking.{IsNext, next_row}
-use Rattle.rt_core.proofs.Numbers.{parts_of}
 use Rattle.rt_core.proofs.Calls.{room_alike}
 use Rattle.rt_core.proofs.Contexts.{depth_is}
 
@@ -62,7 +62,7 @@ length_of_contexts priorities (i ∷ active) (s ∷ below) long =
 -- an interrupt that can preempt is of a higher priority than the handler that runs
 pub above_running : (c : Core) (x : IrqRow) (h : Handler) → can_preempt c x ≡ true → x.handler ≡ Some h → h.value < running_value c.below
 above_running c x h passes handler =
-    let parts = parts_of (slice_index_or c.pending x.number false) (nat_lt (value_or_none x.handler) (execution c)) passes in
+    let parts = and_parts (slice_index_or c.pending x.number false) (nat_lt (value_or_none x.handler) (execution c)) passes in
     let less : value_or_none x.handler < execution c = let t = parts.1 in grind (arith, nat_tests) in
     let value : value_or_none x.handler ≡ h.value = ap value_or_none handler in
     let low = min_low (running_value c.below) (min (base_value c.processor.basepri) (mask_value c.processor.primask)) in
@@ -108,7 +108,7 @@ module _ (c : Inside) (sound : IsSound c) (irq : ℕ) (h : Handler) (handler : h
   pub is_pending_still : slice_index_or c.nvic.pending irq false ≡ true
   is_pending_still =
       subst (λ n. slice_index_or c.nvic.pending n false ≡ true) next.number
-      (parts_of (slice_index_or c.nvic.pending next.row.number false) (nat_lt (value_or_none next.row.handler) (execution (core c))) next.passes).0
+      (and_parts (slice_index_or c.nvic.pending next.row.number false) (nat_lt (value_or_none next.row.handler) (execution (core c))) next.passes).0
 
   module _ (n : Nvic) (pending : n.pending ≡ slice_set c.nvic.pending irq false) (active : n.active ≡ irq ∷ c.nvic.active) (priorities : n.priorities ≡ c.nvic.priorities) (within : irq < IRQ_NUMBERS) where
     -- the parts after entry

@@ -3,6 +3,7 @@ use Rattle.std.proofs.Common.{◌≡◌, ℕ, ◌<◌, ◌≤◌, ◌&&◌, ◌=
 use Rattle.std.proofs.lemmas.Bool.{cases_lt, false≢true}
 use Rattle.std.proofs.lemmas.List.{get_or_past}
 use Rattle.std.proofs.lemmas.Bool.Decides.{nat_tests}
+use Rattle.rt_lemmas.proofs.Bools.{and_parts, and_both}
 use Rattle.rt_ids.specs.declared.limits.TheConstants.{IRQ_NUMBERS}
 use Rattle.rt_code.specs.Image.{Image}
 use Rattle.rt_code.specs.Runnable.{IsRunnable}
@@ -35,15 +36,6 @@ pending_within n sized irq h =
     let l = sized.pending in
     ⊎_elim (λ less. less) (λ more. absurd (false≢true (sym (get_or_past n.pending irq false (omega arith)) ∙ h))) (cases_lt irq IRQ_NUMBERS)
 
--- what the test tells, part by part
-pub parts_of : (a b : Bool) → (a && b) ≡ true → (a ≡ true) × (b ≡ true)
-parts_of true b h = (refl, h)
-parts_of false b h = cc
-
-pub both : (a b : Bool) → a ≡ true → b ≡ true → (a && b) ≡ true
-both true b h k = k
-both false b h k = cc
-
 module _ (img : Image) (runnable : IsRunnable img) (c : Core) (n : Nvic) (sized : IsSized n) (same : c.pending ≡ n.pending) (alike : HasPriorities img n) where
   value_alike : (x : IrqRow) → IsIn img.irqs x → x.number < IRQ_NUMBERS → value_of n x.number ≡ value_or_none x.handler
   value_alike x is within = ap (λ o. unwrap_or o 256) (alike x.number within ∙ ap (option_map (λ h. h.value)) (handler_of_row img runnable x is)) ∙ one x.handler
@@ -54,7 +46,7 @@ module _ (img : Image) (runnable : IsRunnable img) (c : Core) (n : Nvic) (sized 
 
   row_ready : (x : IrqRow) → IsIn img.irqs x → can_preempt c x ≡ true → IsReady n (execution c) x.number × (x.number < IRQ_NUMBERS)
   row_ready x is h =
-      let parts = parts_of (slice_index_or c.pending x.number false) (nat_lt (value_or_none x.handler) (execution c)) h in
+      let parts = and_parts (slice_index_or c.pending x.number false) (nat_lt (value_or_none x.handler) (execution c)) h in
       let pending : is_pending n x.number ≡ true = subst (λ p. slice_index_or p x.number false ≡ true) same parts.0 in
       let within = pending_within n sized x.number pending in
       let less : value_or_none x.handler < execution c = let t = parts.1 in grind (arith, nat_tests) in
@@ -89,7 +81,7 @@ module _ (img : Image) (runnable : IsRunnable img) (c : Core) (n : Nvic) (sized 
           let less : value_or_none x.handler < execution c = subst (λ v. v < execution c) (ap (value_of n) (sym number) ∙ value) ready.higher in
           let pending : slice_index_or c.pending x.number false ≡ true = ap (λ p. slice_index_or p x.number false) same ∙ (ap (is_pending n) number ∙ ready.pending) in
           let higher : nat_lt (value_or_none x.handler) (execution c) ≡ true = grind (arith, nat_tests) in
-          (x, passes.0, number, both (slice_index_or c.pending x.number false) (nat_lt (value_or_none x.handler) (execution c)) pending higher)
+          (x, passes.0, number, and_both (slice_index_or c.pending x.number false) (nat_lt (value_or_none x.handler) (execution c)) pending higher)
 
   least : (irq : ℕ) (x y : IrqRow) → value_of n x.number ≡ value_or_none x.handler → value_of n irq ≡ value_or_none y.handler → y.number ≡ irq
       → Precedes n irq x.number → NoLater x y → irq ≡ x.number

@@ -8,6 +8,8 @@ use Rattle.std.proofs.lemmas.List.{length-map}
 use Rattle.std.proofs.lemmas.List.Sums.{sum_by-cons}
 use Rattle.std.proofs.Math.Pow.{pow_mono}
 use Rattle.std.proofs.lemmas.Simd.{map-map}
+use Rattle.rt_lemmas.proofs.Lists.{all_map}
+use Rattle.rt_lemmas.proofs.Bools.{or_true}
 use Rattle.rt_first.specs.FirstForm.{Tree, IrqTree, TaskTree}
 use Rattle.rt_first.specs.Application as app
 use Rattle.rt_first.specs.Form.{AreDistinct, KeepsLimits, KeepsRules, number_of_name, number_or_zero, task_of_tree, task_size, app_of}
@@ -15,15 +17,6 @@ use Rattle.rt_first.specs.Accepted.{IsAccepted}
 
 abbrev irq_of : IrqTree → app.Irq
 irq_of irq = record { name = irq.name; number = irq.number }
-
--- what each view has, from what each element has
-all_along : {X Y : Type 0} (f : X → Y) (P : X → Type 0) (Q : Y → Type 0) → ((x : X) → P x → Q (f x)) → (xs : List X) → AllByRecursion P xs → AllByRecursion Q (map f xs)
-all_along f P Q step [] all = tt
-all_along f P Q step (x ∷ xs) all = (step x all.0, all_along f P Q step xs all.1)
-
-or_true : (b : Bool) → b || true ≡ true
-or_true true = refl
-or_true false = refl
 
 -- a declared name's number is declared
 number_declared : (irqs : List IrqTree) (name : List ℕ) → number_of_name irqs name ≢ None
@@ -92,14 +85,14 @@ accepted t limits rules = record {
   least_bits = limits.least_bits;
   most_bits = limits.most_bits;
   irqs = rw length-map limits.irqs;
-  irq_numbers = all_along irq_of _ _ (λ irq h. h) t.irqs limits.irq_numbers;
+  irq_numbers = all_map irq_of _ _ (λ irq h. h) t.irqs limits.irq_numbers;
   irqs_distinct = subst AreDistinct (sym (map-map (λ d. d.number) irq_of t.irqs)) rules.irq_numbers;
   tasks = rw length-map limits.tasks;
-  declared = all_along (task_of_tree t.irqs) _ _ (λ task some. number_declared t.irqs task.binds some) t.tasks rules.declared;
+  declared = all_map (task_of_tree t.irqs) _ _ (λ task some. number_declared t.irqs task.binds some) t.tasks rules.declared;
   bound_once = bound_once t.irqs t.tasks rules.irq_numbers rules.declared rules.bound_once;
-  in_range = all_along (task_of_tree t.irqs) _ _ (λ task h. h) t.tasks rules.in_range;
-  one_level = all_along (task_of_tree t.irqs) _ _ (λ task h. all_along (task_of_tree t.irqs) (λ other. other.priority ≡ task.priority) _ (λ other e. e) t.tasks h) t.tasks rules.one_level;
-  values = all_along (task_of_tree t.irqs) _ _ (λ task h. h.1) t.tasks limits.numbers;
+  in_range = all_map (task_of_tree t.irqs) _ _ (λ task h. h) t.tasks rules.in_range;
+  one_level = all_map (task_of_tree t.irqs) _ _ (λ task h. all_map (task_of_tree t.irqs) (λ other. other.priority ≡ task.priority) _ (λ other e. e) t.tasks h) t.tasks rules.one_level;
+  values = all_map (task_of_tree t.irqs) _ _ (λ task h. h.1) t.tasks limits.numbers;
   size = rw (sizes t.irqs t.tasks) rules.size;
 }
 

@@ -25,20 +25,3 @@ has_form a t app is limits rules resolved = record { tree = t; form = sym is; li
 -- it has one application
 pub one_app : (a : tree.App) (t : Tree) (app : App) → Some t ≡ first_form a → app ≡ app_of t → (other : App) → HasFirstForm a other → other ≡ app
 one_app a t app is resolved other h = h.resolved ∙ (ap app_of (same (first_form a) t h.tree (sym is) h.form) ∙ sym resolved)
-
-pub if_none : {A P Q : Type 0} (o : Option A) → (P → Q) → IfNone o P → IfNone o Q
-if_none None f p = f p
-if_none (Some x) f p = p
-
-pub if_some : {A : Type 0} {P Q : A → Type 0} (o : Option A) → ((x : A) → P x → Q x) → IfSome o P → IfSome o Q
-if_some None f p = p
-if_some (Some x) f p = f x p
-
--- what holds of each and of one more
-pub all_push : {A : Type 0} (P : A → Type 0) (xs : List A) (x : A) → AllByRecursion P xs → P x → AllByRecursion P (xs ++ x ∷ [])
-all_push P [] x all one = (one, tt)
-all_push P (y ∷ xs) x all one = (all.0, all_push P xs x all.1 one)
-
--- the views of one element more
-pub map_next : {X Y : Type 0} (f : X → Y) (xs : List X) (i : ℕ) (x : X) → i < length xs → x ≡ get_or xs i x → map f (take (i + 1) xs) ≡ map f (take i xs) ++ f x ∷ []
-map_next f xs i x within is = ap (map f) (take_more xs i x within) ∙ (map_push f (take i xs) (get_or xs i x) ∙ ap (λ y. map f (take i xs) ++ f y ∷ []) (sym is))

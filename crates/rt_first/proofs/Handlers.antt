@@ -21,10 +21,3 @@ handler_next bits entry irq i t tasks within at other =
     at_drop_more (λ ts. handler_of bits entry ts irq) tasks i t within
     ∙ ap (λ u. handler_of bits entry (u ∷ drop (i + 1) tasks) irq) (sym at)
     ∙ handler_behind bits entry irq t (drop (i + 1) tasks) other
-
--- what holds of all that are left holds of the first of them and of the others
-pub all_left : {X : Type 0} (P : X → Type 0) (xs : List X) (i : ℕ) (x : X) → i < length xs → x ≡ get_or xs i x → AllByRecursion P (drop i xs)
-    → P x × AllByRecursion P (drop (i + 1) xs)
-all_left P xs i x within at all =
-    subst (λ y. P y × AllByRecursion P (drop (i + 1) xs)) (sym at)
-    (subst (λ ys. AllByRecursion P ys) (at_drop_more (λ ys. ys) xs i x within) all)

@@ -7,27 +7,17 @@ use Rattle.std.specs.Option.{option_map, is_some, unwrap_or}
 use Rattle.std.proofs.lemmas.Bool.Decides.{Decides-and, leb_tells}
 use Rattle.std.proofs.lemmas.List.{take_rest}
 use Rattle.std.specs.Str.{bytes_eq}
+use Rattle.rt_lemmas.proofs.Lists.{all_decides, find-map}
 use Rattle.rt_first.specs.Form.{AreDistinct, number_of_name}
 use Rattle.rt_first.specs.FirstForm as form
 use Rattle.rt_first.specs.TreeView.{irq_view}
 use Rattle.rt_first.specs.declared.tree.IrqTree.{IrqTree}
-
-pub all_decides : {X Y : Type 0} (view : X → Y) (P : Y → Type 0) (test : X → Bool) → ((x : X) → Decides (test x) (P (view x))) → (xs : List X)
-    → Decides (list_all test xs) (AllByRecursion P (map view xs))
-all_decides view P test each [] = (λ _. tt, λ _. refl)
-all_decides view P test each (x ∷ xs) = Decides-and (test x) (list_all test xs) (each x) (all_decides view P test each xs)
 
 -- a test's answer says of all what it says of each
 pub judged : {X Y : Type 0} (view : X → Y) (P : Y → Type 0) (test : X → Bool) (each : (x : X) → Decides (test x) (P (view x))) (xs : List X) (answer : Bool)
     → answer ≡ list_all test xs → IsTrue answer ↔ AllByRecursion P (map view xs)
 judged view P test each xs answer is =
     let d = all_decides view P test each xs in (λ yes. d.0 (sym is ∙ yes), λ all. is ∙ d.1 all)
-
-pub find_viewed : {X Y : Type 0} (view : X → Y) (test : Y → Bool) (xs : List X) → find test (map view xs) ≡ option_map view (find (λ x. test (view x)) xs)
-find_viewed view test [] = refl
-find_viewed view test (x ∷ xs) =
-    elim (test (view x)) as (λ b. cond b (Some (view x)) (find test (map view xs)) ≡ option_map view (cond b (Some x) (find (λ x. test (view x)) xs)))
-    [ true ↦ refl | false ↦ find_viewed view test xs ]
 
 -- `<=` decides
 pub at_most : (a b : ℕ) → Decides (leb a b) (a ≤ b)
@@ -82,15 +72,11 @@ one_level view key (head ∷ xs) x answer some at is =
     let ys = view head ∷ map view xs in
     (λ h. levels key ys (key (view x)) (is.0 h) ys (is.0 h), λ h. is.1 (subst (λ w. AllByRecursion (λ z. key z ≡ key (view w)) ys) (sym at) h.0))
 
-pub from_places : {X : Type 0} (P : X → Type 0) (xs : List X) → ((k : ℕ) (d : X) → k < length xs → P (get_or xs k d)) → AllByRecursion P xs
-from_places P [] at = tt
-from_places P (x ∷ xs) at = (at 0 x (omega arith), from_places P xs (λ k d within. at (suc k) d (omega arith)))
-
 -- the number of a name, by the interrupts as they are read
 pub number_by_name : (irqs : List IrqTree) (name : List ℕ) (o : Option IrqTree) → o ≡ find (λ irq. bytes_eq irq.name.now name) irqs
     → option_map (λ irq. irq.number) (number_of_name (map irq_view irqs) name) ≡ option_map (λ irq. irq.number) o
 number_by_name irqs name o is =
-    ap (option_map (λ irq. irq.number)) (find_viewed irq_view (λ irq. bytes_eq irq.name name) irqs)
+    ap (option_map (λ irq. irq.number)) (find-map irq_view (λ irq. bytes_eq irq.name name) irqs)
     ∙ ap (λ p. option_map (λ irq. irq.number) (option_map irq_view p)) (sym is) ∙ twice o where
       twice : (p : Option IrqTree) → option_map (λ irq. irq.number) (option_map irq_view p) ≡ option_map (λ irq. irq.number) p
       twice None = refl

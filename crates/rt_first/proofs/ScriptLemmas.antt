@@ -13,6 +13,7 @@ use Rattle.rt_first.specs.Script.{script_of, within_events, count_of, gather, li
 use Rattle.rt_first.specs.declared.script.Order.{Order}
 use Rattle.std.specs.List.{slice_split}
 use Rattle.std.specs.Str.Lines.{lines, lines_of_parts, strip_carriage_return}
+use Rattle.rt_lemmas.proofs.Options.{some_of_cond}
 
 -- the lines of parts: those before the last, and the last where it is not empty
 pub lines_before : (parts : List (List ℕ)) (last : List ℕ) → lines_of_parts (parts ++ last ∷ []) ≡ map strip_carriage_return parts ++ cond (length last == 0) [] (last ∷ [])
@@ -57,10 +58,6 @@ lines_pushed text parts front shown last all cut each full =
     ∙ (ap (λ (b : Bool). map (λ x. x.now) shown ++ cond b [] (last.now ∷ [])) full
     ∙ lines_from text parts front shown last all cut each)
 
-cond_some_of : {A : Type 0} (b : Bool) (o : Option A) (x : A) → cond b o None ≡ Some x → o ≡ Some x
-cond_some_of true o x e = e
-cond_some_of false o x e = absurd (none-some x e)
-
 -- a script that is read keeps the limit on events
 few_from_within : (orders read : List Order) → within_events orders ≡ Some read → sum_by count_of read ≤ SCRIPT_EVENTS
 few_from_within orders read e =
@@ -70,4 +67,4 @@ few_from_within orders read e =
 pub few_events : (app : App) (text : List ℕ) (read : List Order) → script_of app text ≡ Some read → sum_by count_of read ≤ SCRIPT_EVENTS
 few_events app text read e =
     let gathered = gather (map (line_orders app) (lines text)) in
-    option_and_then_some within_events gathered read (cond_some_of (nat_le (length text) SCRIPT_BYTES) (option_and_then within_events gathered) read e) (λ orders h k. few_from_within orders read k)
+    option_and_then_some within_events gathered read (some_of_cond (nat_le (length text) SCRIPT_BYTES) (option_and_then within_events gathered) read e) (λ orders h k. few_from_within orders read k)

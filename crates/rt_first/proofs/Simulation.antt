@@ -1,6 +1,7 @@
 -- How the core that runs a compiled image agrees with Baker's machine: before its first step, where it waits, and in
 -- the two places of a statement where it serves an interrupt.
 use Rattle.std.proofs.Common.{◌≡◌, ℕ, suc, ◌+◌, ◌*◌, ◌<◌, ◌≤◌, ◌^◌, ◌==◌, Bool, true, false, List, [], ◌∷◌, ◌++◌, length, flat_map, Some, None, slice_set, le_trans, zero-le, arith}
+use Rattle.rt_lemmas.proofs.Lists.{find_has}
 use Rattle.rt_first.specs.Doing.{Doing}
 use Rattle.rt_ids.specs.Priority.{hardware}
 use Rattle.rt_first.specs.Accepted.{IsAccepted}
@@ -11,7 +12,6 @@ use Rattle.rt_first.specs.Compiled.{image_of, emit_code}
 use Rattle.rt_first.specs.Core.{Core, reset, depth}
 use Rattle.rt_first.specs.declared.image.Instr.TheVariants as instr
 use Rattle.rt_first.proofs.SimulationBounds.{need_holds, needs_holds}
-use Rattle.rt_first.proofs.SimulationChoice.{find_has}
 use Rattle.rt_first.proofs.SimulationCode.{Line, Stands}
 
 -- the thread, before its first step and after it

@@ -52,12 +52,3 @@ best_passes passes beats (x ∷ xs) y is = one passes beats x y (best passes bea
             → (if first then Some x else Some z) ≡ Some y → passes y ≡ true
         two passes x y z before own true is = subst (λ w. passes w ≡ true) (same_Some x y is) own
         two passes x y z before own false is = before is
-
--- what holds of all holds of the one that is found
-pub find_has : {A : Type 0} (P : A → Type 0) (test : A → Bool) (xs : List A) (y : A) → AllByRecursion P xs → find test xs ≡ Some y → P y
-find_has P test [] y all is = absurd (none-some y is)
-find_has P test (x ∷ xs) y all is = one P x y (find test xs) all.0 (find_has P test xs y all.1) (test x) is
-  where
-    one : {A : Type 0} (P : A → Type 0) (x y : A) (o : Option A) → P x → (o ≡ Some y → P y) → (pass : Bool) → (if pass then Some x else o) ≡ Some y → P y
-    one P x y o own before true is = subst (λ z. P z) (same_Some x y is) own
-    one P x y o own before false is = before is

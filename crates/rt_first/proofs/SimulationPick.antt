@@ -1,6 +1,7 @@
 -- The interrupt that the core picks is the one that Baker's machine would start.
 use Rattle.std.proofs.Common.{◌≡◌, ℕ, ◌≤◌, ◌^◌, ◌&&◌, ◌||◌, ◌==◌, nat_lt, false, length, Option, Some, None, option_map, slice_index_or, refl, ap, ap₂, ◌∙◌, le-ltb, zero-le, arith}
 use Rattle.std.proofs.lemmas.Bool.{and_right}
+use Rattle.rt_lemmas.proofs.Lists.{find_has}
 use Rattle.rt_ids.specs.Choice.{best}
 use Rattle.rt_ids.specs.Priority.{hardware}
 use Rattle.rt_first.specs.Accepted.{IsAccepted}
@@ -8,7 +9,7 @@ use Rattle.rt_first.specs.Application.{App, Irq, Task, task_of, priority_of, pri
 use Rattle.rt_first.specs.Baker.{State, level, may_start, goes_before, candidate}
 use Rattle.rt_first.specs.Compiled.{image_of, row_of, thread_code}
 use Rattle.rt_first.specs.Core.{Core, execution, can_preempt, precedes, pick, value_or_none}
-use Rattle.rt_first.proofs.SimulationChoice.{best-map, best-alike, best_of_none, find_has}
+use Rattle.rt_first.proofs.SimulationChoice.{best-map, best-alike, best_of_none}
 use Rattle.rt_first.proofs.SimulationCode.{row_value}
 use Rattle.rt_ids.proofs.Hardware.{hardware_of_none, hardware_order, hardware_same}
 

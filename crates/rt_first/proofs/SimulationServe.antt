@@ -1,6 +1,7 @@
 -- One step of the core while it serves an interrupt is a step of Baker's machine, and they agree again.
 use Rattle.std.proofs.Common.{◌≡◌, ℕ, zero, suc, ◌<◌, ◌≤◌, ◌^◌, ◌==◌, max, Bool, List, [], ◌∷◌, length, Option, Some, None, if◌then◌else◌, refl, sym, ap, subst, ◌∙◌, lt-ltb, zero-le, le_of_eq, zero-lt-suc, lt_irrefl, pred, arith}
 use Rattle.std.specs.List.{AllByRecursion}
+use Rattle.rt_lemmas.proofs.Lists.{find_has}
 use Rattle.rt_first.specs.Doing.{Doing, Emits, Returns}
 use Rattle.rt_ids.specs.Priority.{hardware}
 use Rattle.rt_first.specs.Accepted.{IsAccepted}
@@ -13,7 +14,6 @@ use Rattle.rt_first.specs.Stepping.{settle, Leads, Traps}
 use Rattle.rt_first.specs.declared.item.What.TheVariants as what
 use Rattle.rt_first.specs.declared.image.Instr.TheVariants as instr
 use Rattle.rt_first.proofs.Simulation.{Agrees, waits, at_statement, at_value, AtStatement, AtValue, waiting_core, serving_core, serving_state}
-use Rattle.rt_first.proofs.SimulationChoice.{find_has}
 use Rattle.rt_first.proofs.SimulationStep.{Steps, Quiet, quiet, running_top, on_running_top, by_line}
 
 -- all tasks have one priority, so nothing is taken while one is served

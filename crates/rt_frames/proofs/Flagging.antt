@@ -7,6 +7,7 @@ use Rattle.std.proofs.lemmas.Grind.{get_or-set_at}
 use Rattle.std.proofs.lemmas.Bool.{ltb-true}
 use Rattle.std.proofs.lemmas.Bool.Decides.{nat_tests, eqb_tells}
 use Rattle.std.proofs.Math.Bool.{or-false, or-true}
+use Rattle.rt_lemmas.proofs.Bools.{or_assoc}
 use Rattle.rt_app.specs.Tree.{Spawn, Task}
 use Rattle.rt_frames.specs.Flags.{flagged, HasFlags, armed_by, level_numbers}
 
@@ -34,10 +35,6 @@ set_flag flags n k h = ⊎_elim
     (λ (t : (n == k) ≡ true × (n ≡ k)). get_or-set_at flags n k true false (sym t.1) h ∙ sym (or-true (get_or flags k false)) ∙ ap (λ b. get_or flags k false || b) (sym t.0))
     (λ (t : (n == k) ≡ false × (n ≢ k)). get_or-set_other flags n k true false (λ e. t.1 (sym e)) ∙ sym (or-false (get_or flags k false)) ∙ ap (λ b. get_or flags k false || b) (sym t.0))
     (eqb_tells n k)
-
-or_assoc : (a b c : Bool) → ((a || b) || c) ≡ (a || (b || c))
-or_assoc true b c = refl
-or_assoc false b c = refl
 
 flag_step : (b : Bool) (n k : ℕ) (ns : List ℕ) (flags : List Bool) → nat_lt n (length flags) ≡ b → 0 < length (cond b (flagged ns (set flags n true)) [])
     → (0 < length (flagged ns (set flags n true)) → get_or (flagged ns (set flags n true)) k false ≡ (get_or (set flags n true) k false || list_any (λ m. m == k) ns))

@@ -1,6 +1,7 @@
 -- What statements need of a frame, put together, and the words of a frame from it.
 use Rattle.std.proofs.Common.{◌≡◌, ℕ, ◌+◌, ◌<◌, max, Bool, true, false, ◌||◌, List, [], ◌∷◌, ◌++◌, map, take, get_or, length, refl, sym, ap, ◌∙◌, arith}
 use Rattle.std.proofs.lemmas.List.{map-append}
+use Rattle.rt_lemmas.proofs.Bools.{or_regrouped}
 use Rattle.rt_app.specs.Tree.{Expression, Spawn, Statement, Branch, Repeat, Locked, Block, Empty, Then}
 use Rattle.rt_app.specs.View.{expression_of, statement_of, block_of}
 use Rattle.rt_app.specs.declared.expr.Expr.{Expr}
@@ -26,16 +27,12 @@ greatest_append (x ∷ xs) ys = omega (arith, greatest_append xs ys)
 words_append : (ss ts : List Spawn) → greatest (map spawn_words (ss ++ ts)) ≡ max (greatest (map spawn_words ss)) (greatest (map spawn_words ts))
 words_append ss ts = ap greatest (map-append spawn_words ss ts) ∙ greatest_append (map spawn_words ss) (map spawn_words ts)
 
-or_assoc : (a b c : Bool) → (a || (b || c)) ≡ ((a || b) || c)
-or_assoc true b c = refl
-or_assoc false b c = refl
-
 or_none : (a : Bool) → (a || false) ≡ (false || a)
 or_none true = refl
 or_none false = refl
 
 both_assoc : (a b c : Parts) → both a (both b c) ≡ both (both a b) c
-both_assoc a b c = same _ _ _ _ _ _ _ _ _ _ (omega arith) (omega arith) (or_assoc a.has_loop b.has_loop c.has_loop) (omega arith) (omega arith)
+both_assoc a b c = same _ _ _ _ _ _ _ _ _ _ (omega arith) (omega arith) (or_regrouped a.has_loop b.has_loop c.has_loop) (omega arith) (omega arith)
 
 then_parts : (s : Statement) (rest : Block) → block_parts (Then s rest) ≡ both (statement_parts s) (block_parts rest)
 then_parts s rest = same _ _ _ _ _ _ _ _ _ _ (omega arith) (omega arith) refl (omega arith) (words_append (statement_spawns s) (spawns rest))

@@ -6,6 +6,7 @@ use Rattle.std.proofs.lemmas.List.{get_or_past, drop_all}
 use Rattle.std.proofs.lemmas.List.Folds.{list_any-append}
 use Rattle.std.proofs.lemmas.Bool.Decides.{leb_tells}
 use Rattle.std.proofs.Math.Bool.{or-false}
+use Rattle.rt_lemmas.proofs.Lists.{drop_some}
 use Rattle.rt_ids.specs.declared.ids.BodyId.{BodyId}
 use Rattle.rt_ids.specs.declared.ids.BodyId.TheVariants as body
 use Rattle.rt_app.specs.Tree.{Spawn, Body, Task, App}
@@ -113,14 +114,6 @@ count_left app flags has ts n h = ⊎_elim
     (λ (t : leb 256 n ≡ true × (256 ≤ n)). count_none app flags has n (map task_of (drop n ts)) t.1)
     (λ (t : leb 256 n ≡ false × (n < 256)). ap (λ us. armed_count app n (map task_of us)) (drop_all n ts (omega arith)))
     (leb_tells 256 n)
-
-drop_some : {X : Type 0} (xs : List X) (n : ℕ) → n < length xs → (x : X) × (drop n xs ≡ x ∷ drop (n + 1) xs)
-drop_some [] n h = absurd (omega (arith, h))
-drop_some (x ∷ xs) zero h = (x, refl)
-drop_some (x ∷ xs) (suc n) h =
-    let d = drop_some xs n (omega (arith, h)) in
-    let e : suc n + 1 ≡ suc (n + 1) = omega arith in
-    (d.0, rw e d.1)
 
 from_bool_is : (b : Bool) → (if b then 1 else 0) ≡ from_bool b
 from_bool_is true = refl

@@ -10,17 +10,16 @@ use Rattle.rt_app.specs.Cost.{statement_cost}
 use Rattle.rt_app.specs.BodyCost.{cost_measure}
 use Rattle.std.proofs.Math.Seq.{drop-cons}
 use Rattle.std.proofs.lemmas.Bool.Decides.{nat_tests}
+use Rattle.rt_lemmas.proofs.Numbers.{max_regrouped}
+use Rattle.rt_lemmas.proofs.Lists.{drop_as_cons}
 use Rattle.rt_frames.proofs.Sums.{block_more}
-
-max_assoc : (a b c : ℕ) → max a (max b c) ≡ max (max a b) c
-max_assoc a b c = omega arith
 
 max_zero : (a : ℕ) → max a 0 ≡ max 0 a
 max_zero a = omega arith
 
 pub block_wait_more : (app : App) (c : Ceilings) (p : ℕ) (xs : List Stmt) (i : ℕ) (x : Stmt) → i < length xs → x ≡ get_or xs i x
     → block_wait app c p (block_of (take (i + 1) xs)) ≡ max (block_wait app c p (block_of (take i xs))) (statement_wait app c p (statement_of x))
-block_wait_more app c p = block_more (block_wait app c p) (statement_wait app c p) max (λ s rest. refl) max_assoc (λ s. max_zero (statement_wait app c p s))
+block_wait_more app c p = block_more (block_wait app c p) (statement_wait app c p) max (λ s rest. refl) max_regrouped (λ s. max_zero (statement_wait app c p s))
 
 -- a section of a resource whose ceiling is below the priority
 pub locked_below : (app : App) (c : Ceilings) (p : ℕ) (s : Statement) (r : ℕ) (inner : Block) (at k : ℕ) → s ≡ Locked r inner at → k ≡ shared_at c r → k < p → statement_wait app c p s ≡ block_wait app c p inner
@@ -28,9 +27,6 @@ locked_below app c p s r inner at k is e h =
     let below : nat_le p (shared_at c r) ≡ false = grind (arith, nat_tests) in
     ap (statement_wait app c p) is ∙ ap (λ b. cond b (statement_cost (cost_measure app) (Locked r inner at)) (block_wait app c p inner)) below
 
-drop_at : {X : Type 0} (xs : List X) (n : ℕ) (x : X) → n < length xs → x ≡ get_or xs n x → drop n xs ≡ x ∷ drop (n + 1) xs
-drop_at xs n x h e = rw add-one (drop-cons xs n x h ∙ ap (λ y. y ∷ drop (suc n) xs) (sym e))
-
 pub tasks_wait_more : (app : App) (c : Ceilings) (p : ℕ) (ts : List code.Task) (n : ℕ) (x : code.Task) → n < length ts → x ≡ get_or ts n x
     → tasks_wait app c p n (map task_of (drop n ts)) ≡ max (task_wait app c p n (task_of x)) (tasks_wait app c p (n + 1) (map task_of (drop (n + 1) ts)))
-tasks_wait_more app c p ts n x h e = ap (λ us. tasks_wait app c p n (map task_of us)) (drop_at ts n x h e)
+tasks_wait_more app c p ts n x h e = ap (λ us. tasks_wait app c p n (map task_of us)) (drop_as_cons ts n x h e)

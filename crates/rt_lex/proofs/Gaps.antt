@@ -7,6 +7,8 @@ use Rattle.std.proofs.lemmas.Bool.{eqb-true}
 use Rattle.std.proofs.lemmas.List.{length-take-le, length-drop, drop-drop, take-append-drop}
 use Rattle.std.proofs.lemmas.List.Sums.{fold-append}
 use Rattle.std.proofs.lemmas.List.Folds.{length-prefix_len}
+use Rattle.rt_lemmas.proofs.Lists.{drop_drop}
+use Rattle.rt_lemmas.proofs.Bools.{and_left, and_right, true_and_false}
 use Rattle.rt_lex.specs.declared.token.Kind.{Kind}
 use Rattle.rt_lex.specs.declared.token.Kind.TheVariants as kind
 use Rattle.rt_lex.specs.Bytes.{is_blank}
@@ -16,8 +18,7 @@ use Rattle.rt_lex.specs.Token.{Token}
 use Rattle.rt_lex.specs.Front.{Front, skips, makes, comment, front_of, name_front, number_front, sign_front, hex_digits}
 use Rattle.rt_lex.specs.Tokens.{tokens, tokens_at, with_front}
 use Rattle.rt_lex.specs.Gap.{Standing, Outside, Slash, Inside, Lost, after_byte, standing, HaveGaps}
-use Rattle.rt_lex.proofs.Lexing.{takes, by_test, and_left, and_right}
-use Rattle.rt_lex.proofs.Longest.{clash}
+use Rattle.rt_lex.proofs.Lexing.{takes, by_test}
 
 -- a reading that is inside a comment stands at the end of its line
 abbrev Stops : List ℕ → Type 0
@@ -84,7 +85,7 @@ stands_inside : (s : Standing) (text : List ℕ) → s ≡ Inside → Stops text
 stands_inside s text e h = rw e h
 
 comment_skips : (b : ℕ) (text : List ℕ) → starts_with eqb (b ∷ text) (47 ∷ 47 ∷ []) ≡ true → Skipped (b ∷ text) (skips (length (comment (b ∷ text)))) Outside
-comment_skips b [] e = absurd (clash false (and_right (eqb 47 b) false e) refl)
+comment_skips b [] e = absurd (true_and_false false (and_right (eqb 47 b) false e) refl)
 comment_skips b (x ∷ rest) e =
     let whole = b ∷ x ∷ rest in
     let len : length (comment whole) ≡ prefix_len (λ c. not (eqb c 10)) whole = length-prefix_len (λ c. not (eqb c 10)) whole in
@@ -95,13 +96,13 @@ comment_skips b (x ∷ rest) e =
 comment_does : (b : ℕ) (text : List ℕ) (s : Standing) → MayStand s (b ∷ text) → is_blank b ≡ false → starts_with eqb (b ∷ text) (47 ∷ 47 ∷ []) ≡ true → Does (b ∷ text) s (skips (length (comment (b ∷ text))))
 comment_does b text Outside may other e = inl (refl, comment_skips b text e)
 comment_does b text Slash may other e = absurd may
-comment_does b text Inside may other e = absurd (clash (is_blank 10) refl (subst (λ (c : ℕ). is_blank c ≡ false) may other))
+comment_does b text Inside may other e = absurd (true_and_false (is_blank 10) refl (subst (λ (c : ℕ). is_blank c ≡ false) may other))
 comment_does b text Lost may other e = absurd may
 
 token_does : (b : ℕ) (text : List ℕ) (s : Standing) → MayStand s (b ∷ text) → is_blank b ≡ false → starts_with eqb (b ∷ text) (47 ∷ 47 ∷ []) ≡ false → Made (b ∷ text) s
 token_does b text Outside may other e = record { outside = refl; plain = e }
 token_does b text Slash may other e = absurd may
-token_does b text Inside may other e = absurd (clash (is_blank 10) refl (subst (λ (c : ℕ). is_blank c ≡ false) may other))
+token_does b text Inside may other e = absurd (true_and_false (is_blank 10) refl (subst (λ (c : ℕ). is_blank c ≡ false) may other))
 token_does b text Lost may other e = absurd may
 
 front_does : (b : ℕ) (text : List ℕ) (s : Standing) → MayStand s (b ∷ text) → Does (b ∷ text) s (front_of b (b ∷ text))
@@ -133,13 +134,10 @@ gap_is src from at text gap r =
     let n : at - from ≡ length gap = omega (arith, r.place) in
     rw (n, r.whole) (take-append_seam gap text)
 
-drop_more : (src : List ℕ) (at n : ℕ) (text : List ℕ) → drop at src ≡ text → drop (at + n) src ≡ drop n text
-drop_more src at n text h = sym (drop-drop n at src) ∙ ap (drop n) h
-
 longer : (src : List ℕ) (from at n : ℕ) (text gap : List ℕ) → Reads src from at text gap → n ≤ length text → MayStand (fold after_byte (standing gap) (take n text)) (drop n text)
     → Reads src from (at + n) (drop n text) (gap ++ take n text)
 longer src from at n text gap r fits may = record {
-  here = drop_more src at n text r.here;
+  here = drop_drop src at n text r.here;
   whole = r.whole ∙ ap (λ (t : List ℕ). gap ++ t) (sym (take-append-drop n text)) ∙ sym (append_assoc gap (take n text) (drop n text));
   place = omega (arith, r.place, length-append gap (take n text), length-take-le n text fits);
   may = subst (λ (s : Standing). MayStand s (drop n text)) (sym (fold-append after_byte Outside gap (take n text))) may;
@@ -172,7 +170,7 @@ gaps_of src (suc fuel) from at (b ∷ text) gap h r =
     let all : HaveGaps src from (with_front front.kind at own more) = elim (front_does b text (standing gap) r.may) [
       | inl skipped ↦ skip_with src from at own front.kind more skipped.0 (gaps_of src fuel from (at + front.len) behind (gap ++ own) fits (longer src from at front.len whole gap r t.within skipped.1.may))
       | inr made ↦
-          let next : HaveGaps src (at + front.len) more = gaps_of src fuel (at + front.len) (at + front.len) behind [] fits (none_yet src (at + front.len) behind (drop_more src at front.len whole r.here)) in
+          let next : HaveGaps src (at + front.len) more = gaps_of src fuel (at + front.len) (at + front.len) behind [] fits (none_yet src (at + front.len) behind (drop_drop src at front.len whole r.here)) in
           let len : length own ≡ front.len = length-take-le front.len whole t.within in
           token_with src from at own front.kind more made.0 (ap standing (gap_is src from at whole gap r) ∙ made.1.outside) (ap (λ (x : List ℕ). starts_with eqb x (47 ∷ 47 ∷ [])) r.here ∙ made.1.plain)
           (subst (λ (k : ℕ). HaveGaps src (at + k) more) (sym len) next)

@@ -8,6 +8,9 @@ use Rattle.std.proofs.lemmas.List.{length-take, length-drop}
 use Rattle.std.proofs.lemmas.List.Sums.{prefix_len-le-length}
 use Rattle.std.proofs.lemmas.List.Folds.{length-prefix_len}
 use Rattle.std.proofs.lemmas.Slice.Eq.{bytes_eq-Decides}
+use Rattle.rt_lemmas.proofs.Bools.{or_left, and_left}
+use Rattle.rt_lemmas.proofs.Runs.{run_some, run_within}
+use Rattle.rt_lemmas.proofs.Texts.{any_text_is}
 use Rattle.rt_lex.specs.declared.token.Kind.TheVariants as kind
 use Rattle.rt_lex.specs.Bytes.{is_hex_digit, is_blank}
 use Rattle.rt_ids.specs.Byte.{is_name_byte, is_digit, is_letter}
@@ -33,45 +36,8 @@ pub by_test : (P : Front → Type 0) (test : Bool) (x y : Front) → (test ≡ t
 by_test P true x y h k = h refl
 by_test P false x y h k = k refl
 
-pub or_cases : (a b : Bool) → (a || b) ≡ true → (a ≡ true) ⊎ (b ≡ true)
-or_cases true b h = inl refl
-or_cases false b h = inr h
-
-pub or_left : (a b : Bool) → a ≡ true → (a || b) ≡ true
-or_left true b h = refl
-or_left false b h = absurd cc
-
-pub or_right : (a b : Bool) → b ≡ true → (a || b) ≡ true
-or_right true b h = refl
-or_right false b h = h
-
-pub and_left : (a b : Bool) → (a && b) ≡ true → a ≡ true
-and_left true b h = refl
-and_left false b h = h
-
-pub and_right : (a b : Bool) → (a && b) ≡ true → b ≡ true
-and_right true b h = h
-and_right false b h = absurd cc
-
-run_some : (p : ℕ → Bool) (b : ℕ) (text : List ℕ) → p b ≡ true → 0 < length (take_while p (b ∷ text))
-run_some p b text h =
-    let e : prefix_len p (b ∷ text) ≡ 1 + prefix_len p text = rw h refl in
-    omega (arith, e, length-prefix_len p (b ∷ text))
-
-run_within : (p : ℕ → Bool) (text : List ℕ) → length (take_while p text) ≤ length text
-run_within p text = omega (arith, length-prefix_len p text, prefix_len-le-length p text)
-
--- a text that is one of these has what they have
-pub any_is : (P : List ℕ → Type 0) (text : List ℕ) (signs : List (List ℕ)) → AllByRecursion P signs → list_any (λ s. bytes_eq text s) signs ≡ true → P text
-any_is P text [] all h = absurd cc
-any_is P text (s ∷ signs) all h =
-    elim (or_cases (bytes_eq text s) (list_any (λ s. bytes_eq text s) signs) h) [
-      | inl here ↦ subst P (sym ((bytes_eq-Decides text s).0 here)) all.0
-      | inr there ↦ any_is P text signs all.1 there
-    ]
-
 pub long_has_two : (text : List ℕ) → is_long_sign text ≡ true → length text ≡ 2
-long_has_two text h = any_is (λ s. length s ≡ 2) text long_signs (refl, (refl, (refl, (refl, (refl, (refl, (refl, tt))))))) h
+long_has_two text h = any_text_is (λ s. length s ≡ 2) text long_signs (refl, (refl, (refl, (refl, (refl, (refl, (refl, tt))))))) h
 
 hex_within : (text : List ℕ) (test : Bool) → (length (cond test (take_while is_hex_digit (drop 2 text)) []) ≡ 0 → ⊥) → 2 + length (cond test (take_while is_hex_digit (drop 2 text)) []) ≤ length text
 hex_within text true h = omega (arith, h, run_within is_hex_digit (drop 2 text), length-drop 2 text)
@@ -141,11 +107,3 @@ takes at b text =
 pub takes_first : (front : Front) (at : ℕ) (text : List ℕ) → 1 ≤ length text → front ≡ front_of (get_or text 0 0) text → Takes front at text
 takes_first front at [] some e = absurd (omega arith)
 takes_first front at (b ∷ rest) some e = subst (λ (f : Front). Takes f at (b ∷ rest)) (sym e) (takes at b rest)
-
-bytes_eq_swaps : (xs ys : List ℕ) → bytes_eq xs ys ≡ bytes_eq ys xs
-bytes_eq_swaps xs ys = same_from_decides (bytes_eq xs ys) (bytes_eq ys xs) (bytes_eq-Decides xs ys) (λ e. sym ((bytes_eq-Decides ys xs).0 e), λ e. (bytes_eq-Decides ys xs).1 (sym e))
-
--- a search among texts, with the two sides of each comparison exchanged
-pub same_any : (text : List ℕ) (texts : List (List ℕ)) → list_any (λ w. bytes_eq w text) texts ≡ list_any (λ w. bytes_eq text w) texts
-same_any text [] = refl
-same_any text (w ∷ texts) = rw (bytes_eq_swaps w text, same_any text texts) refl

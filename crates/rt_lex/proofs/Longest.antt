@@ -5,6 +5,9 @@ use Rattle.std.specs.List.{list_all, take_while, prefix_len, starts_with}
 use Rattle.std.proofs.lemmas.Bool.{eqb-true, leb-true}
 use Rattle.std.proofs.lemmas.List.{length-take-le}
 use Rattle.std.proofs.lemmas.List.Folds.{length-prefix_len}
+use Rattle.rt_lemmas.proofs.Bools.{true_and_false, and_both, or_cases, or_left, and_left, and_right}
+use Rattle.rt_lemmas.proofs.Runs.{run_ends}
+use Rattle.rt_lemmas.proofs.Texts.{any_text_is}
 use Rattle.rt_lex.specs.declared.token.Kind.{Kind}
 use Rattle.rt_lex.specs.declared.token.Kind.TheVariants as kind
 use Rattle.rt_lex.specs.Bytes.{is_hex_digit, is_blank}
@@ -13,30 +16,14 @@ use Rattle.rt_lex.specs.Spelling.{is_long_sign, is_short_sign, long_signs}
 use Rattle.rt_lex.specs.Front.{Front, skips, makes, comment, front_of, name_front, number_front, sign_front, hex_digits}
 use Rattle.rt_lex.specs.Split.{is_run, is_hex, is_number, is_sign, is_whole}
 use Rattle.rt_ids.specs.Word.{is_identifier}
-use Rattle.rt_lex.proofs.Lexing.{or_cases, or_left, and_left, and_right, by_test, any_is, long_has_two, front_fits}
-
-pub clash : (x : Bool) → x ≡ true → x ≡ false → ⊥
-clash x h k = cc
-
-pub and_both : (a b : Bool) → a ≡ true → b ≡ true → (a && b) ≡ true
-and_both a b h k = rw (h, k) refl
-
-at_first : (test : Bool) (len n : ℕ) (rest : Bool) → cond test (1 + len) 0 < suc n → (len < n → rest ≡ false) → (test && rest) ≡ false
-at_first true len n rest h k = k (omega (arith, h))
-at_first false len n rest h k = refl
-
--- more bytes than a run do not all pass
-run_ends : (p : ℕ → Bool) (text : List ℕ) (n : ℕ) → prefix_len p text < n → n ≤ length text → list_all p (take n text) ≡ false
-run_ends p [] n h k = absurd (omega (arith, h, k))
-run_ends p (b ∷ text) zero h k = absurd (omega (arith, h))
-run_ends p (b ∷ text) (suc n) h k = at_first (p b) (prefix_len p text) n (list_all p (take n text)) h (λ i. run_ends p text n i (omega (arith, k)))
+use Rattle.rt_lex.proofs.Lexing.{by_test, long_has_two, front_fits}
 
 -- the first byte of a sign of two bytes is no letter and no digit
 abbrev first_is_plain : List ℕ → Type 0
 first_is_plain s = (is_letter (get_or s 0 0) ≡ false) × (is_digit (get_or s 0 0) ≡ false)
 
 long_is_plain : (p : List ℕ) → is_long_sign p ≡ true → first_is_plain p
-long_is_plain p h = any_is first_is_plain p long_signs ((refl, refl), ((refl, refl), ((refl, refl), ((refl, refl), ((refl, refl), ((refl, refl), ((refl, refl), tt))))))) h
+long_is_plain p h = any_text_is first_is_plain p long_signs ((refl, refl), ((refl, refl), ((refl, refl), ((refl, refl), ((refl, refl), ((refl, refl), ((refl, refl), tt))))))) h
 
 no_letter_in : (b : ℕ) → b ≤ 57 → is_letter b ≡ true → ⊥
 no_letter_in b low h =
@@ -83,12 +70,12 @@ Ends b (x ∷ rest) front = (m : ℕ) → m ≤ length rest → front.len < suc 
 name_ends : (b x : ℕ) (r : List ℕ) → is_letter b ≡ true → list_all is_name_byte (b ∷ x ∷ r) ≡ false → Excludes (b ∷ x ∷ r)
 name_ends b x r letter all =
     record {
-      name = λ h. clash (list_all is_name_byte (b ∷ x ∷ r)) (and_both (is_name_byte b) (list_all is_name_byte (x ∷ r)) (or_left (is_letter b) (is_digit b) letter) (and_right (is_letter b) _ h)) all;
+      name = λ h. true_and_false (list_all is_name_byte (b ∷ x ∷ r)) (and_both (is_name_byte b) (list_all is_name_byte (x ∷ r)) (or_left (is_letter b) (is_digit b) letter) (and_right (is_letter b) _ h)) all;
       number = λ h. elim (or_cases (is_run is_digit (b ∷ x ∷ r)) (is_hex (b ∷ x ∷ r)) h) [
         | inl decimal ↦ digit_is_no_letter b (and_left (is_digit b) _ decimal) letter
         | inr hex ↦ digit_is_no_letter b (zero_is_digit b (zero_first b x r (and_left (starts_with eqb (b ∷ x ∷ r) (48 ∷ 120 ∷ [])) _ hex))) letter
       ];
-      sign = λ h. clash (is_letter b) letter (long_is_plain (b ∷ x ∷ r) h).0;
+      sign = λ h. true_and_false (is_letter b) letter (long_is_plain (b ∷ x ∷ r) h).0;
     }
 
 letter_case : (b : ℕ) (text : List ℕ) → is_letter b ≡ true → Ends b text (name_front (take_while is_name_byte (b ∷ text)))
@@ -128,18 +115,18 @@ digit_case b (x ∷ rest) no_letter digit = λ m h w.
     let test = starts_with eqb whole (48 ∷ 120 ∷ []) in
     let len = length-prefix_len is_digit whole in
     record {
-      name = λ n. clash (is_letter b) (and_left (is_letter b) _ n) no_letter;
+      name = λ n. true_and_false (is_letter b) (and_left (is_letter b) _ n) no_letter;
       number = λ n. elim (or_cases (is_run is_digit (b ∷ x ∷ take m rest)) (is_hex (b ∷ x ∷ take m rest)) n) [
         | inl decimal ↦
             let short = digits_short test (take_while is_hex_digit rest) (length (take_while is_digit whole)) m (λ e. len ∙ one_digit b x rest e) w in
-            clash (list_all is_digit (b ∷ x ∷ take m rest)) decimal (run_ends is_digit whole (suc (suc m)) (omega (arith, short, len)) (omega (arith, h)))
+            true_and_false (list_all is_digit (b ∷ x ∷ take m rest)) decimal (run_ends is_digit whole (suc (suc m)) (omega (arith, short, len)) (omega (arith, h)))
         | inr hex ↦
             let run = run_all is_hex_digit (take m rest) (and_right (starts_with eqb (b ∷ x ∷ take m rest) (48 ∷ 120 ∷ [])) _ hex) in
             let some : 0 < m = omega (arith, run.1, length-take-le m rest h) in
             let short = hex_short test (take_while is_hex_digit rest) (length (take_while is_digit whole)) m (and_left test _ hex) some w in
-            clash (list_all is_hex_digit (take m rest)) run.0 (run_ends is_hex_digit rest m (omega (arith, short, length-prefix_len is_hex_digit rest)) h)
+            true_and_false (list_all is_hex_digit (take m rest)) run.0 (run_ends is_hex_digit rest m (omega (arith, short, length-prefix_len is_hex_digit rest)) h)
       ];
-      sign = λ n. clash (is_digit b) digit (long_is_plain (b ∷ x ∷ take m rest) n).1;
+      sign = λ n. true_and_false (is_digit b) digit (long_is_plain (b ∷ x ∷ take m rest) n).1;
     }
 
 sign_short : (test : Bool) (k : Kind) (m : ℕ) → (cond test (makes 2 kind.Sign) (makes 1 k)).len < suc (suc m) → test ≡ true → m ≡ 0 → ⊥
@@ -151,10 +138,10 @@ sign_case b [] no_letter no_digit = tt
 sign_case b (x ∷ rest) no_letter no_digit = λ m h w.
     let p = b ∷ x ∷ take m rest in
     record {
-      name = λ n. clash (is_letter b) (and_left (is_letter b) _ n) no_letter;
+      name = λ n. true_and_false (is_letter b) (and_left (is_letter b) _ n) no_letter;
       number = λ n. elim (or_cases (is_run is_digit p) (is_hex p) n) [
-        | inl decimal ↦ clash (is_digit b) (and_left (is_digit b) _ decimal) no_digit
-        | inr hex ↦ clash (is_digit b) (zero_is_digit b (zero_first b x (take m rest) (and_left (starts_with eqb p (48 ∷ 120 ∷ [])) _ hex))) no_digit
+        | inl decimal ↦ true_and_false (is_digit b) (and_left (is_digit b) _ decimal) no_digit
+        | inr hex ↦ true_and_false (is_digit b) (zero_is_digit b (zero_first b x (take m rest) (and_left (starts_with eqb p (48 ∷ 120 ∷ [])) _ hex))) no_digit
       ];
       sign = λ n.
           let len : length p ≡ 2 = long_has_two p n in

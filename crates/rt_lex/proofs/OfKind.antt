@@ -3,6 +3,8 @@ use Rattle.std.proofs.Common.{◌≡◌, ℕ, suc, ◌+◌, Bool, true, false, c
 use Rattle.std.specs.List.{list_all, take_while, prefix_len, starts_with}
 use Rattle.std.proofs.lemmas.Bool.{eqb-false}
 use Rattle.std.proofs.lemmas.List.Folds.{length-prefix_len}
+use Rattle.rt_lemmas.proofs.Runs.{run_whole, run_passes, run_from}
+use Rattle.rt_lemmas.proofs.Bools.{or_left, or_right, or_cases, and_left, and_right, and_both, true_and_false}
 use Rattle.rt_lex.specs.declared.token.Kind.{Kind}
 use Rattle.rt_lex.specs.declared.token.Kind.TheVariants as kind
 use Rattle.rt_lex.specs.Bytes.{is_hex_digit, is_blank}
@@ -11,29 +13,8 @@ use Rattle.rt_lex.specs.Spelling.{is_long_sign, is_short_sign}
 use Rattle.rt_ids.specs.Word.{is_word, is_identifier}
 use Rattle.rt_lex.specs.Front.{Front, skips, makes, comment, front_of, name_front, number_front, sign_front, hex_digits}
 use Rattle.rt_lex.specs.Split.{is_run, is_hex, is_number, is_sign, is_whole, has_kind}
-use Rattle.rt_lex.proofs.Lexing.{or_left, or_right, or_cases, and_left, and_right, by_test, long_has_two}
-use Rattle.rt_lex.proofs.Longest.{and_both, clash, none_of}
-
-one_more : (n : ℕ) → 1 + n ≡ suc n
-one_more n = omega arith
-
--- the bytes of a run are the run
-whole_run : (p : ℕ → Bool) (text : List ℕ) → take (length (take_while p text)) text ≡ take_while p text
-whole_run p text = ap (λ (n : ℕ). take n text) (length-prefix_len p text)
-
-passes_at : (p : ℕ → Bool) (b : ℕ) (text : List ℕ) (test : Bool) → p b ≡ test → list_all p (take_while p text) ≡ true → list_all p (take (cond test (1 + prefix_len p text) 0) (b ∷ text)) ≡ true
-passes_at p b text true h all = rw (one_more (prefix_len p text)) (and_both (p b) (list_all p (take_while p text)) h all)
-passes_at p b text false h all = refl
-
-run_passes : (p : ℕ → Bool) (text : List ℕ) → list_all p (take_while p text) ≡ true
-run_passes p [] = refl
-run_passes p (b ∷ text) = passes_at p b text (p b) refl (run_passes p text)
-
--- a run behind a first byte that passes
-run_from : (p : ℕ → Bool) (b : ℕ) (text : List ℕ) → p b ≡ true → take_while p (b ∷ text) ≡ b ∷ take_while p text
-run_from p b text h =
-    let e : prefix_len p (b ∷ text) ≡ suc (prefix_len p text) = rw h (one_more (prefix_len p text)) in
-    ap (λ (n : ℕ). take n (b ∷ text)) e
+use Rattle.rt_lex.proofs.Lexing.{by_test, long_has_two}
+use Rattle.rt_lex.proofs.Longest.{none_of}
 
 abbrev HasOwnKind : List ℕ → Front → Type 0
 HasOwnKind whole front = (k : Kind) → front.kind ≡ Some k → has_kind k (take front.len whole) ≡ true
@@ -55,11 +36,11 @@ name_kind b text letter =
     let e : name ≡ b ∷ take_while is_name_byte text = run_from is_name_byte b text (or_left (is_letter b) (is_digit b) letter) in
     let h : is_identifier name ≡ true = subst (λ (t : List ℕ). is_identifier t ≡ true) (sym e) (and_both (is_letter b) (list_all is_name_byte (take_while is_name_byte text)) letter (run_passes is_name_byte text)) in
     let j = cond (is_word name) kind.Word kind.Name in
-    of_kind (b ∷ text) (length name) j (subst (λ (t : List ℕ). has_kind j t ≡ true) (sym (whole_run is_name_byte (b ∷ text))) (name_or_word (is_word name) name refl h))
+    of_kind (b ∷ text) (length name) j (subst (λ (t : List ℕ). has_kind j t ≡ true) (sym (run_whole is_name_byte (b ∷ text))) (name_or_word (is_word name) name refl h))
 
 decimal_kind : (b : ℕ) (text : List ℕ) → is_digit b ≡ true → is_number (take (length (take_while is_digit (b ∷ text))) (b ∷ text)) ≡ true
 decimal_kind b text digit =
-    let e = whole_run is_digit (b ∷ text) ∙ run_from is_digit b text digit in
+    let e = run_whole is_digit (b ∷ text) ∙ run_from is_digit b text digit in
     let h : is_number (b ∷ take_while is_digit text) ≡ true = or_left (is_run is_digit (b ∷ take_while is_digit text)) _ (and_both (is_digit b) (list_all is_digit (take_while is_digit text)) digit (run_passes is_digit text)) in
     subst (λ (t : List ℕ). is_number t ≡ true) (sym e) h
 
@@ -76,12 +57,12 @@ hex_kind_at b x rest false e some = absurd (some refl)
 hex_kind_at b x rest true e some =
     let run = take_while is_hex_digit rest in
     let h : is_number (b ∷ x ∷ run) ≡ true = or_right (is_run is_digit (b ∷ x ∷ run)) _ (and_both (starts_with eqb (b ∷ x ∷ run) (48 ∷ 120 ∷ [])) (is_run is_hex_digit run) e (all_run is_hex_digit run some (run_passes is_hex_digit rest))) in
-    let all : take (2 + length run) (b ∷ x ∷ rest) ≡ b ∷ x ∷ run = rw (two_more (length run)) (ap (λ (t : List ℕ). b ∷ x ∷ t) (whole_run is_hex_digit rest)) in
+    let all : take (2 + length run) (b ∷ x ∷ rest) ≡ b ∷ x ∷ run = rw (two_more (length run)) (ap (λ (t : List ℕ). b ∷ x ∷ t) (run_whole is_hex_digit rest)) in
     subst (λ (t : List ℕ). is_number t ≡ true) (sym all) h
 
 -- one byte does not begin with 0x
 one_is_no_hex : (b : ℕ) → starts_with eqb (b ∷ []) (48 ∷ 120 ∷ []) ≡ true → ⊥
-one_is_no_hex b h = clash false (and_right (eqb 48 b) false h) refl
+one_is_no_hex b h = true_and_false false (and_right (eqb 48 b) false h) refl
 
 hex_of_one : (b : ℕ) (test : Bool) → starts_with eqb (b ∷ []) (48 ∷ 120 ∷ []) ≡ test → (length (cond test (take_while is_hex_digit (drop 2 (b ∷ []))) []) ≡ 0 → ⊥) → ⊥
 hex_of_one b true e some = one_is_no_hex b e
@@ -108,12 +89,12 @@ long_kind b (x ∷ rest) h = h
 
 one_is_none : (b : ℕ) → is_letter b ≡ false → is_digit b ≡ false → is_short_sign b ≡ false → is_whole (b ∷ []) ≡ false
 one_is_none b no_letter no_digit no_sign =
-    none_of (is_identifier (b ∷ [])) (is_number (b ∷ [])) (is_sign (b ∷ [])) (λ h. clash (is_letter b) (and_left (is_letter b) true h) no_letter)
+    none_of (is_identifier (b ∷ [])) (is_number (b ∷ [])) (is_sign (b ∷ [])) (λ h. true_and_false (is_letter b) (and_left (is_letter b) true h) no_letter)
     (λ h. elim (or_cases (is_run is_digit (b ∷ [])) (is_hex (b ∷ [])) h) [
-      | inl decimal ↦ clash (is_digit b) (and_left (is_digit b) true decimal) no_digit
+      | inl decimal ↦ true_and_false (is_digit b) (and_left (is_digit b) true decimal) no_digit
       | inr hex ↦ one_is_no_hex b (and_left (starts_with eqb (b ∷ []) (48 ∷ 120 ∷ [])) _ hex)
     ])
-    (λ h. clash (is_short_sign b) h no_sign)
+    (λ h. true_and_false (is_short_sign b) h no_sign)
 
 short_kind : (b : ℕ) (test : Bool) → is_letter b ≡ false → is_digit b ≡ false → is_short_sign b ≡ test → has_kind (cond test kind.Sign kind.Foreign) (b ∷ []) ≡ true
 short_kind b true no_letter no_digit e = e

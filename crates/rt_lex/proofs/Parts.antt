@@ -3,6 +3,7 @@ use Rattle.std.proofs.Common.{◌≡◌, ℕ, zero, suc, ◌+◌, ◌<◌, ◌�
 use Rattle.std.specs.Prelude.{pred}
 use Rattle.std.specs.List.{AllByRecursion}
 use Rattle.std.proofs.lemmas.List.{length-take-le, length-drop, drop-drop}
+use Rattle.rt_lemmas.proofs.Lists.{drop_next, slice_within}
 use Rattle.rt_lex.specs.declared.token.Kind.{Kind}
 use Rattle.rt_lex.specs.Token.{Token}
 use Rattle.rt_lex.specs.Front.{front_of}
@@ -11,15 +12,6 @@ use Rattle.rt_lex.specs.Split.{LieIn, IsLongest}
 use Rattle.rt_lex.proofs.Lexing.{front_fits}
 use Rattle.rt_lex.proofs.Longest.{front_is_longest}
 use Rattle.rt_lex.proofs.OfKind.{front_has_kind}
-
-next_drop : (src : List ℕ) (at b : ℕ) (text : List ℕ) → drop at src ≡ b ∷ text → drop (suc at) src ≡ text
-next_drop src at b text h =
-    let e : at + 1 ≡ suc at = omega arith in
-    ap (λ (k : ℕ). drop k src) (sym e) ∙ sym (drop-drop 1 at src) ∙ ap (drop 1) h
-
--- a slice that is there ends within the text
-slice_within : (src text : List ℕ) (at len : ℕ) → drop at src ≡ text → len ≤ length text → 0 < len → at + len ≤ length src
-slice_within src text at len here fits some = omega (arith, fits, some, ap length here, length-drop at src)
 
 -- the tokens from here on lie behind each offset that is not past them
 lie_with : (src : List ℕ) (kind : Option Kind) (at len from : ℕ) (text : List ℕ) (more : List Token) → drop at src ≡ text → len ≤ length text → 0 < len → from ≤ at
@@ -31,12 +23,12 @@ lie_with src (Some k) at len from text more here fits some before rest =
 
 lie : (src : List ℕ) (n at : ℕ) (text : List ℕ) → drop at src ≡ text → (from : ℕ) → from ≤ at + n → LieIn src from (tokens_behind n at text)
 lie src n at [] here from before = tt
-lie src (suc n) at (b ∷ text) here from before = lie src n (suc at) text (next_drop src at b text here) from (omega (arith, before))
+lie src (suc n) at (b ∷ text) here from before = lie src n (suc at) text (drop_next src at b text here) from (omega (arith, before))
 lie src zero at (b ∷ text) here from before =
     let front = front_of b (b ∷ text) in
     let fits = front_fits b text in
     lie_with src front.kind at front.len from (b ∷ text) (tokens_behind (pred front.len) (suc at) text) here fits.within fits.some (omega (arith, before))
-    (λ start h. lie src (pred front.len) (suc at) text (next_drop src at b text here) start (omega (arith, h, fits.some)))
+    (λ start h. lie src (pred front.len) (suc at) text (drop_next src at b text here) start (omega (arith, h, fits.some)))
 
 longest_with : (src : List ℕ) (kind : Option Kind) (at : ℕ) (own : List ℕ) (more : List Token) → ((k : Kind) → kind ≡ Some k → IsLongest src (record { at = at; kind = k; text = own }))
     → AllByRecursion (IsLongest src) more → AllByRecursion (IsLongest src) (with_front kind at own more)
@@ -57,11 +49,11 @@ longest_here src at b text here k e =
 
 longest : (src : List ℕ) (n at : ℕ) (text : List ℕ) → drop at src ≡ text → AllByRecursion (IsLongest src) (tokens_behind n at text)
 longest src n at [] here = tt
-longest src (suc n) at (b ∷ text) here = longest src n (suc at) text (next_drop src at b text here)
+longest src (suc n) at (b ∷ text) here = longest src n (suc at) text (drop_next src at b text here)
 longest src zero at (b ∷ text) here =
     let front = front_of b (b ∷ text) in
     longest_with src front.kind at (take front.len (b ∷ text)) (tokens_behind (pred front.len) (suc at) text) (longest_here src at b text here)
-    (longest src (pred front.len) (suc at) text (next_drop src at b text here))
+    (longest src (pred front.len) (suc at) text (drop_next src at b text here))
 
 pub tokens_lie : (src : List ℕ) → LieIn src 0 (tokens src)
 tokens_lie src = lie src 0 0 src refl 0 (omega arith)

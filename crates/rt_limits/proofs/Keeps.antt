@@ -2,6 +2,7 @@
 -- the grammar, once it holds of those that it is made of.
 use Rattle.std.proofs.Common.{◌≡◌, ℕ, zero, suc, ◌<◌, ◌≤◌, Bool, true, List, [], ◌∷◌, ◌++◌, length, None, refl, sym, subst, inl, inr, length-append, arith}
 use Rattle.std.specs.List.{AllByRecursion}
+use Rattle.rt_lemmas.proofs.Lists.{all_push}
 use Rattle.rt_lex.specs.Token.{Token}
 use Rattle.rt_lex.specs.Split.{has_kind, IsLongest}
 use Rattle.rt_grammar.specs.Mark.{Mark, Takes, Ends, IsWithin}
@@ -79,12 +80,8 @@ keeps_repeat P steps s h = record { kept = λ marks x l all. (keeps_times P l.0 
 
 -- Items one behind the other.
 
-all_more : {A : Type 0} (P : A → Type 0) (xs : List A) (x : A) → AllByRecursion P xs → P x → AllByRecursion P (xs ++ x ∷ [])
-all_more P [] x all h = (h, tt)
-all_more P (y ∷ xs) x (first, all) h = (first, all_more P xs x all h)
-
 pub keeps_all : {A : Type 0} {P : A → Type 0} {item : ℕ → Language A} → ((n : ℕ) → Keeps (item n) P) → (xs : List A) → AllByRecursion P xs → Keeps (adds item xs) (AllByRecursion P)
-keeps_all {P = P} items xs all = keeps_then (items (length xs)) (λ x h. keeps_gives (all_more P xs x all h))
+keeps_all {P = P} items xs all = keeps_then (items (length xs)) (λ x h. keeps_gives (all_push P xs x all h))
 
 -- not more than so many, of which this holds
 pub record AreFew {A : Type 0} (P : A → Type 0) (most : ℕ) (xs : List A) : Type 0 where
@@ -95,7 +92,7 @@ pub none_are_few : {A : Type 0} (P : A → Type 0) (most : ℕ) → AreFew P mos
 none_are_few P most = record { all = tt; few = omega arith }
 
 pub one_more_is_few : {A : Type 0} (P : A → Type 0) (most : ℕ) (xs : List A) (x : A) → AreFew P most xs → P x → length xs < most → AreFew P most (xs ++ x ∷ [])
-one_more_is_few P most xs x h k below = record { all = all_more P xs x h.all k; few = omega (arith, below, length-append xs (x ∷ [])) }
+one_more_is_few P most xs x h k below = record { all = all_push P xs x h.all k; few = omega (arith, below, length-append xs (x ∷ [])) }
 
 pub keeps_few : {A : Type 0} {P : A → Type 0} {most : ℕ} {item : ℕ → Language A} → ((n : ℕ) → Keeps (item n) (λ x. P x × (n < most))) → (xs : List A) → AreFew P most xs → Keeps (adds item xs) (AreFew P most)
 keeps_few {P = P} {most = most} items xs h = keeps_then (items (length xs)) (λ x k. keeps_gives (one_more_is_few P most xs x h k.0 k.1))

@@ -2,6 +2,7 @@
 use Rattle.std.proofs.Common.{◌≡◌, ℕ, ◌^◌, ◌<◌, ◌≤◌, Bool, true, false, not, ◌&&◌, List, length, Option, Some, None, refl, subst}
 use Rattle.std.specs.Prelude.{nat_lt, nat_le}
 use Rattle.std.proofs.lemmas.Bool.{ltb-true, ltb-false, leb-true, leb-false}
+use Rattle.rt_lemmas.proofs.Bools.{not_false, and_left, and_right}
 use Rattle.rt_ids.specs.declared.limit.Limit.{Limit}
 use Rattle.rt_ids.specs.declared.limit.Limit.TheVariants as limit
 use Rattle.rt_ids.specs.declared.limits.TheConstants.{NAME_BYTES}
@@ -38,22 +39,10 @@ not_above n greatest what e = ltb-false greatest n (not_passed (nat_lt greatest 
 pub still_below : (most n : ℕ) (what : Limit) → limit_if (nat_le most n) what ≡ None → n < most
 still_below most n what e = leb-false most n (not_passed (nat_le most n) what e)
 
-not_turned : (b : Bool) → not b ≡ false → b ≡ true
-not_turned true e = refl
-not_turned false e = absurd cc
-
-and_first : (a b : Bool) → (a && b) ≡ true → a ≡ true
-and_first true b e = refl
-and_first false b e = e
-
-and_second : (a b : Bool) → (a && b) ≡ true → b ≡ true
-and_second true b e = e
-and_second false b e = absurd cc
-
 pub between : (least greatest n : ℕ) (what : Limit) → limit_if (not (nat_le least n && nat_le n greatest)) what ≡ None → (least ≤ n) × (n ≤ greatest)
 between least greatest n what e =
-    let h : (nat_le least n && nat_le n greatest) ≡ true = not_turned (nat_le least n && nat_le n greatest) (not_passed (not (nat_le least n && nat_le n greatest)) what e) in
-    (leb-true least n (and_first (nat_le least n) (nat_le n greatest) h), leb-true n greatest (and_second (nat_le least n) (nat_le n greatest) h))
+    let h : (nat_le least n && nat_le n greatest) ≡ true = not_false (nat_le least n && nat_le n greatest) (not_passed (not (nat_le least n && nat_le n greatest)) what e) in
+    (leb-true least n (and_left (nat_le least n) (nat_le n greatest) h), leb-true n greatest (and_right (nat_le least n) (nat_le n greatest) h))
 
 -- Tokens.
 
@@ -86,7 +75,7 @@ pub record IsNameTaken (what : Option Limit) (x : Ident) : Type 0 where
 name_text : (k : Kind) (text : List ℕ) (at : ℕ) (x : Ident) → ident_at k text at ≡ Some x → has_kind k text ≡ true → (is_identifier x.name ≡ true) × (is_word x.name ≡ false)
 name_text kind.Name text at x e h =
     let is : text ≡ x.name = cc in
-    subst (λ (s : List ℕ). (is_identifier s ≡ true) × (is_word s ≡ false)) is (and_first (is_identifier text) (not (is_word text)) h, turned (is_word text) (and_second (is_identifier text) (not (is_word text)) h))
+    subst (λ (s : List ℕ). (is_identifier s ≡ true) × (is_word s ≡ false)) is (and_left (is_identifier text) (not (is_word text)) h, turned (is_word text) (and_right (is_identifier text) (not (is_word text)) h))
   where
     turned : (b : Bool) → not b ≡ true → b ≡ false
     turned true e = absurd cc
@@ -117,7 +106,7 @@ keeps_number {what} = keeps_as keeps_token taken
     taken n t =
         let own = limit_if (not (nat_lt n.value (2 ^ 32))) limit.Number in
         record {
-          number = ltb-true n.value (2 ^ 32) (not_turned (nat_lt n.value (2 ^ 32)) (not_passed (not (nat_lt n.value (2 ^ 32))) limit.Number (first_free own (what n.value) t.free)));
+          number = ltb-true n.value (2 ^ 32) (not_false (nat_lt n.value (2 ^ 32)) (not_passed (not (nat_lt n.value (2 ^ 32))) limit.Number (first_free own (what n.value) t.free)));
           free = second_free own (what n.value) t.free;
         }
 

@@ -1,6 +1,7 @@
 -- Texts of different images over the same names differ.
 use Rattle.std.proofs.Common.{◌≡◌, ◌≢◌, ℕ, suc, List, [], ◌∷◌, ◌++◌, get_or, drop, flat_map, Option, refl, sym, ap, ap₂, subst, ◌∙◌, arith, append_assoc, append-nil}
 use Rattle.std.specs.List.{AllByRecursion}
+use Rattle.rt_lemmas.proofs.Lists.{all_both}
 use Rattle.rt_ids.specs.Names.{Names}
 use Rattle.rt_code.specs.Image.{Image}
 use Rattle.rt_code.specs.declared.instr.Instr.{Instr}
@@ -91,10 +92,6 @@ record IsReadable (names : Names) (img : Image) : Type 0 where
   bodies : AllByRecursion (λ row. HasTask names row.task × AreShort (row.entry ∷ row.frame ∷ row.args ∷ [])) img.bodies
   code : AllByRecursion (IsGoodLine names) img.code
 
-both : {A : Type 0} (P Q : A → Type 0) (xs : List A) → AllByRecursion P xs → AllByRecursion Q xs → AllByRecursion (λ x. P x × Q x) xs
-both P Q [] p q = tt
-both P Q (x ∷ xs) p q = ((p.0, q.0), both P Q xs p.1 q.1)
-
 good_lines : (names : Names) (lines : List (Instr × Option Note))
     → AllByRecursion (λ line. HasInstr names line.0) lines → AllByRecursion (λ line. HasNote names line.1) lines
     → AllByRecursion (λ line. AreShort (instr_numbers line.0)) lines → AllByRecursion (λ line. AreShort (note_numbers line.1)) lines
@@ -107,9 +104,9 @@ readable img listable short = record {
   bits = short.bits;
   stack_bytes = short.stack_bytes;
   thread_words = short.thread_words;
-  cells = both _ _ img.cells listable.cells short.cells;
-  irqs = both _ _ img.irqs listable.irqs short.irqs;
-  bodies = both _ _ img.bodies listable.bodies short.bodies;
+  cells = all_both _ _ img.cells listable.cells short.cells;
+  irqs = all_both _ _ img.irqs listable.irqs short.irqs;
+  bodies = all_both _ _ img.bodies listable.bodies short.bodies;
   code = good_lines img.names img.code listable.instrs listable.notes short.instrs short.notes;
 }
 

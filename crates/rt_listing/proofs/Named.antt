@@ -9,6 +9,7 @@ use Rattle.std.proofs.lemmas.List.Sums.{position_or_len_is, passes_at_first}
 use Rattle.std.proofs.lemmas.Option.{slice_get-get_or}
 use Rattle.std.proofs.lemmas.Slice.Eq.{bytes_eq-Decides}
 use Rattle.std.proofs.lemmas.Bool.{eqb-true, ne_eqb, false_from_ne_true}
+use Rattle.rt_lemmas.proofs.Lists.{is_some_within}
 use Rattle.rt_ids.specs.Names.{Names}
 use Rattle.rt_ids.specs.declared.ids.BodyId.{BodyId}
 use Rattle.rt_ids.specs.declared.ids.BodyId.TheVariants as body
@@ -52,17 +53,12 @@ irq_names names = map (λ irq. irq.0) names.irqs
 abbrev pub irq_of : Names → List ℕ → ℕ
 irq_of names w = (get_or names.irqs (place_of (irq_names names) w) ([], 0)).1
 
-some_within : {X : Type 0} (xs : List X) (i : ℕ) → IsSome (slice_get xs i) → i < length xs
-some_within [] i h = absurd cc
-some_within (x ∷ xs) zero h = omega arith
-some_within (x ∷ xs) (suc i) h = let more : i < length xs = some_within xs i h in omega arith
-
 pub irq_shows : (names : Names) (n : ℕ) → AreWritable names → HasIrq names n → Shows (irq_of names) n (irq_name names n)
 irq_shows names n good here =
     let name = λ (irq : List ℕ × ℕ). irq.0 in
     let test = λ (irq : List ℕ × ℕ). irq.1 == n in
     let first = position_or_len test names.irqs in
-    let below : first < length names.irqs = some_within names.irqs first (subst IsSome (find_at test names.irqs) here) in
+    let below : first < length names.irqs = is_some_within names.irqs first (subst IsSome (find_at test names.irqs) here) in
     let found : find test names.irqs ≡ Some (get_or names.irqs first ([], 0)) = find_at test names.irqs ∙ slice_get-get_or names.irqs first ([], 0) below in
     let at_first : get_or (irq_names names) first [] ≡ name (get_or names.irqs first ([], 0)) = get_or-map name names.irqs first ([], 0) [] below in
     let named : irq_name names n ≡ get_or (irq_names names) first [] = rw (found, at_first) refl in

@@ -5,6 +5,7 @@ use Rattle.std.specs.Fmt.{digits, digits_onto, digit_glyph}
 use Rattle.std.specs.Str.Parse.{digits_value}
 use Rattle.std.proofs.lemmas.Fmt.{decimal_is_IsNumeral}
 use Rattle.std.proofs.lemmas.Bool.{eqb-true, ne_eqb, lt-ltb, false_from_ne_true}
+use Rattle.rt_lemmas.proofs.Bools.{left_of_none, right_of_none}
 use Rattle.rt_code.specs.Listable.{IsWord}
 use Rattle.rt_listing.specs.Numbers.{IsShort}
 
@@ -44,17 +45,9 @@ word_has_no_blank (b ∷ w) h = (
   word_has_no_blank w h.1,
 )
 
-or_left : (a b : Bool) → (a || b) ≡ false → a ≡ false
-or_left true b e = e
-or_left false b e = refl
-
-or_right : (a b : Bool) → (a || b) ≡ false → b ≡ false
-or_right true b e = absurd cc
-or_right false b e = e
-
 pub literal_before : (u w : List ℕ) → list_any is_blank u ≡ false → HasNoBlank w → HasNoBlank (u ++ w)
 literal_before [] w e h = h
-literal_before (b ∷ u) w e h = (or_left (is_blank b) _ e, literal_before u w (or_right (is_blank b) _ e) h)
+literal_before (b ∷ u) w e h = (left_of_none (is_blank b) _ e, literal_before u w (right_of_none (is_blank b) _ e) h)
 
 glyph_is_no_blank : (d : ℕ) → d < 10 → is_blank (digit_glyph false d) ≡ false
 glyph_is_no_blank d h = rw (lt-ltb d 10 h, ne_eqb (48 + d) 32 (λ e. omega (arith, e)), ne_eqb (48 + d) 10 (λ e. omega (arith, e))) refl

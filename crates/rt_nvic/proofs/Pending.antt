@@ -3,6 +3,7 @@ use Rattle.std.proofs.Common.{◌≡◌, ◌≢◌, ℕ, zero, suc, ◌+◌, ◌
 use Rattle.std.specs.Int.{bit_at}
 use Rattle.std.proofs.lemmas.Bool.Decides.{nat_tests}
 use Rattle.std.proofs.lemmas.Nat.Bits.{shr_and_one}
+use Rattle.rt_lemmas.proofs.Bools.{with_false}
 use native.Mathlib.Decide.{ℕ_discrete}
 use Rattle.rt_ids.specs.Arrivals.{arrivals, arrivals_below, pended, holds}
 use Rattle.rt_nvic.proofs.Arriving.{pended_none, pended_set, pended_clear}
@@ -37,10 +38,6 @@ all_below b k irq = grind (arith, nat_tests)
 or_true : (p : Bool) → true ≡ (p || true)
 or_true true = refl
 or_true false = refl
-
-or_false : (p : Bool) → p ≡ (p || false)
-or_false true = refl
-or_false false = refl
 
 each_at : (k bits bit irq : ℕ) (pending : List Bool) → bit < 32 → irq < length pending → bit_at bits bit ≡ 1 → irq ≡ 32 * k + bit
     → get_or (pended (arrivals_below k bits (bit + 1)) pending) irq false ≡ (get_or pending irq false || holds_below (bit_at bits) k (bit + 1) irq)
@@ -82,7 +79,7 @@ each_below : (k bits places irq : ℕ) (pending : List Bool) → places ≤ 32 �
     → get_or (pended (arrivals_below k bits places) pending) irq false ≡ (get_or pending irq false || holds_below (bit_at bits) k places irq)
 each_below k bits zero irq pending low inside =
     ap (λ (l : List Bool). get_or l irq false) (pended_none k bits pending)
-    ∙ or_false (get_or pending irq false)
+    ∙ with_false (get_or pending irq false)
     ∙ ap (λ (b : Bool). get_or pending irq false || b) (sym (none_below (bit_at bits) k irq))
 each_below k bits (suc bit) irq pending low inside =
     let P : ℕ → Type 0 = λ places. get_or (pended (arrivals_below k bits places) pending) irq false ≡ (get_or pending irq false || holds_below (bit_at bits) k places irq) in

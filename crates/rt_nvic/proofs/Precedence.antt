@@ -1,6 +1,7 @@
 -- What was chosen precedes every other that is ready.
 use Rattle.std.proofs.Common.{◌≡◌, ℕ, zero, suc, ◌<◌, ◌≤◌, inl, inr, Bool, true, false, if◌then◌else◌, Option, Some, None, refl, sym, subst, ⊎_elim, ◌∙◌, IfSome, IfNone, arith}
 use Rattle.std.proofs.lemmas.Bool.{cases_lt, false≢true}
+use Rattle.rt_lemmas.proofs.Numbers.{below_suc}
 use Rattle.rt_ids.specs.declared.limits.TheConstants.{IRQ_NUMBERS}
 use Rattle.rt_nvic.specs.Nvic.{Nvic, IsSized, value_of, is_ready, picked, IsReady, Precedes}
 use Rattle.rt_ids.specs.Lists.{numbers_below}
@@ -19,10 +20,6 @@ precedes_from_order n irq other v l = ⊎_elim (λ less. inl less) (λ more. inr
 ready_below : (n : Nvic) (exec limit irq : ℕ) → IsReady n exec irq → value_of n irq < limit → IsReady n limit irq
 ready_below n exec limit irq is l = record { pending = is.pending; enabled = is.enabled; higher = l }
 
--- what holds below a count and at it
-below_more : (P : ℕ → Type 0) (count : ℕ) → ((k : ℕ) → k < count → P k) → P count → (k : ℕ) → k < suc count → P k
-below_more P count before at k l = ⊎_elim (before k) (λ ge. let e : count ≡ k = omega arith in subst P e at) (cases_lt k count)
-
 not_ready : (n : Nvic) (exec irq : ℕ) → is_ready n exec irq ≡ false → ¬ IsReady n exec irq
 not_ready n exec irq h is = false≢true (sym h ∙ test_from_ready n exec irq is)
 
@@ -31,19 +28,19 @@ not_higher n exec limit irq h is = ⊎_elim (λ less. absurd (not_ready n limit 
 
 choice_more_by : (n : Nvic) (exec count : ℕ) (o : Option ℕ) (passes : Bool) → is_ready n (limit_of n exec o) count ≡ passes → IsChoice n exec count o → IsChoice n exec (suc count) (if passes then Some count else o)
 choice_more_by n exec count None true h is =
-    (omega arith, ready_from_test n exec count h, below_more (λ k. IsReady n exec k → Precedes n count k) count (λ k l r. absurd (is k l r)) (λ r. inr (refl, omega arith)))
-choice_more_by n exec count None false h is = below_more (λ k. ¬ IsReady n exec k) count is (not_ready n exec count h)
+    (omega arith, ready_from_test n exec count h, below_suc (λ k. IsReady n exec k → Precedes n count k) count (λ k l r. absurd (is k l r)) (λ r. inr (refl, omega arith)))
+choice_more_by n exec count None false h is = below_suc (λ k. ¬ IsReady n exec k) count is (not_ready n exec count h)
 choice_more_by n exec count (Some irq) true h is =
     let ready = ready_from_test n (value_of n irq) count h in
     let l : value_of n count < exec = let a = ready.higher in let b = is.1.higher in omega arith in (
       omega arith,
       ready_below n (value_of n irq) exec count ready l,
-      below_more (λ k. IsReady n exec k → Precedes n count k) count (λ k l r. inl (⊎_elim (λ less. omega arith) (λ same. omega arith) (is.2 k l r))) (λ r. inr (refl, omega arith)),
+      below_suc (λ k. IsReady n exec k → Precedes n count k) count (λ k l r. inl (⊎_elim (λ less. omega arith) (λ same. omega arith) (is.2 k l r))) (λ r. inr (refl, omega arith)),
     )
 choice_more_by n exec count (Some irq) false h is = (
   omega arith,
   is.1,
-  below_more (λ k. IsReady n exec k → Precedes n irq k) count is.2 (λ r. precedes_from_order n irq count (not_higher n exec (value_of n irq) count h r) (omega arith)),
+  below_suc (λ k. IsReady n exec k → Precedes n irq k) count is.2 (λ r. precedes_from_order n irq count (not_higher n exec (value_of n irq) count h r) (omega arith)),
 )
 
 pub choice : (n : Nvic) (exec count : ℕ) → IsChoice n exec count (chosen n exec (numbers_below count))

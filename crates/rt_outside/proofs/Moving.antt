@@ -6,11 +6,6 @@ use Rattle.std.proofs.lemmas.Grind.{common_steps}
 use Rattle.std.specs.Prelude.{Result, Ok, Err, OnErr}
 use Rattle.rt_outside.specs.Bytes.{MovesTold, Moves, Gave, Took}
 
--- what holds, holds on an error
-pub OnErr-from : {T E P : Type 0} (result : Result T E) → P → OnErr result P
-OnErr-from (Ok value) h = tt
-OnErr-from (Err error) h = h
-
 -- what was taken grows by the first bytes of the next piece
 pub Took-more : (before mid after : Option (List ℕ)) (bytes : List ℕ) (done n : ℕ) → Took before mid (take done bytes) → Took mid after (take n (take (length bytes - done) (drop done bytes))) → Took before after (take (done + n) bytes)
 Took-more None None None bytes done n first then = tt

@@ -1,6 +1,7 @@
 -- The readers of atoms and of whole expressions.
 use Rattle.std.proofs.Common.{◌≡◌, ℕ, zero, suc, Bool, true, false, List, [], ◌∷◌, Some, Ok, Err, refl, arith}
 use Rattle.std.specs.Prelude.{◌||◌, nat_lt, nat_le, codes, bytes_eq, if◌then◌else◌}
+use Rattle.rt_lemmas.proofs.Bools.{or_left, or_right, or_neither}
 use Rattle.rt_ids.specs.declared.op.Op.TheVariants as op
 use Rattle.rt_ids.specs.declared.limit.Limit.TheVariants as limit
 use Rattle.rt_ids.specs.declared.limits.TheConstants.{PARENTHESES, DEPTH}
@@ -21,7 +22,7 @@ use Rattle.rt_parse.proofs.Exact.{IsInhabited, Avoids, Starts, ReadsAfter, Reads
 use Rattle.rt_parse.proofs.ExactToken.{reads_gives}
 use Rattle.rt_parse.proofs.ExactThen.{some_then, reads_seq, reads_then, reads_map, reads_fewer, reads_no_stop, Avoids-smaller}
 use Rattle.rt_parse.proofs.ExactStarts.{starts_token, starts_then, starts_or, starts_wider, avoids_apart, avoids_starts, avoids_gives_then, some_token, some_gives, some_left}
-use Rattle.rt_parse.proofs.ExactChoice.{or_left, or_right, or_neither, reads_choice, reads_choice'}
+use Rattle.rt_parse.proofs.ExactChoice.{reads_choice, reads_choice'}
 use Rattle.rt_parse.proofs.ExactSigns.{signs_apart, means_number, some_sign, starts_sign, reads_name, reads_number, reads_sign}
 use Rattle.rt_parse.proofs.ExactEnds.{reads_ends, ends_avoids}
 use Rattle.rt_parse.proofs.ExactExpression.{of_any, chains_starts, apart_any, apart_signs}

@@ -1,6 +1,7 @@
 -- Readers of one form or another, told apart by the next token.
 use Rattle.std.proofs.Common.{◌≡◌, ℕ, ◌≤◌, Bool, true, false, List, [], ◌∷◌, Result, Ok, refl, inl, inr}
 use Rattle.std.specs.Prelude.{◌||◌, if◌then◌else◌}
+use Rattle.rt_lemmas.proofs.Bools.{or_left, or_neither}
 use Rattle.rt_lex.specs.Token.{Token}
 use Rattle.rt_grammar.specs.Mark.{Mark}
 use Rattle.rt_grammar.specs.Language.{Language, gives, ◌>>=◌, ◌or◌, only_if}
@@ -13,18 +14,6 @@ use Rattle.rt_parse.proofs.ExactLaws.{or_then, or_then', or_swap}
 use Rattle.rt_parse.proofs.ExactToken.{reads_gives}
 use Rattle.rt_parse.proofs.ExactThen.{Avoids-smaller, reads_same, reads_fewer, reads_no_stop, reads_wider}
 use Rattle.rt_parse.proofs.ExactStarts.{starts_then, blocked_starts, blocked_avoids, avoids_gives_then}
-
-pub or_left : (a b : Bool) → a ≡ true → (a || b) ≡ true
-or_left true b e = refl
-or_left false b e = absurd cc
-
-pub or_right : (a b : Bool) → b ≡ true → (a || b) ≡ true
-or_right true b e = refl
-or_right false b e = e
-
-pub or_neither : (a b : Bool) → a ≡ false → b ≡ false → (a || b) ≡ false
-or_neither true b e f = absurd cc
-or_neither false b e f = f
 
 pub begins_with-or : (test test' : Token → Bool) (tokens : List Token) → begins_with test tokens ≡ false → begins_with test' tokens ≡ false → begins_with (λ t. test t || test' t) tokens ≡ false
 begins_with-or test test' [] e f = refl

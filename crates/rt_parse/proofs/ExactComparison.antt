@@ -1,6 +1,7 @@
 -- The reader of an expression with at most one comparison, whatever its end stands for.
 use Rattle.std.proofs.Common.{◌≡◌, suc, Bool, true, false, None, refl, arith}
 use Rattle.std.specs.Prelude.{◌||◌, ◌&&◌, not, if◌then◌else◌}
+use Rattle.rt_lemmas.proofs.Bools.{or_left, or_right}
 use Rattle.rt_lex.specs.Token.{Token}
 use Rattle.rt_grammar.specs.Language.{Language, ◌>>=◌}
 use Rattle.rt_grammar.specs.Expression.{Operand, op_of, operator, comparisons, strengths, joined, chains, comparison, atom}
@@ -11,7 +12,7 @@ use Rattle.rt_parse.proofs.Exact.{IsInhabited, Avoids, Starts, ReadsAfter, Reads
 use Rattle.rt_parse.proofs.ExactToken.{reads_token}
 use Rattle.rt_parse.proofs.ExactThen.{some_then, reads_seq, reads_then, reads_fewer, reads_wider, Avoids-smaller}
 use Rattle.rt_parse.proofs.ExactStarts.{starts_token, starts_then, avoids_apart, avoids_or_then, some_left}
-use Rattle.rt_parse.proofs.ExactChoice.{or_left, or_right, reads_choice_after'}
+use Rattle.rt_parse.proofs.ExactChoice.{reads_choice_after'}
 use Rattle.rt_parse.proofs.ExactExpression.{of_any, chains_at, chains_some, chains_reads, means_ops, op_starts, apart_any}
 
 abbrev pub comparison_at : {C : Type 0} → Reader Operand → (Operand → Bool → Reader C) → Reader C

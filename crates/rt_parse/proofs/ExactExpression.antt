@@ -2,6 +2,8 @@
 use Rattle.std.proofs.Common.{◌≡◌, ℕ, suc, Bool, true, false, List, [], ◌∷◌, length, Some, None, Ok, refl, ap, arith}
 use Rattle.std.specs.Prelude.{◌||◌, ◌&&◌, not, bytes_eq, if◌then◌else◌}
 use Rattle.std.specs.List.{list_any}
+use Rattle.rt_lemmas.proofs.Bools.{and_left, and_right, not_true, or_neither}
+use Rattle.rt_lemmas.proofs.Options.{some_when}
 use Rattle.rt_ids.specs.declared.op.Op.{Op}
 use Rattle.rt_lex.specs.Token.{Token, is_this_sign}
 use Rattle.rt_grammar.specs.Language.{Language, gives, ◌>>=◌, repeat}
@@ -13,9 +15,8 @@ use Rattle.rt_parse.proofs.Exact.{IsInhabited, Starts, ReadsAfter, Reads, nothin
 use Rattle.rt_parse.proofs.ExactToken.{reads_token}
 use Rattle.rt_parse.proofs.ExactThen.{some_then, reads_then, reads_map, reads_fewer}
 use Rattle.rt_parse.proofs.ExactStarts.{starts_token, starts_then, avoids_starts, some_gives, some_repeat}
-use Rattle.rt_parse.proofs.ExactChoice.{or_neither}
 use Rattle.rt_parse.proofs.ExactRepeat.{reads_chain}
-use Rattle.rt_parse.proofs.ExactSigns.{if_some, means_sign, signs_apart}
+use Rattle.rt_parse.proofs.ExactSigns.{means_sign, signs_apart}
 
 -- The operators of one strength begin with their signs.
 
@@ -49,18 +50,6 @@ are_apart [] = true
 are_apart ([] ∷ all) = false
 are_apart ((x ∷ signs) ∷ all) = any_apart (x ∷ signs) all && are_apart all
 
-pub and_left : (a b : Bool) → (a && b) ≡ true → a ≡ true
-and_left true b e = refl
-and_left false b e = e
-
-pub and_right : (a b : Bool) → (a && b) ≡ true → b ≡ true
-and_right true b e = e
-and_right false b e = absurd cc
-
-not_true : (a : Bool) → not a ≡ true → a ≡ false
-not_true true e = absurd cc
-not_true false e = refl
-
 apart_sign : (text : List ℕ) (others : Signs) → apart_from text others ≡ true → (t : Token) → is_this_sign text t ≡ true → is_of others t ≡ false
 apart_sign text [] apart t e = refl
 apart_sign text (x ∷ others) apart t e =
@@ -79,7 +68,7 @@ apart_any signs [] apart t e = refl
 apart_any signs (others ∷ all) apart t e = or_neither (is_of others t) (of_any all t) (apart_signs signs others (and_left _ _ apart) t e) (apart_any signs all (and_right _ _ apart) t e)
 
 pub means_op : (x : List ℕ × Op) (signs : Signs) → (t : Token) × (o : Op) × (op_of (x ∷ signs) t ≡ Some o)
-means_op x signs = let m = means_sign x.0 in (m.0, x.1, ap (λ (b : Bool). if b then Some x.1 else op_of signs m.0) (if_some (is_this_sign x.0 m.0) m.0.at m.1 m.2))
+means_op x signs = let m = means_sign x.0 in (m.0, x.1, ap (λ (b : Bool). if b then Some x.1 else op_of signs m.0) (some_when (is_this_sign x.0 m.0) m.0.at m.1 m.2))
 
 pub means_ops : (signs : Signs) → (signs ≡ [] → ⊥) → (t : Token) × (o : Op) × (op_of signs t ≡ Some o)
 means_ops [] some = absurd (some refl)

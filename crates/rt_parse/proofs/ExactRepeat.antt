@@ -1,6 +1,7 @@
 -- Readers of repetitions: steps for as long as a token comes next that a step begins with.
 use Rattle.std.proofs.Common.{◌≡◌, ℕ, zero, suc, ◌≤◌, Bool, true, false, List, [], ◌∷◌, length, Result, Ok, refl, sym, subst, inl, inr, arith}
 use Rattle.std.specs.Prelude.{◌||◌, if◌then◌else◌}
+use Rattle.rt_lemmas.proofs.Bools.{or_left, or_right}
 use Rattle.rt_lex.specs.Token.{Token}
 use Rattle.rt_grammar.specs.Language.{Language, ◌>>=◌, repeat}
 use Rattle.rt_parse.specs.Reading as reading
@@ -12,7 +13,7 @@ use Rattle.rt_parse.proofs.ExactLaws.{or_swap, repeat_then, repeat_then', read_t
 use Rattle.rt_parse.proofs.ExactToken.{begins_with-nothing, Avoids-nothing}
 use Rattle.rt_parse.proofs.ExactThen.{Avoids-smaller, some_then, reads_seq, reads_wider}
 use Rattle.rt_parse.proofs.ExactStarts.{starts_then, blocked_starts, blocked_avoids, avoids_first, avoids_repeat_then, some_repeat}
-use Rattle.rt_parse.proofs.ExactChoice.{or_left, or_right, begins_with-or}
+use Rattle.rt_parse.proofs.ExactChoice.{begins_with-or}
 
 -- behind a step comes another, or what is behind the repetition
 pub repeat_avoids : {S B : Type 0} (test goes : Token → Bool) (step : S → Language S) (s : S) → Starts test (step s) → Avoids goes (step s)

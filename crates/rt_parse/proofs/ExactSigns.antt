@@ -2,6 +2,8 @@
 use Rattle.std.proofs.Common.{◌≡◌, ℕ, suc, Bool, true, false, List, [], Option, Some, None, refl, sym, ap, subst}
 use Rattle.std.specs.Prelude.{bytes_eq, if◌then◌else◌}
 use Rattle.std.proofs.lemmas.Slice.Eq.{bytes_eq-Decides}
+use Rattle.rt_lemmas.proofs.Texts.{same_text}
+use Rattle.rt_lemmas.proofs.Options.{some_when}
 use Rattle.rt_ids.specs.declared.limit.Limit.{Limit}
 use Rattle.rt_lex.specs.declared.token.Kind.{Kind}
 use Rattle.rt_lex.specs.declared.token.Kind.TheVariants as kind
@@ -17,18 +19,15 @@ use Rattle.rt_parse.proofs.ExactStarts.{starts_token, some_token}
 at_kind : Kind → List ℕ → Token
 at_kind kind text = record { at = 0; kind = kind; text = text }
 
-same_bytes : (text : List ℕ) → bytes_eq text text ≡ true
-same_bytes text = (bytes_eq-Decides text text).1 refl
-
 -- Each stands somewhere.
 
 pub means_word : (text : List ℕ) → (t : Token) × (x : ℕ) × (word_of text t ≡ Some x)
 unfolding at_kind
-means_word text = (at_kind kind.Word text, 0, ap (λ (b : Bool). if b then Some 0 else None) (same_bytes text))
+means_word text = (at_kind kind.Word text, 0, ap (λ (b : Bool). if b then Some 0 else None) (same_text text))
 
 pub means_sign : (text : List ℕ) → (t : Token) × (x : ℕ) × (sign_of text t ≡ Some x)
 unfolding at_kind
-means_sign text = (at_kind kind.Sign text, 0, ap (λ (b : Bool). if b then Some 0 else None) (same_bytes text))
+means_sign text = (at_kind kind.Sign text, 0, ap (λ (b : Bool). if b then Some 0 else None) (same_text text))
 
 pub means_name : (t : Token) × (x : Ident) × (ident_of t ≡ Some x)
 unfolding at_kind
@@ -45,10 +44,6 @@ pub some_sign : (text : List ℕ) (what : Option Limit) → IsInhabited (limited
 some_sign text what = some_token (means_sign text)
 
 -- Different ones are apart.
-
-pub if_some : {A : Type 0} (b : Bool) (x y : A) → (if b then Some x else None) ≡ Some y → b ≡ true
-if_some true x y e = refl
-if_some false x y e = absurd cc
 
 signs_apart_at : (k : Kind) (text a b : List ℕ) → bytes_eq a b ≡ false → if_sign k (bytes_eq text a) ≡ true → if_sign k (bytes_eq text b) ≡ false
 signs_apart_at kind.Sign text a b apart e = subst (λ (s : List ℕ). bytes_eq s b ≡ false) (sym ((bytes_eq-Decides text a).0 e)) apart
@@ -81,10 +76,10 @@ sign_no_word a b t e = sign_no_word_at t.kind (bytes_eq t.text a) (bytes_eq t.te
 -- What they begin with.
 
 pub starts_word : (text : List ℕ) (what : Option Limit) → Starts (is_this_word text) (limited_word text what)
-starts_word text what = starts_token (λ x. what) (is_this_word text) (λ t x e. if_some (is_this_word text t) t.at x e)
+starts_word text what = starts_token (λ x. what) (is_this_word text) (λ t x e. some_when (is_this_word text t) t.at x e)
 
 pub starts_sign : (text : List ℕ) (what : Option Limit) → Starts (is_this_sign text) (limited_sign text what)
-starts_sign text what = starts_token (λ x. what) (is_this_sign text) (λ t x e. if_some (is_this_sign text t) t.at x e)
+starts_sign text what = starts_token (λ x. what) (is_this_sign text) (λ t x e. some_when (is_this_sign text t) t.at x e)
 
 -- Their readers.
 

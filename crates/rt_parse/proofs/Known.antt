@@ -2,6 +2,7 @@
 use Rattle.std.proofs.Common.{◌≡◌, ◌≢◌, ℕ, zero, suc, Bool, true, false, List, [], ◌∷◌, ◌++◌, Option, Some, refl, sym, subst, inl, inr}
 use Rattle.std.specs.Prelude.{if◌then◌else◌}
 use Rattle.std.specs.List.{AllByRecursion}
+use Rattle.rt_lemmas.proofs.Options.{some_when}
 use Rattle.rt_ids.specs.declared.limit.Limit.{Limit}
 use Rattle.rt_ids.specs.declared.op.Op.{Op}
 use Rattle.rt_lex.specs.declared.token.Kind.{Kind}
@@ -13,7 +14,6 @@ use Rattle.rt_grammar.specs.Mark.{Mark, Takes, Ends}
 use Rattle.rt_grammar.specs.Language.{Language, gives, ◌>>=◌, ◌or◌, or_else, only_if, never, token, times, repeat}
 use Rattle.rt_grammar.specs.Tokens.{free, limited_word, limited_sign, limited_name, limited_number, word_of, sign_of, ident_of, ident_at, number_of, number_at, name_limit, number_limit, list, adds}
 use Rattle.rt_grammar.specs.Expression.{Operand, Signs, op_of, operator, comparisons, strengths, chains, comparison, plain_atom, atom, ends, expression}
-use Rattle.rt_parse.proofs.ExactSigns.{if_some}
 
 -- the mark takes no such byte
 abbrev pub IsToken : Mark → Type 0
@@ -81,10 +81,10 @@ number_kind kind.Foreign text at x e = absurd cc
 number_kind other text at x e = λ f. absurd cc
 
 pub known_word : {text : List ℕ} {what : Option Limit} → Known (limited_word text what)
-known_word {text = text} {what = what} = known_token (word_of text) (λ _. what) (λ t x e. word_kind t.kind _ (if_some _ t.at x e))
+known_word {text = text} {what = what} = known_token (word_of text) (λ _. what) (λ t x e. word_kind t.kind _ (some_when _ t.at x e))
 
 pub known_sign : {text : List ℕ} {what : Option Limit} → Known (limited_sign text what)
-known_sign {text = text} {what = what} = known_token (sign_of text) (λ _. what) (λ t x e. sign_kind t.kind _ (if_some _ t.at x e))
+known_sign {text = text} {what = what} = known_token (sign_of text) (λ _. what) (λ t x e. sign_kind t.kind _ (some_when _ t.at x e))
 
 pub known_name : (what : Option Limit) → Known (limited_name what)
 known_name what = known_token ident_of (name_limit what) (λ t x e. name_kind t.kind t.text t.at x e)

@@ -2,6 +2,7 @@
 -- where the grammar tells the nesting; and where none may, the limit on nesting is passed at the next one.
 use Rattle.std.proofs.Common.{◌≡◌, ℕ, zero, suc, ◌+◌, ◌-◌, ◌≤◌, Bool, true, false, List, [], ◌∷◌, ◌++◌, length, Option, Some, None, Err, refl, sym, ap, ◌∙◌, subst, arith}
 use Rattle.std.specs.Prelude.{nat_lt, nat_eq, not, codes, ◌||◌, if◌then◌else◌}
+use Rattle.rt_lemmas.proofs.Bools.{or_neither}
 use Rattle.rt_ids.specs.declared.limit.Limit.{Limit}
 use Rattle.rt_ids.specs.declared.limit.Limit.TheVariants as limit
 use Rattle.rt_ids.specs.declared.limits.TheConstants.{PARENTHESES, NESTING, STATEMENTS, NAME_BYTES}
@@ -23,7 +24,7 @@ use Rattle.rt_parse.specs.ReadingStatement.{one_more_at, is_inside, braced_at, c
 use Rattle.rt_parse.proofs.Exact.{IsInhabited, Starts, Reads, nothing}
 use Rattle.rt_parse.proofs.ExactThen.{some_then, reads_seq, reads_then, reads_map, reads_fewer}
 use Rattle.rt_parse.proofs.ExactStarts.{starts_then, starts_wider, avoids_starts, avoids_apart, some_gives, some_left, some_repeat}
-use Rattle.rt_parse.proofs.ExactChoice.{or_neither, reads_choice'}
+use Rattle.rt_parse.proofs.ExactChoice.{reads_choice'}
 use Rattle.rt_parse.proofs.ExactRepeat.{reads_repeat_goes}
 use Rattle.rt_parse.proofs.ExactSigns.{reads_sign, reads_name, some_sign, starts_sign, means_sign, means_name, signs_apart, sign_no_word}
 use Rattle.rt_parse.proofs.ReadsClosed.{IsAlways, reads_closed}

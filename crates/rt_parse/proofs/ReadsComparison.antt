@@ -1,6 +1,7 @@
 -- The reader of an expression with at most one comparison, over a reader of atoms that measures them.
 use Rattle.std.proofs.Common.{◌≡◌, ℕ, suc, Bool, true, false, List, [], ◌∷◌, None, Result, Ok, Err, refl, sym, ap, arith}
 use Rattle.std.specs.Prelude.{if◌then◌else◌}
+use Rattle.rt_lemmas.proofs.Bools.{or_right, and_left, and_right}
 use Rattle.rt_ids.specs.declared.op.Op.{Op}
 use Rattle.rt_lex.specs.Token.{Token}
 use Rattle.rt_grammar.specs.Language.{Language, gives, ◌>>=◌, ◌or◌}
@@ -16,9 +17,9 @@ use Rattle.rt_parse.proofs.ExactLaws.{read_then}
 use Rattle.rt_parse.proofs.ExactToken.{reads_token}
 use Rattle.rt_parse.proofs.ExactThen.{some_then, reads_seq, reads_then, reads_map, reads_fewer, reads_wider, reads_same, Avoids-smaller}
 use Rattle.rt_parse.proofs.ExactStarts.{starts_token, starts_then, avoids_starts, avoids_apart, avoids_or_then, some_gives, some_left}
-use Rattle.rt_parse.proofs.ExactChoice.{or_right, reads_choice_after'}
+use Rattle.rt_parse.proofs.ExactChoice.{reads_choice_after'}
 use Rattle.rt_parse.proofs.ExactRepeat.{reads_chain}
-use Rattle.rt_parse.proofs.ExactExpression.{of_any, step_of, are_apart, and_left, and_right, chains_some, means_op, means_ops, op_starts, apart_any}
+use Rattle.rt_parse.proofs.ExactExpression.{of_any, step_of, are_apart, chains_some, means_op, means_ops, op_starts, apart_any}
 use Rattle.rt_parse.proofs.ExactComparison.{goes_on-ops, ops-goes_on}
 use Rattle.rt_parse.proofs.ReadsMeasure.{measure_joined}
 

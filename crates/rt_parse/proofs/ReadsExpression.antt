@@ -1,6 +1,7 @@
 -- The readers of atoms and of whole expressions.
 use Rattle.std.proofs.Common.{◌≡◌, ℕ, zero, suc, ◌+◌, ◌≤◌, Bool, true, false, List, Option, Some, None, Result, Ok, Err, refl, sym, ap, subst, inl, inr, arith}
 use Rattle.std.specs.Prelude.{nat_lt, nat_le, codes, ◌||◌, if◌then◌else◌}
+use Rattle.rt_lemmas.proofs.Bools.{or_left, or_right}
 use Rattle.rt_ids.specs.declared.limit.Limit.{Limit}
 use Rattle.rt_ids.specs.declared.limit.Limit.TheVariants as limit
 use Rattle.rt_ids.specs.declared.limits.TheConstants.{PARENTHESES, DEPTH}
@@ -21,7 +22,7 @@ use Rattle.rt_parse.proofs.Exact.{IsInhabited, Starts, ReadsAfter, Reads, nothin
 use Rattle.rt_parse.proofs.ExactToken.{reads_gives}
 use Rattle.rt_parse.proofs.ExactThen.{some_then, reads_seq, reads_then, reads_map, reads_fewer, reads_no_stop, reads_same}
 use Rattle.rt_parse.proofs.ExactStarts.{starts_then, starts_or, starts_wider, avoids_apart, avoids_starts, some_gives}
-use Rattle.rt_parse.proofs.ExactChoice.{or_left, or_right, reads_choice}
+use Rattle.rt_parse.proofs.ExactChoice.{reads_choice}
 use Rattle.rt_parse.proofs.ExactLaws.{IsWithinLanguage}
 use Rattle.rt_parse.proofs.ExactSigns.{means_sign, some_sign, starts_sign, reads_name, reads_number, reads_sign}
 use Rattle.rt_parse.proofs.ExactEnds.{reads_ends, ends_avoids}

@@ -1,6 +1,7 @@
 -- The readers of the first declarations.
 use Rattle.std.proofs.Common.{◌≡◌, ℕ, suc, ◌-◌, Bool, true, false, List, [], length, Option, Some, None, Err, refl, arith}
 use Rattle.std.specs.Prelude.{codes, ◌||◌, bytes_eq}
+use Rattle.rt_lemmas.proofs.Bools.{or_left, or_right}
 use Rattle.rt_ids.specs.declared.limit.Limit.{Limit}
 use Rattle.rt_ids.specs.declared.limit.Limit.TheVariants as limit
 use Rattle.rt_ids.specs.declared.limits.TheConstants.{SHARED, LOCALS, IRQS, IRQ_NUMBERS, LEAST_BITS, MOST_BITS}
@@ -20,7 +21,7 @@ use Rattle.rt_parse.specs.ReadingResources.{interrupt_at, interrupts_at, clock_a
 use Rattle.rt_parse.specs.ReadingDeclaration.{dispatcher_names_at, dispatchers_at, head_at}
 use Rattle.rt_parse.proofs.Exact.{Starts, nothing}
 use Rattle.rt_parse.proofs.ExactStarts.{starts_token, starts_then, starts_or, starts_wider, avoids_apart, some_left}
-use Rattle.rt_parse.proofs.ExactChoice.{or_left, or_right, reads_choice}
+use Rattle.rt_parse.proofs.ExactChoice.{reads_choice}
 use Rattle.rt_parse.proofs.ExactSigns.{starts_sign, starts_word, signs_apart, word_no_sign}
 use Rattle.rt_parse.proofs.ExactAtom.{name_kind}
 use Rattle.rt_parse.proofs.ReadsWords.{list_some, adds_list_reads}

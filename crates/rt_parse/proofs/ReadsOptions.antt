@@ -1,6 +1,7 @@
 -- The readers of a body's options, which stand in any order, each at most once: where none may stand, any token is wrong.
 use Rattle.std.proofs.Common.{◌≡◌, ℕ, suc, Bool, true, false, List, [], ◌∷◌, Some, Result, Err, refl, sym, ◌∙◌, subst, inl, inr, arith}
 use Rattle.std.specs.Prelude.{codes, not, ◌&&◌, ◌||◌, is_none, if◌then◌else◌}
+use Rattle.rt_lemmas.proofs.Bools.{or_left, or_right}
 use Rattle.rt_ids.specs.declared.limit.Limit.TheVariants as limit
 use Rattle.rt_ids.specs.declared.limits.TheConstants.{CAPACITY}
 use Rattle.rt_lex.specs.Token.{Token, is_this_word, is_this_sign}
@@ -19,7 +20,7 @@ use Rattle.rt_parse.proofs.Exact.{Outcome, IsInhabited, Starts, ReadsAfter, Read
 use Rattle.rt_parse.proofs.ExactOutcome.{outcome_blocked}
 use Rattle.rt_parse.proofs.ExactThen.{some_then, reads_same, reads_only_if}
 use Rattle.rt_parse.proofs.ExactStarts.{starts_then, starts_or, starts_wider, starts_only_if, blocked_starts, avoids_apart, some_left}
-use Rattle.rt_parse.proofs.ExactChoice.{or_left, or_right, reads_choice, reads_alone, reads_alone', none_only_if}
+use Rattle.rt_parse.proofs.ExactChoice.{reads_choice, reads_alone, reads_alone', none_only_if}
 use Rattle.rt_parse.proofs.ExactSigns.{signs_apart, starts_sign, starts_word}
 use Rattle.rt_parse.proofs.ExactItems.{reads_list_or_none}
 use Rattle.rt_parse.proofs.ReadsWords.{of_words, is_other, words_no_sign, starts_one, starts_words, reads_words, list_some}

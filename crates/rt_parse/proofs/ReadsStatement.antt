@@ -1,6 +1,7 @@
 -- The readers of statements, over readers of the blocks in them.
 use Rattle.std.proofs.Common.{◌≡◌, ℕ, suc, ◌-◌, ◌≤◌, Bool, true, false, List, [], ◌∷◌, refl, sym, subst, arith}
 use Rattle.std.specs.Prelude.{codes, ◌||◌}
+use Rattle.rt_lemmas.proofs.Bools.{or_left, or_right}
 use Rattle.rt_ids.specs.declared.limits.TheConstants.{PARENTHESES, STATEMENTS}
 use Rattle.rt_lex.specs.declared.token.Kind.{Kind}
 use Rattle.rt_lex.specs.declared.token.Kind.TheVariants as kind
@@ -20,7 +21,7 @@ use Rattle.rt_parse.specs.ReadingStatement.{statement_at}
 use Rattle.rt_parse.proofs.Exact.{IsInhabited, Starts, ReadsAfter, Reads, nothing}
 use Rattle.rt_parse.proofs.ExactThen.{some_then, reads_then, reads_map, reads_fewer, reads_same, reads_any}
 use Rattle.rt_parse.proofs.ExactStarts.{starts_token, starts_then, starts_or, starts_wider, starts_within, avoids_apart, some_token, some_gives, some_left}
-use Rattle.rt_parse.proofs.ExactChoice.{or_left, or_right, reads_choice, reads_optional}
+use Rattle.rt_parse.proofs.ExactChoice.{reads_choice, reads_optional}
 use Rattle.rt_parse.proofs.ExactSigns.{reads_word, reads_sign, reads_name, reads_number, some_word, some_sign, starts_word, means_number}
 use Rattle.rt_parse.proofs.ExactAtom.{name_kind, expression_some}
 use Rattle.rt_parse.proofs.ReadsExpression.{expression_reads}

@@ -1,6 +1,7 @@
 -- The readers of bodies and tasks.
 use Rattle.std.proofs.Common.{◌≡◌, ℕ, zero, suc, ◌≤◌, Bool, true, false, List, [], ◌∷◌, ◌++◌, length, Option, Some, None, refl, arith}
 use Rattle.std.specs.Prelude.{codes, ◌||◌}
+use Rattle.rt_lemmas.proofs.Bools.{or_left, or_right, or_neither}
 use Rattle.rt_ids.specs.declared.limit.Limit.TheVariants as limit
 use Rattle.rt_ids.specs.declared.limits.TheConstants.{PARENTHESES, TASKS, ARGUMENTS}
 use Rattle.rt_lex.specs.Token.{Token, is_this_word, is_this_sign}
@@ -18,7 +19,6 @@ use Rattle.rt_parse.proofs.Exact.{IsInhabited, Avoids, Starts, nothing}
 use Rattle.rt_parse.proofs.ExactThen.{reads_after}
 use Rattle.rt_parse.proofs.ExactLaws.{then_then'}
 use Rattle.rt_parse.proofs.ExactStarts.{starts_then, avoids_apart, avoids_within, avoids_gives_then, avoids_or_then, some_repeat}
-use Rattle.rt_parse.proofs.ExactChoice.{or_left, or_right, or_neither}
 use Rattle.rt_parse.proofs.ExactRepeat.{reads_repeat}
 use Rattle.rt_parse.proofs.ExactSigns.{starts_sign, starts_word, signs_apart, word_no_sign, sign_no_word}
 use Rattle.rt_parse.proofs.ReadsSpawn.{spent}

@@ -1,6 +1,7 @@
 -- The readers of values and of the statements with no blocks.
 use Rattle.std.proofs.Common.{◌≡◌, ℕ, suc, ◌-◌, ◌≤◌, Bool, true, false, List, [], ◌∷◌, Option, refl, ap, arith}
 use Rattle.std.specs.Prelude.{codes, bytes_eq, ◌||◌}
+use Rattle.rt_lemmas.proofs.Bools.{or_left, or_right, or_neither}
 use Rattle.rt_ids.specs.declared.limit.Limit.{Limit}
 use Rattle.rt_ids.specs.declared.limits.TheConstants.{PARENTHESES, STATEMENTS}
 use Rattle.rt_lex.specs.declared.token.Kind.{Kind}
@@ -19,7 +20,7 @@ use Rattle.rt_parse.specs.ReadingSimple.{counted_limit, bind_at, assign_at, emit
 use Rattle.rt_parse.proofs.Exact.{IsInhabited, ReadsAfter, nothing}
 use Rattle.rt_parse.proofs.ExactThen.{some_then, reads_then, reads_map, reads_fewer, reads_same, reads_after}
 use Rattle.rt_parse.proofs.ExactStarts.{starts_then, starts_or, starts_wider, avoids_apart, some_gives, some_left}
-use Rattle.rt_parse.proofs.ExactChoice.{or_left, or_right, or_neither, reads_choice}
+use Rattle.rt_parse.proofs.ExactChoice.{reads_choice}
 use Rattle.rt_parse.proofs.ExactSigns.{reads_word, reads_sign, reads_name, some_word, some_sign, starts_word, sign_no_word}
 use Rattle.rt_parse.proofs.ExactAtom.{is_num, is_plain, begins_expression, expression_some, expression_starts}
 use Rattle.rt_parse.proofs.ReadsExpression.{expression_reads}

@@ -1,6 +1,7 @@
 -- Readers of forms that are told apart by their first words, and of lists of items that are added.
 use Rattle.std.proofs.Common.{◌≡◌, ℕ, suc, Bool, true, false, List, [], ◌∷◌, ◌++◌, length, Result, Ok, Err, refl, ap, inl, inr}
 use Rattle.std.specs.Prelude.{◌||◌, ◌&&◌, not, codes, bytes_eq, if◌then◌else◌}
+use Rattle.rt_lemmas.proofs.Bools.{not_true, or_left, or_right, and_left, and_right}
 use Rattle.rt_lex.specs.Token.{Token, is_this_word, is_this_sign}
 use Rattle.rt_grammar.specs.Language.{Language, gives, ◌>>=◌, ◌>>◌, ◌or◌}
 use Rattle.rt_grammar.specs.Tokens.{free, sign, list, adds}
@@ -12,9 +13,8 @@ use Rattle.rt_parse.proofs.Exact.{IsInhabited, Starts, ReadsAfter, Reads, nothin
 use Rattle.rt_parse.proofs.ExactLaws.{IsWithinLanguage}
 use Rattle.rt_parse.proofs.ExactThen.{some_then, reads_map, reads_same}
 use Rattle.rt_parse.proofs.ExactStarts.{starts_then, starts_or, starts_wider, avoids_apart, some_gives, some_left, some_repeat}
-use Rattle.rt_parse.proofs.ExactChoice.{or_left, or_right, reads_choice}
+use Rattle.rt_parse.proofs.ExactChoice.{reads_choice}
 use Rattle.rt_parse.proofs.ExactSigns.{some_sign, words_apart, word_no_sign}
-use Rattle.rt_parse.proofs.ExactExpression.{and_left, and_right}
 use Rattle.rt_parse.proofs.ExactItems.{reads_list}
 
 -- whether a token is one of these words
@@ -26,10 +26,6 @@ of_words (x ∷ texts) t = is_this_word x t || of_words texts t
 abbrev pub is_other : List ℕ → List (List ℕ) → Bool
 is_other text [] = true
 is_other text (x ∷ texts) = not (bytes_eq x text) && is_other text texts
-
-not_true : (a : Bool) → not a ≡ true → a ≡ false
-not_true true e = absurd cc
-not_true false e = refl
 
 pub no_word : (text : List ℕ) (texts : List (List ℕ)) → is_other text texts ≡ true → (t : Token) → of_words texts t ≡ true → is_this_word text t ≡ false
 no_word text [] other t e = absurd cc

@@ -10,6 +10,10 @@ use Rattle.std.proofs.lemmas.Str.{digit_value_digit}
 use Rattle.std.proofs.lemmas.Str.Parse.{digit_from_value}
 use Rattle.std.specs.Str.Parse.{AllDigits, digits_value, digits_value_after}
 use Rattle.std.specs.Char as char
+use Rattle.rt_lemmas.proofs.Lists.{drop-append}
+use Rattle.rt_lemmas.proofs.Texts.{same_text}
+use Rattle.rt_lemmas.proofs.Runs.{prefix_at, run_before}
+use Rattle.rt_lemmas.proofs.Bools.{right_of_none, or_cases, and_left, and_right, or_left}
 use Rattle.rt_ids.specs.declared.limits.TheConstants.{NAME_BYTES}
 use Rattle.rt_ast.specs.declared.ident.Ident.{Ident}
 use Rattle.rt_ast.specs.declared.ident.Number.{Number}
@@ -23,13 +27,9 @@ use Rattle.rt_lex.specs.Tokens.{tokens_at, with_front}
 use Rattle.rt_lex.specs.Bytes.{is_blank, digit_value}
 use Rattle.rt_ids.specs.Byte.{is_digit, is_letter, is_lower, is_upper, is_name_byte}
 use Rattle.rt_lex.specs.Front.{Front, skips, makes, front_of, name_front, number_front, sign_front, hex_digits, comment}
-use Rattle.rt_lex.proofs.Lexing.{takes, or_cases, and_left, and_right, or_left}
+use Rattle.rt_lex.proofs.Lexing.{takes}
 use Rattle.rt_grammar.specs.Tokens.{word_of, sign_of, ident_of, number_of, name_limit, number_limit, limited_word, limited_sign, limited_name, limited_number}
 use Rattle.rt_print.proofs.Reading.{Reads, Any, read_token}
-
-drop_seam : (xs ys : List ℕ) → drop (length xs) (xs ++ ys) ≡ ys
-drop_seam [] ys = refl
-drop_seam (x ∷ xs) ys = drop_seam xs ys
 
 -- a text begins with this token where this stands behind it
 abbrev pub IsFront : List ℕ → Kind → List ℕ → Type 0
@@ -44,10 +44,7 @@ pub token_first : (text : List ℕ) (k : Kind) (Y : List ℕ) (at : ℕ) → IsF
 token_first [] k Y at h = absurd h
 token_first (b ∷ text) k Y at h =
     (takes at b (text ++ Y)).found
-    ∙ front_tokens (front_of b (b ∷ (text ++ Y))) (length (b ∷ text)) at k (b ∷ text) (b ∷ (text ++ Y)) Y h (take-append_seam (b ∷ text) Y) (drop_seam (b ∷ text) Y)
-
-same_text : (text : List ℕ) → bytes_eq text text ≡ true
-same_text text = (bytes_eq-Decides text text).1 refl
+    ∙ front_tokens (front_of b (b ∷ (text ++ Y))) (length (b ∷ text)) at k (b ∷ text) (b ∷ (text ++ Y)) Y h (take-append_seam (b ∷ text) Y) (drop-append (b ∷ text) Y)
 
 pub read_word : (text : List ℕ) (what : Option Limit) (Y : List ℕ) → what ≡ None → IsFront text kind.Word Y → Reads (limited_word text what) Any (text ++ Y) Y
 read_word text what Y free h at =
@@ -64,29 +61,13 @@ abbrev pub Stops : List ℕ → Type 0
 Stops [] = Unit {0}
 Stops (b ∷ Y) = is_name_byte b ≡ false
 
-prefix_at : (p : ℕ → Bool) (Y : List ℕ) → (test : Bool) → test ≡ false → cond test (1 + prefix_len p Y) 0 ≡ 0
-prefix_at p Y test e = rw e refl
-
-prefix_before : (p : ℕ → Bool) (text Y : List ℕ) → list_all p text ≡ true → prefix_len p Y ≡ 0 → prefix_len p (text ++ Y) ≡ length text
-prefix_before p [] Y h stop = stop
-prefix_before p (b ∷ text) Y h stop =
-    let here : p b ≡ true = and_left (p b) _ h in
-    rw (here, prefix_before p text Y (and_right (p b) _ h) stop) (omega arith)
-
 stops_names : (Y : List ℕ) → Stops Y → prefix_len is_name_byte Y ≡ 0
 stops_names [] stop = refl
 stops_names (b ∷ Y) stop = prefix_at is_name_byte Y (is_name_byte b) stop
 
-no_digit : (a b : Bool) → (a || b) ≡ false → b ≡ false
-no_digit true b e = absurd cc
-no_digit false b e = e
-
 stops_digits : (Y : List ℕ) → Stops Y → prefix_len is_digit Y ≡ 0
 stops_digits [] stop = refl
-stops_digits (b ∷ Y) stop = prefix_at is_digit Y (is_digit b) (no_digit (is_letter b) (is_digit b) stop)
-
-run_before : (p : ℕ → Bool) (text Y : List ℕ) → list_all p text ≡ true → prefix_len p Y ≡ 0 → take_while p (text ++ Y) ≡ text
-run_before p text Y h stop = ap (λ (n : ℕ). take n (text ++ Y)) (prefix_before p text Y h stop) ∙ take-append_seam text Y
+stops_digits (b ∷ Y) stop = prefix_at is_digit Y (is_digit b) (right_of_none (is_letter b) (is_digit b) stop)
 
 -- a byte that is above the blanks and the slash
 is_no_blank : (b : ℕ) → 47 < b → is_blank b ≡ false

@@ -1,5 +1,6 @@
 -- Statements and blocks of the code, and their texts.
 use Rattle.std.proofs.Common.{◌≡◌, ℕ, ◌<◌, List, [], ◌∷◌, ◌++◌, flat_map, map, length, Vec, Global, Result, Ok, Err, OnOk, Some, codes, decimal, refl, sym, ap, ◌∙◌, arith, append_assoc}
+use Rattle.rt_lemmas.proofs.Results.{on_ok_weaker}
 use Rattle.rt_ast.specs.Tree as tree
 use Rattle.rt_ast.specs.View.{expression_of, spawn_of, statement_of, block_of}
 use Rattle.rt_ast.specs.declared.app.MonoTree.{MonoTree}
@@ -42,11 +43,6 @@ repeat_text_is margin x first last v = ap (statement_text margin) (repeat_is x f
 pub lock_text_is : (margin : List ℕ) (x : Ident) (v : Vec Stmt Global) → statement_text margin (statement_of (Locked x v)) ≡ statement_text margin (tree.Locked x (block_of v.items))
 lock_text_is margin x v = ap (statement_text margin) (locked_is x v)
 
--- what follows from what holds where there is an answer
-pub on_ok : {A E : Type 0} (r : Result A E) (P Q : Type 0) → (P → Q) → OnOk r P → OnOk r Q
-on_ok (Ok x) P Q f h = f h
-on_ok (Err e) P Q f h = h
-
 pub block_appended : (margin within o0 o1 o2 o3 o4 : List ℕ) (stmts : List Stmt) → 0 < length stmts → o1 ≡ o0 ++ 123 ∷ 10 ∷ [] → within ≡ deeper margin → o2 ≡ o1 ++ lines_text within (block_of stmts) → o3 ≡ o2 ++ margin
     → o4 ≡ o3 ++ 125 ∷ [] → o4 ≡ o0 ++ block_text margin (block_of stmts)
 block_appended margin within o0 o1 o2 o3 o4 stmts some e1 w e2 e3 e4 = rw (e4, e3, e2, e1, w, block_some margin stmts some) (simp append_assoc refl)
@@ -82,24 +78,24 @@ lock_appended margin o0 o1 o2 stmt x v inner is e1 f e2 =
 -- the same, where the last step may fail
 pub block_is : {A E : Type 0} (r : Result A E) (margin within o0 o1 o2 o3 o4 : List ℕ) (stmts : List Stmt) → 0 < length stmts → o1 ≡ o0 ++ 123 ∷ 10 ∷ [] → within ≡ deeper margin → o2 ≡ o1 ++ lines_text within (block_of stmts)
     → o3 ≡ o2 ++ margin → OnOk r (o4 ≡ o3 ++ 125 ∷ []) → OnOk r (o4 ≡ o0 ++ block_text margin (block_of stmts))
-block_is r margin within o0 o1 o2 o3 o4 stmts some e1 w e2 e3 h = on_ok r _ _ (λ e. block_appended margin within o0 o1 o2 o3 o4 stmts some e1 w e2 e3 e) h
+block_is r margin within o0 o1 o2 o3 o4 stmts some e1 w e2 e3 h = on_ok_weaker r _ _ (λ e. block_appended margin within o0 o1 o2 o3 o4 stmts some e1 w e2 e3 e) h
 
 pub else_is : {A E : Type 0} (r : Result A E) (margin o0 o1 o2 : List ℕ) (stmts : List Stmt) → 0 < length stmts → o1 ≡ o0 ++ codes " else " → OnOk r (o2 ≡ o1 ++ block_text margin (block_of stmts))
     → OnOk r (o2 ≡ o0 ++ else_text margin (block_of stmts))
-else_is r margin o0 o1 o2 stmts some e1 h = on_ok r _ _ (λ e. else_appended margin o0 o1 o2 stmts some e1 e) h
+else_is r margin o0 o1 o2 stmts some e1 h = on_ok_weaker r _ _ (λ e. else_appended margin o0 o1 o2 stmts some e1 e) h
 
 pub branch_text_appended : {A E : Type 0} (r : Result A E) (margin o0 o1 o2 o3 : List ℕ) (stmt : Stmt) (e : Expr) (v w : Vec Stmt Global) (first second : List Stmt) → stmt ≡ Branch e v w
     → o1 ≡ o0 ++ branch_head (expression_of e) → first ≡ v.items → o2 ≡ o1 ++ block_text margin (block_of first) → second ≡ w.items → OnOk r (o3 ≡ o2 ++ else_text margin (block_of second))
     → OnOk r (o3 ≡ o0 ++ statement_text margin (statement_of stmt))
-branch_text_appended r margin o0 o1 o2 o3 stmt e v w first second is e1 f e2 g h = on_ok r _ _ (λ k. branch_appended margin o0 o1 o2 o3 stmt e v w first second is e1 f e2 g k) h
+branch_text_appended r margin o0 o1 o2 o3 stmt e v w first second is e1 f e2 g h = on_ok_weaker r _ _ (λ k. branch_appended margin o0 o1 o2 o3 stmt e v w first second is e1 f e2 g k) h
 
 pub repeat_text_appended : {A E : Type 0} (r : Result A E) (margin o0 o1 o2 : List ℕ) (stmt : Stmt) (x : Ident) (a b : ℕ) (v : Vec Stmt Global) (turn : List Stmt) → stmt ≡ Repeat x a b v → o1 ≡ o0 ++ repeat_head x a b
     → turn ≡ v.items → OnOk r (o2 ≡ o1 ++ block_text margin (block_of turn)) → OnOk r (o2 ≡ o0 ++ statement_text margin (statement_of stmt))
-repeat_text_appended r margin o0 o1 o2 stmt x a b v turn is e1 f h = on_ok r _ _ (λ k. repeat_appended margin o0 o1 o2 stmt x a b v turn is e1 f k) h
+repeat_text_appended r margin o0 o1 o2 stmt x a b v turn is e1 f h = on_ok_weaker r _ _ (λ k. repeat_appended margin o0 o1 o2 stmt x a b v turn is e1 f k) h
 
 pub lock_text_appended : {A E : Type 0} (r : Result A E) (margin o0 o1 o2 : List ℕ) (stmt : Stmt) (x : Ident) (v : Vec Stmt Global) (inner : List Stmt) → stmt ≡ Locked x v → o1 ≡ o0 ++ lock_head x → inner ≡ v.items
     → OnOk r (o2 ≡ o1 ++ block_text margin (block_of inner)) → OnOk r (o2 ≡ o0 ++ statement_text margin (statement_of stmt))
-lock_text_appended r margin o0 o1 o2 stmt x v inner is e1 f h = on_ok r _ _ (λ k. lock_appended margin o0 o1 o2 stmt x v inner is e1 f k) h
+lock_text_appended r margin o0 o1 o2 stmt x v inner is e1 f h = on_ok_weaker r _ _ (λ k. lock_appended margin o0 o1 o2 stmt x v inner is e1 f k) h
 
 -- a delayed spawn
 after_appended : (o0 o1 o2 o3 o4 d call : List ℕ) → o1 ≡ o0 ++ codes "spawn_after(" → o2 ≡ o1 ++ d → o3 ≡ o2 ++ codes ") " → o4 ≡ o3 ++ call → o4 ≡ o0 ++ (codes "spawn_after(" ++ d ++ codes ") " ++ call)
@@ -109,7 +105,7 @@ pub after_text_appended : {A E : Type 0} (r : Result A E) (o0 o1 o2 o3 o4 : List
     → o1 ≡ o0 ++ codes "spawn_after(" → o2 ≡ o1 ++ expression_text (expression_of delay) → o3 ≡ o2 ++ codes ") " → args ≡ own.items → OnOk r (o4 ≡ o3 ++ call_text task (map expression_of args))
     → OnOk r (o4 ≡ o0 ++ spawn_text (spawn_of spawn))
 after_text_appended r o0 o1 o2 o3 o4 spawn at delay task own args is e1 e2 e3 f h =
-    on_ok r _ _ (λ k. after_appended o0 o1 o2 o3 o4 (expression_text (expression_of delay)) (call_text task (map expression_of args)) e1 e2 e3 k
+    on_ok_weaker r _ _ (λ k. after_appended o0 o1 o2 o3 o4 (expression_text (expression_of delay)) (call_text task (map expression_of args)) e1 e2 e3 k
     ∙ ap (λ (xs : List Expr). o0 ++ (codes "spawn_after(" ++ expression_text (expression_of delay) ++ codes ") " ++ call_text task (map expression_of xs))) f
     ∙ ap (λ (s : Spawn). o0 ++ spawn_text (spawn_of s)) (sym is)) h
 
@@ -119,4 +115,4 @@ mono_appended o0 o1 o2 o3 o4 o5 x n e1 e2 e3 e4 e5 = rw (e5, e4, e3, e2, e1) (si
 
 pub mono_text_appended : {A E : Type 0} (r : Result A E) (o0 o1 o2 o3 o4 o5 : List ℕ) (mono : MonoTree) → o1 ≡ o0 ++ codes "monotonic(binds = " → o2 ≡ o1 ++ mono.binds.name → o3 ≡ o2 ++ codes ", priority = "
     → o4 ≡ o3 ++ decimal mono.priority.value → OnOk r (o5 ≡ o4 ++ 41 ∷ 59 ∷ 10 ∷ []) → OnOk r (o5 ≡ o0 ++ mono_text (Some mono))
-mono_text_appended r o0 o1 o2 o3 o4 o5 mono e1 e2 e3 e4 h = on_ok r _ _ (λ k. mono_appended o0 o1 o2 o3 o4 o5 mono.binds.name (decimal mono.priority.value) e1 e2 e3 e4 k) h
+mono_text_appended r o0 o1 o2 o3 o4 o5 mono e1 e2 e3 e4 h = on_ok_weaker r _ _ (λ k. mono_appended o0 o1 o2 o3 o4 o5 mono.binds.name (decimal mono.priority.value) e1 e2 e3 e4 k) h

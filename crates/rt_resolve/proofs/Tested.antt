@@ -3,28 +3,13 @@ use Rattle.std.proofs.Common.{◌≡◌, ℕ, ◌+◌, ◌<◌, ◌||◌, Bool, 
 use Rattle.std.specs.List.{list_any}
 use Rattle.std.proofs.lemmas.List.{take_more, drop_more, map-append, reverse-append}
 use Rattle.std.proofs.lemmas.List.Folds.{list_any-append}
+use Rattle.rt_lemmas.proofs.Lists.{list_any-reverse}
 use Rattle.rt_ids.specs.declared.rule.Rule.TheVariants as rule
 use Rattle.rt_ast.specs.declared.ident.Ident.{Ident}
 use Rattle.rt_app.specs.declared.violation.Violation.{Violation}
 use Rattle.rt_app.specs.Violation.{when}
 use Rattle.rt_resolve.specs.Scope.{is_named}
 use Rattle.rt_resolve.specs.NameRules.{declared_twice}
-
-pub list_any-map : {A B : Type 0} (f : A → B) (p : B → Bool) (xs : List A) → list_any p (map f xs) ≡ list_any (λ x. p (f x)) xs
-list_any-map f p [] = refl
-list_any-map f p (x ∷ xs) = ap (λ b. p (f x) || b) (list_any-map f p xs)
-
-turned : (b c : Bool) → (c || (b || false)) ≡ (b || c)
-turned true true = refl
-turned true false = refl
-turned false true = refl
-turned false false = refl
-
-list_any-reverse : {A : Type 0} (p : A → Bool) (xs : List A) → list_any p (reverse xs) ≡ list_any p xs
-list_any-reverse p [] = refl
-list_any-reverse p (x ∷ xs) =
-    ap (list_any p) (reverse-append (x ∷ []) xs) ∙ list_any-append p (reverse xs) (x ∷ [])
-    ∙ ap (λ b. b || (p x || false)) (list_any-reverse p xs) ∙ turned (p x) (list_any p xs)
 
 abbrev pub idents : List (Bor Ident) → List Ident
 idents xs = map (λ x. x.now) xs

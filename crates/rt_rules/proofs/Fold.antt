@@ -2,6 +2,7 @@
 use Rattle.std.proofs.Common.{◌≡◌, ℕ, ◌+◌, ◌<◌, List, [], ◌∷◌, ◌++◌, length, get_or, take, map, flat_map, Option, refl, ap, sym, ◌∙◌, append-nil}
 use Rattle.std.proofs.lemmas.List.{take_more, get_or_default}
 use Rattle.std.proofs.lemmas.List.Concat.{flat_map-append}
+use Rattle.rt_lemmas.proofs.Lists.{flat_map_next, flat_map-map}
 use Rattle.rt_app.specs.declared.violation.Violation.{Violation}
 use Rattle.rt_rules.specs.First.{earlier, first_of}
 
@@ -17,26 +18,18 @@ behind o p q xs ys e f = f ∙ ap (λ (w : Option Violation). first_of w ys) e �
 pub one_more_taken : (o p q : Option Violation) (xs : List Violation) (i : ℕ) (d : Violation) → i < length xs → p ≡ first_of o (take i xs) → q ≡ earlier p (get_or xs i d) → q ≡ first_of o (take (i + 1) xs)
 one_more_taken o p q xs i d h before here = behind o p q (take i xs) (get_or xs i d ∷ []) before here ∙ ap (first_of o) (sym (take_more xs i d h))
 
-pub flat_map_one : {A B : Type 0} (f : A → List B) (xs : List A) (i : ℕ) (x : A) → i < length xs → x ≡ get_or xs i x → flat_map f (take (i + 1) xs) ≡ flat_map f (take i xs) ++ f x
-flat_map_one f xs i x h e =
-    ap (flat_map f) (take_more xs i x h) ∙ flat_map-append f (take i xs) (get_or xs i x ∷ []) ∙ ap (λ ys. flat_map f (take i xs) ++ ys) (append-nil (f (get_or xs i x)) ∙ ap f (sym e))
-
 -- the violations of one more, in a loop
 pub one_more : {A : Type 0} (f : A → List Violation) (o p q : Option Violation) (xs : List A) (i : ℕ) (x : A)
     → i < length xs → x ≡ get_or xs i x → p ≡ first_of o (flat_map f (take i xs)) → q ≡ first_of p (f x) → q ≡ first_of o (flat_map f (take (i + 1) xs))
-one_more f o p q xs i x h e before here = behind o p q (flat_map f (take i xs)) (f x) before here ∙ ap (first_of o) (sym (flat_map_one f xs i x h e))
+one_more f o p q xs i x h e before here = behind o p q (flat_map f (take i xs)) (f x) before here ∙ ap (first_of o) (sym (flat_map_next f xs i x h e))
 
 -- the same, where an item is read at an index
 pub one_more_read : {A : Type 0} (f : A → List Violation) (o p q : Option Violation) (xs : List A) (i : ℕ) (d : A)
     → i < length xs → p ≡ first_of o (flat_map f (take i xs)) → q ≡ first_of p (f (get_or xs i d)) → q ≡ first_of o (flat_map f (take (i + 1) xs))
 one_more_read f o p q xs i d h before here = one_more f o p q xs i (get_or xs i d) h (get_or_default xs i d (get_or xs i d) h) before here
 
-pub flat_map_of_map : {A B C : Type 0} (f : B → List C) (g : A → B) (xs : List A) → flat_map f (map g xs) ≡ flat_map (λ x. f (g x)) xs
-flat_map_of_map f g [] = refl
-flat_map_of_map f g (x ∷ xs) = ap (λ ys. f (g x) ++ ys) (flat_map_of_map f g xs)
-
 -- the same, where the items are seen as others
 pub one_more_seen : {A B : Type 0} (f : B → List Violation) (g : A → B) (o p q : Option Violation) (xs : List A) (i : ℕ) (x : A)
     → i < length xs → x ≡ get_or xs i x → p ≡ first_of o (flat_map f (map g (take i xs))) → q ≡ first_of p (f (g x)) → q ≡ first_of o (flat_map f (map g (take (i + 1) xs)))
 one_more_seen f g o p q xs i x h e before here =
-    one_more (λ x. f (g x)) o p q xs i x h e (before ∙ ap (first_of o) (flat_map_of_map f g (take i xs))) here ∙ ap (first_of o) (sym (flat_map_of_map f g (take (i + 1) xs)))
+    one_more (λ x. f (g x)) o p q xs i x h e (before ∙ ap (first_of o) (flat_map-map f g (take i xs))) here ∙ ap (first_of o) (sym (flat_map-map f g (take (i + 1) xs)))

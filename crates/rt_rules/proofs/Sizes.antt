@@ -2,6 +2,7 @@
 use Rattle.std.proofs.Common.{◌≡◌, ℕ, ◌+◌, ◌<◌, min, Bool, ◌&&◌, ◌||◌, List, ◌++◌, length, get_or, map, drop, Option, sym, ap, ◌∙◌, arith}
 use lib.Dec.{ltb, leb}
 use Rattle.std.proofs.lemmas.Bool.Decides.{nat_tests}
+use Rattle.rt_lemmas.proofs.Lists.{drop_as_cons}
 use Rattle.rt_ids.specs.declared.limits.TheConstants.{BODY_COST, CODE_SIZE}
 use Rattle.rt_ids.specs.declared.rule.Rule.TheVariants as rule
 use Rattle.rt_app.specs.Tree.{App}
@@ -12,7 +13,6 @@ use Rattle.rt_app.specs.Violation.{when}
 use Rattle.rt_app.specs.declared.violation.Violation.{Violation}
 use Rattle.rt_rules.specs.First.{first_of}
 use Rattle.rt_rules.proofs.Fold.{first_of_append}
-use Rattle.rt_rules.proofs.Steps.{front}
 
 not_over : (n limit most : ℕ) → limit < most → leb (min n most) limit ≡ leb n limit
 not_over n limit most h = grind (arith, nat_tests)
@@ -41,7 +41,7 @@ length_more seen app ms i x size before own behind steps most broken o p v h e l
     is ∙ ap (λ n. ltb BODY_COST n || (leb before CODE_SIZE && ltb CODE_SIZE behind)) steps_are ∙ ap (λ b. ltb BODY_COST cost || b) (outgrows size own before behind most CODE_SIZE large so_far behind_is) in
     let one = λ (n : ℕ). when (ltb BODY_COST cost || (leb size CODE_SIZE && ltb CODE_SIZE (size + n))) rule.TooLongBody m.body.at in
     let whole : first_of o (one own ++ rest) ≡ v =
-    ap (λ n. first_of o (one n ++ too_long app (size + n) (map seen (drop (i + 1) ms)))) own_is ∙ ap (λ ms. first_of o (too_long app size (map seen ms))) (sym (front ms i x h e)) ∙ was in (
+    ap (λ n. first_of o (one n ++ too_long app (size + n) (map seen (drop (i + 1) ms)))) own_is ∙ ap (λ ms. first_of o (too_long app size (map seen ms))) (sym (drop_as_cons ms i x h e)) ∙ was in (
       omega arith,
       ap (λ (w : Option Violation). first_of w rest) (here ∙ ap (λ b. first_of o (when b rule.TooLongBody m.body.at)) judged) ∙ sym (first_of_append o (one own) rest) ∙ whole,
     )

@@ -4,6 +4,7 @@ use Rattle.std.specs.List.{list_any}
 use Rattle.std.specs.Option.{option_map}
 use Rattle.std.proofs.lemmas.List.{take_more, get_or_past, get_or-replicate, length-replicate}
 use Rattle.std.proofs.lemmas.Bool.{cases_lt}
+use Rattle.rt_lemmas.proofs.Lists.{drop_as_cons, flat_map_alike}
 use Rattle.rt_ids.specs.declared.rule.Rule.TheVariants as rule
 use Rattle.rt_app.specs.declared.body.Listed.{Listed}
 use Rattle.rt_app.specs.declared.body.Owned.{Owned}
@@ -17,9 +18,6 @@ use Rattle.rt_rules.specs.First.{first_of}
 use Rattle.rt_rules.specs.Tables.{or_else}
 use Rattle.rt_rules.proofs.Fold.{first_of_append}
 
-pub front : {A : Type 0} (xs : List A) (i : ℕ) (x : A) → i < length xs → x ≡ get_or xs i x → drop i xs ≡ x ∷ drop (i + 1) xs
-front xs i x h e = drop-cons xs i x h ∙ ap (λ y. y ∷ drop (suc i) xs) (sym e) ∙ ap (λ n. x ∷ drop n xs) (sym (add-one i))
-
 -- the violation of one more use
 pub used_more : (before : List ℕ) (us : List Used) (i : ℕ) (x : Used) (o p v : Option Violation)
     → i < length us → x ≡ get_or us i x → first_of o (used_twice before (drop i us)) ≡ v
@@ -27,7 +25,7 @@ pub used_more : (before : List ℕ) (us : List Used) (i : ℕ) (x : Used) (o p v
 used_more before us i x o p v h e was here =
     ap (λ (w : Option Violation). first_of w (used_twice (x.number ∷ before) (drop (i + 1) us))) here
     ∙ sym (first_of_append o (when (list_any (λ n. n == x.number) before) rule.InterruptUsedTwice x.at) (used_twice (x.number ∷ before) (drop (i + 1) us)))
-    ∙ ap (λ us. first_of o (used_twice before us)) (sym (front us i x h e))
+    ∙ ap (λ us. first_of o (used_twice before us)) (sym (drop_as_cons us i x h e))
     ∙ was
 
 -- an item that is read through its view
@@ -37,11 +35,6 @@ seen_at xs i x r same is = same ∙ is ∙ ap (get_or xs i) (sym same)
 -- the numbers that are in, and one more
 pub used_table : (before : List ℕ) (n : ℕ) (old new : ℕ → Bool) → ((k : ℕ) → old k ≡ list_any (λ n. n == k) before) → ((k : ℕ) → new k ≡ (n == k || old k)) → (k : ℕ) → new k ≡ list_any (λ n. n == k) (n ∷ before)
 used_table before n old new were are k = are k ∙ ap (λ b. n == k || b) (were k)
-
--- two functions that are the same on each item
-pub same_flat_map : {A B : Type 0} (f g : A → List B) → ((x : A) → f x ≡ g x) → (xs : List A) → flat_map f xs ≡ flat_map g xs
-same_flat_map f g same [] = refl
-same_flat_map f g same (x ∷ xs) = ap (λ ys. ys ++ flat_map f xs) (same x) ∙ ap (λ ys. g x ++ ys) (same_flat_map f g same xs)
 
 -- the numbers of the bodies that are in, and those of one more
 pub owned_table : (before : List Member) (m : Member) (ls : List Owned) (old new : ℕ → Bool) → ls ≡ m.body.local → ((k : ℕ) → old k ≡ list_any (owns k) before) → ((k : ℕ) → new k ≡ (list_any (λ o. o.local == k) ls || old k))
@@ -57,11 +50,11 @@ owned_more seen test before ms i x ls o p v h e locals table was here =
     let m = seen x in
     let rest = owned_twice (m ∷ before) (map seen (drop (i + 1) ms)) in
     let same : flat_map (λ (l : Owned). when (is_known l.local && test l.local) rule.LocalInTwoTasks l.at) m.body.local ≡ flat_map (owned_before before) m.body.local =
-    same_flat_map (λ (l : Owned). when (is_known l.local && test l.local) rule.LocalInTwoTasks l.at) (owned_before before)
+    flat_map_alike (λ (l : Owned). when (is_known l.local && test l.local) rule.LocalInTwoTasks l.at) (owned_before before)
     (λ l. ap (λ b. when (is_known l.local && b) rule.LocalInTwoTasks l.at) (table l.local)) m.body.local in
     ap (λ (w : Option Violation). first_of w rest) (here ∙ ap (λ ls. first_of o (flat_map (λ (l : Owned). when (is_known l.local && test l.local) rule.LocalInTwoTasks l.at) ls)) locals ∙ ap (first_of o) same)
     ∙ sym (first_of_append o (flat_map (owned_before before) m.body.local) rest)
-    ∙ ap (λ ms. first_of o (owned_twice before (map seen ms))) (sym (front ms i x h e))
+    ∙ ap (λ ms. first_of o (owned_twice before (map seen ms))) (sym (drop_as_cons ms i x h e))
     ∙ was
 
 find_push : {A : Type 0} (test : A → Bool) (xs : List A) (x : A) → find test (xs ++ x ∷ []) ≡ or_else (find test xs) (if test x then Some x else None)

@@ -1,6 +1,7 @@
 -- The first violation behind uses that stand one behind the other.
 use Rattle.std.proofs.Common.{◌≡◌, ℕ, Bool, Box, ◌+◌, ◌<◌, List, [], ◌∷◌, ◌++◌, length, get_or, take, map, flat_map, Option, is_none, Vec, Global, refl, sym, ap, ◌∙◌}
 use Rattle.std.proofs.lemmas.List.Concat.{flat_map-append}
+use Rattle.rt_lemmas.proofs.Lists.{flat_map_next, flat_map-map}
 use Rattle.rt_ids.specs.declared.rule.Rule.TheVariants as rule
 use Rattle.rt_ids.specs.declared.op.Op.{Op}
 use Rattle.rt_app.specs.Tree as tree
@@ -18,7 +19,7 @@ use Rattle.rt_app.specs.declared.stmt.Stmt.{Stmt, Branch, Repeat, Locked}
 use Rattle.rt_app.proofs.Statements.{branch_is, repeat_is, locked_is}
 use Rattle.rt_rules.specs.First.{first_of}
 use Rattle.rt_rules.specs.Uses.{first_use}
-use Rattle.rt_rules.proofs.Fold.{behind, flat_map_one, flat_map_of_map}
+use Rattle.rt_rules.proofs.Fold.{behind}
 
 -- uses behind others
 pub uses_behind : (app : App) (m : Member) (o p q : Option Violation) (xs ys zs : List Placed) → zs ≡ xs ++ ys → p ≡ first_use app m o xs → q ≡ first_use app m p ys → q ≡ first_use app m o zs
@@ -49,15 +50,15 @@ pub uses_more : (locked : List ℕ) (stmts : List Stmt) (i : ℕ) (x : Stmt) →
     → uses locked (block_of (take (i + 1) stmts)) ≡ uses locked (block_of (take i stmts)) ++ statement_uses locked (statement_of x)
 uses_more locked stmts i x h e =
     uses_are locked (take (i + 1) stmts)
-    ∙ flat_map_one (λ s. statement_uses locked (statement_of s)) stmts i x h e
+    ∙ flat_map_next (λ s. statement_uses locked (statement_of s)) stmts i x h e
     ∙ ap (λ xs. xs ++ statement_uses locked (statement_of x)) (sym (uses_are locked (take i stmts)))
 
 pub reads_more : (locked : List ℕ) (es : List Expr) (i : ℕ) (x : Expr) → i < length es → x ≡ get_or es i x
     → flat_map (reads locked) (map expression_of (take (i + 1) es)) ≡ flat_map (reads locked) (map expression_of (take i es)) ++ reads locked (expression_of x)
 reads_more locked es i x h e =
-    flat_map_of_map (reads locked) expression_of (take (i + 1) es)
-    ∙ flat_map_one (λ e. reads locked (expression_of e)) es i x h e
-    ∙ ap (λ xs. xs ++ reads locked (expression_of x)) (sym (flat_map_of_map (reads locked) expression_of (take i es)))
+    flat_map-map (reads locked) expression_of (take (i + 1) es)
+    ∙ flat_map_next (λ e. reads locked (expression_of e)) es i x h e
+    ∙ ap (λ xs. xs ++ reads locked (expression_of x)) (sym (flat_map-map (reads locked) expression_of (take i es)))
 
 pub operands : (locked : List ℕ) (expr left right : Expr) (o : Op) (a b : Box Expr Global) → expr ≡ Oper o a b → left ≡ a.value → right ≡ b.value
     → reads locked (expression_of expr) ≡ reads locked (expression_of left) ++ reads locked (expression_of right)

@@ -2,17 +2,12 @@
 use Rattle.std.proofs.Common.{◌≡◌, ℕ, ◌+◌, ◌<◌, Bool, true, false, ◌||◌, List, [], ◌∷◌, ◌++◌, length, get_or, take, flat_map, Vec, Global, Result, Ok, Err, OnOk, refl, sym, ap, ◌∙◌}
 use Rattle.std.specs.List.{list_any}
 use Rattle.std.proofs.lemmas.List.Folds.{list_any-append}
+use Rattle.rt_lemmas.proofs.Lists.{flat_map_next}
 use Rattle.rt_app.specs.View.{statement_of, block_of}
 use Rattle.rt_app.specs.declared.expr.Expr.{Expr}
 use Rattle.rt_app.specs.declared.stmt.Stmt.{Stmt, Branch, Repeat, Locked}
 use Rattle.rt_app.proofs.Statements.{branch_is, repeat_is, locked_is}
 use Rattle.rt_app.specs.Use.{statement_loops, loops}
-use Rattle.rt_rules.proofs.Fold.{flat_map_one}
-
--- what follows from what holds where there is an answer
-pub on_ok : {A E : Type 0} (r : Result A E) (P Q : Type 0) → (P → Q) → OnOk r P → OnOk r Q
-on_ok (Ok x) P Q f h = f h
-on_ok (Err e) P Q f h = h
 
 pub branch_loops : (stmt : Stmt) (e : Expr) (v w : Vec Stmt Global) (first second : List Stmt) → stmt ≡ Branch e v w → first ≡ v.items → second ≡ w.items
     → statement_loops (statement_of stmt) ≡ loops (block_of first) ++ loops (block_of second)
@@ -30,7 +25,7 @@ loops_are (s ∷ stmts) = ap (λ xs. statement_loops (statement_of s) ++ xs) (lo
 
 pub loops_more : (stmts : List Stmt) (i : ℕ) (x : Stmt) → i < length stmts → x ≡ get_or stmts i x → loops (block_of (take (i + 1) stmts)) ≡ loops (block_of (take i stmts)) ++ statement_loops (statement_of x)
 loops_more stmts i x h e =
-    loops_are (take (i + 1) stmts) ∙ flat_map_one (λ s. statement_loops (statement_of s)) stmts i x h e ∙ ap (λ xs. xs ++ statement_loops (statement_of x)) (sym (loops_are (take i stmts)))
+    loops_are (take (i + 1) stmts) ∙ flat_map_next (λ s. statement_loops (statement_of s)) stmts i x h e ∙ ap (λ xs. xs ++ statement_loops (statement_of x)) (sym (loops_are (take i stmts)))
 
 or_behind : (a b c : Bool) → (b || (a || c)) ≡ ((a || b) || c)
 or_behind true true c = refl

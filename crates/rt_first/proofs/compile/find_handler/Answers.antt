@@ -1,7 +1,8 @@
 use Rattle.std.proofs.Common.{◌≡◌, ◌==◌, ◌+◌, ◌*◌, ◌<◌, length, drop, sum_by, false, arith, rules, ◌∙◌}
 use Rattle.std.proofs.lemmas.List.Sums.{sum_by-drop_more}
+use Rattle.rt_lemmas.proofs.Lists.{all_left}
 use Rattle.rt_first.specs.Application.{Task}
-use Rattle.rt_first.proofs.Handlers.{handler_next, all_left}
+use Rattle.rt_first.proofs.Handlers.{handler_next}
 use Rattle.rt_first.proofs.compile.find_handler.Goals as goal
 
 pub loop-task-preserved : goal.loop-task-preserved

@@ -1,10 +1,10 @@
 use Rattle.std.proofs.Common.{map, ◌≡◌, ◌++◌, ◌∷◌, [], refl, ap, sym, ◌∙◌, take}
 use Rattle.std.proofs.lemmas.List.{map_push}
+use Rattle.rt_lemmas.proofs.Lists.{all_push, map_next}
 use Rattle.rt_first.specs.TreeView.{irq_view}
 use Rattle.rt_first.specs.declared.tree.IrqTree as code
 use Rattle.rt_first.specs.FirstForm.{IrqTree, irq_tree}
 use Rattle.rt_first.specs.Form.{IsNumber}
-use Rattle.rt_first.proofs.FormLemmas.{all_push, map_next}
 use Rattle.rt_first.proofs.form.irqs_of.Goals as goal
 
 pub loop-irq-preserved : goal.loop-irq-preserved

@@ -1,13 +1,14 @@
 use Rattle.std.proofs.Common.{take, drop, arith, length-drop}
 use Rattle.std.proofs.lemmas.List.{take-append-drop}
-use Rattle.rt_outside.proofs.Moving.{OnErr-from, Took-more}
+use Rattle.rt_lemmas.proofs.Results.{on_err_from}
+use Rattle.rt_outside.proofs.Moving.{Took-more}
 use Rattle.rt_outside.proofs.sink.put_all.Goals as goal
 
 pub returns-in_err-done-clause-err : goal.returns-in_err-done-clause-err
 returns-in_err-done-clause-err g c =
     let done = c.loop-turn.done in
     let bytes = c.args.bytes.now in
-    OnErr-from c.from_residual.result
+    on_err_from c.from_residual.result
     (take done bytes, (drop done bytes, take-append-drop done bytes), rw c.in_err-done.ensures.err c.loop-turn.invariant.took)
 
 pub loop-turn-preserved : goal.loop-turn-preserved

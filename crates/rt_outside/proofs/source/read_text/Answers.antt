@@ -1,10 +1,11 @@
 use Rattle.std.proofs.Common.{◌≡◌, ◌≤◌, ◌+◌, ◌-◌, ◌++◌, length, take, vec_len, arith, ap, length-take-le}
-use Rattle.rt_outside.proofs.Moving.{OnErr-from, Gave-more, length-moved, take-front}
+use Rattle.rt_lemmas.proofs.Results.{on_err_from}
+use Rattle.rt_outside.proofs.Moving.{Gave-more, length-moved, take-front}
 use Rattle.rt_outside.proofs.source.read_text.Goals as goal
 
 pub returns-in_err-count-clause-not_longer : goal.returns-in_err-count-clause-not_longer
 returns-in_err-count-clause-not_longer g c =
-    OnErr-from c.from_residual-in_err-count.result
+    on_err_from c.from_residual-in_err-count.result
     (λ _. (vec_len c.loop-turn.text, c.loop-turn.invariant.within, (c.loop-turn.text.items, rw c.in_err-count.ensures.err c.loop-turn.invariant.gave, omega (arith, c.loop-turn.text.ok.0))))
 
 pub returns-then-len-count-clause-too_long : goal.returns-then-len-count-clause-too_long
@@ -23,7 +24,7 @@ returns-in_err-extend_from_slice-clause-not_longer g c =
     let fits : count ≤ length buffer = omega (arith, c.in_ok-count.ensures.within, c.read.auto.buffer) in
     let long = length-moved text buffer count fits in
     let short : length text + count ≤ c.args.limit = omega (arith, room, fits, c.loop-turn.text.ok.0, c.if-len-count.false, c.len-in-loop-turn-2.ensures, c.loop-turn.invariant.within) in
-    OnErr-from c.from_residual-in_err-extend_from_slice.result
+    on_err_from c.from_residual-in_err-extend_from_slice.result
     (λ _. (length text + count, short, (text ++ take count buffer, Gave-more _ _ _ text buffer count c.loop-turn.invariant.gave c.in_ok-count.ensures.moved, long)))
 
 pub loop-turn-preserved : goal.loop-turn-preserved

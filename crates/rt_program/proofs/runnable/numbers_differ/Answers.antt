@@ -2,8 +2,8 @@ use borrow.Author.Count.{below_more}
 use Rattle.std.proofs.Common.{◌≡◌, ◌==◌, Some, length, position, slice_get, refl, sym, ap, subst, ◌∙◌, arith}
 use Rattle.std.proofs.lemmas.Option.{slice_get_within, slice_get_read, get_or_from_slice_get}
 use Rattle.std.proofs.lemmas.Grind.{common_steps}
+use Rattle.rt_lemmas.proofs.Lists.{position_of_key}
 use Rattle.rt_code.specs.declared.image.IrqRow.{IrqRow as Row}
-use Rattle.rt_program.proofs.Apart.{first_of_key}
 use Rattle.rt_program.proofs.runnable.numbers_differ.Goals as goal
 
 pub returns-then-ne : goal.returns-then-ne
@@ -14,7 +14,7 @@ returns-then-ne c = (
       let place = c.loop-place.place in
       let row = c.index-irqs-place.result in
       let at : slice_get irqs place ≡ Some row = slice_get_read irqs (length irqs) place row refl (omega arith) c.index-irqs-place.is in
-      let first = first_of_key (λ row. row.number) irqs place row at (λ j y at_j same. apart j place y row at_j at same) in
+      let first = position_of_key (λ row. row.number) irqs place row at (λ j y at_j same. apart j place y row at_j at same) in
       grind (arith, common_steps),
 )
 

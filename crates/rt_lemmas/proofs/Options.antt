@@ -1,0 +1,28 @@
+-- On what may not be there.
+use Rattle.std.proofs.Common.{◌≡◌, Option, Some, None, IfNone, IfSome, Bool, true, false, cond, option_map, refl, if◌then◌else◌}
+use Rattle.std.specs.Option.{option_or}
+use Rattle.std.proofs.lemmas.Option.{none-some}
+
+pub if_some_weaker : {A : Type 0} {P Q : A → Type 0} (o : Option A) → ((x : A) → P x → Q x) → IfSome o P → IfSome o Q
+if_some_weaker None f p = p
+if_some_weaker (Some x) f p = f x p
+
+pub if_none_weaker : {A P Q : Type 0} (o : Option A) → (P → Q) → IfNone o P → IfNone o Q
+if_none_weaker None f p = f p
+if_none_weaker (Some x) f p = p
+
+pub if_some_either : {X : Type 0} (P : X → Type 0) (first second : Option X) → IfSome first P → IfSome second P → IfSome (option_or first second) P
+if_some_either P None second h k = k
+if_some_either P (Some x) second h k = h
+
+pub if_some-map : {X Y : Type 0} (f : X → Y) (P : Y → Type 0) (found : Option X) → IfSome found (λ x. P (f x)) → IfSome (option_map f found) P
+if_some-map f P None h = tt
+if_some-map f P (Some x) h = h
+
+pub some_when : {A : Type 0} (b : Bool) (x y : A) → (if b then Some x else None) ≡ Some y → b ≡ true
+some_when true x y e = refl
+some_when false x y e = absurd cc
+
+pub some_of_cond : {A : Type 0} (b : Bool) (o : Option A) (x : A) → cond b o None ≡ Some x → o ≡ Some x
+some_of_cond true o x e = e
+some_of_cond false o x e = absurd (none-some x e)

@@ -1,0 +1,2 @@
+// General lemmas, each once, on what the standard library has: tests, numbers, lists, texts, options and results.
+#![tactic(auto)]
