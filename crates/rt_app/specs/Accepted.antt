@@ -1,10 +1,10 @@
 -- The applications that are accepted, as they show it themselves: they break no rule and keep the limits, their names are names
 -- and differ, each number in them is the place of something that is declared, a variable is in scope where it is read or assigned,
 -- and the body lists the local resources that it uses, as a task of RTIC 1 does.
-use Rattle.std.specs.Prelude.{◌≡◌, ℕ, ◌+◌, ◌<◌, ◌==◌, IsTrue, List, [], ◌∷◌, length, Option, Some, None}
-use Rattle.std.specs.List.{AllByRecursion, list_any, range_with_len}
+use Rattle.std.specs.Prelude.{◌≡◌, ℕ, ◌+◌, ◌<◌, Contains, List, [], ◌∷◌, length, map, Option, Some, None}
+use Rattle.std.specs.List.{AllByRecursion, range_with_len}
+use Rattle.rt_ids.specs.Lists.{AreDifferent}
 use Rattle.rt_app.specs.declared.app.Mono.{Mono}
-use Rattle.rt_app.specs.declared.body.Owned.{Owned}
 use Rattle.rt_app.specs.declared.expr.Atom.{Atom}
 use Rattle.rt_app.specs.declared.expr.Atom.TheVariants.{Var, Shared, Local}
 use Rattle.rt_app.specs.Tree.{Expression, Num, Read, Oper, Spawn, Soon, After, Value, Calc, Now, Call, Statement, Bind, Assign, Branch, Repeat, Locked, Emit, Pend, Spawns, Block, Empty, Then, Body, Task, App}
@@ -14,12 +14,12 @@ use Rattle.rt_app.specs.Names.{HasNames}
 use Rattle.rt_app.specs.Rules.{violations}
 
 -- in a body that lists these local resources
-module _ (app : App) (listed : List Owned) where
+module _ (app : App) (listed : List ℕ) where
   -- with these variables in scope
   abbrev pub IsMeant : List ℕ → Atom → Type 0
-  IsMeant visible (Var x) = IsTrue (list_any (λ y. y == x) visible)
+  IsMeant visible (Var x) = Contains visible x
   IsMeant visible (Shared r) = r < length app.shared
-  IsMeant visible (Local n) = (n < length app.locals) × IsTrue (list_any (λ o. o.local == n) listed)
+  IsMeant visible (Local n) = (n < length app.locals) × Contains listed n
 
   abbrev pub AreMeant : List ℕ → Expression → Type 0
   AreMeant visible (Num n) = Unit {0}
@@ -67,12 +67,19 @@ module _ (app : App) where
   pub record IsBodyPlaced (args : ℕ) (b : Body) : Type 0 where
     pub shared : AllByRecursion (λ l. l.resource < length app.shared) b.shared
     pub local : AllByRecursion (λ o. o.local < length app.locals) b.local
-    pub variables : b.variables ≡ args + variables b.block
-    pub block : IsBlockPlaced app b.local args (range_with_len 0 args) b.block
+    -- it lists nothing twice
+    pub shared_once : AreDifferent (map (λ l. l.resource) b.shared)
+    pub local_once : AreDifferent (map (λ o. o.local) b.local)
+    pub block : IsBlockPlaced app (map (λ o. o.local) b.local) args (range_with_len 0 args) b.block
 
   abbrev pub IsThreadPlaced : Option Body → Type 0
   IsThreadPlaced None = Unit {0}
   IsThreadPlaced (Some b) = IsBodyPlaced 0 b
+
+  -- `init` uses every shared resource by its name, and lists none
+  abbrev pub IsInitPlaced : Option Body → Type 0
+  IsInitPlaced None = Unit {0}
+  IsInitPlaced (Some b) = IsBodyPlaced 0 b × (b.shared ≡ [])
 
   abbrev pub IsBindingPlaced : Option ℕ → Type 0
   IsBindingPlaced None = Unit {0}
@@ -91,6 +98,6 @@ pub record IsAccepted (app : App) : Type 0 where
   pub names : HasNames app
   pub dispatchers : AllByRecursion (λ d. d.irq < length app.irqs) app.dispatchers
   pub mono : IsMonoPlaced app app.mono
-  pub init : IsThreadPlaced app app.init
+  pub init : IsInitPlaced app app.init
   pub idle : IsThreadPlaced app app.idle
   pub tasks : AllByRecursion (IsTaskPlaced app) app.tasks

@@ -16,7 +16,7 @@ pub record Bounds : Type 0 where
   pub stack_bytes : ℕ
 
 abbrev pub body_bound : App → Member → BodyBound
-body_bound app m = record { body = m.id; frame = frame_words m.body; cost = body_cost (cost_measure app) m.body }
+body_bound app m = record { body = m.id; frame = frame_words m.args m.body; cost = body_cost (cost_measure app) m.body }
 
 abbrev pub bounds : App → Bounds
 bounds app = record {

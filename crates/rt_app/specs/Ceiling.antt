@@ -3,13 +3,15 @@
 -- The code fills a table for each kind in one pass over the bodies.
 use Rattle.std.specs.Prelude.{ℕ, ◌+◌, ◌==◌, max, Bool, not, ◌&&◌, List, [], ◌∷◌, map, filter, length, slice_get, Option, Some, None, option_map, if◌then◌else◌}
 use Rattle.std.specs.List.{list_any, range_with_len}
+use Rattle.rt_ids.specs.declared.ids.Section.{Section}
+use Rattle.rt_ids.specs.declared.ids.Section.TheVariants as section
 use Rattle.rt_app.specs.declared.app.Mono.{Mono}
 use Rattle.rt_app.specs.declared.ceilings.ReadyCeiling.{ReadyCeiling}
 use Rattle.rt_app.specs.Tree.{Task, App, Spawn}
-use Rattle.rt_app.specs.Bodies.{Member, members}
+use Rattle.rt_app.specs.Bodies.{Member, members, task_priority}
 use Rattle.rt_app.specs.Spawned.{is_soon, target}
 use Rattle.rt_app.specs.Level.{is_software, is_of_level, levels, holds}
-use Rattle.rt_ids.specs.Lists.{is_some_and, greatest}
+use Rattle.rt_ids.specs.Lists.{is_some_and, greatest, or_zero}
 
 pub record Ceilings : Type 0 where
   pub shared : List ℕ
@@ -29,8 +31,8 @@ abbrev pub resource_ceiling : App → ℕ → ℕ
 resource_ceiling app r = greatest_priority (lists r) app
 
 -- the task itself, and the bodies that spawn it, at once or after a delay
-abbrev pub free_ceiling : App → ℕ → Task → ℕ
-free_ceiling app n t = max t.priority (greatest_priority (holds (λ s. target s == n)) app)
+abbrev pub free_ceiling : App → ℕ → ℕ
+free_ceiling app n = max (task_priority app n) (greatest_priority (holds (λ s. target s == n)) app)
 
 -- whether a spawn at once is of a task of this level
 abbrev pub readies : App → ℕ → Spawn → Bool
@@ -50,21 +52,26 @@ abbrev pub ready_ceiling : App → ℕ → ℕ
 ready_ceiling app p = max p (max (greatest_priority (holds (readies app p)) app) (mover_priority app p app.mono))
 
 -- the monotonic, and the bodies that spawn after a delay
-abbrev pub timer_ceiling : App → Mono → ℕ
-timer_ceiling app mono = max mono.priority (greatest_priority (holds (λ s. not (is_soon s))) app)
+abbrev pub timer_ceiling : App → ℕ
+timer_ceiling app = max (or_zero (option_map (λ mono. mono.priority) app.mono)) (greatest_priority (holds (λ s. not (is_soon s))) app)
+
+-- the priority that a section of this holds off, with all below it
+abbrev pub ceiling : App → Section → ℕ
+ceiling app (section.Res r) = resource_ceiling app r
+ceiling app (section.Free n) = free_ceiling app n
+ceiling app (section.Ready p) = ready_ceiling app p
+ceiling app section.Timer = timer_ceiling app
 
 -- of the tasks from this number on
 abbrev pub free_ceilings : App → ℕ → List Task → List (Option ℕ)
 free_ceilings app n [] = []
-free_ceilings app n (t ∷ ts) = (if is_software t then Some (free_ceiling app n t) else None) ∷ free_ceilings app (n + 1) ts
+free_ceilings app n (t ∷ ts) = (if is_software t then Some (ceiling app (section.Free n)) else None) ∷ free_ceilings app (n + 1) ts
 
-abbrev pub ready_ceilings : App → List ℕ → List ReadyCeiling
-ready_ceilings app ps = map (λ p. record { level = p; ceiling = ready_ceiling app p }) ps
-
+-- the ceilings of all that there is
 abbrev pub ceilings : App → Ceilings
 ceilings app = record {
-  shared = map (resource_ceiling app) (range_with_len 0 (length app.shared));
+  shared = map (λ r. ceiling app (section.Res r)) (range_with_len 0 (length app.shared));
   free = free_ceilings app 0 app.tasks;
-  ready = ready_ceilings app (levels app);
-  timer = option_map (timer_ceiling app) app.mono;
+  ready = map (λ p. record { level = p; ceiling = ceiling app (section.Ready p) }) (levels app);
+  timer = option_map (λ mono. ceiling app section.Timer) app.mono;
 }

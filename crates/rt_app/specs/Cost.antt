@@ -40,13 +40,17 @@ branch_cost m first second = if m.is_size then first + second else max first sec
 abbrev pub turns : Measure → ℕ → ℕ → ℕ
 turns m first last = if m.is_size then 1 else last - first
 
+-- of a lock, and of its section, round a block of this cost
+abbrev pub lock_cost : ℕ → ℕ
+lock_cost inner = capped (2 + inner)
+
 abbrev mutual
   pub statement_cost : Measure → Statement → ℕ
   statement_cost m (Bind x v) = bind_cost m v
   statement_cost m (Assign x e at) = capped (expression_cost e + 1)
   statement_cost m (Branch e first second) = capped (expression_cost e + 2 + branch_cost m (block_cost m first) (block_cost m second))
   statement_cost m (Repeat x first last turn) = capped (LOOP_COST + turns m first last * (block_cost m turn + TURN_COST))
-  statement_cost m (Locked r inner at) = capped (2 + block_cost m inner)
+  statement_cost m (Locked r inner at) = lock_cost (block_cost m inner)
   statement_cost m (Emit e) = capped (expression_cost e + 1)
   statement_cost m (Pend i) = 1
   statement_cost m (Spawns s) = spawn_cost m s

@@ -1,8 +1,9 @@
 -- The words of a body's frame: its variables, and what its statements keep beside them at the worst. They are this
 -- project's own; frames are even, as the exception frames of ARMv7-M are multiples of 8 bytes.
-use Rattle.std.specs.Prelude.{ℕ, ◌+◌, ◌%◌, ◌==◌, max, Bool, true, false, ◌||◌, map, if◌then◌else◌}
+use Rattle.std.specs.Prelude.{ℕ, ◌+◌, ◌%◌, max, Bool, true, false, ◌||◌, map, if◌then◌else◌}
 use Rattle.rt_app.specs.declared.costs.TheConstants.{SPAWN_WORDS, SPAWN_AFTER_WORDS}
 use Rattle.rt_app.specs.Tree.{Expression, Num, Read, Oper, Spawn, Soon, After, Value, Calc, Now, Call, Statement, Bind, Assign, Branch, Repeat, Locked, Emit, Pend, Spawns, Block, Empty, Then, Body}
+use Rattle.rt_app.specs.Variables.{variables}
 use Rattle.rt_app.specs.Spawned.{is_soon, spawns}
 use Rattle.rt_ids.specs.Lists.{greatest}
 
@@ -74,10 +75,21 @@ spawn_words s = if is_soon s then SPAWN_WORDS else SPAWN_AFTER_WORDS
 
 -- where expressions are evaluated; a loop alone needs a word for its test
 abbrev pub expression_words : Block → ℕ
-expression_words b = if block_depth b == 0 then (if has_loop b then 1 else 0) else block_depth b
+expression_words b = max (block_depth b) (if has_loop b then 1 else 0)
 
 abbrev pub even : ℕ → ℕ
 even n = n + n % 2
 
-abbrev pub frame_words : Body → ℕ
-frame_words b = even (b.variables + expression_words b.block + locks b.block + greatest (map spawn_words (spawns b.block)))
+-- Where the parts of the frame of a body with so many arguments begin: in front stand its variables, the arguments first, then come
+-- the words where expressions are evaluated, one for each depth of locking to save a mask in, and those of a spawn.
+abbrev pub first_expression_slot : ℕ → Body → ℕ
+first_expression_slot args b = args + variables b.block
+
+abbrev pub first_lock_slot : ℕ → Body → ℕ
+first_lock_slot args b = first_expression_slot args b + expression_words b.block
+
+abbrev pub first_spawn_slot : ℕ → Body → ℕ
+first_spawn_slot args b = first_lock_slot args b + locks b.block
+
+abbrev pub frame_words : ℕ → Body → ℕ
+frame_words args b = even (first_spawn_slot args b + greatest (map spawn_words (spawns b.block)))

@@ -1,5 +1,6 @@
--- The rule on what bodies take: none has more steps than a body may, and with none the code has more instructions than it may.
-use Rattle.std.specs.Prelude.{ℕ, ◌+◌, nat_lt, nat_le, ◌&&◌, ◌||◌, List, [], ◌∷◌, ◌++◌}
+-- The rule on what bodies take: none has more steps than a body may, and up to none the code has more instructions than it may. So
+-- each body behind the first with which the code is too long breaks the rule too; the first is the one that is refused.
+use Rattle.std.specs.Prelude.{ℕ, ◌+◌, nat_lt, ◌||◌, List, [], ◌∷◌, ◌++◌}
 use Rattle.rt_ids.specs.declared.limits.TheConstants.{BODY_COST, CODE_SIZE}
 use Rattle.rt_ids.specs.declared.rule.Rule.TheVariants as rule
 use Rattle.rt_app.specs.declared.violation.Violation.{Violation}
@@ -13,7 +14,7 @@ abbrev pub too_long : App → ℕ → List Member → List Violation
 too_long app before [] = []
 too_long app before (m ∷ ms) =
     let behind = before + body_cost (size_measure app) m.body in
-    when (nat_lt BODY_COST (body_cost (cost_measure app) m.body) || (nat_le before CODE_SIZE && nat_lt CODE_SIZE behind)) rule.TooLongBody m.body.at
+    when (nat_lt BODY_COST (body_cost (cost_measure app) m.body) || nat_lt CODE_SIZE behind) rule.TooLongBody m.body.at
     ++ too_long app behind ms
 
 abbrev pub lengths : App → List Violation

@@ -7,10 +7,12 @@ pub mod Bodies
 pub mod Level
 pub mod Cost
 pub mod BodyCost
+pub mod Steps
 pub mod Frame
 pub mod Stack
 pub mod Waiting
 pub mod Bounds
+pub mod Handlers
 pub mod Violation
 pub mod Declarations
 pub mod Listing
@@ -21,3 +23,5 @@ pub mod Rules
 pub mod Limits
 pub mod Names
 pub mod Accepted
+pub mod Sound
+pub mod Acceptance

@@ -1,8 +1,8 @@
 -- The limits of application texts, as an application with its names resolved shows them.
-use Rattle.std.specs.Prelude.{ℕ, ◌+◌, ◌≤◌, max, length, Option, Some, None}
+use Rattle.std.specs.Prelude.{ℕ, ◌+◌, ◌-◌, ◌^◌, ◌<◌, ◌≤◌, max, length, Option, Some, None}
 use Rattle.std.specs.List.{AllByRecursion}
-use Rattle.rt_ids.specs.declared.limits.TheConstants.{TASKS, SHARED, LOCALS, IRQS, LEAST_BITS, MOST_BITS, ARGUMENTS, CAPACITY, NESTING, STATEMENTS, DEPTH}
-use Rattle.rt_app.specs.Tree.{Statement, Bind, Assign, Branch, Repeat, Locked, Emit, Pend, Spawns, Block, Empty, Then, Body, Task, App}
+use Rattle.rt_ids.specs.declared.limits.TheConstants.{TASKS, SHARED, LOCALS, IRQS, IRQ_NUMBERS, TURNS, LEAST_BITS, MOST_BITS, ARGUMENTS, CAPACITY, NESTING, STATEMENTS, DEPTH}
+use Rattle.rt_app.specs.Tree.{Expression, Num, Read, Oper, Spawn, Soon, After, Value, Calc, Now, Call, Statement, Bind, Assign, Branch, Repeat, Locked, Emit, Pend, Spawns, Block, Empty, Then, Body, Task, App}
 use Rattle.rt_app.specs.Frame.{block_depth}
 
 -- statements, those of inner blocks too
@@ -37,29 +37,63 @@ abbrev mutual
   blocks_of Empty = 1
   blocks_of (Then s rest) = max (1 + inner_blocks s) (blocks_of rest)
 
--- a body that takes so many arguments
-pub record KeepsBodyLimits (args : ℕ) (b : Body) : Type 0 where
-  pub variables : b.variables ≤ args + STATEMENTS
+-- numbers are of 32 bits
+abbrev pub ExpressionFits : Expression → Type 0
+ExpressionFits (Num n) = n < 2 ^ 32
+ExpressionFits (Read atom at) = Unit {0}
+ExpressionFits (Oper o left right) = ExpressionFits left × ExpressionFits right
+
+abbrev pub SpawnFits : Spawn → Type 0
+SpawnFits (Soon task args at) = AllByRecursion ExpressionFits args
+SpawnFits (After word delay task args at) = ExpressionFits delay × AllByRecursion ExpressionFits args
+
+abbrev pub ValueFits : Value → Type 0
+ValueFits (Calc e) = ExpressionFits e
+ValueFits (Now at) = Unit {0}
+ValueFits (Call s) = SpawnFits s
+
+-- and no loop has more turns than a `for` may
+abbrev mutual
+  pub StatementFits : Statement → Type 0
+  StatementFits (Bind x v) = ValueFits v
+  StatementFits (Assign x e at) = ExpressionFits e
+  StatementFits (Branch e first second) = ExpressionFits e × BlockFits first × BlockFits second
+  StatementFits (Repeat x first last turn) = (first < 2 ^ 32) × (last < 2 ^ 32) × (last - first ≤ TURNS) × BlockFits turn
+  StatementFits (Locked r inner at) = BlockFits inner
+  StatementFits (Emit e) = ExpressionFits e
+  StatementFits (Pend i) = Unit {0}
+  StatementFits (Spawns s) = SpawnFits s
+
+  pub BlockFits : Block → Type 0
+  BlockFits Empty = Unit {0}
+  BlockFits (Then s rest) = StatementFits s × BlockFits rest
+
+pub record KeepsBodyLimits (b : Body) : Type 0 where
   pub statements : statements_of b.block ≤ STATEMENTS
   pub nesting : blocks_of b.block ≤ NESTING
   pub depth : block_depth b.block ≤ DEPTH
+  pub numbers : BlockFits b.block
 
 abbrev pub KeepsThreadLimits : Option Body → Type 0
 KeepsThreadLimits None = Unit {0}
-KeepsThreadLimits (Some b) = KeepsBodyLimits 0 b
+KeepsThreadLimits (Some b) = KeepsBodyLimits b
 
 pub record KeepsTaskLimits (t : Task) : Type 0 where
   pub args : t.args ≤ ARGUMENTS
   pub least_capacity : 1 ≤ t.capacity
   pub most_capacity : t.capacity ≤ CAPACITY
-  pub body : KeepsBodyLimits t.args t.body
+  pub body : KeepsBodyLimits t.body
 
 pub record KeepsLimits (app : App) : Type 0 where
   pub least_bits : LEAST_BITS ≤ app.bits
   pub most_bits : app.bits ≤ MOST_BITS
   pub irqs : length app.irqs ≤ IRQS
+  pub irq_numbers : AllByRecursion (λ d. d.number < IRQ_NUMBERS) app.irqs
   pub shared : length app.shared ≤ SHARED
   pub locals : length app.locals ≤ LOCALS
+  -- first values are of 32 bits
+  pub shared_values : AllByRecursion (λ r. r.first < 2 ^ 32) app.shared
+  pub local_values : AllByRecursion (λ r. r.first < 2 ^ 32) app.locals
   pub few_tasks : length app.tasks ≤ TASKS
   pub init : KeepsThreadLimits app.init
   pub idle : KeepsThreadLimits app.idle

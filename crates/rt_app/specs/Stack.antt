@@ -13,7 +13,7 @@ abbrev pub is_bound_at : ℕ → Task → Bool
 is_bound_at p t = not (is_software t) && (t.priority == p)
 
 abbrev pub frames_of : (Task → Bool) → App → List ℕ
-frames_of test app = map (λ t. frame_words t.body) (filter test app.tasks)
+frames_of test app = map (λ t. frame_words t.args t.body) (filter test app.tasks)
 
 abbrev pub is_timed_at : ℕ → App → Bool
 is_timed_at p app = is_some_and (λ mono. mono.priority == p) app.mono
@@ -43,7 +43,7 @@ bytes_below app (suc p) = bytes_below app p + level_bytes app p
 
 abbrev pub thread_frame : Option Body → ℕ
 thread_frame None = 0
-thread_frame (Some b) = frame_words b
+thread_frame (Some b) = frame_words 0 b
 
 -- the frame of the thread, which runs `init` and then `idle`
 abbrev pub thread_words : App → ℕ

@@ -49,8 +49,6 @@ mutual
 pub record Body : Type 0 where
   pub shared : List Listed
   pub local : List Owned
-  -- how many variables it has: its arguments, and its `let` and `for` statements
-  pub variables : ℕ
   pub block : Block
   -- the offset of the word `init` or `idle`, or of the task's name
   pub at : ℕ

@@ -1,5 +1,5 @@
 -- The applications that the code builds, as applications of the definitions.
-use Rattle.std.specs.Prelude.{ℕ, zero, ◌+◌, List, [], ◌∷◌, map, option_map}
+use Rattle.std.specs.Prelude.{ℕ, List, [], ◌∷◌, map, option_map}
 use Rattle.rt_app.specs.Tree as tree
 use Rattle.rt_app.specs.declared.expr.Expr.{Expr, Num, Read, Oper'}
 use Rattle.rt_app.specs.declared.stmt.Spawn.{Spawn}
@@ -10,7 +10,6 @@ use Rattle.rt_app.specs.declared.stmt.Stmt.{Stmt, Row_of-Stmt, end_of-Stmt, more
 use Rattle.rt_app.specs.declared.body.Body.{Body}
 use Rattle.rt_app.specs.declared.app.Task.{Task}
 use Rattle.rt_app.specs.declared.app.App.{App}
-use Rattle.rt_app.specs.Variables.{variables}
 
 abbrev pub expression_of : Expr → tree.Expression
 expression_of (Num n) = tree.Num n
@@ -45,15 +44,8 @@ abbrev pub block_of : List Stmt → tree.Block
 block_of [] = tree.Empty
 block_of (s ∷ stmts) = tree.Then (statement_of s) (block_of stmts)
 
--- a body that takes so many arguments
-abbrev pub body_of : ℕ → Body → tree.Body
-body_of args b = record {
-  shared = b.shared.items;
-  local = b.local.items;
-  variables = args + variables (block_of b.block.items);
-  block = block_of b.block.items;
-  at = b.at;
-}
+abbrev pub body_of : Body → tree.Body
+body_of b = record { shared = b.shared.items; local = b.local.items; block = block_of b.block.items; at = b.at }
 
 abbrev pub task_of : Task → tree.Task
 task_of t = record {
@@ -66,7 +58,7 @@ task_of t = record {
   capacity = t.capacity;
   has_capacity = t.has_capacity;
   args = t.args;
-  body = body_of t.args t.body;
+  body = body_of t.body;
 }
 
 abbrev pub app_of : App → tree.App
@@ -77,8 +69,8 @@ app_of a = record {
   mono = a.mono;
   shared = a.shared.items;
   locals = a.locals.items;
-  init = option_map (body_of zero) a.init;
-  idle = option_map (body_of zero) a.idle;
+  init = option_map body_of a.init;
+  idle = option_map body_of a.idle;
   tasks = map task_of a.tasks.items;
   name_at = a.name_at;
 }

@@ -1,100 +1,96 @@
--- How long a job of a priority may wait for jobs of lower ones, in core steps: for one outermost section of one of them,
--- since no other can begin while it is pending (Baker, 1991, on blocking). A section counts where its ceiling is at least the
--- priority, it stands in a body of lower priority, and in no other such section. `init` counts for nothing.
-use Rattle.std.specs.Prelude.{ℕ, ◌+◌, ◌==◌, max, nat_lt, nat_le, List, [], ◌∷◌, get_or, slice_get, find, Option, Some, None, if◌then◌else◌}
-use Rattle.rt_ids.specs.Lists.{or_zero}
+-- How long a job of a priority may wait for jobs of lower ones, in core steps: for one outermost section of one of them, since no
+-- other can begin while it is pending (Baker, Stack-Based Scheduling of Realtime Processes, 1991, on blocking). A section counts
+-- where its ceiling is at least the priority and its body is of lower priority. One inside another that counts takes no longer than
+-- that one, so the greatest cost is that of an outermost one. `init` counts for nothing. The code walks each body once a level.
+use Rattle.std.specs.Prelude.{ℕ, ◌+◌, Bool, ◌&&◌, nat_lt, nat_le, List, [], ◌∷◌, ◌++◌, map, filter, Option, Some, None, if◌then◌else◌}
+use Rattle.rt_ids.specs.Lists.{greatest}
+use Rattle.rt_ids.specs.declared.ids.Section.TheVariants as section
 use Rattle.rt_app.specs.declared.app.Mono.{Mono}
-use Rattle.rt_app.specs.declared.ceilings.ReadyCeiling.{ReadyCeiling}
 use Rattle.rt_app.specs.declared.costs.TheConstants.{FREE_COST, READY_COST}
 use Rattle.rt_app.specs.Tree.{Spawn, Soon, After, Value, Calc, Now, Call, Statement, Bind, Assign, Branch, Repeat, Locked, Emit, Pend, Spawns, Block, Empty, Then, Body, Task, App}
+use Rattle.rt_app.specs.Bodies.{task_priority}
 use Rattle.rt_app.specs.Level.{is_software, is_armed}
-use Rattle.rt_app.specs.Ceiling.{Ceilings, ceilings}
-use Rattle.rt_app.specs.Cost.{statement_cost}
+use Rattle.rt_app.specs.Ceiling.{ceiling}
+use Rattle.rt_app.specs.Cost.{lock_cost, block_cost}
 use Rattle.rt_app.specs.BodyCost.{cost_measure, dispatcher_section_cost, timer_section_cost}
 
-abbrev pub flat : Option (Option ℕ) → ℕ
-flat None = 0
-flat (Some p) = or_zero p
+-- a section of some body's code
+pub record Critical : Type 0 where
+  -- the priority of the body
+  pub level : ℕ
+  pub ceiling : ℕ
+  -- its core steps, from the entering to the leaving
+  pub cost : ℕ
 
-abbrev pub ceiling_or_zero : Option ReadyCeiling → ℕ
-ceiling_or_zero None = 0
-ceiling_or_zero (Some r) = r.ceiling
+-- in code that runs at a level
+module _ (app : App) (level : ℕ) where
+  abbrev pub free_section : ℕ → Critical
+  free_section task = record { level = level; ceiling = ceiling app (section.Free task); cost = FREE_COST }
 
-abbrev pub priority_or_zero : Option Task → ℕ
-priority_or_zero None = 0
-priority_or_zero (Some t) = t.priority
+  abbrev pub ready_section : ℕ → ℕ → Critical
+  ready_section p cost = record { level = level; ceiling = ceiling app (section.Ready p); cost = cost }
 
--- of a resource, of the free places of a task, of the ready queue of a level
-abbrev pub shared_at : Ceilings → ℕ → ℕ
-shared_at c r = get_or c.shared r 0
+  abbrev pub timer_section : Critical
+  timer_section = record { level = level; ceiling = ceiling app section.Timer; cost = timer_section_cost app }
 
-abbrev pub free_at : Ceilings → ℕ → ℕ
-free_at c n = flat (slice_get c.free n)
+  abbrev pub spawn_sections : Spawn → List Critical
+  spawn_sections (Soon task args at) = free_section task ∷ ready_section (task_priority app task) READY_COST ∷ []
+  spawn_sections (After word delay task args at) = free_section task ∷ timer_section ∷ []
 
-abbrev pub ready_at : Ceilings → ℕ → ℕ
-ready_at c p = ceiling_or_zero (find (λ r. r.level == p) c.ready)
+  abbrev pub value_sections : Value → List Critical
+  value_sections (Calc e) = []
+  value_sections (Now at) = []
+  value_sections (Call s) = spawn_sections s
 
--- the level of a task
-abbrev pub level_of : App → ℕ → ℕ
-level_of app n = priority_or_zero (slice_get app.tasks n)
-
--- the cost of a section, where its ceiling is at least the priority
-abbrev pub if_reaches : ℕ → ℕ → ℕ → ℕ
-if_reaches p ceiling cost = if nat_le p ceiling then cost else 0
-
-module _ (app : App) (c : Ceilings) (p : ℕ) where
-  abbrev pub spawn_wait : Spawn → ℕ
-  spawn_wait (Soon task args at) = max (if_reaches p (free_at c task) FREE_COST) (if_reaches p (ready_at c (level_of app task)) READY_COST)
-  spawn_wait (After word delay task args at) = max (if_reaches p (free_at c task) FREE_COST) (if_reaches p (or_zero c.timer) (timer_section_cost app))
-
-  abbrev pub value_wait : Value → ℕ
-  value_wait (Calc e) = 0
-  value_wait (Now at) = 0
-  value_wait (Call s) = spawn_wait s
-
-  -- the greatest cost of a section that counts
+  -- the sections of a statement, with those inside them
   abbrev mutual
-    pub statement_wait : Statement → ℕ
-    statement_wait (Bind x v) = value_wait v
-    statement_wait (Assign x e at) = 0
-    statement_wait (Branch e first second) = max (block_wait first) (block_wait second)
-    statement_wait (Repeat x first last turn) = block_wait turn
-    statement_wait (Locked r inner at) = if nat_le p (shared_at c r) then statement_cost (cost_measure app) (Locked r inner at) else block_wait inner
-    statement_wait (Emit e) = 0
-    statement_wait (Pend i) = 0
-    statement_wait (Spawns s) = spawn_wait s
+    pub statement_sections : Statement → List Critical
+    statement_sections (Bind x v) = value_sections v
+    statement_sections (Assign x e at) = []
+    statement_sections (Branch e first second) = block_sections first ++ block_sections second
+    statement_sections (Repeat x first last turn) = block_sections turn
+    statement_sections (Locked r inner at) =
+        record { level = level; ceiling = ceiling app (section.Res r); cost = lock_cost (block_cost (cost_measure app) inner) } ∷ block_sections inner
+    statement_sections (Emit e) = []
+    statement_sections (Pend i) = []
+    statement_sections (Spawns s) = spawn_sections s
 
-    pub block_wait : Block → ℕ
-    block_wait Empty = 0
-    block_wait (Then s rest) = max (statement_wait s) (block_wait rest)
+    pub block_sections : Block → List Critical
+    block_sections Empty = []
+    block_sections (Then s rest) = statement_sections s ++ block_sections rest
 
-  abbrev pub idle_wait : Option Body → ℕ
-  idle_wait None = 0
-  idle_wait (Some b) = if nat_lt 0 p then block_wait b.block else 0
+module _ (app : App) where
+  abbrev pub idle_sections : Option Body → List Critical
+  idle_sections None = []
+  idle_sections (Some b) = block_sections app 0 b.block
 
-  -- the sections of a software task's dispatcher
-  abbrev pub dispatcher_wait : ℕ → Task → ℕ
-  dispatcher_wait n t = max (if_reaches p (ready_at c t.priority) (dispatcher_section_cost app t.priority)) (if_reaches p (free_at c n) FREE_COST)
-
-  abbrev pub task_wait : ℕ → Task → ℕ
-  task_wait n t = if nat_lt t.priority p then max (block_wait t.body.block) (if is_software t then dispatcher_wait n t else 0) else 0
+  -- the sections of a dispatcher that belong to one task of its level
+  abbrev pub dispatcher_sections : ℕ → Task → List Critical
+  dispatcher_sections n t =
+      if is_software t then ready_section app t.priority t.priority (dispatcher_section_cost app t.priority) ∷ free_section app t.priority n ∷ [] else []
 
   -- of the tasks from this number on
-  abbrev pub tasks_wait : ℕ → List Task → ℕ
-  tasks_wait n [] = 0
-  tasks_wait n (t ∷ ts) = max (task_wait n t) (tasks_wait (n + 1) ts)
+  abbrev pub tasks_sections : ℕ → List Task → List Critical
+  tasks_sections n [] = []
+  tasks_sections n (t ∷ ts) = (block_sections app t.priority t.body.block ++ dispatcher_sections n t) ++ tasks_sections (n + 1) ts
 
-  -- the ready queues that the timer handler moves messages to
-  abbrev pub moves_wait : ℕ → List Task → ℕ
-  moves_wait n [] = 0
-  moves_wait n (t ∷ ts) = max (if is_software t then (if is_armed app n then if_reaches p (ready_at c t.priority) READY_COST else 0) else 0) (moves_wait (n + 1) ts)
+  -- the ready queues that the timer handler moves messages to, for the tasks from this number on
+  abbrev pub moved_sections : ℕ → ℕ → List Task → List Critical
+  moved_sections level n [] = []
+  moved_sections level n (t ∷ ts) =
+      (if is_software t && is_armed app n then ready_section app level t.priority READY_COST ∷ [] else []) ++ moved_sections level (n + 1) ts
 
-  abbrev pub timer_wait : Option Mono → ℕ
-  timer_wait None = 0
-  timer_wait (Some mono) = if nat_lt mono.priority p then max (if_reaches p (or_zero c.timer) (timer_section_cost app)) (moves_wait 0 app.tasks) else 0
+  abbrev pub handler_sections : Option Mono → List Critical
+  handler_sections None = []
+  handler_sections (Some mono) = timer_section app mono.priority ∷ moved_sections mono.priority 0 app.tasks
 
-  abbrev pub wait_within : ℕ
-  wait_within = max (idle_wait app.idle) (max (tasks_wait 0 app.tasks) (timer_wait app.mono))
+-- every section of `idle`, the tasks, the dispatchers and the timer handler
+abbrev pub sections : App → List Critical
+sections app = idle_sections app app.idle ++ (tasks_sections app 0 app.tasks ++ handler_sections app app.mono)
+
+-- it may hold off a job of this priority
+abbrev pub holds_off : ℕ → Critical → Bool
+holds_off p s = nat_lt s.level p && nat_le p s.ceiling
 
 abbrev pub waiting_bound : App → ℕ → ℕ
-waiting_bound app p = wait_within app (ceilings app) p
+waiting_bound app p = greatest (map (λ s. s.cost) (filter (holds_off p) (sections app)))

@@ -7,6 +7,7 @@ pub mod bounds;
 pub mod ceilings;
 pub mod costs;
 pub mod expr;
+pub mod laws;
 pub mod names;
 pub mod stmt;
 pub mod violation;
@@ -16,6 +17,7 @@ pub use body::{Body, Listed, Owned};
 pub use bounds::{BodyBound, Bounds, Wait};
 pub use ceilings::{Ceilings, ReadyCeiling};
 pub use expr::{Atom, Expr};
+pub use laws::costs_are_capped_sums;
 pub use stmt::{Spawn, Stmt, Value};
 pub use violation::Violation;
 

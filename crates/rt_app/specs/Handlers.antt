@@ -1,0 +1,67 @@
+-- Which interrupt serves what (the RTIC 1 book, hardware tasks, software tasks and the monotonic): a hardware task runs in the
+-- interrupt that it binds, the software tasks of a level share a dispatcher, and the monotonic has an interrupt of its own. That the
+-- highest level takes the dispatcher that is named first is this project's own.
+use Rattle.std.specs.Prelude.{ℕ, ◌+◌, ◌==◌, Bool, not, nat_lt, List, [], ◌∷◌, ◌++◌, length, filter, map, flat_map, slice_get, Option, Some, None, option_map, is_none}
+use Rattle.std.specs.List.{list_any, list_all}
+use Rattle.rt_app.specs.declared.app.Mono.{Mono}
+use Rattle.rt_app.specs.Tree.{Task, App}
+use Rattle.rt_app.specs.Bodies.{members}
+use Rattle.rt_app.specs.Level.{is_software, levels}
+use Rattle.rt_app.specs.Frame.{locks}
+
+pub data Handler : Type 0 where
+  -- the body of a hardware task
+  Runs : (task : ℕ) → Handler
+  -- the dispatcher of a level
+  Dispatches : (level : ℕ) → Handler
+  -- the timer handler
+  Times : Handler
+
+-- an interrupt that is served: its place in the order of declaration, what serves it, and the priority of that
+pub record Service : Type 0 where
+  pub irq : ℕ
+  pub handler : Handler
+  pub level : ℕ
+
+-- the dispatcher of a level: as many are named before it as there are higher levels
+abbrev pub dispatcher_of : App → ℕ → Option ℕ
+dispatcher_of app p = option_map (λ d. d.irq) (slice_get app.dispatchers (length (filter (nat_lt p) (levels app))))
+
+abbrev pub bound_service : ℕ → Task → Option ℕ → List Service
+bound_service n t None = []
+bound_service n t (Some irq) = record { irq = irq; handler = Runs n; level = t.priority } ∷ []
+
+-- of the tasks from this number on
+abbrev pub task_services : ℕ → List Task → List Service
+task_services n [] = []
+task_services n (t ∷ ts) = bound_service n t t.binds ++ task_services (n + 1) ts
+
+abbrev pub dispatcher_service : ℕ → Option ℕ → List Service
+dispatcher_service p None = []
+dispatcher_service p (Some irq) = record { irq = irq; handler = Dispatches p; level = p } ∷ []
+
+abbrev pub timer_service : Option Mono → List Service
+timer_service None = []
+timer_service (Some mono) = record { irq = mono.irq; handler = Times; level = mono.priority } ∷ []
+
+-- the interrupts that are enabled: those of hardware tasks, of the dispatchers in use, and of the monotonic
+abbrev pub services : App → List Service
+services app = task_services 0 app.tasks ++ (flat_map (λ p. dispatcher_service p (dispatcher_of app p)) (levels app) ++ timer_service app.mono)
+
+-- what serves an interrupt, by its place
+abbrev pub service_of : App → ℕ → List Service
+service_of app irq = filter (λ s. s.irq == irq) (services app)
+
+-- the number of an interrupt, by its place
+abbrev pub irq_number : App → ℕ → Option ℕ
+irq_number app irq = option_map (λ d. d.number) (slice_get app.irqs irq)
+
+-- forms of applications: no body locks, no task is a software task, there is no monotonic
+abbrev pub has_no_lock : App → Bool
+has_no_lock app = list_all (λ m. locks m.body.block == 0) (members app)
+
+abbrev pub has_no_software : App → Bool
+has_no_software app = not (list_any is_software app.tasks)
+
+abbrev pub has_no_monotonic : App → Bool
+has_no_monotonic app = is_none app.mono
