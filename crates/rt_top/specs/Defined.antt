@@ -1,53 +1,50 @@
--- What the program is to write, and its status: for the words, the text of the application and that of the script.
-use Rattle.std.specs.Prelude.{ℕ, ◌≡◌, ◌⊎◌, List, ◌++◌, codes, Option, Some, None}
-use Rattle.rt_ids.specs.declared.refusal.Fault.{Fault}
+-- What the program is to write, and its status, for a command and the texts that its sources hold. Each command has a line in each of
+-- three tables, and a file of its own for what is long.
+use Rattle.std.specs.Prelude.{◌≡◌, ℕ, ◌≤◌, ◌⊎◌, List, Option, Some, None}
 use Rattle.rt_ids.specs.declared.status.Status.{Status}
 use Rattle.rt_ids.specs.declared.status.Status.TheVariants as status
+use Rattle.rt_outside.specs.Faults.{Rose}
 use Rattle.rt_outside.specs.Bytes.{Took, TookPrefix}
-use Rattle.rt_ast.specs.Tree as tree
-use Rattle.rt_ast.specs.Canonical.{canonical}
-use Rattle.rt_grammar.specs.Text.{IsText, IsRefused}
-use Rattle.rt_app.specs.Tree as application
-use Rattle.rt_app.specs.Ceiling.{ceilings}
-use Rattle.rt_app.specs.Bounds.{bounds}
-use Rattle.rt_build.specs.Accepted.{KeepsRules, IsBroken, IsApplication}
-use Rattle.rt_report.specs.Report.{report}
-use Rattle.rt_first.specs.Application.{App}
-use Rattle.rt_first.specs.Form.{HasFirstForm, IsFirstForm}
-use Rattle.rt_first.specs.Script.{script_of}
-use Rattle.rt_first.specs.Output.{IsOutput}
-use Rattle.rt_first.specs.declared.script.Order.{Order}
-use Rattle.rt_top.specs.Words.{IsRun, IsCheck, IsFmt, IsCommand, usage_line}
-use Rattle.rt_top.specs.Refusal.{refusal_line, unbuilt_line}
+use Rattle.rt_top.specs.Words.{Command, Run, Check, Fmt, Names, IsBuilt, reads}
+use Rattle.rt_top.specs.Refusal.{RefusesText, RefusesApplication, RefusesForm}
+use Rattle.rt_top.specs.Outputs.{IsFormatted, IsChecked, IsRun, RefusesScript}
 
--- the application is not of the form that is built
-abbrev pub IsUnbuilt : tree.App → Type 0
-IsUnbuilt a = (app : App) → HasFirstForm a app → ⊥
+-- what the sources have left, where they tell
+pub record Inputs : Type 0 where
+  pub first : Option (List ℕ)
+  pub second : Option (List ℕ)
+  pub third : Option (List ℕ)
 
--- the commands that want an application that keeps the rules
-abbrev pub NeedsRules : List (List ℕ) → Type 0
-NeedsRules words = IsRun words ⊎ IsCheck words
+abbrev pub inputs : Option (List ℕ) → Option (List ℕ) → Option (List ℕ) → Inputs
+inputs first second third = record { first = first; second = second; third = third }
 
-abbrev pub check_report : application.App → List ℕ
-check_report app = report app (ceilings app) (bounds app)
+-- the line refuses the first text
+abbrev pub RefusesFirst : Command → List ℕ → List ℕ → Type 0
+RefusesFirst Run text line = RefusesApplication text line ⊎ RefusesForm text line
+RefusesFirst Check text line = RefusesApplication text line
+RefusesFirst Fmt text line = RefusesText text line
+RefusesFirst other text line = ⊥
 
-pub data Defined (words : List (List ℕ)) (text script : List ℕ) : Status → List ℕ → Type 0 where
-  -- other words give the usage line
-  usage : (IsCommand words → ⊥) → Defined words text script status.Usage usage_line
-  -- an application text that is too long, not in the grammar, or past a limit: its first refusal
-  wrong : IsCommand words → (fault : Fault) → IsRefused text fault → Defined words text script status.App (refusal_line fault)
-  -- for `run` and `check`, one that breaks a rule: the first that it breaks
-  broken : NeedsRules words → (a : tree.App) → IsText text a → (fault : Fault) → IsBroken text a fault → Defined words text script status.App (refusal_line fault)
-  -- for `run`, one that keeps the rules and is not of the form
-  unbuilt : IsRun words → (a : tree.App) → IsText text a → (app : application.App) → KeepsRules a app → IsUnbuilt a → Defined words text script status.App unbuilt_line
-  -- the ceilings, costs, frames and bounds of the application
-  checked : IsCheck words → (app : application.App) → IsApplication text app → Defined words text script status.Done (check_report app)
-  -- a script that is not of the form, for an application that is
-  faulty : IsRun words → (app : App) → IsFirstForm text app → script_of app script ≡ None → Defined words text script status.Text (codes "script:1 0 not built\n")
-  -- the listing of a good image, and that image's trace under the script
-  done : IsRun words → (app : App) → IsFirstForm text app → (orders : List Order) → script_of app script ≡ Some orders → (first second : List ℕ) → IsOutput app orders first second → Defined words text script status.Done (first ++ second)
-  -- the canonical text of the application
-  formatted : IsFmt words → (a : tree.App) → IsText text a → Defined words text script status.Done (canonical a)
+-- the line refuses the second text, where the first is not refused
+abbrev pub RefusesSecond : Command → List ℕ → List ℕ → List ℕ → Type 0
+RefusesSecond Run text more line = RefusesScript text more line
+RefusesSecond other text more line = ⊥
+
+-- with this status these bytes are the output for texts that are not refused
+abbrev pub Writes : Command → Inputs → Status → List ℕ → Type 0
+Writes Run t status.Done bytes = (text more : List ℕ) × (t.first ≡ Some text) × (t.second ≡ Some more) × IsRun text more bytes
+Writes Check t status.Done bytes = (text : List ℕ) × (t.first ≡ Some text) × IsChecked text bytes
+Writes Fmt t status.Done bytes = (text : List ℕ) × (t.first ≡ Some text) × IsFormatted text bytes
+Writes other t ended bytes = ⊥
+
+pub data Defined (c : Command) (t : Inputs) : Status → List ℕ → Type 0 where
+  first : (text line : List ℕ) → t.first ≡ Some text → RefusesFirst c text line → Defined c t status.App line
+  second : (text more line : List ℕ) → t.first ≡ Some text → t.second ≡ Some more → RefusesSecond c text more line → Defined c t status.Text line
+  output : (ended : Status) (bytes : List ℕ) → Writes c t ended bytes → Defined c t ended bytes
+
+-- the status is due
+abbrev pub IsDue : Command → Inputs → Status → Type 0
+IsDue c t ended = (bytes : List ℕ) × Defined c t ended bytes
 
 -- a status that tells what was written; the others say why the program stopped
 abbrev pub IsAnswer : Status → Type 0
@@ -56,13 +53,42 @@ IsAnswer status.Write = ⊥
 IsAnswer status.Memory = ⊥
 IsAnswer other = Unit {0}
 
--- the sink took all that is defined
-abbrev pub WroteAll : List (List ℕ) → List ℕ → List ℕ → Status → Option (List ℕ) → Option (List ℕ) → Type 0
-WroteAll words text script ended before after = (bytes : List ℕ) × Defined words text script ended bytes × Took before after bytes
+abbrev pub IsTold : Option (List ℕ) → Type 0
+IsTold None = ⊥
+IsTold (Some text) = Unit {0}
 
--- the sink took a beginning of what is defined
-abbrev pub WrotePart : List (List ℕ) → List ℕ → List ℕ → Option (List ℕ) → Option (List ℕ) → Type 0
-WrotePart words text script before after = (ended : Status) × (bytes : List ℕ) × Defined words text script ended bytes × TookPrefix before after bytes
+-- the first text is refused
+abbrev pub IsFirstRefused : Command → Inputs → Type 0
+IsFirstRefused c t = (text line : List ℕ) × (t.first ≡ Some text) × RefusesFirst c text line
+
+-- the sources that the command reads tell what they have
+abbrev pub AreTold : Command → Inputs → Type 0
+AreTold c t = (1 ≤ reads c → IsTold t.first) × (2 ≤ reads c → IsTold t.second)
+
+-- those that it has read with this status do: where the first text is refused, it alone
+abbrev pub AreReadTold : Command → Inputs → Status → Type 0
+AreReadTold c t status.App = 1 ≤ reads c → IsTold t.first
+AreReadTold c t ended = AreTold c t
+
+-- the words name no command that comes to the first source; none that comes to the second
+abbrev pub SkipsFirst : List (List ℕ) → Type 0
+SkipsFirst words = (c : Command) → IsBuilt c → Names words c → reads c ≡ 0
+
+abbrev pub SkipsSecond : List (List ℕ) → Inputs → Type 0
+SkipsSecond words t = (c : Command) → IsBuilt c → Names words c → (reads c ≤ 1) ⊎ IsFirstRefused c t
+
+-- the sink took all that is defined, or a beginning of it
+abbrev pub WroteAll : Command → Inputs → Status → Option (List ℕ) → Option (List ℕ) → Type 0
+WroteAll c t ended before after = (bytes : List ℕ) × Defined c t ended bytes × Took before after bytes
+
+abbrev pub WrotePart : Command → Inputs → Option (List ℕ) → Option (List ℕ) → Type 0
+WrotePart c t before after = (ended : Status) × (bytes : List ℕ) × Defined c t ended bytes × TookPrefix before after bytes
+
+-- all bytes were written and the status is the wanted one, or the sink failed behind a beginning of them
+abbrev pub Wrote : Option (List ℕ) → Option (List ℕ) → ℕ → ℕ → Status → Status → List ℕ → Type 0
+Wrote before after faults_before faults_after wanted ended bytes =
+    ((ended ≡ wanted) × Took before after bytes)
+    ⊎ ((ended ≡ status.Write) × Rose faults_before faults_after × TookPrefix before after bytes)
 
 -- a source that the program did not come to: it has all that it had, and no new fault
 pub record IsKept {S : Type 0} (left : S → Option (List ℕ)) (faults : S → ℕ) (old new : S) : Type 0 where

@@ -1,4 +1,5 @@
 pub mod Words
 pub mod Refusal
+pub mod Outputs
 pub mod Defined
 pub mod Steps

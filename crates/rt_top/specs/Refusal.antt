@@ -1,5 +1,5 @@
 -- The line that refuses an application text: where it stands, its number, and what is wrong.
-use Rattle.std.specs.Prelude.{ℕ, List, ◌++◌, codes, decimal}
+use Rattle.std.specs.Prelude.{◌≡◌, ℕ, List, ◌++◌, codes, decimal}
 use Rattle.rt_ids.specs.declared.limit.Limit.{Limit}
 use Rattle.rt_ids.specs.declared.limit.Limit.TheVariants as limit
 use Rattle.rt_ids.specs.declared.refusal.Fault.{Fault}
@@ -7,6 +7,12 @@ use Rattle.rt_ids.specs.declared.refusal.Refusal.{Refusal}
 use Rattle.rt_ids.specs.declared.refusal.Refusal.TheVariants as refusal
 use Rattle.rt_ids.specs.declared.rule.Rule.{Rule}
 use Rattle.rt_ids.specs.declared.rule.Rule.TheVariants as rule
+use Rattle.rt_ast.specs.Tree as tree
+use Rattle.rt_grammar.specs.Text.{IsText, IsRefused}
+use Rattle.rt_app.specs.Tree.{App}
+use Rattle.rt_build.specs.Accepted.{KeepsRules, IsRefusedText}
+use Rattle.rt_first.specs.Application as form
+use Rattle.rt_first.specs.Form.{HasFirstForm}
 
 abbrev pub limit_word : Limit → List ℕ
 limit_word limit.Tasks = codes "tasks"
@@ -56,3 +62,20 @@ refusal_line fault =
 -- the line for an application of no form that is built
 abbrev pub unbuilt_line : List ℕ
 unbuilt_line = codes "1:1 E00 not built\n"
+
+-- the line refuses a text that is too long, not in the grammar, or past a limit: by what is met first
+abbrev pub RefusesText : List ℕ → List ℕ → Type 0
+RefusesText text line = (fault : Fault) × IsRefused text fault × (line ≡ refusal_line fault)
+
+-- or one that breaks a rule: by the first that it breaks
+abbrev pub RefusesApplication : List ℕ → List ℕ → Type 0
+RefusesApplication text line = (fault : Fault) × IsRefusedText text fault × (line ≡ refusal_line fault)
+
+-- or an application that is of no form that is built
+pub record RefusesForm (text line : List ℕ) : Type 0 where
+  pub tree : tree.App
+  pub spelled : IsText text tree
+  pub app : App
+  pub kept : KeepsRules tree app
+  pub none : (first : form.App) → HasFirstForm tree first → ⊥
+  pub says : line ≡ unbuilt_line

@@ -1,26 +1,74 @@
--- The words behind the program's name.
-use Rattle.std.specs.Prelude.{ℕ, ◌≡◌, List, [], ◌∷◌, codes, map, ◌⊎◌}
+-- The words behind the program's name, by position, and the command that they name.
+use Rattle.std.specs.Prelude.{◌≡◌, ℕ, ◌<◌, ◌≤◌, ◌^◌, true, List, [], ◌∷◌, codes, length, map}
+use Rattle.std.specs.List.{list_all}
 use Rattle.std.specs.Borrow.{Bor}
+use Rattle.rt_ids.specs.Byte.{is_digit}
+use Rattle.rt_lex.specs.Number.{value_of}
 
 -- the bytes of the words
 abbrev pub texts : List (Bor (List ℕ)) → List (List ℕ)
 texts words = map (λ word. word.now) words
 
--- `run APP SCRIPT`
-abbrev pub IsRun : List (List ℕ) → Type 0
-IsRun words = (app : List ℕ) × (script : List ℕ) × (words ≡ codes "run" ∷ app ∷ script ∷ [])
+pub data Command : Type 0 where
+  Run : Command
+  Check : Command
+  Fmt : Command
+  Build : Command
+  Audit : Command
+  Live : Command
+  Soak : (number count workers : ℕ) → Command
+  Demo : (n : ℕ) → Command
 
--- `fmt APP`
-abbrev pub IsFmt : List (List ℕ) → Type 0
-IsFmt words = (app : List ℕ) × (words ≡ codes "fmt" ∷ app ∷ [])
+-- a word of one to twenty digits, which spell this number
+pub record IsNumber (word : List ℕ) (n : ℕ) : Type 0 where
+  pub some : 1 ≤ length word
+  pub short : length word ≤ 20
+  pub digits : list_all is_digit word ≡ true
+  pub value : value_of 10 word ≡ n
 
--- `check APP`
-abbrev pub IsCheck : List (List ℕ) → Type 0
-IsCheck words = (app : List ℕ) × (words ≡ codes "check" ∷ app ∷ [])
+-- the numbers of `soak` are in range
+pub record IsSoak (words : List (List ℕ)) (number count workers : ℕ) : Type 0 where
+  pub app : List ℕ
+  pub word : List ℕ
+  pub times : List ℕ
+  pub threads : List ℕ
+  pub named : words ≡ codes "soak" ∷ app ∷ word ∷ times ∷ threads ∷ []
+  pub is_number : IsNumber word number × (number < 2 ^ 64)
+  pub is_count : IsNumber times count × (1 ≤ count) × (count ≤ 10000)
+  pub is_workers : IsNumber threads workers × (1 ≤ workers) × (workers ≤ 64)
+
+-- the words name this command
+abbrev pub Names : List (List ℕ) → Command → Type 0
+Names words Run = (app script : List ℕ) × (words ≡ codes "run" ∷ app ∷ script ∷ [])
+Names words Check = (app : List ℕ) × (words ≡ codes "check" ∷ app ∷ [])
+Names words Fmt = (app : List ℕ) × (words ≡ codes "fmt" ∷ app ∷ [])
+Names words Build = (app : List ℕ) × (words ≡ codes "build" ∷ app ∷ [])
+Names words Audit = (app trace : List ℕ) × (words ≡ codes "audit" ∷ app ∷ trace ∷ [])
+Names words Live = (app script : List ℕ) × (words ≡ codes "live" ∷ app ∷ script ∷ [])
+Names words (Soak number count workers) = IsSoak words number count workers
+Names words (Demo n) = (word : List ℕ) × (words ≡ codes "demo" ∷ word ∷ []) × IsNumber word n × (1 ≤ n) × (n ≤ 48)
+
+-- how many of the sources it reads, in order
+abbrev pub reads : Command → ℕ
+reads Run = 2
+reads Check = 1
+reads Fmt = 1
+reads Build = 1
+reads Audit = 2
+reads Live = 2
+reads (Soak number count workers) = 1
+reads (Demo n) = 0
 
 -- the commands that are built
+abbrev pub IsBuilt : Command → Type 0
+IsBuilt Run = Unit {0}
+IsBuilt Check = Unit {0}
+IsBuilt Fmt = Unit {0}
+IsBuilt other = ⊥
+
+-- the words name a command that is built
 abbrev pub IsCommand : List (List ℕ) → Type 0
-IsCommand words = IsRun words ⊎ (IsCheck words ⊎ IsFmt words)
+IsCommand words = (c : Command) × IsBuilt c × Names words c
 
 -- the line for all other words
 abbrev pub usage_line : List ℕ

@@ -69,40 +69,40 @@ pub fn rtic<R: Threads + Sync, A: Source, B: Source, C: Source, K: Sink + Send, 
     _gate: &G,
 ) -> Status
     // With an answer all that is defined was written, and nothing else. For `run` at `Done` it is the listing of an image
-    // and that image's trace, and for every list of fewer than 2^31 events in which only declared interrupts arrive the
-    // image's trace is a run of Baker's machine.
-    ensures answered { (text script : List ℕ) → A.left app.old ≡ Some text → (IsRun (texts words.now) → B.left second.old ≡ Some script) → IsAnswer result →
-        WroteAll (texts words.now) text script result (K.taken out.old) (K.taken out.new) }
+    // of the application and that image's trace, and for every list of fewer than 2^31 events in which only declared
+    // interrupts arrive the image's trace is a run of Baker's machine.
+    ensures answered { (c : Command) → IsBuilt c → Names (texts words.now) c → IsAnswer result →
+        let t = inputs (A.left app.old) (B.left second.old) (C.left third.old) in
+        AreReadTold c t result → WroteAll c t result (K.taken out.old) (K.taken out.new) }
 
-    // Words that are no command that is built give the usage line, and no source is read for them.
-    ensures usage { (IsCommand (texts words.now) → ⊥) → (result ≡ Status.Usage) ⊎ (result ≡ Status.Write) }
-    ensures usage_words { result ≡ Status.Usage → IsCommand (texts words.now) → ⊥ }
-    ensures usage_line { result ≡ Status.Usage → Took (K.taken out.old) (K.taken out.new) usage_line }
-    ensures app_unread { (IsCommand (texts words.now) → ⊥) → IsKept A.left A.faults app.old app.new }
-    ensures second_unread { (IsRun (texts words.now) → ⊥) ⊎ (result ≡ Status.App) → IsKept B.left B.faults second.old second.new }
+    // Where nothing failed, the status is the one that is due, or memory was wanted.
+    ensures complete { (c : Command) (due : Status) → IsBuilt c → Names (texts words.now) c →
+        IsDue c (inputs (A.left app.old) (B.left second.old) (C.left third.old)) due →
+        ¬ Rose (A.faults app.old) (A.faults app.new) → ¬ Rose (B.faults second.old) (B.faults second.new) →
+        ¬ Rose (K.faults out.old) (K.faults out.new) → (result ≡ due) ⊎ (result ≡ Status.Memory) }
+
+    // Words that are no command that is built give the usage line.
+    ensures usage { ¬ IsCommand (texts words.now) →
+        Wrote (K.taken out.old) (K.taken out.new) (K.faults out.old) (K.faults out.new) Status.Usage result usage_line }
+    ensures no_usage { result ≡ Status.Usage → ¬ IsCommand (texts words.now) }
+
+    // A source that the command does not come to keeps what it has, whatever the status.
+    ensures first_unread { SkipsFirst (texts words.now) → IsKept A.left A.faults app.old app.new }
+    ensures second_unread { SkipsSecond (texts words.now) (inputs (A.left app.old) (B.left second.old) (C.left third.old)) →
+        IsKept B.left B.faults second.old second.new }
     ensures third_unread { IsKept C.left C.faults third.old third.new }
 
-    // A source failed: the application's, and then the script's was not read, or the script's.
-    ensures read { result ≡ Status.Read → (Rose (A.faults app.old) (A.faults app.new) × IsKept B.left B.faults second.old second.new)
-        ⊎ Rose (B.faults second.old) (B.faults second.new) }
+    // A source that the command reads failed, and then no source behind it was read and nothing was written.
+    ensures read { result ≡ Status.Read → (c : Command) × IsBuilt c × Names (texts words.now) c
+        × (((1 ≤ reads c) × Rose (A.faults app.old) (A.faults app.new) × IsKept B.left B.faults second.old second.new)
+            ⊎ ((2 ≤ reads c) × Rose (B.faults second.old) (B.faults second.new))) }
     ensures silent { (result ≡ Status.Read) ⊎ (result ≡ Status.Memory) → Took (K.taken out.old) (K.taken out.new) [] }
 
     // The sink failed, having taken a beginning of what is defined.
     ensures write { result ≡ Status.Write → Rose (K.faults out.old) (K.faults out.new) }
-    ensures part { (text script : List ℕ) → A.left app.old ≡ Some text → (IsRun (texts words.now) → B.left second.old ≡ Some script) → result ≡ Status.Write →
-        WrotePart (texts words.now) text script (K.taken out.old) (K.taken out.new) }
-
-    // Where nothing is wrong and nothing failed, the whole output was written, or memory was wanted.
-    ensures complete { (text script : List ℕ) (application : App) (orders : List Order) → A.left app.old ≡ Some text → B.left second.old ≡ Some script →
-        IsRun (texts words.now) → IsFirstForm text application → script_of application script ≡ Some orders →
-        (Rose (A.faults app.old) (A.faults app.new) → ⊥) → (Rose (B.faults second.old) (B.faults second.new) → ⊥) → (Rose (K.faults out.old) (K.faults out.new) → ⊥) →
-        (result ≡ Status.Done) ⊎ (result ≡ Status.Memory) }
-    ensures complete_check { (text : List ℕ) (accepted : application.App) → A.left app.old ≡ Some text → IsCheck (texts words.now) → IsApplication text accepted →
-        (Rose (A.faults app.old) (A.faults app.new) → ⊥) → (Rose (K.faults out.old) (K.faults out.new) → ⊥) →
-        (result ≡ Status.Done) ⊎ (result ≡ Status.Memory) }
-    ensures complete_fmt { (text : List ℕ) (application : tree.App) → A.left app.old ≡ Some text → IsFmt (texts words.now) → IsText text application →
-        (Rose (A.faults app.old) (A.faults app.new) → ⊥) → (Rose (K.faults out.old) (K.faults out.new) → ⊥) →
-        (result ≡ Status.Done) ⊎ (result ≡ Status.Memory) }
+    ensures part { (c : Command) → IsBuilt c → Names (texts words.now) c → result ≡ Status.Write →
+        let t = inputs (A.left app.old) (B.left second.old) (C.left third.old) in
+        AreTold c t ⊎ IsFirstRefused c t → WrotePart c t (K.taken out.old) (K.taken out.new) }
 {
     if is_run(words) {
         run(alloc, app, second, out)
