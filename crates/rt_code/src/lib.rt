@@ -7,6 +7,6 @@ pub mod instr;
 pub mod processor;
 
 pub use execution::execute;
-pub use image::{BodyRow, Handler, Image, IrqRow};
+pub use image::{BodyRow, ENTRY_WORDS, Handler, Image, IrqRow};
 pub use instr::{Instr, Note};
 pub use processor::{Registers, Request, Trap};
