@@ -1,7 +1,7 @@
--- The stack of a core by its parts: the slots of the running frame; where a called body runs, the frame of the handler that
--- called it; and below them what each entered handler interrupted, the last entered first, of any type with its size in words.
--- Exception entry and return are those of the ARMv7-M Architecture Reference Manual (sections B1.5.6 and B1.5.8). Calls of
--- bodies are this model's own: a handler keeps the return address of its call in the last slot of its frame.
+-- The stack of a core by its parts: the slots of the running frame; where a called body runs, the frame of the handler
+-- that called it; and below them what each entered handler interrupted, the last entered first, of any type, with its size
+-- in words. Exception entry and return are those of the ARMv7-M Architecture Reference Manual (sections B1.5.6 and B1.5.8).
+-- Calls of bodies are this model's own: a handler keeps the return address of its call in the last slot of its frame.
 use Rattle.std.specs.Prelude.{ℕ, ◌+◌, ◌-◌, ◌&&◌, ◌||◌, ◌==◌, Bool, nat_le, List, [], ◌∷◌, ◌++◌, length, sum_by}
 use Rattle.std.specs.Prelude.{replicate, take, drop, slice_index, slice_set, Option, Some, None, is_none, not}
 use Rattle.rt_ids.specs.Lists.{is_empty}
@@ -12,8 +12,7 @@ abbrev pub words_of : Option (List ℕ) → List ℕ
 words_of None = []
 words_of (Some words) = words
 
--- how many words lie above what an entered handler interrupted and below the handler's frame: the caller's frame, its own, and
--- the so many words that exception entry pushes
+-- how many words an entered handler's context takes: what it interrupted, and the so many that exception entry pushes
 abbrev pub context_words : ℕ → Option (List ℕ) → List ℕ → ℕ
 context_words entry caller slots = length (words_of caller) + length slots + entry
 
@@ -25,7 +24,7 @@ used size caller slots below = length (words_of caller) + length slots + sum_by 
 abbrev pub has_room : ℕ → ℕ → ℕ → Bool
 has_room size used n = nat_le (used + n) size
 
--- Exception return: what was interrupted last runs on, and the others stay below. A called body and the thread have none.
+-- exception return: what was interrupted last runs on, the others stay below; a called body and the thread have none
 abbrev pub interrupted : {A : Type 0} → Option (List ℕ) → List A → Option (A × List A)
 interrupted None (x ∷ below) = Some (x, below)
 interrupted caller below = None
