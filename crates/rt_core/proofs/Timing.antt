@@ -1,7 +1,7 @@
 -- Time rises by ticks alone: core steps and arrivals keep it.
 use Rattle.std.proofs.Common.{◌≡◌, ℕ, suc, ◌+◌, Bool, true, false, if◌then◌else◌, List, [], ◌∷◌, map, Option, Some, None, slice_get, nat_le, refl, ◌∙◌}
 use Rattle.rt_ids.specs.Event.{Arrive, Tick}
-use Rattle.rt_code.specs.Image.{Image}
+use Rattle.rt_code.specs.Image.{Image, entry_words}
 use Rattle.rt_code.specs.Effect.{effect}
 use Rattle.rt_code.specs.Processor.{Effect, Traps, Leads}
 use Rattle.rt_code.specs.declared.image.IrqRow.{IrqRow}
@@ -12,7 +12,7 @@ use Rattle.rt_code.specs.declared.instr.Note.{Note}
 use Rattle.rt_code.specs.declared.processor.Request.{Request}
 use Rattle.rt_code.specs.declared.processor.Request.TheVariants as request
 use Rattle.rt_code.specs.declared.processor.Trap.TheVariants as trap
-use Rattle.rt_context.specs.declared.sizes.TheConstants.{EXCEPTION_WORDS}
+use Rattle.rt_context.specs.Stack.{interrupted}
 use Rattle.rt_trace.specs.declared.item.What.{What}
 use Rattle.rt_trace.specs.declared.item.What.TheVariants as what
 use Rattle.rt_trace.specs.Label.{Label, Rang}
@@ -37,19 +37,18 @@ time_of-enter : (img : Image) (c : Core) (irq : ℕ) (h : Option Handler) → ti
 time_of-enter img c irq None = refl
 time_of-enter img c irq (Some h) =
     let after : Core = transfer.entered c irq h in
-    time_of-if (transfer.has_room img c (EXCEPTION_WORDS + h.frame)) (Done after (Some (what.Take irq (depth after)))) (Trapped c trap.Stack) c.time refl refl
+    time_of-if (transfer.has_room img c (entry_words img + h.frame)) (Done after (Some (what.Take irq (depth img after)))) (Trapped c trap.Stack) c.time refl refl
 
-time_of-return : (c : Core) (caller : Option (List ℕ)) (below : List Context) → time_of (transfer.return c caller below) ≡ c.time
-time_of-return c None [] = refl
-time_of-return c None (x ∷ below) = refl
-time_of-return c (Some slots) below = refl
+time_of-return : (c : Core) (found : Option (Context × List Context)) → time_of (transfer.resumed c found) ≡ c.time
+time_of-return c None = refl
+time_of-return c (Some found) = refl
 
 time_of-call_row : (img : Image) (c : Core) (row : Option BodyRow) (from : ℕ) → time_of (transfer.call_row img c row from) ≡ c.time
 time_of-call_row img c None from = refl
 time_of-call_row img c (Some row) from =
     time_of-if (transfer.call_fits img c row from) (Done (transfer.called c row from) None) (Trapped c trap.Stack) c.time refl refl
 
-time_of-back : (c : Core) (caller : Option (List ℕ)) → time_of (transfer.back c caller) ≡ c.time
+time_of-back : (c : Core) (caller : Option (List ℕ)) → time_of (transfer.back_to c caller) ≡ c.time
 time_of-back c None = refl
 time_of-back c (Some slots) = refl
 
@@ -69,7 +68,7 @@ time_of-answer img c (request.Call number from) =
     let row : Option BodyRow = slice_get img.bodies number in
     time_of-if (transfer.may_call c) (transfer.call_row img c row from) (Trapped c trap.Stack) c.time (time_of-call_row img c row from) refl
 time_of-answer img c request.Back = time_of-back c c.caller
-time_of-answer img c request.Return = time_of-return c c.caller c.below
+time_of-answer img c request.Return = time_of-return c (interrupted c.caller c.below)
 
 time_of-noted : (c : Core) (shown : Option What) → time_of (stepping.noted c shown) ≡ c.time
 time_of-noted c None = refl

@@ -6,7 +6,5 @@ pub mod Transfer
 pub mod Stepping
 pub mod Trace
 pub mod Machine
-pub mod Parts
-pub mod Came
-pub mod Enabling
 pub mod Taken
+pub mod Inside

@@ -27,8 +27,8 @@ answer img c (request.Clock time) = Done c (Some (what.Clock time))
 answer img c (request.Alarm instant irq) = set_alarm c instant irq
 answer img c request.NoAlarm = Done (record c { alarm = None }) (Some what.AlarmSet)
 answer img c (request.Call row from) = call img c row from
-answer img c request.Back = back c c.caller
-answer img c request.Return = return c c.caller c.below
+answer img c request.Back = back c
+answer img c request.Return = return c
 
 -- the item of a note, or a trap where there is none
 abbrev pub noted : Core → Option What → Outcome

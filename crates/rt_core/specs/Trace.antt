@@ -39,4 +39,4 @@ trace img events = items_of 0 (labels img (reset img) events)
 
 -- the stack bytes in use after events from reset
 abbrev pub depth_after : Image → List Event → ℕ
-depth_after img events = depth (core_after img (reset img) events)
+depth_after img events = depth img (core_after img (reset img) events)

@@ -7,8 +7,8 @@ ghost use Rattle.rt_code.specs.Runnable.{IsRunnable};
 ghost use Rattle.rt_trace.specs.Label.{Ticked, Rang};
 ghost use Rattle.rt_core.specs.Core as spec;
 ghost use Rattle.rt_core.specs.Trace as trace;
-ghost use Rattle.rt_core.specs.Parts.{HasPriorities};
-ghost use Rattle.rt_core.specs.Enabling.{HasPrioritiesBelow};
+ghost use Rattle.rt_core.specs.Inside.Parts.{HasPriorities};
+ghost use Rattle.rt_core.specs.Inside.Enabling.{HasPrioritiesBelow};
 
 use crate::alarm::Alarm;
 use rt_code::{Image, Registers};
@@ -40,7 +40,7 @@ impl Model for Core {
 
     ghost Value = { Machine };
 
-    ghost use Rattle.rt_core.specs.Parts.{machine, IsSound};
+    ghost use Rattle.rt_core.specs.Inside.Parts.{machine, IsSound};
 
     ghost view = { machine };
 
@@ -93,7 +93,12 @@ impl Core {
         ensures { IfOk result (λ made. made ≡ record { image = image; core = spec.reset image; steps = 0 }) }
     {
         let cells = first_values(alloc, &image.cells)?;
-        let frames = Frames::new(alloc, image.stack_bytes, image.thread_words)?;
+        let frames = Frames::new(
+            alloc,
+            image.stack_bytes,
+            image.entry_words(),
+            image.thread_words,
+        )?;
         let program = Program::new(alloc, image)?;
         let nvic = controller(&program);
         Ok(Core {
@@ -150,7 +155,7 @@ impl Core {
 
     /// The stack bytes in use.
     pub fn depth(&self) -> u32
-        ensures bytes { result ≡ spec.depth self.now.core }
+        ensures bytes { result ≡ spec.depth self.now.image self.now.core }
         ensures within { result ≤ self.now.image.stack_bytes }
     {
         let _ = &self.stopped;

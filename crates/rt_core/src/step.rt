@@ -7,7 +7,7 @@ ghost use Rattle.rt_core.specs.Priority as priority;
 ghost use Rattle.rt_core.specs.Outcome.{Outcome, settle};
 ghost use Rattle.rt_core.specs.Note as notes;
 ghost use Rattle.rt_core.specs.Stepping as stepping;
-ghost use Rattle.rt_core.specs.Came.{Comes};
+ghost use Rattle.rt_core.specs.Inside.Came.{Comes};
 
 use crate::alarm::Alarm;
 use crate::machine::Core;
