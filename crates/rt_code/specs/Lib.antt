@@ -3,6 +3,7 @@ pub mod Processor
 pub mod Access
 pub mod Operands
 pub mod Effect
+pub mod Laws
 pub mod Trap
 pub mod Runnable
 pub mod Cells
