@@ -7,4 +7,7 @@ pub mod Stepping
 pub mod Trace
 pub mod Machine
 pub mod Taken
+pub mod Access
+pub mod Touching
+pub mod Laws
 pub mod Inside

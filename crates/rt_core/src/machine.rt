@@ -6,6 +6,7 @@ ghost use Rattle.rt_ids.specs.Arrivals.{arrivals};
 ghost use Rattle.rt_code.specs.Runnable.{IsRunnable};
 ghost use Rattle.rt_trace.specs.Label.{Ticked, Rang};
 ghost use Rattle.rt_core.specs.Core as spec;
+ghost use Rattle.rt_core.specs.Machine.{IsFresh};
 ghost use Rattle.rt_core.specs.Trace as trace;
 ghost use Rattle.rt_core.specs.Inside.Parts.{HasPriorities};
 ghost use Rattle.rt_core.specs.Inside.Enabling.{HasPrioritiesBelow};
@@ -90,7 +91,8 @@ impl Core {
     /// A core after reset, with PRIMASK 1: the time is 0, nothing is pending, and no event has come.
     pub fn new(alloc: Global, image: Image) -> Result<Core, NoMemory>
         requires { IsRunnable image }
-        ensures { IfOk result (λ made. made ≡ record { image = image; core = spec.reset image; steps = 0 }) }
+        ensures image { IfOk result (λ made. made.image ≡ image) }
+        ensures fresh { IfOk result (λ made. IsFresh made) }
     {
         let cells = first_values(alloc, &image.cells)?;
         let frames = Frames::new(
@@ -120,7 +122,8 @@ impl Core {
 
     /// A core after reset with an image that is the same.
     pub fn fresh(&self, alloc: Global) -> Result<Core, NoMemory>
-        ensures { IfOk result (λ made. made ≡ record { image = self.now.image; core = spec.reset self.now.image; steps = 0 }) }
+        ensures image { IfOk result (λ made. made.image ≡ self.now.image) }
+        ensures fresh { IfOk result (λ made. IsFresh made) }
     {
         let _ = &self.stopped;
         let image = self.program.copy_of_image(alloc)?;
