@@ -1,5 +1,5 @@
 -- The controller's choice by number is the choice by rows.
-use Rattle.std.proofs.Common.{◌≡◌, ℕ, ◌<◌, ◌≤◌, ◌&&◌, ◌==◌, Bool, true, false, nat_lt, Option, Some, None, option_map, unwrap_or, find, min, slice_index_or, IsSome, IfSome, IfNone, refl, sym, ap, subst, ⊎_elim, ◌∙◌, arith}
+use Rattle.std.proofs.Common.{◌≡◌, ℕ, ◌<◌, ◌≤◌, ◌==◌, Bool, true, false, nat_lt, Option, Some, None, option_map, unwrap_or, find, min, slice_index_or, IsSome, IfSome, IfNone, refl, sym, ap, subst, ⊎_elim, ◌∙◌, arith}
 use Rattle.std.proofs.lemmas.Bool.{cases_lt, false≢true}
 use Rattle.std.proofs.lemmas.List.{get_or_past}
 use Rattle.std.proofs.lemmas.Bool.Decides.{nat_tests}

@@ -54,5 +54,5 @@ attempt img c (Some row) = enter img c row.number row.handler
 attempt img c None = run img c (slice_get img.code c.processor.address)
 
 -- a core step, and the item that it gives; a stopped core is silent
-abbrev pub step : Image → Core → Core × Option What
+unfoldable pub step : Image → Core → Core × Option What
 step img c = if c.stopped then (c, None) else settle (attempt img c (pick img c))

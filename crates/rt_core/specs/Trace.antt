@@ -19,17 +19,17 @@ abbrev pub tick : Core → Core × List Label
 tick c = ring (record c { time = suc c.time }) c.alarm
 
 -- one event: the core after it, and what it shows
-abbrev pub happen : Image → Core → Event → Core × List Label
+unfoldable pub happen : Image → Core → Event → Core × List Label
 happen img c (Arrive irq) = (pended c irq, Arrived irq ∷ [])
 happen img c Tick = ((tick c).0, Ticked ∷ (tick c).1)
 happen img c Step = ((step img c).0, Stepped (step img c).1 ∷ [])
 
 -- the core after events
-abbrev pub core_after : Image → Core → List Event → Core
+unfoldable pub core_after : Image → Core → List Event → Core
 core_after img c [] = c
 core_after img c (e ∷ events) = core_after img (happen img c e).0 events
 
-abbrev pub labels : Image → Core → List Event → List Label
+unfoldable pub labels : Image → Core → List Event → List Label
 labels img c [] = []
 labels img c (e ∷ events) = (happen img c e).1 ++ labels img (happen img c e).0 events
 

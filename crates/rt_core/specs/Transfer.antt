@@ -1,6 +1,6 @@
 -- Exception entry and return (ARMv7-M Architecture Reference Manual, sections B1.5.6 and B1.5.8), and calls of bodies and
 -- the setting of the alarm, which are this model's own.
-use Rattle.std.specs.Prelude.{ℕ, suc, ◌+◌, ◌/◌, Bool, true, false, ◌&&◌, nat_le, if◌then◌else◌, List, [], ◌∷◌, replicate}
+use Rattle.std.specs.Prelude.{ℕ, suc, ◌+◌, ◌/◌, Bool, true, false, ◌&&◌, nat_le, if◌then◌else◌, List, ◌∷◌, replicate}
 use Rattle.std.specs.Prelude.{slice_get, slice_set, Option, Some, None}
 use Rattle.rt_code.specs.Image.{Image, entry_words}
 use Rattle.rt_code.specs.declared.image.Handler.{Handler}

@@ -139,6 +139,7 @@ impl Core {
     }
 
     /// The time rises by one. It answers whether the alarm came.
+    #[tactic(auto, unfolding(crate::specs::Trace::happen))]
     pub fn tick(&mut self) -> bool
         requires { self.old.core.time < 2 ^ 31 }
         ensures state { self.new ≡ record self.old { core = (trace.happen self.old.image self.old.core Tick).0 } }
