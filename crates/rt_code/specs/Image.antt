@@ -1,6 +1,6 @@
 -- An image: code, and the tables that a core needs to run it. The tables stand for the vector table (ARMv7-M
--- Architecture Reference Manual, section B1.5.3), the priority registers of the interrupt controller (section B3.4.9) and
--- the initial contents of memory. The code keeps vectors.
+-- Architecture Reference Manual, section B1.5.3), the priority registers of the interrupt controller (section B3.4.9)
+-- and the initial contents of memory. The code keeps vectors.
 use Rattle.std.specs.Prelude.{ℕ, List, Option}
 use Rattle.rt_ids.specs.Names.{Names}
 use Rattle.rt_ids.specs.declared.cell.CellRow.{CellRow}

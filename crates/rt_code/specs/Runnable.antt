@@ -1,5 +1,5 @@
--- Which images a core runs. The stack of the architecture is kept 8-byte aligned (ARMv7-M Architecture Reference Manual,
--- section B1.5.7), and only the high-order bits of a priority value are implemented (section B1.5.4).
+-- Which images a core runs. The stack of the architecture is kept 8-byte aligned (ARMv7-M Architecture Reference
+-- Manual, section B1.5.7), and only the high-order bits of a priority value are implemented (section B1.5.4).
 use Rattle.std.specs.Prelude.{◌≡◌, ℕ, ◌*◌, ◌-◌, ◌%◌, ◌^◌, ◌<◌, ◌≤◌, List, Some, slice_get, length}
 use Rattle.rt_code.specs.Image.{Image}
 use Rattle.rt_code.specs.declared.image.BodyRow.{BodyRow}

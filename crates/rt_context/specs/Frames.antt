@@ -1,8 +1,8 @@
--- The frames on the stack of a core, and the words in which they lie. At exception entry (ARMv7-M Architecture Reference
--- Manual, section B1.5.6) the architecture pushes a frame of eight words, whose contents say what was interrupted; at
--- exception return (section B1.5.8) it reads them. Here the frames are a structure, and the words are its image. That LR
--- holds the size of the interrupted frame in place of EXC_RETURN, and that the stack grows to higher places, are this
--- model's own. The code keeps the words and a few sizes, and reads the rest back from the words.
+-- The frames on the stack of a core, and the words in which they lie. At exception entry (ARMv7-M Architecture
+-- Reference Manual, section B1.5.6) the architecture pushes a frame of eight words, whose contents say what was
+-- interrupted; at exception return (section B1.5.8) it reads them. Here the frames are a structure, and the words are
+-- its image. That LR holds the size of the interrupted frame in place of EXC_RETURN, and that the stack grows to higher
+-- places, are this model's own. The code keeps the words and a few sizes, and reads the rest back from the words.
 use Rattle.std.specs.Prelude.{ℕ, ◌-◌, ◌*◌, List, [], ◌∷◌, ◌++◌, length, replicate, Option}
 use Rattle.rt_context.specs.Stack as stack
 
@@ -29,8 +29,9 @@ pub record Frames : Type 0 where
   -- what the entered handlers interrupted, the last entered first
   pub below : List Saved
 
--- The so many words that exception entry pushes, from the lowest address: R0 to R3 and R12 of 0, LR with the size of the
--- interrupted frame, the return address, xPSR with the interrupted exception's number, and words of 0 past these eight.
+-- The so many words that exception entry pushes, from the lowest address: R0 to R3 and R12 of 0, LR with the size of
+-- the interrupted frame, the return address, xPSR with the interrupted exception's number, and words of 0 past these
+-- eight.
 abbrev pub exception_frame : ℕ → Saved → List ℕ
 exception_frame entry s =
     0 ∷ 0 ∷ 0 ∷ 0 ∷ 0 ∷ length s.slots ∷ s.address ∷ s.number ∷ replicate (entry - 8) 0

@@ -1,7 +1,8 @@
 -- The stack of a core by its parts: the slots of the running frame; where a called body runs, the frame of the handler
--- that called it; and below them what each entered handler interrupted, the last entered first, of any type, with its size
--- in words. Exception entry and return are those of the ARMv7-M Architecture Reference Manual (sections B1.5.6 and B1.5.8).
--- Calls of bodies are this model's own: a handler keeps the return address of its call in the last slot of its frame.
+-- that called it; and below them what each entered handler interrupted, the last entered first, of any type, with its
+-- size in words. Exception entry and return are those of the ARMv7-M Architecture Reference Manual (sections B1.5.6 and
+-- B1.5.8). Calls of bodies are this model's own: a handler keeps the return address of its call in the last slot of its
+-- frame.
 use Rattle.std.specs.Prelude.{ℕ, ◌+◌, ◌-◌, ◌&&◌, ◌||◌, ◌==◌, Bool, nat_le, List, [], ◌∷◌, ◌++◌, length, sum_by}
 use Rattle.std.specs.Prelude.{replicate, take, drop, slice_index, slice_set, Option, Some, None, is_none, not}
 use Rattle.rt_ids.specs.Lists.{is_empty}

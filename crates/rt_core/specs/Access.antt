@@ -18,7 +18,7 @@ abbrev pub access_by : Image → Core → Option IrqRow → Option Access
 access_by img c (Some row) = None
 access_by img c None = access_by_line c (slice_get img.code c.processor.address)
 
--- The access that the next core step makes: none where the core is stopped, an interrupt is taken, there is no instruction,
--- or it traps.
+-- The access that the next core step makes: none where the core is stopped, an interrupt is taken, there is no
+-- instruction, or it traps.
 abbrev pub access : Image → Core → Option Access
 access img c = if c.stopped then None else access_by img c (pick img c)

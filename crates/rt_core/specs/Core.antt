@@ -1,7 +1,8 @@
--- The core with its interrupt controller, after the exception model of the ARMv7-M Architecture Reference Manual (section
--- B1.5): what is pending, which handlers are active, the execution priority, and which interrupt is taken. The frames are
--- a structure; `stack_words` says how they lie in the stack region. Time and alarm stand for the system timer (section
--- B3.3), in ticks; the alarm, and that PRIMASK is 1 after reset, are this model's own. The code keeps arrays and a region.
+-- The core with its interrupt controller, after the exception model of the ARMv7-M Architecture Reference Manual
+-- (section B1.5): what is pending, which handlers are active, the execution priority, and which interrupt is taken. The
+-- frames are a structure; `stack_words` says how they lie in the stack region. Time and alarm stand for the system
+-- timer (section B3.3), in ticks; the alarm, and that PRIMASK is 1 after reset, are this model's own. The code keeps
+-- arrays and a region.
 use Rattle.std.specs.Prelude.{ℕ, ◌+◌, ◌*◌, ◌/◌, Bool, true, false, List, [], ◌∷◌, map, replicate, Option, None}
 use Rattle.rt_ids.specs.declared.limits.TheConstants.{IRQ_NUMBERS}
 use Rattle.rt_code.specs.Image.{Image, entry_words}
@@ -41,7 +42,13 @@ reset img = record {
   time = 0;
   alarm = None;
   pending = replicate IRQ_NUMBERS false;
-  processor = record { address = 0; basepri = 0; primask = true; slots = replicate img.thread_words 0; cells = map (λ cell. cell.first) img.cells };
+  processor = record {
+    address = 0;
+    basepri = 0;
+    primask = true;
+    slots = replicate img.thread_words 0;
+    cells = map (λ cell. cell.first) img.cells;
+  };
   caller = None;
   below = [];
   stopped = false;

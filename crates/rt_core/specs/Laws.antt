@@ -37,8 +37,8 @@ pub record HappensByEvent : Type 0 where
   pub labels_more : (img : Image) (c : Core) (e : Event) (events : List Event)
       → labels img c (e ∷ events) ≡ (happen img c e).1 ++ labels img (happen img c e).0 events
 
--- A step by its cause: a stopped core stays; else the interrupt to be taken is entered; else the line at the code address is
--- done; else there is none, which traps.
+-- A step by its cause: a stopped core stays; else the interrupt to be taken is entered; else the line at the code
+-- address is done; else there is none, which traps.
 pub record StepsByCause : Type 0 where
   pub stopped : (img : Image) (c : Core) → c.stopped ≡ true → step img c ≡ (c, None)
   pub entry : (img : Image) (c : Core) (row : IrqRow) → c.stopped ≡ false → pick img c ≡ Some row

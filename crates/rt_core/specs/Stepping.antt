@@ -1,5 +1,5 @@
--- What a core step does: exception entry, or one instruction, with exception return (ARMv7-M Architecture Reference Manual,
--- sections B1.5.6 to B1.5.8) and calls of bodies, which are this model's own.
+-- What a core step does: exception entry, or one instruction, with exception return (ARMv7-M Architecture Reference
+-- Manual, sections B1.5.6 to B1.5.8) and calls of bodies, which are this model's own.
 use Rattle.std.specs.Prelude.{if◌then◌else◌, slice_get, Option, Some, None}
 use Rattle.rt_code.specs.Image.{Image}
 use Rattle.rt_code.specs.Effect.{effect}

@@ -1,6 +1,6 @@
--- Which interrupt is taken, by what is true of it (ARMv7-M Architecture Reference Manual, section B1.5.4): of those that
--- are pending, enabled and of a higher priority than the execution priority, the one of the highest priority, and of equal
--- ones the one of the lowest number. The choice that the core makes is one pass over the rows.
+-- Which interrupt is taken, by what is true of it (ARMv7-M Architecture Reference Manual, section B1.5.4): of those
+-- that are pending, enabled and of a higher priority than the execution priority, the one of the highest priority, and
+-- of equal ones the one of the lowest number. The choice that the core makes is one pass over the rows.
 use Rattle.std.specs.Prelude.{◌≡◌, ◌<◌, ◌≤◌, ◌⊎◌}
 use Rattle.rt_ids.specs.Choice.{IsBest}
 use Rattle.rt_code.specs.Image.{Image}

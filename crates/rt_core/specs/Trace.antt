@@ -12,7 +12,8 @@ use Rattle.rt_core.specs.Transfer.{pended}
 -- the alarm comes where its instant is not later than the time
 abbrev pub ring : Core → Option Alarm → Core × List Label
 ring c None = (c, [])
-ring c (Some alarm) = if nat_le alarm.instant c.time then (record (pended c alarm.irq) { alarm = None }, Rang ∷ []) else (c, [])
+ring c (Some alarm) =
+    if nat_le alarm.instant c.time then (record (pended c alarm.irq) { alarm = None }, Rang ∷ []) else (c, [])
 
 -- a tick: the time rises by one, and then the alarm may come
 abbrev pub tick : Core → Core × List Label

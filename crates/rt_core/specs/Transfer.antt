@@ -1,5 +1,5 @@
--- Exception entry and return (ARMv7-M Architecture Reference Manual, sections B1.5.6 and B1.5.8), and calls of bodies and
--- the setting of the alarm, which are this model's own.
+-- Exception entry and return (ARMv7-M Architecture Reference Manual, sections B1.5.6 and B1.5.8), and calls of bodies
+-- and the setting of the alarm, which are this model's own.
 use Rattle.std.specs.Prelude.{ℕ, suc, ◌+◌, ◌/◌, Bool, true, false, ◌&&◌, nat_le, if◌then◌else◌, List, ◌∷◌, replicate}
 use Rattle.std.specs.Prelude.{slice_get, slice_set, Option, Some, None}
 use Rattle.rt_code.specs.Image.{Image, entry_words}
@@ -62,7 +62,8 @@ called c row from =
 
 abbrev pub call_row : Image → Core → Option BodyRow → ℕ → Outcome
 call_row img c None from = Trapped c trap.Jump
-call_row img c (Some row) from = if call_fits img c row from then Done (called c row from) None else Trapped c trap.Stack
+call_row img c (Some row) from =
+    if call_fits img c row from then Done (called c row from) None else Trapped c trap.Stack
 
 abbrev pub call : Image → Core → ℕ → ℕ → Outcome
 call img c row from = if may_call c then call_row img c (slice_get img.bodies row) from else Trapped c trap.Stack
@@ -71,7 +72,8 @@ call img c row from = if may_call c then call_row img c (slice_get img.bodies ro
 abbrev pub back_to : Core → Option (List ℕ) → Outcome
 back_to c None = Trapped c trap.Stack
 back_to c (Some slots) =
-    Done (record c { processor = record c.processor { address = stack.return_address slots; slots = slots }; caller = None }) None
+    let after = record c.processor { address = stack.return_address slots; slots = slots } in
+    Done (record c { processor = after; caller = None }) None
 
 abbrev pub back : Core → Outcome
 back c = back_to c c.caller

@@ -1,4 +1,5 @@
--- What an instruction other than `clock` does. No other one reads the time, so it is the same at every time, and here at 0.
+-- What an instruction other than `clock` does. No other one reads the time, so it is the same at every time, and here
+-- at 0.
 use Rattle.std.specs.Prelude.{Result}
 use Rattle.rt_code.specs.Processor.{Processor, Gives}
 use Rattle.rt_code.specs.Effect.{effect}

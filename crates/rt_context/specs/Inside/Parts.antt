@@ -1,5 +1,6 @@
 -- The frames that the words of a region spell, by the sizes that the code keeps beside them.
-use Rattle.std.specs.Prelude.{◌≡◌, ℕ, ◌-◌, ◌<◌, ◌≤◌, List, [], ◌∷◌, length, map, reverse, take, drop, slice_index, Option, option_map, unwrap_or, IfSome}
+use Rattle.std.specs.Prelude.{◌≡◌, ℕ, ◌-◌, ◌<◌, ◌≤◌, List, [], ◌∷◌, length, map, reverse, take, drop, slice_index}
+use Rattle.std.specs.Prelude.{Option, option_map, unwrap_or, IfSome}
 use Rattle.std.specs.List.{AllByRecursion}
 use Rattle.rt_context.specs.declared.exception.TheConstants.{LINK, RETURN_ADDRESS, STATUS}
 use Rattle.rt_context.specs.declared.sizes.TheConstants.{STACK_WORDS}
@@ -20,7 +21,8 @@ caller_of size ws = option_map (λ n. last_of n ws) size
 abbrev pub below_caller : Option ℕ → List ℕ → List ℕ
 below_caller size ws = without (unwrap_or size 0) ws
 
--- what was interrupted, by its exception frame, the words below that and the size of a caller's frame; the words below it
+-- what was interrupted, by its exception frame, the words below that and the size of a caller's frame; the words below
+-- it
 abbrev pub saved : List ℕ → List ℕ → Option ℕ → Saved
 saved pushed under caller =
     let n = slice_index pushed LINK in record {

@@ -1,5 +1,6 @@
 -- The core that the code's parts are, and what they keep.
-use Rattle.std.specs.Prelude.{◌≡◌, ℕ, ◌%◌, ◌<◌, List, [], ◌∷◌, Option, None, option_map, slice_index_or, unwrap_or, length}
+use Rattle.std.specs.Prelude.{◌≡◌, ℕ, ◌%◌, ◌<◌, List, [], ◌∷◌, Option, None, option_map, slice_index_or, unwrap_or}
+use Rattle.std.specs.Prelude.{length}
 use Rattle.rt_ids.specs.declared.limits.TheConstants.{IRQ_NUMBERS, THREAD_VALUE}
 use Rattle.rt_code.specs.Image.{Image}
 use Rattle.rt_code.specs.Processor.{processor}
@@ -17,7 +18,13 @@ abbrev pub contexts : List (Option ℕ) → List ℕ → List Saved → List Con
 contexts priorities [] below = []
 contexts priorities (irq ∷ active) [] = []
 contexts priorities (irq ∷ active) (s ∷ below) =
-    record { irq = irq; value = unwrap_or (slice_index_or priorities irq None) THREAD_VALUE; address = s.address; slots = s.slots; caller = s.caller }
+    record {
+      irq = irq;
+      value = unwrap_or (slice_index_or priorities irq None) THREAD_VALUE;
+      address = s.address;
+      slots = s.slots;
+      caller = s.caller;
+    }
     ∷ contexts priorities active below
 
 abbrev pub core : Inside → Core
@@ -34,7 +41,8 @@ core c = record {
 abbrev pub machine : Inside → Machine
 machine c = record { image = c.program; core = core c; steps = c.steps }
 
--- each handler has a higher priority than what it interrupted, and the lowest bit of a priority value is not implemented
+-- each handler has a higher priority than what it interrupted, and the lowest bit of a priority value is not
+-- implemented
 abbrev pub IsFalling : List Context → Type 0
 IsFalling [] = Unit {0}
 IsFalling (x ∷ below) = (x.value < running_value below) × (x.value % 2 ≡ 0) × IsFalling below
