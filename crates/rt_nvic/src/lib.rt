@@ -1,6 +1,7 @@
 // The interrupt controller: which interrupts are enabled, pending and active, and which one is taken.
 #![tactic(auto)]
 
+mod best;
 pub mod nvic;
 pub mod sizes;
 

@@ -6,3 +6,6 @@ pub const NUMBERS: usize = IRQ_NUMBERS as usize;
 
 /// Interrupts that may be active at once: one for each priority value where 7 bits are implemented.
 pub const ACTIVE: usize = 128;
+
+/// The limit of a priority value where no interrupt is ready: no execution priority is above it.
+pub const NONE_READY: u16 = u16::MAX;

@@ -1,7 +1,10 @@
--- What the fixed arrays of a controller keep.
+-- What the fields of a controller keep.
 use Rattle.std.specs.Prelude.{◌≡◌, ℕ, ◌≤◌, Bool, List, length, Option}
 use Rattle.rt_ids.specs.declared.limits.TheConstants.{IRQ_NUMBERS}
+use Rattle.rt_nvic.specs.declared.best.Best.{Best}
 use Rattle.rt_nvic.specs.declared.sizes.TheConstants.{ACTIVE}
+use Rattle.rt_nvic.specs.Inside.First.{shown}
+use Rattle.rt_nvic.specs.Inside.Best.{IsBest}
 
 -- a place for each number and for each interrupt that may be active
 pub record IsFixed (priorities : List (Option ℕ)) (pending : List Bool) (active : List ℕ) (top : ℕ) : Type 0 where
@@ -9,3 +12,8 @@ pub record IsFixed (priorities : List (Option ℕ)) (pending : List Bool) (activ
   pub pending_long : length pending ≡ IRQ_NUMBERS
   pub active_long : length active ≡ ACTIVE
   pub top_within : top ≤ ACTIVE
+
+-- and the best of those that are ready
+pub record IsKept (priorities : List (Option ℕ)) (pending : List Bool) (active : List ℕ) (top : ℕ) (kept : Best) : Type 0 where
+  pub fixed : IsFixed priorities pending active top
+  pub best : IsBest (shown priorities pending) kept

@@ -1,0 +1,4 @@
+-- What private contracts and the invariant of the controller speak of.
+pub mod First
+pub mod Best
+pub mod Fields
