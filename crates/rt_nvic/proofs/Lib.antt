@@ -3,5 +3,8 @@ pub mod Choosing
 pub mod Precedence
 pub mod Least
 pub mod Taking
+pub mod Growing
+pub mod Ready
+pub mod OneBit
 pub mod Fitting
 pub mod Pending

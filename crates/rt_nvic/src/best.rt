@@ -1,11 +1,10 @@
-ghost use Rattle.std.specs.Prelude.{◌≡◌, ◌<◌, ◌≤◌, ℕ, Option, length, if◌then◌else◌, Some, None, IfSome};
+ghost use Rattle.std.specs.Prelude.{◌≡◌, ℕ, ◌+◌, ◌*◌, ◌<◌, length, slice_index_or, Some, None, IfSome};
 ghost use Rattle.rt_ids.specs.declared.limits.TheConstants.{IRQ_NUMBERS};
-ghost use Rattle.rt_nvic.specs.Nvic.{is_ready, value_of};
-ghost use Rattle.rt_nvic.specs.Inside.First.{shown, is_before};
+ghost use Rattle.rt_nvic.specs.declared.sizes.TheConstants.{WORDS};
+ghost use Rattle.rt_nvic.specs.Inside.First.{is_before};
 
-use crate::sizes::NONE_READY;
+use crate::sizes::{NONE_READY, WORDS};
 use rt_ids::Irq;
-use rt_ids::limits::IRQ_NUMBERS;
 
 /// The ready interrupt that is taken first, and its priority value: where there is none, a value above all.
 #[derive(Clone, Copy, Debug)]
@@ -14,9 +13,15 @@ pub(crate) struct Best {
     pub(crate) value: u16,
 }
 
+/// None is ready.
+pub(crate) const NO_BEST: Best = Best {
+    irq: None,
+    value: NONE_READY,
+};
+
 impl Best {
-    ghost use Rattle.rt_nvic.specs.Inside.Best.{IsBest, with};
-    ghost use Rattle.rt_nvic.specs.Inside.First.{shown};
+    ghost use Rattle.rt_nvic.specs.Inside.Best.{IsBestOf, with};
+    ghost use Rattle.rt_nvic.specs.Inside.Bits.{AreNumbers};
 
     /// With one more that is pending, which counts where it has a priority value.
     #[inline]
@@ -38,22 +43,50 @@ impl Best {
         }
     }
 
-    /// The best of all numbers.
-    pub(crate) fn of(priorities: &[Option<u8>], pending: &[bool]) -> Best
+    /// With one more number whose bit is set.
+    #[inline]
+    fn with_number(self, priorities: &[Option<u8>], number: u16) -> Best
+        requires number { number < IRQ_NUMBERS }
         requires priorities { length priorities.now ≡ IRQ_NUMBERS }
-        requires pending { length pending.now ≡ IRQ_NUMBERS }
-        ensures { IsBest (shown priorities.now pending.now) result }
+        ensures value { result ≡ with self number (slice_index_or priorities.now number None) }
+        ensures low { IfSome (slice_index_or priorities.now number None) (λ value. value < 256) }
     {
-        let mut best = Best {
-            irq: None,
-            value: NONE_READY,
+        let Some(irq) = Irq::new(number) else {
+            unreachable!()
         };
-        for number in 0..IRQ_NUMBERS {
-            if let Some(value) = value_below(priorities, pending, best.value, number) {
-                best = Best {
-                    irq: Irq::new(number),
-                    value,
-                };
+        self.with(irq, priorities[usize::from(number)])
+    }
+
+    /// With the numbers of one more word of bits.
+    fn with_word(self, priorities: &[Option<u8>], words: &[u32], k: u16) -> Best
+        requires priorities { length priorities.now ≡ IRQ_NUMBERS }
+        requires word { k < length words.now }
+        requires few { length words.now ≡ WORDS }
+        requires within { AreNumbers words.now }
+        requires best { IsBestOf priorities.now words.now (32 * k) self }
+        ensures { IsBestOf priorities.now words.now (32 * k + 32) result }
+    {
+        let bits = words[usize::from(k)];
+        let mut best = self;
+        for bit in 0..32 {
+            if (bits >> bit) & 1 == 1 {
+                best = best.with_number(priorities, 32 * k + bit);
+            }
+        }
+        best
+    }
+
+    /// The best of all whose bits are set.
+    pub(crate) fn of(priorities: &[Option<u8>], words: &[u32]) -> Best
+        requires priorities { length priorities.now ≡ IRQ_NUMBERS }
+        requires few { length words.now ≡ WORDS }
+        requires within { AreNumbers words.now }
+        ensures { IsBestOf priorities.now words.now IRQ_NUMBERS result }
+    {
+        let mut best = NO_BEST;
+        for k in 0..WORDS as u16 {
+            if words[usize::from(k)] != 0 {
+                best = best.with_word(priorities, words, k);
             }
         }
         best
@@ -68,20 +101,5 @@ fn is_before(irq: Irq, value: u16, first: Option<Irq>, limit: u16) -> bool
     match first {
         None => value < limit,
         Some(first) => value < limit || (value == limit && irq.get() < first.get()),
-    }
-}
-
-/// The priority value of a pending interrupt that is enabled with a value below a limit.
-fn value_below(priorities: &[Option<u8>], pending: &[bool], limit: u16, number: u16) -> Option<u16>
-    requires priorities { number < length priorities.now }
-    requires pending { number < length pending.now }
-    ensures { let n = shown priorities.now pending.now in result ≡ (if is_ready n limit number then Some (value_of n number) else None) }
-{
-    let number = usize::from(number);
-    let value = u16::from(priorities[number]?);
-    if pending[number] && value < limit {
-        Some(value)
-    } else {
-        None
     }
 }

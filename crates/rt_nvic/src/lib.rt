@@ -2,6 +2,7 @@
 #![tactic(auto)]
 
 mod best;
+mod bits;
 pub mod nvic;
 pub mod sizes;
 

@@ -5,8 +5,9 @@ ghost use Rattle.rt_nvic.specs.declared.sizes.TheConstants.{ACTIVE};
 ghost use Rattle.rt_nvic.specs.Nvic as spec;
 ghost use Rattle.rt_ids.specs.Arrivals.{arrivals, pended, holds};
 
-use crate::best::Best;
-use crate::sizes::{ACTIVE, NONE_READY, NUMBERS};
+use crate::best::{Best, NO_BEST};
+use crate::bits::{clear_bit, set_bit};
+use crate::sizes::{ACTIVE, NUMBERS, WORDS};
 use rt_ids::Irq;
 use rt_ids::limits::{IRQ_NUMBERS, THREAD_VALUE};
 use std::marker::Model;
@@ -23,7 +24,9 @@ pub struct Nvic {
     active: [Irq; ACTIVE],
     /// From 0, where all places are taken, to `ACTIVE`, where none is.
     top: usize,
-    /// Of those that are ready the one that is taken first.
+    /// The bits of those that are pending and enabled.
+    ready: [u32; WORDS],
+    /// Of these the one that is taken first.
     best: Best,
 }
 
@@ -36,7 +39,7 @@ impl Model for Nvic {
 
     ghost view = { λ n. record { priorities = n.priorities; pending = n.pending; active = drop n.top n.active } };
 
-    ghost invariant = { λ n. IsKept n.priorities n.pending n.active n.top n.best };
+    ghost invariant = { λ n. IsKept n.priorities n.pending n.active n.top n.ready n.best };
 }
 
 impl Nvic {
@@ -52,10 +55,8 @@ impl Nvic {
             pending: [false; NUMBERS],
             active: [irq; ACTIVE],
             top: ACTIVE,
-            best: Best {
-                irq: None,
-                value: NONE_READY,
-            },
+            ready: [0; WORDS],
+            best: NO_BEST,
         }
     }
 
@@ -63,8 +64,10 @@ impl Nvic {
     pub fn enable(&mut self, irq: Irq, prio: u8)
         ensures { self.new ≡ record self.old { priorities = slice_set self.old.priorities irq (Some prio) } }
     {
-        self.priorities[usize::from(irq.get())] = Some(prio);
-        self.best = Best::of(&self.priorities, &self.pending);
+        let number = usize::from(irq.get());
+        self.priorities[number] = Some(prio);
+        set_bit(&mut self.ready, irq.get(), self.pending[number]);
+        self.best = Best::of(&self.priorities, &self.ready);
     }
 
     /// Sets the interrupts pending whose bits this word holds: bit b of word k is interrupt 32 * k + b.
@@ -89,7 +92,9 @@ impl Nvic {
     {
         let number = usize::from(irq.get());
         self.pending[number] = true;
-        self.best = self.best.with(irq, self.priorities[number]);
+        let priority = self.priorities[number];
+        set_bit(&mut self.ready, irq.get(), priority.is_some());
+        self.best = self.best.with(irq, priority);
     }
 
     /// Sets the interrupt of a number pending.
@@ -139,9 +144,10 @@ impl Nvic {
         ensures priorities { self.new.priorities ≡ self.old.priorities }
     {
         self.pending[usize::from(irq.get())] = false;
+        clear_bit(&mut self.ready, irq.get());
         self.top -= 1;
         self.active[self.top] = irq;
-        self.best = Best::of(&self.priorities, &self.pending);
+        self.best = Best::of(&self.priorities, &self.ready);
     }
 
     /// Leaves the interrupt that was entered last.
