@@ -3,7 +3,7 @@ ghost use Rattle.std.specs.Int.{bit_at};
 ghost use Rattle.rt_words.specs.Object.{IsPending};
 ghost use Rattle.rt_words.specs.Account.{raised, merged};
 ghost use Rattle.rt_words.specs.Lines.{count, numbers};
-ghost use Rattle.rt_words.specs.Steps.{reserving};
+ghost use Rattle.rt_words.specs.Inside.Steps.{reserving};
 ghost use Rattle.rt_words.specs.declared.call.Call.{Call};
 
 use crate::counts::count_bits;
@@ -24,7 +24,7 @@ pub struct CoreLine {
 
 impl Model for CoreLine {
     ghost use Rattle.rt_words.specs.Lines.{Core};
-    ghost use Rattle.rt_words.specs.Fields.{IsCoreSeat};
+    ghost use Rattle.rt_words.specs.Inside.Fields.{IsCoreSeat};
 
     ghost Value = { Core };
 

@@ -41,7 +41,7 @@ pub struct DeviceLine {
 
 impl Model for DeviceLine {
     ghost use Rattle.rt_words.specs.Lines.{Line};
-    ghost use Rattle.rt_words.specs.Fields.{IsDeviceSeat};
+    ghost use Rattle.rt_words.specs.Inside.Fields.{IsDeviceSeat};
 
     ghost Value = { Line };
 

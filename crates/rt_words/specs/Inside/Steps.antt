@@ -10,7 +10,7 @@ use Rattle.rt_words.specs.declared.view.Stage.TheVariants.{First, Copied, Device
 use Rattle.rt_words.specs.declared.view.View.{View}
 use Rattle.rt_words.specs.Object.{IsPending}
 use Rattle.rt_words.specs.Lines.{numbers}
-use Rattle.rt_words.specs.Seats.{Seat, Distinct}
+use Rattle.rt_words.specs.Inside.Seats.{Seat, Distinct}
 
 -- the first seat at the beginning
 abbrev pub newcomer : List ℕ → View
