@@ -12,8 +12,8 @@ use rt_ids::Irq;
 use rt_ids::limits::{IRQ_NUMBERS, THREAD_VALUE};
 use std::marker::Model;
 
-/// The state of each external interrupt: whether it is enabled and with which priority value, whether it is pending, and
-/// which ones are active. An interrupt may be active and pending.
+/// The state of each external interrupt: whether it is enabled and with which priority value, whether it is pending,
+/// and which ones are active. An interrupt may be active and pending.
 #[derive(Debug, Drop)]
 pub struct Nvic {
     /// By number, the priority value of an enabled interrupt.
@@ -45,7 +45,8 @@ impl Model for Nvic {
 impl Nvic {
     /// A controller with nothing enabled, pending or active.
     pub fn new() -> Nvic
-        ensures { result ≡ record { priorities = replicate IRQ_NUMBERS None; pending = replicate IRQ_NUMBERS false; active = [] } }
+        ensures { result
+            ≡ record { priorities = replicate IRQ_NUMBERS None; pending = replicate IRQ_NUMBERS false; active = [] } }
     {
         let Some(irq) = Irq::new(0) else {
             unreachable!()
@@ -74,7 +75,8 @@ impl Nvic {
     pub fn arrive(&mut self, k: u8, bits: u32)
         requires in_range { (bit : ℕ) → bit < 32 → bit_at bits bit ≡ 1 → 32 * k + bit < IRQ_NUMBERS }
         ensures state { self.new ≡ record self.old { pending = pended (arrivals k bits) self.old.pending } }
-        ensures each { (irq : ℕ) → irq < IRQ_NUMBERS → spec.is_pending self.new irq ≡ (spec.is_pending self.old irq || holds k bits irq) }
+        ensures each { (irq : ℕ) → irq < IRQ_NUMBERS
+            → spec.is_pending self.new irq ≡ (spec.is_pending self.old irq || holds k bits irq) }
     {
         // The clauses need the lengths, which are known where a field is used.
         let _ = &self.top;
@@ -117,13 +119,14 @@ impl Nvic {
         self.pending[usize::from(irq.get())]
     }
 
-    /// The interrupt that is taken at an execution priority, which is 256 where nothing runs or masks: of those that are
-    /// ready the one of the smallest priority value, and of equal ones the one of the lowest number.
+    /// The interrupt that is taken at an execution priority, which is 256 where nothing runs or masks: of those that
+    /// are ready the one of the smallest priority value, and of equal ones the one of the lowest number.
     #[inline]
     pub fn pick(&self, exec: u16) -> Option<Irq>
         ensures value { result ≡ spec.picked self.now exec }
         ensures ready { IfSome result (λ irq. spec.IsReady self.now exec irq) }
-        ensures first { IfSome result (λ irq. (other : ℕ) → spec.IsReady self.now exec other → spec.Precedes self.now irq other) }
+        ensures first { IfSome result
+            (λ irq. (other : ℕ) → spec.IsReady self.now exec other → spec.Precedes self.now irq other) }
         ensures none { IfNone result ((irq : ℕ) → ¬ spec.IsReady self.now exec irq) }
         ensures sizes { spec.IsSized self.now }
     {

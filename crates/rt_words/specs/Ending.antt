@@ -25,15 +25,16 @@ abbrev pub times_gathered : (List Call → ℕ) → Core → ℕ
 times_gathered times line = sum_by (λ p. times p.calls) line.gathered
 
 -- One legal history leaves these bits, in a row of 16 words. Its calls of the number 255 are the core's, its calls of
--- each other number are those that were gathered under it, and a number that was not made has none. Each interrupt was raised
--- and merged in it as often as by the gathered lines, and latched as often as by the core's.
+-- each other number are those that were gathered under it, and a number that was not made has none. Each interrupt was
+-- raised and merged in it as often as by the gathered lines, and latched as often as by the core's.
 pub record OneHistory (line : Core) (bits : List ℕ) : Type 0 where
   pub history : List Entry
   pub legal : IsLegal history bits
   pub core : part history 255 ≡ line.calls
   pub gathered : (p : Part) → Contains line.gathered p → part history p.line ≡ p.calls
   pub unmade : (number : ℕ) → number ≢ 255 → ¬ Contains line.made number → part history number ≡ []
-  pub account : (irq : ℕ) → irq < 512 → raised irq (calls_in history) ≡ latched irq (calls_in history) + pending bits irq
+  pub account : (irq : ℕ) → irq < 512
+      → raised irq (calls_in history) ≡ latched irq (calls_in history) + pending bits irq
   pub raised : (irq : ℕ) → raised irq (calls_in history) ≡ times_gathered (raised irq) line
   pub merged : (irq : ℕ) → merged irq (calls_in history) ≡ times_gathered (merged irq) line
   pub latched : (irq : ℕ) → latched irq (calls_in history) ≡ latched irq line.calls

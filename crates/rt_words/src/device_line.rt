@@ -45,7 +45,11 @@ impl Model for DeviceLine {
 
     ghost Value = { Line };
 
-    ghost view = { λ l. record { words = record { table = l.seat.table_id; may = l.seat.me.0.may }; number = l.seat.me.0.line; calls = l.seat.me.0.calls } };
+    ghost view = { λ l. record {
+      words = record { table = l.seat.table_id; may = l.seat.me.0.may };
+      number = l.seat.me.0.line;
+      calls = l.seat.me.0.calls;
+    } };
 
     ghost invariant = { λ l. IsDeviceSeat l.seat.me l.tally.raised l.tally.merged };
 }

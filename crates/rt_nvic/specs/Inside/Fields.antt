@@ -15,7 +15,8 @@ pub record IsFixed (priorities : List (Option ℕ)) (pending : List Bool) (activ
   pub top_within : top ≤ ACTIVE
 
 -- and the bits and the best of those that are ready
-pub record IsKept (priorities : List (Option ℕ)) (pending : List Bool) (active : List ℕ) (top : ℕ) (words : List ℕ) (kept : Best) : Type 0 where
+pub record IsKept (priorities : List (Option ℕ)) (pending : List Bool) (active : List ℕ) (top : ℕ) (words : List ℕ)
+    (kept : Best) : Type 0 where
   pub fixed : IsFixed priorities pending active top
   pub words_long : length words ≡ WORDS
   pub ready : AreReady priorities pending words
