@@ -5,6 +5,7 @@ pub mod Least
 pub mod Taking
 pub mod Growing
 pub mod Ready
+pub mod Scanning
 pub mod OneBit
 pub mod Fitting
 pub mod Pending

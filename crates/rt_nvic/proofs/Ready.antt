@@ -1,10 +1,10 @@
 -- The bits of the ready interrupts, as requests come and go.
-use Rattle.std.proofs.Common.{◌≡◌, ◌≢◌, ℕ, ◌+◌, ◌*◌, ◌/◌, ◌%◌, ◌^◌, ◌<◌, ◌≤◌, ◌==◌, ◌&&◌, bit_and, Bool, true, false, if◌then◌else◌, List, length, length-set, get_or, set, Option, Some, None, is_some, IfSome, refl, sym, ap, subst, ◌∙◌, ⊎_elim, arith, get_or-set_same, get_or-set_other}
+use Rattle.std.proofs.Common.{◌≡◌, ◌≢◌, ℕ, ◌+◌, ◌*◌, ◌/◌, ◌%◌, ◌<◌, ◌≤◌, ◌==◌, ◌&&◌, Bool, true, false, if◌then◌else◌, List, length, length-set, get_or, set, Option, Some, None, is_some, IfSome, refl, sym, ap, subst, ◌∙◌, ⊎_elim, arith, get_or-set_same, get_or-set_other}
 use Rattle.std.specs.Int.{bit_at}
 use Rattle.std.proofs.lemmas.Bool.{cases_lt, false≢true}
 use Rattle.std.proofs.lemmas.Bool.Decides.{nat_tests}
 use Rattle.std.proofs.lemmas.List.{get_or_past}
-use Rattle.std.proofs.lemmas.Nat.Bits.{bit_at-zero, shr_and_one}
+use Rattle.std.proofs.lemmas.Nat.Bits.{bit_at-zero}
 use native.Mathlib.Decide.{ℕ_discrete}
 use Rattle.rt_ids.specs.Arrivals.{bit_of}
 use Rattle.rt_ids.specs.declared.limits.TheConstants.{IRQ_NUMBERS}
@@ -118,14 +118,15 @@ scanned_set priorities words count kept h low is = λ pending ready.
     best_more priorities pending pending count (count + 1) count kept (more_below n count) (others_below n count) (omega arith) (pending_of_bit priorities pending words count ready h)
     (low_from (get_or priorities count None) low) (is pending ready)
 
-clear_of : (priorities : List (Option ℕ)) (pending : List Bool) (words : List ℕ) (count j : ℕ) → AreReady priorities pending words → bit_of words count ≢ 1 → IsReady (shown priorities pending) NONE_READY j → j ≢ count
-clear_of priorities pending words count j ready ne r e = ne (sym (ap (bit_of words) e) ∙ bit_of_ready priorities pending words NONE_READY j ready r)
+clear_past : (priorities : List (Option ℕ)) (pending : List Bool) (words : List ℕ) (a b j : ℕ) → AreReady priorities pending words → ((i : ℕ) → a ≤ i → i < b → bit_of words i ≢ 1)
+    → IsReady (shown priorities pending) NONE_READY j → j < b → j < a
+clear_past priorities pending words a b j ready clear r l =
+    ⊎_elim (λ less. less) (λ more. absurd (clear j more l (bit_of_ready priorities pending words NONE_READY j ready r))) (cases_lt j a)
 
--- and one that is not
-pub scanned_clear : (priorities : List (Option ℕ)) (words : List ℕ) (count : ℕ) (kept : Best) → bit_of words count ≢ 1 → IsBestOf priorities words count kept → IsBestOf priorities words (count + 1) kept
-scanned_clear priorities words count kept ne is = λ pending ready.
-    let n = shown priorities pending in
-    best_alike priorities pending pending count (count + 1) kept (more_below n count) (λ j t. others_below n count j (clear_of priorities pending words count j ready ne t.1) t) (is pending ready)
+-- places of no bits
+pub scanned_past : (priorities : List (Option ℕ)) (words : List ℕ) (a b : ℕ) (kept : Best) → a ≤ b → ((i : ℕ) → a ≤ i → i < b → bit_of words i ≢ 1) → IsBestOf priorities words a kept → IsBestOf priorities words b kept
+scanned_past priorities words a b kept l clear is = λ pending ready.
+    best_alike priorities pending pending a b kept (λ j s. let low = s.0 in (omega arith, s.1)) (λ j t. (clear_past priorities pending words a b j ready clear t.1 t.0, t.1)) (is pending ready)
 
 zero_word : (words : List ℕ) (k j : ℕ) → get_or words k 0 ≡ 0 → bit_of words j ≡ 1 → j / 32 ≢ k
 zero_word words k j z h e =
@@ -133,10 +134,8 @@ zero_word words k j z h e =
 
 -- a word of no bits
 pub scanned_zero : (priorities : List (Option ℕ)) (words : List ℕ) (k : ℕ) (kept : Best) → get_or words k 0 ≡ 0 → IsBestOf priorities words (32 * k) kept → IsBestOf priorities words (32 * (k + 1)) kept
-scanned_zero priorities words k kept z is = λ pending ready.
-    best_alike priorities pending pending (32 * k) (32 * (k + 1)) kept (λ j s. let l = s.0 in (omega arith, s.1))
-    (λ j t. let l = t.0 in let ne : j / 32 ≢ k = zero_word words k j z (bit_of_ready priorities pending words NONE_READY j ready t.1) in (omega arith, t.1))
-    (is pending ready)
+scanned_zero priorities words k kept z is =
+    scanned_past priorities words (32 * k) (32 * (k + 1)) kept (omega arith) (λ j low high h. zero_word words k j z h (omega arith)) is
 
 -- all words
 pub scanned_all : (priorities : List (Option ℕ)) (words : List ℕ) (count : ℕ) (kept : Best) → IRQ_NUMBERS ≤ count → AreNumbers words → IsBestOf priorities words count kept → IsBestOf priorities words IRQ_NUMBERS kept
@@ -147,26 +146,6 @@ scanned_all priorities words count kept l are is = λ pending ready.
 -- before the scan
 pub scanned_none : (priorities : List (Option ℕ)) (words : List ℕ) → IsBestOf priorities words 0 (record { irq = None; value = NONE_READY })
 scanned_none priorities words = λ pending ready. record { irq = chosen_from (shown priorities pending) NONE_READY 0 None (λ irq l r. absurd (omega arith)); value = refl }
-
--- the bit that a scan looks at
-bit_here : (words : List ℕ) (k i bit : ℕ) → i ≡ k → bit < 32 → bit_and (get_or words i 0 / 2 ^ bit) 1 ≡ bit_of words (32 * k + bit)
-bit_here words k i bit e l =
-    let word : k ≡ (32 * k + bit) / 32 = omega arith in
-    let place : bit ≡ (32 * k + bit) % 32 = omega arith in
-    shr_and_one (get_or words i 0) bit ∙ ap (λ (j : ℕ). bit_at (get_or words j 0) bit) (e ∙ word) ∙ ap (bit_at (get_or words ((32 * k + bit) / 32) 0)) place
-
-pub bit_is_set : (words : List ℕ) (k i bit : ℕ) → i ≡ k → bit < 32 → bit_and (get_or words i 0 / 2 ^ bit) 1 ≡ 1 → bit_of words (32 * k + bit) ≡ 1
-bit_is_set words k i bit e l h = sym (bit_here words k i bit e l) ∙ h
-
-pub bit_is_clear : (words : List ℕ) (k i bit : ℕ) → i ≡ k → bit < 32 → bit_and (get_or words i 0 / 2 ^ bit) 1 ≢ 1 → bit_of words (32 * k + bit) ≢ 1
-bit_is_clear words k i bit e l h o = h (bit_here words k i bit e l ∙ o)
-
--- one place more, as code adds
-pub next_place : (priorities : List (Option ℕ)) (words : List ℕ) (a b : ℕ) (kept : Best) → IsBestOf priorities words (a + b + 1) kept → IsBestOf priorities words (a + (b + 1)) kept
-next_place priorities words a b kept is =
-    let e : a + b + 1 ≡ a + (b + 1) = omega arith in
-    let P : ℕ → Type 0 = λ count. IsBestOf priorities words count kept in
-    subst P e is
 
 -- with a request
 

@@ -66,12 +66,13 @@ impl Best {
         requires best { IsBestOf priorities.now words.now (32 * k) self }
         ensures { IsBestOf priorities.now words.now (32 * k + 32) result }
     {
-        let bits = words[usize::from(k)];
+        let bits = u64::from(words[usize::from(k)]);
         let mut best = self;
-        for bit in 0..32 {
-            if (bits >> bit) & 1 == 1 {
-                best = best.with_number(priorities, 32 * k + bit);
-            }
+        let mut from: u16 = 0;
+        while bits >> from != 0 {
+            let skipped = (bits >> from).trailing_zeros() as u16;
+            best = best.with_number(priorities, 32 * k + from + skipped);
+            from += skipped + 1;
         }
         best
     }
