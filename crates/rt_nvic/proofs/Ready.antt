@@ -1,10 +1,8 @@
 -- The bits of the ready interrupts, as requests come and go.
-use Rattle.std.proofs.Common.{◌≡◌, ◌≢◌, ℕ, ◌+◌, ◌*◌, ◌/◌, ◌%◌, ◌<◌, ◌≤◌, ◌==◌, ◌&&◌, Bool, true, false, if◌then◌else◌, List, length, length-set, get_or, set, Option, Some, None, is_some, IfSome, refl, sym, ap, subst, ◌∙◌, ⊎_elim, arith, get_or-set_same, get_or-set_other}
-use Rattle.std.specs.Int.{bit_at}
+use Rattle.std.proofs.Common.{◌≡◌, ◌≢◌, ℕ, ◌+◌, ◌<◌, ◌≤◌, ◌==◌, ◌&&◌, Bool, true, false, if◌then◌else◌, List, length, length-set, get_or, set, Option, Some, None, is_some, IfSome, refl, sym, ap, subst, ◌∙◌, ⊎_elim, arith, get_or-set_same, get_or-set_other}
 use Rattle.std.proofs.lemmas.Bool.{cases_lt, false≢true}
 use Rattle.std.proofs.lemmas.Bool.Decides.{nat_tests}
 use Rattle.std.proofs.lemmas.List.{get_or_past}
-use Rattle.std.proofs.lemmas.Nat.Bits.{bit_at-zero}
 use native.Mathlib.Decide.{ℕ_discrete}
 use Rattle.rt_ids.specs.Arrivals.{bit_of}
 use Rattle.rt_ids.specs.declared.limits.TheConstants.{IRQ_NUMBERS}
@@ -127,15 +125,6 @@ clear_past priorities pending words a b j ready clear r l =
 pub scanned_past : (priorities : List (Option ℕ)) (words : List ℕ) (a b : ℕ) (kept : Best) → a ≤ b → ((i : ℕ) → a ≤ i → i < b → bit_of words i ≢ 1) → IsBestOf priorities words a kept → IsBestOf priorities words b kept
 scanned_past priorities words a b kept l clear is = λ pending ready.
     best_alike priorities pending pending a b kept (λ j s. let low = s.0 in (omega arith, s.1)) (λ j t. (clear_past priorities pending words a b j ready clear t.1 t.0, t.1)) (is pending ready)
-
-zero_word : (words : List ℕ) (k j : ℕ) → get_or words k 0 ≡ 0 → bit_of words j ≡ 1 → j / 32 ≢ k
-zero_word words k j z h e =
-    let zero : bit_of words j ≡ 0 = ap (λ (i : ℕ). bit_at (get_or words i 0) (j % 32)) e ∙ ap (λ (w : ℕ). bit_at w (j % 32)) z ∙ bit_at-zero (j % 32) in omega arith
-
--- a word of no bits
-pub scanned_zero : (priorities : List (Option ℕ)) (words : List ℕ) (k : ℕ) (kept : Best) → get_or words k 0 ≡ 0 → IsBestOf priorities words (32 * k) kept → IsBestOf priorities words (32 * (k + 1)) kept
-scanned_zero priorities words k kept z is =
-    scanned_past priorities words (32 * k) (32 * (k + 1)) kept (omega arith) (λ j low high h. zero_word words k j z h (omega arith)) is
 
 -- all words
 pub scanned_all : (priorities : List (Option ℕ)) (words : List ℕ) (count : ℕ) (kept : Best) → IRQ_NUMBERS ≤ count → AreNumbers words → IsBestOf priorities words count kept → IsBestOf priorities words IRQ_NUMBERS kept

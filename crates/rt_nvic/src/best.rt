@@ -86,9 +86,7 @@ impl Best {
     {
         let mut best = NO_BEST;
         for k in 0..WORDS as u16 {
-            if words[usize::from(k)] != 0 {
-                best = best.with_word(priorities, words, k);
-            }
+            best = best.with_word(priorities, words, k);
         }
         best
     }
