@@ -5,7 +5,7 @@ use Rattle.rt_words.specs.declared.view.View.{View}
 use Rattle.rt_words.specs.Object.{IsPending}
 use Rattle.rt_words.specs.History.{Entry, IsLegal}
 use Rattle.rt_words.specs.Ending.{AllGathered, LatchedAreZero}
-use Rattle.rt_words.specs.Seats.{Seated, AllKnow}
+use Rattle.rt_words.specs.Inside.Seats.{Seated, AllKnow}
 
 -- at most 16 words of 32 bits, with bits of interrupts that may be pended alone, and a place for each of these
 pub record IsRow (may words : List ℕ) : Type 0 where

@@ -4,7 +4,7 @@ use Rattle.atomic_table.specs.Seated.{TableId}
 use Rattle.rt_words.specs.declared.call.Call.{Call}
 use Rattle.rt_words.specs.declared.view.Stage.TheVariants.{First, Device}
 use Rattle.rt_words.specs.Object.{IsPending}
-use Rattle.rt_words.specs.Seats.{Seat}
+use Rattle.rt_words.specs.Inside.Seats.{Seat}
 use Rattle.rt_words.specs.Account.{raised, merged, latched}
 
 -- a row has 1 to 16 words, with a place for each interrupt that may be pended
@@ -27,6 +27,7 @@ pub record IsCoreSeat (id : ℕ) (me : Seat) (counts : List ℕ) : Type 0 where
   pub room : length counts ≡ 512
   pub counted : Counts latched counts me.0.calls
   pub raises : (irq : ℕ) → raised irq me.0.calls ≡ 0
+  pub merges : (irq : ℕ) → merged irq me.0.calls ≡ 0
   pub others : (irq : ℕ) → sum_by (λ p. latched irq p.calls) me.0.gathered ≡ 0
 
 -- a device's calls are pends

@@ -10,15 +10,17 @@ use Rattle.rt_words.specs.declared.view.Stage.TheVariants.{First, Copied, Device
 use Rattle.rt_words.specs.declared.view.View.{View}
 use Rattle.rt_words.specs.Object.{IsPending}
 use Rattle.rt_words.specs.Lines.{numbers}
-use Rattle.rt_words.specs.Seats.{Seat, Distinct}
+use Rattle.rt_words.specs.Inside.Seats.{Seat, Distinct}
 
 -- the first seat at the beginning
 abbrev pub newcomer : List ℕ → View
-newcomer may = record { stage = First; line = 255; calls = []; made = []; reserved = None; gathered = []; since = 0; may = may }
+newcomer may =
+    record { stage = First; line = 255; calls = []; made = []; reserved = None; gathered = []; since = 0; may = may }
 
 -- a device's seat that has made these calls
 abbrev pub device : ℕ → List Call → List ℕ → View
-device number calls may = record { stage = Device; line = number; calls = calls; made = []; reserved = None; gathered = []; since = 0; may = may }
+device number calls may =
+    record { stage = Device; line = number; calls = calls; made = []; reserved = None; gathered = []; since = 0; may = may }
 
 -- one call more
 abbrev pub called : View → Call → View
@@ -30,11 +32,13 @@ answer_at found bit = if bit_at found bit == 1 then Merged else Raised
 
 -- a pend of the interrupt whose bit it was
 abbrev pub pended : Step (Unit {0}) → Seat → ℕ → Seat → Type 0
-pended s me found after = (bit : ℕ) → bit < 32 → s.first ≡ 2 ^ bit → after ≡ (called me.0 (Pend (32 * s.word + bit) (answer_at found bit)), me.1)
+pended s me found after = (bit : ℕ) → bit < 32 → s.first ≡ 2 ^ bit
+    → after ≡ (called me.0 (Pend (32 * s.word + bit) (answer_at found bit)), me.1)
 
 -- a latch, in which bits of interrupts that may be pended were found alone
 abbrev pub latched : Step (Unit {0}) → Seat → ℕ → Seat → Type 0
-latched s me found after = (after ≡ (called me.0 (Latch s.word found), me.1)) × (found < 2 ^ 32) × ((bit : ℕ) → bit < 32 → bit_at found bit ≡ 1 → IsPending me.0.may (32 * s.word + bit))
+latched s me found after = (after ≡ (called me.0 (Latch s.word found), me.1)) × (found < 2 ^ 32)
+    × ((bit : ℕ) → bit < 32 → bit_at found bit ≡ 1 → IsPending me.0.may (32 * s.word + bit))
 
 -- the first seat makes the number, and reserves it for a new seat
 abbrev pub reserving : ℕ → View → View
@@ -63,4 +67,5 @@ spent = record { stage = Spent; line = 0; calls = []; made = []; reserved = None
 
 -- the first seat looks, and finds that it made each line that it gathered, and gathered none twice
 abbrev pub looked : Step (Unit {0}) → Seat → ℕ → Seat → Type 0
-looked s me found after = (after ≡ (record me.0 { since = length me.0.calls }, me.1)) × Distinct (numbers me.0.gathered) × ((number : ℕ) → Contains (numbers me.0.gathered) number → Contains me.0.made number)
+looked s me found after = (after ≡ (record me.0 { since = length me.0.calls }, me.1)) × Distinct (numbers me.0.gathered)
+    × ((number : ℕ) → Contains (numbers me.0.gathered) number → Contains me.0.made number)

@@ -58,8 +58,10 @@ pub record Seated (history : List Entry) (views : List View) (core : View) : Typ
   pub first : get_elem? views 0 ≡ some core
   pub stage : core.stage ≡ First
   pub own : part history 255 ≡ core.calls
-  pub lines : (seat number : ℕ) (v : View) → get_elem? views seat ≡ some v → number_of v ≡ Some number → InUse history core v number
-  pub apart : (i j number : ℕ) (v w : View) → get_elem? views i ≡ some v → get_elem? views j ≡ some w → number_of v ≡ Some number → number_of w ≡ Some number → i ≡ j
+  pub lines : (seat number : ℕ) (v : View) → get_elem? views seat ≡ some v → number_of v ≡ Some number
+      → InUse history core v number
+  pub apart : (i j number : ℕ) (v w : View) → get_elem? views i ≡ some v → get_elem? views j ≡ some w
+      → number_of v ≡ Some number → number_of w ≡ Some number → i ≡ j
   pub parts : (p : Part) → Contains core.gathered p → Gathered history core p
   pub once : Distinct (numbers core.gathered)
   pub unmade : (number : ℕ) → number ≢ 255 → ¬ Contains core.made number → part history number ≡ []
