@@ -2,8 +2,8 @@ use Rattle.std.proofs.Common.{◌≡◌, ◌+◌, arith, refl, sym, ◌∙◌}
 use Rattle.rt_lex.specs.FrontView.{front_view}
 use Rattle.rt_lex.specs.Tokens.{tokens_at}
 use Rattle.rt_lex.proofs.Lexing.{Takes, takes_first}
-use Rattle.rt_lex.proofs.tokens.next_token.Goals as goal
-use Rattle.rt_lex.proofs.tokens.next_token.Goals.{After-front_of-front}
+use Rattle.rt_lex.proofs.tokens.tokens_from.Goals as goal
+use Rattle.rt_lex.proofs.tokens.tokens_from.Goals.{After-front_of-front}
 
 -- what the front takes from the rest
 taken : (c : After-front_of-front) → Takes (front_view c.front_of-front.result) c.loop-rest.at c.loop-rest.rest.now
@@ -11,14 +11,6 @@ taken c = takes_first (front_view c.front_of-front.result) c.loop-rest.at c.loop
 
 pub split_at-requires : goal.split_at-requires
 split_at-requires c = (taken c).within
-
-pub returns-in-Some : goal.returns-in-Some
-returns-in-Some c =
-    let t = taken (goal.at.returns-in-Some c).After-front_of-front in
-    record {
-      found = sym c.loop-rest.invariant.same ∙ t.found ∙ rw (c.in-Some.is, c.split_at.ensures.front_len, c.split_at.ensures.front, c.split_at.ensures.back) refl;
-      place = omega (arith, c.loop-rest.invariant.end, c.split_at.ensures.front_len, c.split_at.ensures.back_len, t.within);
-    }
 
 pub loop-rest-smaller : goal.loop-rest-smaller
 loop-rest-smaller c =
@@ -33,3 +25,8 @@ loop-rest-preserved c =
       same = behind ∙ c.loop-rest.invariant.same;
       end = omega (arith, c.loop-rest.invariant.end, c.split_at.ensures.back_len, t.within);
     }
+
+pub returns-in-Some : goal.returns-in-Some
+returns-in-Some c =
+    let t = taken (goal.at.returns-in-Some c).After-front_of-front in
+    sym (sym c.loop-rest.invariant.same ∙ t.found ∙ rw (c.in-Some.is, c.split_at.ensures.front, c.split_at.ensures.back) refl)

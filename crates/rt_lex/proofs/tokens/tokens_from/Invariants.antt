@@ -1,6 +1,6 @@
 use Rattle.std.proofs.Common.{◌≡◌, ◌+◌, length}
 use Rattle.rt_lex.specs.Tokens.{tokens_at}
-use Rattle.rt_lex.proofs.tokens.next_token.Given as goal
+use Rattle.rt_lex.proofs.tokens.tokens_from.Given as goal
 
 -- the rest has the same tokens, and ends where the text ends
 abbrev pub invariant-loop-rest : goal.invariant-loop-rest
