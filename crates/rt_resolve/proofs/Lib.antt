@@ -8,3 +8,5 @@ pub mod Appended
 pub mod KeptBody
 pub mod KeptNumbers
 pub mod Kept
+pub mod Bound
+pub mod Arguments

@@ -5,3 +5,4 @@ pub mod Misnamed
 pub mod NameRules
 pub mod NamesView
 pub mod Followed
+pub mod Inside

@@ -40,10 +40,13 @@ abbrev pub argument_faults : Names → ℕ → List Ident → List Violation
 argument_faults names n [] = []
 argument_faults names n (x ∷ xs) = if_taken names x ++ argument_faults (with_variable names x n) (n + 1) xs
 
+-- those of the arguments and the statements of a body
+abbrev pub code_faults : App → List Ident → Body → List Violation
+code_faults app args b =
+    argument_faults (body_names app b) 0 args ++ block_faults (inside (with_arguments (body_names app b) 0 args)) (length args) b.block
+
 abbrev pub body_faults : App → List Ident → Body → List Violation
-body_faults app args b =
-    listing_faults app b
-    ++ (argument_faults (body_names app b) 0 args ++ block_faults (inside (with_arguments (body_names app b) 0 args)) (length args) b.block)
+body_faults app args b = listing_faults app b ++ code_faults app args b
 
 abbrev pub thread_faults : App → Option Body → List Violation
 thread_faults app None = []

@@ -5,9 +5,9 @@ ghost use Rattle.rt_app.specs.declared.expr.Atom.TheVariants as atom;
 ghost use Rattle.rt_ast.specs.View.{app_of};
 ghost use Rattle.rt_resolve.specs.Scope as named;
 ghost use Rattle.rt_resolve.specs.Misnamed as wrong;
-ghost use Rattle.rt_resolve.specs.NamesView.{variables_of, names_of, IsCounted};
+ghost use Rattle.rt_resolve.specs.NamesView.{names_of, IsCounted};
 
-use crate::scope::{Names, Variables, is_named};
+use crate::scope::{Names, is_named};
 use rt_app::{Atom, UNKNOWN};
 use rt_ast::{AppTree, Ident, IrqTree, LocalTree, SharedTree, TaskTree};
 use rt_ids::ResId;
@@ -94,22 +94,6 @@ pub(crate) fn or_unknown(found: Option<u8>) -> u8
     found.unwrap_or(UNKNOWN)
 }
 
-/// The number of the variable of this name that is declared last.
-fn variable_named(variables: &Variables, name: &[u8]) -> Option<u16>
-    ensures { result ≡ option_map (λ v. v.number) (find (named.is_variable name.now) (variables_of variables.now)) }
-{
-    match variables {
-        Variables::Nothing => None,
-        Variables::Declared(x, number, before) => {
-            if is_named(x, name) {
-                Some(*number)
-            } else {
-                variable_named(before, name)
-            }
-        }
-    }
-}
-
 /// Whether this name is among these.
 fn is_listed(listed: &[Ident], name: &[u8]) -> bool
     ensures { result ≡ list_any (named.is_named name.now) listed.now }
@@ -148,7 +132,7 @@ pub(crate) fn meaning(names: &Names, name: &[u8]) -> Option<Atom>
     requires { IsCounted (names_of names.now).app }
     ensures { result ≡ named.meaning (names_of names.now) name.now }
 {
-    match variable_named(&names.variables, name) {
+    match names.variables.number_of(name) {
         Some(number) => Some(Atom::Var(number)),
         None => resource_named(names, name),
     }
@@ -161,16 +145,6 @@ pub(crate) fn or_unknown_atom(found: Option<Atom>) -> Atom
     found.unwrap_or(Atom::Shared(ResId(UNKNOWN)))
 }
 
-/// Whether a variable has this name.
-fn is_variable(variables: &Variables, name: &[u8]) -> bool
-    ensures { result ≡ list_any (named.is_variable name.now) (variables_of variables.now) }
-{
-    match variables {
-        Variables::Nothing => false,
-        Variables::Declared(x, _number, before) => is_named(x, name) || is_variable(before, name),
-    }
-}
-
 /// Whether a variable cannot have this name.
 pub(crate) fn is_taken(names: &Names, name: &[u8]) -> bool
     requires { IsCounted (names_of names.now).app }
@@ -178,5 +152,5 @@ pub(crate) fn is_taken(names: &Names, name: &[u8]) -> bool
 {
     shared_named(names.app, name).is_some()
         || local_named(names.app, name).is_some()
-        || is_variable(&names.variables, name)
+        || names.variables.has(name)
 }
