@@ -3,7 +3,6 @@ use Rattle.std.proofs.Common.{◌≡◌, ℕ, ◌+◌, ◌-◌, ◌<◌, ◌≤�
 use Rattle.std.specs.List.{list_any}
 use Rattle.std.proofs.lemmas.List.{drop_all, length-drop}
 use Rattle.rt_lemmas.proofs.Lists.{drop_as_cons}
-use Rattle.rt_ast.specs.declared.ident.Ident.{Ident}
 use Rattle.rt_ast.specs.Tree as written
 use Rattle.rt_ast.specs.Tree.{Bind, Assign, Branch, Repeat, Locked, Emit, Pend, Spawns}
 use Rattle.rt_ast.specs.View as source
@@ -13,11 +12,15 @@ use Rattle.rt_app.specs.declared.violation.Violation.{Violation}
 use Rattle.rt_app.specs.Tree.{Block, Empty, Then}
 use Rattle.rt_app.specs.View.{statement_of, block_of}
 use Rattle.rt_app.specs.declared.stmt.Stmt.{Stmt}
-use Rattle.rt_resolve.specs.Scope.{Names, Scope, Variable, is_variable, declared, inside, with_variable}
+use Rattle.rt_resolve.specs.Scope.{Names, Scope, Variable, is_variable, declared}
 use Rattle.rt_resolve.specs.Resolving.{statement, block, behind, binders_in, binders}
 use Rattle.rt_resolve.specs.Misnamed.{statement_faults, block_faults}
-use Rattle.rt_resolve.specs.Followed.{followed}
 use Rattle.rt_resolve.specs.Inside.Bindings.{left}
+
+-- the statements of a block and behind them those of another
+abbrev pub followed : Block → Block → Block
+followed Empty b = b
+followed (Then s rest) b = Then s (followed rest b)
 
 pub nothing_follows : (b : Block) → followed b Empty ≡ b
 nothing_follows Empty = refl

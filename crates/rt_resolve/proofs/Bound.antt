@@ -1,10 +1,10 @@
 -- What names mean among the variables in scope, by the table of their meanings.
-use Rattle.std.proofs.Common.{◌≡◌, ℕ, ◌+◌, ◌-◌, ◌<◌, ◌≤◌, nat_le, ◌||◌, Bool, true, false, cond, ◌++◌, List, [], ◌∷◌, length, map, reverse, take, drop, find, Option, Some, None, IsSome, is_some, option_map, refl, ap, sym, ◌∙◌, arith, zero, suc, ◌⊎◌, inl, inr, if◌then◌else◌, subst, Bor}
+use Rattle.std.proofs.Common.{◌≡◌, ℕ, ◌-◌, ◌<◌, ◌≤◌, nat_le, ◌||◌, Bool, true, false, cond, ◌++◌, List, [], ◌∷◌, length, map, reverse, take, find, Option, Some, None, is_some, option_map, refl, ap, sym, ◌∙◌, arith, suc, ◌⊎◌, inl, inr, if◌then◌else◌}
 use Rattle.std.specs.List.{list_any}
 use Rattle.std.specs.Str.{bytes_eq}
 use Rattle.std.proofs.lemmas.Slice.Eq.{bytes_eq-Decides}
 use Rattle.std.proofs.lemmas.Bool.{cases_lt, le-leb, lt-leb}
-use Rattle.std.proofs.lemmas.List.{reverse-append, length-reverse, length-map, length-append}
+use Rattle.std.proofs.lemmas.List.{reverse-append, length-reverse, length-append}
 use Rattle.rt_lemmas.proofs.Texts.{same_text}
 use Rattle.rt_resolve.specs.declared.variables.Meaning.{Meaning}
 use Rattle.rt_resolve.specs.declared.variables.Binding.{Binding}

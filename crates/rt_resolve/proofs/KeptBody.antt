@@ -1,8 +1,7 @@
 -- A resolved block has the statements and the nesting of the written one, and expressions as deep.
-use Rattle.std.proofs.Common.{◌≡◌, ℕ, ◌+◌, ◌≤◌, max, List, [], ◌∷◌, map, refl, arith}
+use Rattle.std.proofs.Common.{◌≡◌, ℕ, ◌+◌, ◌≤◌, List, [], ◌∷◌, map, refl, arith}
 use Rattle.std.specs.List.{AllByRecursion}
 use Rattle.rt_ids.specs.declared.limits.TheConstants.{DEPTH}
-use Rattle.rt_ast.specs.Tree as written
 use Rattle.rt_ast.specs.Tree.{Statement, Bind, Assign, Branch, Repeat, Locked, Emit, Pend, Spawns, Block, Empty, Then, Expression, Num, Read, Oper, Spawn, Soon, After, Value, Calc, Now, Call}
 use Rattle.rt_ast.specs.PrintableBody as source
 use Rattle.rt_ast.specs.PrintableBody.{depth_of, IsPrintableExpression, IsPrintableSpawn, IsPrintableValue, IsPrintableStatement, ArePrintable}

@@ -1,4 +1,3 @@
-pub mod Positions
 pub mod Blocks
 pub mod Written
 pub mod Marked

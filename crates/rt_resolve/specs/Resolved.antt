@@ -30,7 +30,12 @@ abbrev pub stored : ℕ → ℕ
 stored n = min n 255
 
 abbrev pub mono : App → MonoTree → Mono
-mono app m = record { irq = or_unknown (irq_named app m.binds.name); priority = stored m.priority.value; at = m.binds.at; priority_at = m.priority.at }
+mono app m = record {
+  irq = or_unknown (irq_named app m.binds.name);
+  priority = stored m.priority.value;
+  at = m.binds.at;
+  priority_at = m.priority.at;
+}
 
 abbrev pub shared : SharedTree → Shared
 shared r = record { name = r.name.name; first = r.first; lock_free = r.lock_free }

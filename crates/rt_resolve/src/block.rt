@@ -6,7 +6,7 @@ ghost use Rattle.rt_app.specs.Tree as tree;
 ghost use Rattle.rt_resolve.specs.Scope as named;
 ghost use Rattle.rt_resolve.specs.Resolving as meant;
 ghost use Rattle.rt_resolve.specs.Misnamed as wrong;
-ghost use Rattle.rt_resolve.specs.NamesView.{names_of, IsCounted};
+ghost use Rattle.rt_resolve.specs.Inside.NamesView.{names_of, IsCounted};
 
 use crate::expression::{resolve_atom, resolve_expression, resolve_spawn, resolve_value};
 use crate::faults::{known, push_when};
@@ -45,8 +45,11 @@ fn resolve_bind<'a>(
 ) -> Result<rt_app::Stmt, NoMemory>
     requires counted { IsCounted (names_of names.old).app }
     requires room { next.old + 1 ≤ 65535 }
-    ensures tree { IfOk result (λ s. built.statement_of s ≡ tree.Bind next.old (meant.value (names_of names.old) (written.value_of value.now))) }
-    ensures faults { OnOk result (faults.new.items ≡ faults.old.items ++ (wrong.value_faults (names_of names.old) (written.value_of value.now) ++ wrong.if_taken (names_of names.old) x.now)) }
+    ensures tree { IfOk result (λ s. built.statement_of s ≡
+        tree.Bind next.old (meant.value (names_of names.old) (written.value_of value.now))) }
+    ensures faults { OnOk result (faults.new.items ≡
+        faults.old.items ++ (wrong.value_faults (names_of names.old) (written.value_of value.now)
+        ++ wrong.if_taken (names_of names.old) x.now)) }
     ensures names { OnOk result (names_of names.new ≡ named.with_variable (names_of names.old) x.now next.old) }
     ensures next { OnOk result (next.new ≡ next.old + 1) }
 {
@@ -67,8 +70,12 @@ fn resolve_assign(
     expr: &Expr,
 ) -> Result<rt_app::Stmt, NoMemory>
     requires { IsCounted (names_of names.now).app }
-    ensures tree { IfOk result (λ s. built.statement_of s ≡ tree.Assign (named.atom_named (names_of names.now) x.now.name) (meant.expression (names_of names.now) (written.expression_of expr.now)) x.now.at) }
-    ensures faults { OnOk result (faults.new.items ≡ faults.old.items ++ (wrong.if_unknown (named.meaning (names_of names.now) x.now.name) x.now.at ++ wrong.expression_faults (names_of names.now) (written.expression_of expr.now))) }
+    ensures tree { IfOk result (λ s. built.statement_of s ≡
+        tree.Assign (named.atom_named (names_of names.now) x.now.name)
+        (meant.expression (names_of names.now) (written.expression_of expr.now)) x.now.at) }
+    ensures faults { OnOk result (faults.new.items ≡
+        faults.old.items ++ (wrong.if_unknown (named.meaning (names_of names.now) x.now.name) x.now.at
+        ++ wrong.expression_faults (names_of names.now) (written.expression_of expr.now))) }
 {
     let atom = resolve_atom(faults, names, x)?;
     let expr = resolve_expression(alloc, faults, names, expr)?;
@@ -82,8 +89,10 @@ fn resolve_pend(
     x: &Ident,
 ) -> Result<rt_app::Stmt, NoMemory>
     requires { IsCounted (names_of names.now).app }
-    ensures tree { IfOk result (λ s. built.statement_of s ≡ tree.Pend (named.or_unknown (named.irq_named (names_of names.now).app x.now.name))) }
-    ensures faults { OnOk result (faults.new.items ≡ faults.old.items ++ wrong.if_unknown (named.irq_named (names_of names.now).app x.now.name) x.now.at) }
+    ensures tree { IfOk result (λ s. built.statement_of s ≡
+        tree.Pend (named.or_unknown (named.irq_named (names_of names.now).app x.now.name))) }
+    ensures faults { OnOk result (faults.new.items ≡
+        faults.old.items ++ wrong.if_unknown (named.irq_named (names_of names.now).app x.now.name) x.now.at) }
 {
     let irq = known(faults, irq_named(names.app, x.name.bytes()), x.at)?;
     Ok(rt_app::Stmt::Pend(irq))
@@ -100,9 +109,12 @@ fn resolve_statement<'a>(
 ) -> Result<rt_app::Stmt, NoMemory>
     requires counted { IsCounted (names_of names.old).app }
     requires room { next.old + meant.binders_in (written.statement_of stmt.now) ≤ 65535 }
-    ensures tree { IfOk result (λ s. built.statement_of s ≡ meant.statement (names_of names.old) next.old (written.statement_of stmt.now)) }
-    ensures faults { OnOk result (faults.new.items ≡ faults.old.items ++ wrong.statement_faults (names_of names.old) next.old (written.statement_of stmt.now)) }
-    ensures names { OnOk result (names_of names.new ≡ meant.behind (names_of names.old) next.old (written.statement_of stmt.now)) }
+    ensures tree { IfOk result (λ s. built.statement_of s ≡
+        meant.statement (names_of names.old) next.old (written.statement_of stmt.now)) }
+    ensures faults { OnOk result (faults.new.items ≡
+        faults.old.items ++ wrong.statement_faults (names_of names.old) next.old (written.statement_of stmt.now)) }
+    ensures names { OnOk result (names_of names.new ≡
+        meant.behind (names_of names.old) next.old (written.statement_of stmt.now)) }
     ensures next { OnOk result (next.new ≡ next.old + meant.binders_in (written.statement_of stmt.now)) }
 {
     match stmt {
@@ -139,11 +151,18 @@ fn resolve_branch<'a>(
     second: &'a [Stmt],
 ) -> Result<rt_app::Stmt, NoMemory>
     requires counted { IsCounted (names_of names.old).app }
-    requires room { next.old + (meant.binders (written.block_of first.now) + meant.binders (written.block_of second.now)) ≤ 65535 }
-    ensures tree { IfOk result (λ s. built.statement_of s ≡ meant.statement (names_of names.old) next.old (source.Branch (written.expression_of condition.now) (written.block_of first.now) (written.block_of second.now))) }
-    ensures faults { OnOk result (faults.new.items ≡ faults.old.items ++ wrong.statement_faults (names_of names.old) next.old (source.Branch (written.expression_of condition.now) (written.block_of first.now) (written.block_of second.now))) }
+    requires room { next.old +
+        (meant.binders (written.block_of first.now) + meant.binders (written.block_of second.now)) ≤ 65535 }
+    ensures tree { IfOk result (λ s. built.statement_of s ≡
+        meant.statement (names_of names.old) next.old (source.Branch (written.expression_of condition.now)
+        (written.block_of first.now) (written.block_of second.now))) }
+    ensures faults { OnOk result (faults.new.items ≡
+        faults.old.items
+        ++ wrong.statement_faults (names_of names.old) next.old (source.Branch (written.expression_of condition.now)
+        (written.block_of first.now) (written.block_of second.now))) }
     ensures names { OnOk result (names_of names.new ≡ names_of names.old) }
-    ensures next { OnOk result (next.new ≡ next.old + (meant.binders (written.block_of first.now) + meant.binders (written.block_of second.now))) }
+    ensures next { OnOk result (next.new ≡
+        next.old + (meant.binders (written.block_of first.now) + meant.binders (written.block_of second.now))) }
 {
     let condition = resolve_expression(alloc, faults, names, condition)?;
     let first = resolve_block(alloc, faults, names, next, first)?;
@@ -165,8 +184,11 @@ fn resolve_repeat<'a>(
 ) -> Result<rt_app::Stmt, NoMemory>
     requires counted { IsCounted (names_of names.old).app }
     requires room { next.old + (1 + meant.binders (written.block_of turn.now)) ≤ 65535 }
-    ensures tree { IfOk result (λ s. built.statement_of s ≡ meant.statement (names_of names.old) next.old (source.Repeat x.now first last (written.block_of turn.now))) }
-    ensures faults { OnOk result (faults.new.items ≡ faults.old.items ++ wrong.statement_faults (names_of names.old) next.old (source.Repeat x.now first last (written.block_of turn.now))) }
+    ensures tree { IfOk result (λ s. built.statement_of s ≡
+        meant.statement (names_of names.old) next.old (source.Repeat x.now first last (written.block_of turn.now))) }
+    ensures faults { OnOk result (faults.new.items ≡
+        faults.old.items ++ wrong.statement_faults (names_of names.old) next.old
+        (source.Repeat x.now first last (written.block_of turn.now))) }
     ensures names { OnOk result (names_of names.new ≡ names_of names.old) }
     ensures next { OnOk result (next.new ≡ next.old + (1 + meant.binders (written.block_of turn.now))) }
 {
@@ -192,8 +214,10 @@ fn resolve_lock<'a>(
 ) -> Result<rt_app::Stmt, NoMemory>
     requires counted { IsCounted (names_of names.old).app }
     requires room { next.old + meant.binders (written.block_of inner.now) ≤ 65535 }
-    ensures tree { IfOk result (λ s. built.statement_of s ≡ meant.statement (names_of names.old) next.old (source.Locked x.now (written.block_of inner.now))) }
-    ensures faults { OnOk result (faults.new.items ≡ faults.old.items ++ wrong.statement_faults (names_of names.old) next.old (source.Locked x.now (written.block_of inner.now))) }
+    ensures tree { IfOk result (λ s. built.statement_of s ≡
+        meant.statement (names_of names.old) next.old (source.Locked x.now (written.block_of inner.now))) }
+    ensures faults { OnOk result (faults.new.items ≡ faults.old.items
+        ++ wrong.statement_faults (names_of names.old) next.old (source.Locked x.now (written.block_of inner.now))) }
     ensures names { OnOk result (names_of names.new ≡ names_of names.old) }
     ensures next { OnOk result (next.new ≡ next.old + meant.binders (written.block_of inner.now)) }
 {
@@ -213,8 +237,10 @@ pub(crate) fn resolve_block<'a>(
 ) -> Result<Vec<rt_app::Stmt>, NoMemory>
     requires counted { IsCounted (names_of names.old).app }
     requires room { next.old + meant.binders (written.block_of stmts.now) ≤ 65535 }
-    ensures tree { IfOk result (λ b. built.block_of b.items ≡ meant.block (named.inside (names_of names.old)) next.old (written.block_of stmts.now)) }
-    ensures faults { OnOk result (faults.new.items ≡ faults.old.items ++ wrong.block_faults (named.inside (names_of names.old)) next.old (written.block_of stmts.now)) }
+    ensures tree { IfOk result (λ b. built.block_of b.items ≡
+        meant.block (named.inside (names_of names.old)) next.old (written.block_of stmts.now)) }
+    ensures faults { OnOk result (faults.new.items ≡ faults.old.items
+        ++ wrong.block_faults (named.inside (names_of names.old)) next.old (written.block_of stmts.now)) }
     ensures names { OnOk result (names_of names.new ≡ names_of names.old) }
     ensures next { OnOk result (next.new ≡ next.old + meant.binders (written.block_of stmts.now)) }
 {

@@ -10,7 +10,7 @@ ghost use Rattle.rt_resolve.specs.Resolving as resolving;
 ghost use Rattle.rt_resolve.specs.Resolved as meant;
 ghost use Rattle.rt_resolve.specs.Misnamed as wrong;
 ghost use Rattle.rt_resolve.specs.NameRules as rules_on;
-ghost use Rattle.rt_resolve.specs.NamesView.{names_of, IsCounted, IsShort};
+ghost use Rattle.rt_resolve.specs.Inside.NamesView.{names_of, IsCounted, IsShort};
 
 use crate::block::{push_if_taken, resolve_block};
 use crate::faults::known;
@@ -32,7 +32,8 @@ fn declare_arguments<'a>(
     requires counted { IsCounted (names_of names.old).app }
     requires few { length args.now ≤ ARGUMENTS }
     ensures names { OnOk result (names_of names.new ≡ meant.with_arguments (names_of names.old) 0 args.now) }
-    ensures faults { OnOk result (faults.new.items ≡ faults.old.items ++ rules_on.argument_faults (names_of names.old) 0 args.now) }
+    ensures faults { OnOk result (faults.new.items ≡
+        faults.old.items ++ rules_on.argument_faults (names_of names.old) 0 args.now) }
 {
     for (i, x) in args.iter().enumerate() {
         push_if_taken(faults, names, x)?;
@@ -53,8 +54,10 @@ fn resolve_statements<'a>(
     requires counted { IsCounted (written.app_of app.now) }
     requires few { length args.now ≤ ARGUMENTS }
     requires short { IsShort (written.body_of body.now) }
-    ensures tree { IfOk result (λ b. built.block_of b.items ≡ meant.body_block (written.app_of app.now) args.now (written.body_of body.now)) }
-    ensures faults { OnOk result (faults.new.items ≡ faults.old.items ++ rules_on.code_faults (written.app_of app.now) args.now (written.body_of body.now)) }
+    ensures tree { IfOk result (λ b. built.block_of b.items ≡
+        meant.body_block (written.app_of app.now) args.now (written.body_of body.now)) }
+    ensures faults { OnOk result (faults.new.items ≡
+        faults.old.items ++ rules_on.code_faults (written.app_of app.now) args.now (written.body_of body.now)) }
 {
     let mut names = Names {
         app,
@@ -77,8 +80,10 @@ fn resolve_body<'a>(
     requires counted { IsCounted (written.app_of app.now) }
     requires few { length args.now ≤ ARGUMENTS }
     requires short { IsShort (written.body_of body.now) }
-    ensures tree { IfOk result (λ b. built.body_of b ≡ meant.body (written.app_of app.now) args.now (written.body_of body.now)) }
-    ensures faults { OnOk result (faults.new.items ≡ faults.old.items ++ rules_on.body_faults (written.app_of app.now) args.now (written.body_of body.now)) }
+    ensures tree { IfOk result (λ b. built.body_of b ≡
+        meant.body (written.app_of app.now) args.now (written.body_of body.now)) }
+    ensures faults { OnOk result (faults.new.items ≡
+        faults.old.items ++ rules_on.body_faults (written.app_of app.now) args.now (written.body_of body.now)) }
 {
     let shared = resolve_shared(alloc, faults, app, &body.shared)?;
     let local = resolve_local(alloc, faults, app, &body.local)?;
@@ -102,8 +107,10 @@ pub(crate) fn resolve_thread(
 ) -> Result<Option<Body>, NoMemory>
     requires counted { IsCounted (written.app_of app.now) }
     requires short { IfThere IsShort (written.option_map written.body_of body.now) }
-    ensures tree { IfOk result (λ o. option_map built.body_of o ≡ option_map (meant.body (written.app_of app.now) []) (written.option_map written.body_of body.now)) }
-    ensures faults { OnOk result (faults.new.items ≡ faults.old.items ++ rules_on.thread_faults (written.app_of app.now) (written.option_map written.body_of body.now)) }
+    ensures tree { IfOk result (λ o. option_map built.body_of o ≡
+        option_map (meant.body (written.app_of app.now) []) (written.option_map written.body_of body.now)) }
+    ensures faults { OnOk result (faults.new.items ≡ faults.old.items
+        ++ rules_on.thread_faults (written.app_of app.now) (written.option_map written.body_of body.now)) }
 {
     match body {
         None => Ok(None),
@@ -121,8 +128,10 @@ fn resolve_binds(
     binds: &Option<Ident>,
 ) -> Result<Option<u8>, NoMemory>
     requires { IsCounted (written.app_of app.now) }
-    ensures irq { IfOk result (λ o. o ≡ option_map (λ x. named.or_unknown (named.irq_named (written.app_of app.now) x.name)) binds.now) }
-    ensures faults { OnOk result (faults.new.items ≡ faults.old.items ++ rules_on.binds_fault (written.app_of app.now) binds.now) }
+    ensures irq { IfOk result (λ o. o ≡
+        option_map (λ x. named.or_unknown (named.irq_named (written.app_of app.now) x.name)) binds.now) }
+    ensures faults { OnOk result (faults.new.items ≡
+        faults.old.items ++ rules_on.binds_fault (written.app_of app.now) binds.now) }
 {
     match binds {
         None => Ok(None),
@@ -191,7 +200,8 @@ pub(crate) fn resolve_task(
     requires counted { IsCounted (written.app_of app.now) }
     requires printable { IsPrintableTask (written.task_of task.now) }
     ensures tree { IfOk result (λ t. built.task_of t ≡ meant.task (written.app_of app.now) (written.task_of task.now)) }
-    ensures faults { OnOk result (faults.new.items ≡ faults.old.items ++ rules_on.task_faults (written.app_of app.now) (written.task_of task.now)) }
+    ensures faults { OnOk result (faults.new.items ≡
+        faults.old.items ++ rules_on.task_faults (written.app_of app.now) (written.task_of task.now)) }
 {
     let binds = resolve_binds(faults, app, &task.binds)?;
     let body = resolve_body(alloc, faults, app, &task.args, &task.body)?;

@@ -1,11 +1,12 @@
-ghost use Rattle.std.specs.Prelude.{◌≡◌, ◌≤◌, ◌<◌, IfSome, length, position, find, unwrap_or, None, option_map, if◌then◌else◌};
+ghost use Rattle.std.specs.Prelude.{◌≡◌, ◌≤◌, ◌<◌, IfSome, length, position, unwrap_or, None, option_map};
+ghost use Rattle.std.specs.Prelude.{if◌then◌else◌};
 ghost use Rattle.std.specs.Option.{option_or};
 ghost use Rattle.std.specs.List.{list_any};
 ghost use Rattle.rt_app.specs.declared.expr.Atom.TheVariants as atom;
 ghost use Rattle.rt_ast.specs.View.{app_of};
 ghost use Rattle.rt_resolve.specs.Scope as named;
 ghost use Rattle.rt_resolve.specs.Misnamed as wrong;
-ghost use Rattle.rt_resolve.specs.NamesView.{names_of, IsCounted};
+ghost use Rattle.rt_resolve.specs.Inside.NamesView.{names_of, IsCounted};
 
 use crate::scope::{Names, is_named};
 use rt_app::{Atom, UNKNOWN};
@@ -104,7 +105,9 @@ fn is_listed(listed: &[Ident], name: &[u8]) -> bool
 /// The place of a local resource of this name, where the body lists it.
 fn owned_named(names: &Names, name: &[u8]) -> Option<u8>
     requires { IsCounted (names_of names.now).app }
-    ensures { result ≡ (if list_any (named.is_named name.now) names.now.local.now then named.local_named (names_of names.now).app name.now else None) }
+    ensures { result ≡
+        (if list_any (named.is_named name.now) names.now.local.now
+        then named.local_named (names_of names.now).app name.now else None) }
 {
     if is_listed(names.local, name) {
         local_named(names.app, name)
@@ -116,7 +119,8 @@ fn owned_named(names: &Names, name: &[u8]) -> Option<u8>
 /// The resource that this name stands for where no variable has it: a shared one before a local one.
 fn resource_named(names: &Names, name: &[u8]) -> Option<Atom>
     requires { IsCounted (names_of names.now).app }
-    ensures { let n = names_of names.now in result ≡ option_or (option_map atom.Shared (named.shared_named n.app name.now)) (named.owned_named n name.now) }
+    ensures { let n = names_of names.now in result ≡
+        option_or (option_map atom.Shared (named.shared_named n.app name.now)) (named.owned_named n name.now) }
 {
     match shared_named(names.app, name) {
         Some(shared) => Some(Atom::Shared(ResId(shared))),

@@ -103,7 +103,7 @@ impl<'a> Variables<'a> {
 
     /// Adds a variable to the innermost block.
     fn push(&mut self, name: &'a [u8], number: u16) -> Result<(), NoMemory>
-        ensures { OnOk result (self.new ≡ record { variables = record { name = name.now; number = number } ∷ self.old.variables; here = self.old.here + 1 }) }
+        ensures { OnOk result (self.new ≡ named.one_more self.old name.now number) }
     {
         self.bindings.reserve(1)?;
         let place = self.bindings.len();

@@ -1,5 +1,6 @@
 -- The variables in scope as the code holds them: in order of declaration, and by name the one that the name means.
-use Rattle.std.specs.Prelude.{◌≡◌, ℕ, ◌-◌, ◌≤◌, List, [], ◌∷◌, length, map, reverse, drop, IsSome, Option, Some, None, if◌then◌else◌}
+use Rattle.std.specs.Prelude.{◌≡◌, ℕ, ◌-◌, ◌≤◌, List, [], ◌∷◌, length, map, reverse, drop, IsSome, Option, Some, None}
+use Rattle.std.specs.Prelude.{if◌then◌else◌}
 use Rattle.std.specs.Str.{bytes_eq}
 use Rattle.std.specs.Borrow.{Bor}
 use Rattle.std.specs.HashMap.{HashMap, get_by}
@@ -29,7 +30,8 @@ meaning_at m name = get_by (λ k. bytes_eq name k.now) m
 -- what a name means among variables, the one declared last first
 abbrev pub meaning_in : List ℕ → List Binding → Option Meaning
 meaning_in name [] = None
-meaning_in name (b ∷ bs) = if bytes_eq b.name.now name then Some (record { number = b.number; place = length bs }) else meaning_in name bs
+meaning_in name (b ∷ bs) =
+    if bytes_eq b.name.now name then Some (record { number = b.number; place = length bs }) else meaning_in name bs
 
 -- each variable keeps what its name means without it
 abbrev pub AreHiding : List Binding → Type 0
@@ -46,4 +48,5 @@ IsKnown m name = IsSome (meaning_at m name)
 
 -- a name means this in a map, and each other one means what it did
 abbrev pub IsRestored : Meanings → Meanings → List ℕ → Option Meaning → Type 0
-IsRestored old new name meaning = (q : List ℕ) → meaning_at new q ≡ (if bytes_eq name q then meaning else meaning_at old q)
+IsRestored old new name meaning =
+    (q : List ℕ) → meaning_at new q ≡ (if bytes_eq name q then meaning else meaning_at old q)

@@ -2,7 +2,7 @@
 use Rattle.std.proofs.Common.{◌≡◌, ◌+◌, ◌≤◌, ◌∙◌, drop, rules, arith, ap}
 use Rattle.rt_ast.specs.View as written
 use Rattle.rt_app.specs.View.{block_of}
-use Rattle.rt_resolve.specs.NamesView.{names_of, IsCounted}
+use Rattle.rt_resolve.specs.Inside.NamesView.{names_of, IsCounted}
 use Rattle.rt_ast.specs.PrintableBody.{statements_in}
 use Rattle.rt_resolve.specs.Resolving.{binders_in, binders}
 use Rattle.rt_resolve.specs.Scope.{Names}

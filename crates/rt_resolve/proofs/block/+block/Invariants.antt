@@ -1,14 +1,13 @@
 -- A statement weighs three times its statements, and blocks a little more, so that each call is of something lighter.
 use Rattle.std.proofs.Common.{◌≡◌, ◌+◌, ◌-◌, ◌*◌, ◌≤◌, ◌++◌, length, drop}
-use Rattle.rt_ast.specs.View as written
 use Rattle.rt_ast.specs.View.{statement_of, block_of}
 use Rattle.rt_ast.specs.PrintableBody.{statements_in, statements_of}
 use Rattle.rt_app.specs.View as built
 use Rattle.rt_resolve.specs.Scope as named
 use Rattle.rt_resolve.specs.Resolving as meant
 use Rattle.rt_resolve.specs.Misnamed as wrong
-use Rattle.rt_resolve.specs.NamesView.{names_of}
-use Rattle.rt_resolve.specs.Followed.{followed}
+use Rattle.rt_resolve.specs.Inside.NamesView.{names_of}
+use Rattle.rt_resolve.proofs.Blocks.{followed}
 use Rattle.rt_resolve.proofs.block.+block.Given as goal
 
 abbrev pub decreases-resolve_statement : goal.decreases-resolve_statement

@@ -2,7 +2,7 @@
 use Rattle.std.proofs.Common.{◌≡◌, ◌++◌, drop}
 use Rattle.rt_resolve.specs.Resolved as meant
 use Rattle.rt_resolve.specs.NameRules as rules_on
-use Rattle.rt_resolve.specs.NamesView.{names_of}
+use Rattle.rt_resolve.specs.Inside.NamesView.{names_of}
 use Rattle.rt_resolve.proofs.body.declare_arguments.Given as goal
 
 abbrev pub invariant-loop-i : goal.invariant-loop-i

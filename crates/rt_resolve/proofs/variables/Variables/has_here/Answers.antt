@@ -1,4 +1,4 @@
-use Rattle.std.proofs.Common.{◌≡◌, reverse, length, ◌∙◌, ap, sym}
+use Rattle.std.proofs.Common.{reverse, ◌∙◌, ap}
 use Rattle.std.proofs.lemmas.List.{length-reverse}
 use Rattle.rt_resolve.proofs.Bound.{is_within, is_here}
 use Rattle.rt_resolve.proofs.variables.Variables.has_here.Goals as goal

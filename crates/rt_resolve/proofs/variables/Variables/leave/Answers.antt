@@ -1,4 +1,4 @@
-use Rattle.std.proofs.Common.{◌≡◌, ◌∙◌, ap, drop, arith, rules}
+use Rattle.std.proofs.Common.{◌∙◌, ap, drop, arith}
 use Rattle.std.proofs.lemmas.List.{drop-drop}
 use Rattle.rt_resolve.specs.Scope.{Scope}
 use Rattle.rt_resolve.proofs.variables.Variables.leave.Goals as goal

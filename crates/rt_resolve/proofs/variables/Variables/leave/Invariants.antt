@@ -1,5 +1,5 @@
 -- So many variables are gone.
-use Rattle.std.proofs.Common.{◌≡◌, ◌-◌, ◌≤◌, drop}
+use Rattle.std.proofs.Common.{◌≡◌, ◌-◌, drop}
 use Rattle.rt_resolve.proofs.variables.Variables.leave.Given as goal
 
 abbrev pub invariant-loop-i : goal.invariant-loop-i

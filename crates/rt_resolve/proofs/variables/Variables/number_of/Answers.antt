@@ -1,5 +1,4 @@
-use Rattle.std.proofs.Common.{◌≡◌, reverse, ◌∙◌, ap, sym, option_map, Some, None}
-use Rattle.rt_resolve.specs.Inside.Bindings.{meaning_at}
+use Rattle.std.proofs.Common.{reverse, ◌∙◌, ap, option_map}
 use Rattle.rt_resolve.proofs.Bound.{number_is}
 use Rattle.rt_resolve.proofs.variables.Variables.number_of.Goals as goal
 

@@ -1,4 +1,4 @@
-use Rattle.std.proofs.Common.{◌≡◌, ap, length, arith, rules}
+use Rattle.std.proofs.Common.{rules}
 use Rattle.rt_resolve.proofs.Bound.{last_known, popped_indexed}
 use Rattle.rt_resolve.proofs.variables.Variables.pop.Goals as goal
 
