@@ -1,21 +1,16 @@
 -- The names that the code looks up, as names of the definitions.
-use Rattle.std.specs.Prelude.{ℕ, ◌≤◌, List, [], ◌∷◌, length}
+use Rattle.std.specs.Prelude.{◌≤◌, length}
 use Rattle.rt_ids.specs.declared.limits.TheConstants.{IRQS, TASKS, SHARED, LOCALS, STATEMENTS}
 use Rattle.rt_ast.specs.Tree.{Body, App}
 use Rattle.rt_ast.specs.PrintableBody.{statements_of}
 use Rattle.rt_ast.specs.View.{app_of}
-use Rattle.rt_resolve.specs.declared.scope.Variables.{Variables, Nothing, Declared'}
 use Rattle.rt_resolve.specs.declared.scope.Names as code
 use Rattle.rt_app.specs.Declarations.{Used}
 use Rattle.rt_resolve.specs.declared.listing.Listing.{Listing}
-use Rattle.rt_resolve.specs.Scope.{Variable, Names}
-
-abbrev pub variables_of : Variables → List Variable
-variables_of Nothing = []
-variables_of (Declared' x n p before) = record { name = x.now.name; number = n } ∷ variables_of before
+use Rattle.rt_resolve.specs.Scope.{Names}
 
 abbrev pub names_of : code.Names → Names
-names_of n = record { app = app_of n.app.now; local = n.local.now; scope = record { variables = variables_of n.variables; here = n.here } }
+names_of n = record { app = app_of n.app.now; local = n.local.now; scope = n.variables }
 
 abbrev pub use_of : Listing → Used
 use_of l = record { number = l.number; at = l.at }
