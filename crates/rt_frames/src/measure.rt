@@ -3,7 +3,7 @@ ghost use Rattle.rt_app.specs.View.{expression_of, spawn_of, value_of, statement
 ghost use Rattle.rt_app.specs.Level.{is_armed};
 ghost use Rattle.rt_app.specs.Cost as cost;
 ghost use Rattle.rt_app.specs.BodyCost as whole;
-ghost use Rattle.rt_frames.specs.Flags.{HasFlags};
+ghost use Rattle.rt_frames.specs.Inside.Flags.{HasFlags};
 
 use crate::armed::{MOST_ARMED, armed_flags, armed_messages};
 use crate::flags::Flags;
@@ -195,7 +195,7 @@ impl Measure {
 
     /// Of a body, with its end.
     pub fn body(&self, body: &Body) -> u32
-        ensures { result ≡ whole.body_cost self.now (body_of 0 body.now) }
+        ensures { result ≡ whole.body_cost self.now (body_of body.now) }
     {
         capped(self.block(&body.block).saturating_add(1))
     }
