@@ -19,6 +19,9 @@ pub record Tables : Type 0 where
   pub ready : List ℕ
   pub timer : ℕ
 
+abbrev pub tables : List ℕ → List ℕ → List ℕ → ℕ → Tables
+tables shared free ready timer = record { shared = shared; free = free; ready = ready; timer = timer }
+
 abbrev pub untouched : App → Tables
 untouched app = record {
   shared = replicate (length app.shared) 0;
