@@ -15,7 +15,7 @@ use Rattle.rt_app.specs.Bodies.{Member, task_priority}
 use Rattle.rt_app.specs.Level.{is_software, is_of_level, is_armed}
 use Rattle.rt_app.specs.Stack.{has_handler, is_timed_at}
 use Rattle.rt_app.specs.Ceiling.{Ceilings, ceilings, ceiling}
-use Rattle.rt_app.specs.Cost.{lock_cost, block_cost}
+use Rattle.rt_app.specs.Cost.{Measure, lock_cost, block_cost}
 use Rattle.rt_app.specs.BodyCost.{cost_measure, dispatcher_section_cost, timer_section_cost}
 use Rattle.rt_app.specs.Sound.{IsSoundSpawn, IsSoundValue, IsSoundStatement, IsSoundBlock}
 use Rattle.rt_app.specs.Acceptance.{IsSound}
@@ -95,7 +95,7 @@ module _ (app : App) (few : (q : ℕ) → list_any (is_of_level q) app.tasks ≡
 
   -- a body, at a priority
   module _ (p : ℕ) (m : Member) (level : ℕ) where
-    spawn_most : (locked : List ℕ) (s : Spawn) → IsSoundSpawn app m locked s → most p (spawn_sections app level s) ≡ counted (nat_lt level p) (spawn_wait app (ceilings app) p s)
+    spawn_most : (locked : List ℕ) (s : Spawn) → IsSoundSpawn app m locked s → most p (spawn_sections app level s) ≡ counted (nat_lt level p) (spawn_wait app (cost_measure app) (ceilings app) p s)
     spawn_most locked (Soon n args at) h =
         two_at p level (ceiling app (section.Free n)) FREE_COST (ceiling app (section.Ready (task_priority app n))) READY_COST (free_at (ceilings app) n) (ready_at (ceilings app) (task_priority app n))
         (free_at_is app n h.0 h.1.is_there h.1.software) (level_at n (task_priority app n) h.0 h.1.is_there h.1.software (priority_at n h.0 h.1.is_there))
@@ -103,36 +103,36 @@ module _ (app : App) (few : (q : ℕ) → list_any (is_of_level q) app.tasks ≡
         two_at p level (ceiling app (section.Free n)) FREE_COST (ceiling app section.Timer) (timer_section_cost app) (free_at (ceilings app) n) (or_zero (ceilings app).timer)
         (free_at_is app n h.0 h.1.is_there h.1.software) (timer_at_is app h.4.0 h.4.1)
 
-    value_most : (locked : List ℕ) (v : Value) → IsSoundValue app m locked v → most p (value_sections app level v) ≡ counted (nat_lt level p) (value_wait app (ceilings app) p v)
+    value_most : (locked : List ℕ) (v : Value) → IsSoundValue app m locked v → most p (value_sections app level v) ≡ counted (nat_lt level p) (value_wait app (cost_measure app) (ceilings app) p v)
     value_most locked (Calc e) h = counted_none (nat_lt level p)
     value_most locked (Now at) h = counted_none (nat_lt level p)
     value_most locked (Call s) h = spawn_most locked s h
 
     mutual
       statement_most : (n : ℕ) (locked fixed : List ℕ) (s : Statement) → IsSoundStatement app m n locked fixed s
-          → most p (statement_sections app level s) ≡ counted (nat_lt level p) (statement_wait app (ceilings app) p s)
+          → most p (statement_sections app level s) ≡ counted (nat_lt level p) (statement_wait app (cost_measure app) (ceilings app) p s)
       statement_most n locked fixed (Bind x v) h = value_most locked v h.1
       statement_most n locked fixed (Assign x e at) h = counted_none (nat_lt level p)
       statement_most n locked fixed (Branch e a b) h =
-          joined p level (block_sections app level a) (block_sections app level b) (block_wait app (ceilings app) p a) (block_wait app (ceilings app) p b) (block_most _ locked fixed a h.1) (block_most _ locked fixed b h.2)
+          joined p level (block_sections app level a) (block_sections app level b) (block_wait app (cost_measure app) (ceilings app) p a) (block_wait app (cost_measure app) (ceilings app) p b) (block_most _ locked fixed a h.1) (block_most _ locked fixed b h.2)
       statement_most n locked fixed (Repeat x first last turn) h = block_most _ locked _ turn h.4
       statement_most n locked fixed (Locked r inner at) h =
           let cost = lock_cost (block_cost (cost_measure app) inner) in
           ap (λ x. max x (most p (block_sections app level inner))) (one_at p level (ceiling app (section.Res r)) cost (shared_at (ceilings app) r) (shared_at_is app r h.0.is_there))
           ∙ ap (max (counted (nat_lt level p) (if_reaches p (shared_at (ceilings app) r) cost))) (block_most _ _ fixed inner h.1)
-          ∙ both_counted (nat_lt level p) (if_reaches p (shared_at (ceilings app) r) cost) (block_wait app (ceilings app) p inner)
+          ∙ both_counted (nat_lt level p) (if_reaches p (shared_at (ceilings app) r) cost) (block_wait app (cost_measure app) (ceilings app) p inner)
       statement_most n locked fixed (Emit e) h = counted_none (nat_lt level p)
       statement_most n locked fixed (Pend i) h = counted_none (nat_lt level p)
       statement_most n locked fixed (Spawns s) h = spawn_most locked s h
 
       block_most : (n : ℕ) (locked fixed : List ℕ) (b : Block) → IsSoundBlock app m n locked fixed b
-          → most p (block_sections app level b) ≡ counted (nat_lt level p) (block_wait app (ceilings app) p b)
+          → most p (block_sections app level b) ≡ counted (nat_lt level p) (block_wait app (cost_measure app) (ceilings app) p b)
       block_most n locked fixed Empty h = counted_none (nat_lt level p)
       block_most n locked fixed (Then s rest) h =
-          joined p level (statement_sections app level s) (block_sections app level rest) (statement_wait app (ceilings app) p s) (block_wait app (ceilings app) p rest) (statement_most n locked fixed s h.0) (block_most _ locked fixed rest h.1)
+          joined p level (statement_sections app level s) (block_sections app level rest) (statement_wait app (cost_measure app) (ceilings app) p s) (block_wait app (cost_measure app) (ceilings app) p rest) (statement_most n locked fixed s h.0) (block_most _ locked fixed rest h.1)
 
   module _ (sound : IsSound app) (p : ℕ) where
-    idle_most : (o : Option Body) → app.idle ≡ o → most p (idle_sections app o) ≡ idle_wait app (ceilings app) p o
+    idle_most : (o : Option Body) → app.idle ≡ o → most p (idle_sections app o) ≡ idle_wait app (cost_measure app) (ceilings app) p o
     idle_most None e = refl
     idle_most (Some b) e =
         let m : Member = record { id = body.Idle; priority = 0; args = 0; body = b } in
@@ -146,10 +146,10 @@ module _ (app : App) (few : (q : ℕ) → list_any (is_of_level q) app.tasks ≡
         (level_at n t.priority t at soft refl) (free_at_is app n t at soft)
     dispatcher_most n t false at soft = counted_none (nat_lt t.priority p)
 
-    task_most : (n : ℕ) (t : Task) → slice_get app.tasks n ≡ Some t → most p (block_sections app t.priority t.body.block ++ dispatcher_sections app n t) ≡ task_wait app (ceilings app) p n t
+    task_most : (n : ℕ) (t : Task) → slice_get app.tasks n ≡ Some t → most p (block_sections app t.priority t.body.block ++ dispatcher_sections app n t) ≡ task_wait app (cost_measure app) (ceilings app) p n t
     task_most n t at =
         let m : Member = record { id = body.Task n; priority = t.priority; args = t.args; body = t.body } in
-        joined p t.priority (block_sections app t.priority t.body.block) (dispatcher_sections app n t) (block_wait app (ceilings app) p t.body.block) (if is_software t then dispatcher_wait app (ceilings app) p n t else 0)
+        joined p t.priority (block_sections app t.priority t.body.block) (dispatcher_sections app n t) (block_wait app (cost_measure app) (ceilings app) p t.body.block) (if is_software t then dispatcher_wait app (ceilings app) p n t else 0)
         (block_most p m t.priority t.args [] [] t.body.block
         (sound.bodies (body.Task n) m (ap (λ (o : Option Task). option_map (λ u. let y : Member = record { id = body.Task n; priority = u.priority; args = u.args; body = u.body } in y) o) at)))
         (dispatcher_most n t (is_software t) at refl)
@@ -164,12 +164,12 @@ module _ (app : App) (few : (q : ℕ) → list_any (is_of_level q) app.tasks ≡
     rest_from : (n : ℕ) (t : Task) (ts : List Task) → AreFrom n (t ∷ ts) → AreFrom (n + 1) ts
     rest_from n t ts from k = let e : (n + 1) + k ≡ n + suc k = omega arith in ap (slice_get app.tasks) e ∙ from (suc k)
 
-    tasks_most : (n : ℕ) (ts : List Task) → AreFrom n ts → most p (tasks_sections app n ts) ≡ tasks_wait app (ceilings app) p n ts
+    tasks_most : (n : ℕ) (ts : List Task) → AreFrom n ts → most p (tasks_sections app n ts) ≡ tasks_wait app (cost_measure app) (ceilings app) p n ts
     tasks_most n [] from = refl
     tasks_most n (t ∷ ts) from =
         most_append p (block_sections app t.priority t.body.block ++ dispatcher_sections app n t) (tasks_sections app (n + 1) ts)
         ∙ ap (λ x. max x (most p (tasks_sections app (n + 1) ts))) (task_most n t (first_from n t ts from))
-        ∙ ap (max (task_wait app (ceilings app) p n t)) (tasks_most (n + 1) ts (rest_from n t ts from))
+        ∙ ap (max (task_wait app (cost_measure app) (ceilings app) p n t)) (tasks_most (n + 1) ts (rest_from n t ts from))
 
     moved_most : (level n : ℕ) (t : Task) (b armed : Bool) → slice_get app.tasks n ≡ Some t → is_software t ≡ b
         → most p (if b && armed then ready_section app level t.priority READY_COST ∷ [] else [])
@@ -190,21 +190,21 @@ module _ (app : App) (few : (q : ℕ) → list_any (is_of_level q) app.tasks ≡
     all_from : AreFrom 0 app.tasks
     all_from k = let e : 0 + k ≡ k = omega arith in ap (slice_get app.tasks) e
 
-    timer_most : (o : Option Mono) → app.mono ≡ o → most p (handler_sections app o) ≡ timer_wait app (ceilings app) p o
+    timer_most : (o : Option Mono) → app.mono ≡ o → most p (handler_sections app o) ≡ timer_wait app (cost_measure app) (ceilings app) p o
     timer_most None e = refl
     timer_most (Some mono) e =
         ap (λ x. max x (most p (moved_sections app mono.priority 0 app.tasks))) (one_at p mono.priority (ceiling app section.Timer) (timer_section_cost app) (or_zero (ceilings app).timer) (timer_at_is app mono e))
         ∙ ap (max (counted (nat_lt mono.priority p) (if_reaches p (or_zero (ceilings app).timer) (timer_section_cost app)))) (moves_most mono.priority 0 app.tasks all_from)
         ∙ both_counted (nat_lt mono.priority p) (if_reaches p (or_zero (ceilings app).timer) (timer_section_cost app)) (moves_wait app (ceilings app) p 0 app.tasks)
 
-    all_most : most p (sections app) ≡ wait_within app (ceilings app) p
+    all_most : most p (sections app) ≡ wait_within app (cost_measure app) (ceilings app) p
     all_most =
         most_append p (idle_sections app app.idle) (tasks_sections app 0 app.tasks ++ handler_sections app app.mono)
         ∙ ap (λ x. max x (most p (tasks_sections app 0 app.tasks ++ handler_sections app app.mono))) (idle_most app.idle refl)
-        ∙ ap (max (idle_wait app (ceilings app) p app.idle))
+        ∙ ap (max (idle_wait app (cost_measure app) (ceilings app) p app.idle))
         (most_append p (tasks_sections app 0 app.tasks) (handler_sections app app.mono)
         ∙ ap (λ x. max x (most p (handler_sections app app.mono))) (tasks_most 0 app.tasks all_from)
-        ∙ ap (max (tasks_wait app (ceilings app) p 0 app.tasks)) (timer_most app.mono refl))
+        ∙ ap (max (tasks_wait app (cost_measure app) (ceilings app) p 0 app.tasks)) (timer_most app.mono refl))
 
 any_priority : (q : ℕ) (ts : List Task) → list_any (is_of_level q) ts ≡ true → list_any (λ t. t.priority == q) ts ≡ true
 any_priority q [] h = cc
@@ -225,7 +225,7 @@ few_levels app flags has q h =
     below (inr (inl less)) past = less
     below (inr (inr more)) past = absurd (past (omega (arith, more)))
 
-wait_is : (app : App) (flags : List Bool) → HasFlags flags (has_handler app) → IsSound app → (p : ℕ) → wait_within app (ceilings app) p ≡ waiting_bound app p
+wait_is : (app : App) (flags : List Bool) → HasFlags flags (has_handler app) → IsSound app → (p : ℕ) → wait_within app (cost_measure app) (ceilings app) p ≡ waiting_bound app p
 wait_is app flags has sound p = sym (all_most app (few_levels app flags has) sound p) ∙ most_is p (sections app)
 
 same_waits : (f g : ℕ → ℕ) → ((p : ℕ) → f p ≡ g p) → (ps : List ℕ) → map (λ p. let w : Wait = record { level = p; steps = f p } in w) ps ≡ map (λ p. let w : Wait = record { level = p; steps = g p } in w) ps
@@ -234,6 +234,6 @@ same_waits f g same (p ∷ ps) =
     ap (λ n. let w : Wait = record { level = p; steps = n } in w ∷ map (λ p. let w : Wait = record { level = p; steps = f p } in w) ps) (same p)
     ∙ ap (λ ws. let w : Wait = record { level = p; steps = g p } in w ∷ ws) (same_waits f g same ps)
 
-pub waits_are : (app : App) (c : Ceilings) (flags : List Bool) → c ≡ ceilings app → HasFlags flags (has_handler app) → IsSound app → (ps : List ℕ)
-    → map (wait_of app c) ps ≡ map (λ p. let w : Wait = record { level = p; steps = waiting_bound app p } in w) ps
-waits_are app c flags is has sound ps = ap (λ d. map (wait_of app d) ps) is ∙ same_waits (wait_within app (ceilings app)) (waiting_bound app) (wait_is app flags has sound) ps
+pub waits_are : (app : App) (m : Measure) (c : Ceilings) (flags : List Bool) → m ≡ cost_measure app → c ≡ ceilings app → HasFlags flags (has_handler app) → IsSound app → (ps : List ℕ)
+    → map (wait_of app m c) ps ≡ map (λ p. let w : Wait = record { level = p; steps = waiting_bound app p } in w) ps
+waits_are app m c flags measure is has sound ps = ap (λ n. map (wait_of app n c) ps) measure ∙ ap (λ d. map (wait_of app (cost_measure app) d) ps) is ∙ same_waits (wait_within app (cost_measure app) (ceilings app)) (waiting_bound app) (wait_is app flags has sound) ps

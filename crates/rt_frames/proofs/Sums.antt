@@ -47,13 +47,16 @@ turns_sum (suc k) block one all sum o a s = either (cases_order (block + 6) (2 ^
   where
     grows : (n : ℕ) → n ≤ suc k * n
     grows n = omega arith
+
     whole : block + 6 < 2 ^ 32 → capped sum ≡ capped (4 + suc k * (block + 6))
     whole few =
         let same : one ≡ block + 6 = omega arith in
         let product : suc k * one ≡ suc k * (block + 6) = ap (λ n. suc k * n) same in
         omega arith
+
     stopped : 2 ^ 32 ≤ block + 6 → capped sum ≡ capped (4 + suc k * (block + 6))
     stopped many = omega (arith, grows one, grows (block + 6))
+
     either : (block + 6 ≡ 2 ^ 32) ⊎ ((block + 6 < 2 ^ 32) ⊎ (2 ^ 32 < block + 6)) → capped sum ≡ capped (4 + suc k * (block + 6))
     either (inl same) = stopped (omega arith)
     either (inr (inl less)) = whole less

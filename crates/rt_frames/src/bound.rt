@@ -41,7 +41,8 @@ fn push_thread(
     id: BodyId,
     body: &Option<Body>,
 ) -> Result<(), NoMemory>
-    ensures { OnOk result (bodies.new.items ≡ bodies.old.items ++ map (member_bound measure.now) (thread_members id (option_map body_of body.now))) }
+    ensures { let own = map (member_bound measure.now) (thread_members id (option_map body_of body.now)) in
+        OnOk result (bodies.new.items ≡ bodies.old.items ++ own) }
 {
     match body {
         None => Ok(()),
@@ -59,7 +60,8 @@ fn push_tasks(
     tasks: &[Task],
 ) -> Result<(), NoMemory>
     requires { length tasks.now ≤ TASKS }
-    ensures { OnOk result (bodies.new.items ≡ bodies.old.items ++ map (member_bound measure.now) (task_members 0 (map task_of tasks.now))) }
+    ensures { let own = map (member_bound measure.now) (task_members 0 (map task_of tasks.now)) in
+        OnOk result (bodies.new.items ≡ bodies.old.items ++ own) }
 {
     for number in 0..tasks.len() {
         let task = &tasks[number];
@@ -92,9 +94,10 @@ fn push_wait(
     has_handler: bool,
 ) -> Result<(), NoMemory>
     requires few { length (app_of app.now).tasks ≤ TASKS }
-    requires measured { measure.now ≡ cost.cost_measure (app_of app.now) }
     requires armed { HasFlags armed.now (is_armed (app_of app.now)) }
-    ensures { OnOk result (waits.new.items ≡ waits.old.items ++ map (wait_of (app_of app.now) ceilings.now) (if has_handler then level ∷ [] else [])) }
+    ensures { let levels = (if has_handler then level ∷ [] else []) in
+        let own = map (wait_of (app_of app.now) measure.now ceilings.now) levels in
+        OnOk result (waits.new.items ≡ waits.old.items ++ own) }
 {
     if has_handler {
         waits.push(Wait {
@@ -115,10 +118,10 @@ fn waits_of(
     handlers: &Flags,
 ) -> Result<Vec<Wait>, NoMemory>
     requires few { length (app_of app.now).tasks ≤ TASKS }
-    requires measured { measure.now ≡ cost.cost_measure (app_of app.now) }
     requires armed { HasFlags armed.now (is_armed (app_of app.now)) }
     requires handled { HasFlags handlers.now (stack.has_handler (app_of app.now)) }
-    ensures { IfOk result (λ waits. waits.items ≡ map (wait_of (app_of app.now) ceilings.now) (stack.handler_levels (app_of app.now))) }
+    ensures { let all = app_of app.now in
+        IfOk result (λ waits. waits.items ≡ map (wait_of all measure.now ceilings.now) (stack.handler_levels all)) }
 {
     let mut waits = Vec::new(alloc);
     for level in 0..PRIORITIES {

@@ -4,7 +4,8 @@ ghost use Rattle.rt_ids.specs.Lists.{greatest};
 ghost use Rattle.rt_app.specs.Frame as frame;
 ghost use Rattle.rt_app.specs.Stack as stack;
 ghost use Rattle.rt_frames.specs.Inside.Saturated.{saturated};
-ghost use Rattle.rt_frames.specs.Inside.FrameParts.{both, expression_parts, spawn_parts, value_parts, statement_parts, block_parts};
+ghost use Rattle.rt_frames.specs.Inside.FrameParts.{both, expression_parts, spawn_parts, value_parts, statement_parts};
+ghost use Rattle.rt_frames.specs.Inside.FrameParts.{block_parts};
 
 use rt_app::costs::{SPAWN_AFTER_WORDS, SPAWN_WORDS};
 use rt_app::{App, Body, Expr, Spawn, Stmt, Value};

@@ -38,7 +38,7 @@ impl Model for Measure {
 }
 
 /// A sum, stopped one above the greatest cost that a body may have.
-fn capped(sum: u32) -> u32
+pub(crate) fn capped(sum: u32) -> u32
     ensures { result ≡ cost.capped sum }
 {
     sum.min(BODY_COST + 1)

@@ -1,7 +1,9 @@
-ghost use Rattle.std.specs.Prelude.{◌≡◌, ◌+◌, ◌*◌, ◌<◌, ◌≤◌, ◌==◌, length, map, find, option_map, if◌then◌else◌};
+ghost use Rattle.std.specs.Prelude.{◌≡◌, ◌+◌, ◌*◌, ◌≤◌, ◌==◌, max, length, map, find, if◌then◌else◌};
 ghost use Rattle.rt_ids.specs.Lists.{or_zero};
-ghost use Rattle.rt_app.specs.View.{spawn_of, value_of, statement_of, block_of, body_of, task_of, app_of};
+ghost use Rattle.rt_app.specs.View.{expression_of, spawn_of, value_of, statement_of, block_of, body_of, task_of};
+ghost use Rattle.rt_app.specs.View.{app_of};
 ghost use Rattle.rt_app.specs.Level as level;
+ghost use Rattle.rt_app.specs.Cost.{capped, expression_cost, branch_cost, turns, lock_cost, statement_cost};
 ghost use Rattle.rt_app.specs.BodyCost as cost;
 ghost use Rattle.rt_app.specs.Bodies.{task_priority};
 ghost use Rattle.rt_frames.specs.Inside.Waits as waiting;
@@ -10,9 +12,11 @@ ghost use Rattle.rt_frames.specs.Inside.Flags.{HasFlags};
 
 use crate::flags::Flags;
 use crate::level::{is_software, tasks_of_level};
-use crate::measure::Measure;
-use rt_app::costs::{FREE_COST, MESSAGE_COST, READY_COST, READY_TASK_COST, TIMER_SECTION_COST};
-use rt_app::{App, Ceilings, ReadyCeiling, Spawn, Stmt, Task, Value};
+use crate::measure::{Measure, capped, lock_cost};
+use rt_app::costs::{
+    FREE_COST, LOOP_COST, MESSAGE_COST, READY_COST, READY_TASK_COST, TIMER_SECTION_COST, TURN_COST,
+};
+use rt_app::{App, Ceilings, Expr, ReadyCeiling, Spawn, Stmt, Task, Value};
 use rt_ids::{ResId, TaskId};
 
 /// The ceiling of a resource, and 0 where there is none.
@@ -78,15 +82,14 @@ fn if_reaches(priority: u8, ceiling: u8, cost: u32) -> u32
 
 /// Core steps of a section of the timer queue, where so many messages may be armed as the measure counts.
 fn timer_section(measure: &Measure) -> u32
-    ensures { result ≡ TIMER_SECTION_COST + MESSAGE_COST * measure.now.messages }
+    ensures { result ≡ waiting.timer_section measure.now }
 {
     TIMER_SECTION_COST + MESSAGE_COST * measure.messages()
 }
 
 /// The greatest cost of a section of a spawn that counts.
 fn spawn_wait(app: &App, ceilings: &Ceilings, measure: &Measure, priority: u8, spawn: &Spawn) -> u32
-    requires { measure.now ≡ cost.cost_measure (app_of app.now) }
-    ensures { result ≡ waiting.spawn_wait (app_of app.now) ceilings.now priority (spawn_of spawn.now) }
+    ensures { result ≡ waiting.spawn_wait (app_of app.now) measure.now ceilings.now priority (spawn_of spawn.now) }
 {
     match spawn {
         Spawn::Soon(task, _args, _at) => {
@@ -104,8 +107,7 @@ fn spawn_wait(app: &App, ceilings: &Ceilings, measure: &Measure, priority: u8, s
 
 /// The greatest cost of a section that counts, of a value that a variable is bound to.
 fn value_wait(app: &App, ceilings: &Ceilings, measure: &Measure, priority: u8, value: &Value) -> u32
-    requires { measure.now ≡ cost.cost_measure (app_of app.now) }
-    ensures { result ≡ waiting.value_wait (app_of app.now) ceilings.now priority (value_of value.now) }
+    ensures { result ≡ waiting.value_wait (app_of app.now) measure.now ceilings.now priority (value_of value.now) }
 {
     match value {
         Value::Calc(_expr) => 0,
@@ -114,68 +116,142 @@ fn value_wait(app: &App, ceilings: &Ceilings, measure: &Measure, priority: u8, v
     }
 }
 
-/// The greatest cost of a section of a statement that counts.
+/// What a walk over statements finds.
+#[derive(Clone, Copy, Debug)]
+pub(crate) struct Walk {
+    /// Core steps of the statements, stopped one above the greatest cost that a body may have.
+    cost: u32,
+    /// The greatest cost of a section of theirs that counts.
+    wait: u32,
+}
+
+/// Of a statement that holds no block, whose sections make a job wait so long.
+fn simple_walk(measure: &Measure, stmt: &Stmt, wait: u32) -> Walk
+    ensures { result ≡ record { cost = statement_cost measure.now (statement_of stmt.now); wait = wait } }
+{
+    Walk {
+        cost: measure.statement(stmt),
+        wait,
+    }
+}
+
+/// Of a branch.
+fn branch_walk(measure: &Measure, condition: &Expr, first: Walk, second: Walk) -> Walk
+    ensures cost { let test = expression_cost (expression_of condition.now) in
+        result.cost ≡ capped (test + 2 + branch_cost measure.now first.cost second.cost) }
+    ensures wait { result.wait ≡ max first.wait second.wait }
+{
+    Walk {
+        cost: measure.branch(condition, first.cost, second.cost),
+        wait: first.wait.max(second.wait),
+    }
+}
+
+/// Of a loop.
+fn repeat_walk(measure: &Measure, first: u32, last: u32, turn: Walk) -> Walk
+    ensures cost { result.cost ≡ capped (LOOP_COST + turns measure.now first last * (turn.cost + TURN_COST)) }
+    ensures wait { result.wait ≡ turn.wait }
+{
+    Walk {
+        cost: measure.repeat(first, last, turn.cost),
+        wait: turn.wait,
+    }
+}
+
+/// Of a section of a resource.
+fn lock_walk(ceilings: &Ceilings, priority: u8, resource: ResId, inner: Walk) -> Walk
+    ensures cost { result.cost ≡ lock_cost inner.cost }
+    ensures wait { let ceiling = waiting.shared_at ceilings.now resource in
+        result.wait ≡ max (waiting.if_reaches priority ceiling (lock_cost inner.cost)) inner.wait }
+{
+    let cost = lock_cost(inner.cost);
+    let own = if_reaches(priority, shared_at(ceilings, resource), cost);
+    Walk {
+        cost,
+        wait: own.max(inner.wait),
+    }
+}
+
+/// Of two parts, one behind the other.
+fn then(first: Walk, second: Walk) -> Walk
+    ensures cost { result.cost ≡ capped (first.cost + second.cost) }
+    ensures wait { result.wait ≡ max first.wait second.wait }
+{
+    Walk {
+        cost: capped(first.cost.saturating_add(second.cost)),
+        wait: first.wait.max(second.wait),
+    }
+}
+
+/// Of a statement.
 #[cycle(block)]
-fn statement_wait(
+fn statement_walk(
     app: &App,
     ceilings: &Ceilings,
     measure: &Measure,
     priority: u8,
     stmt: &Stmt,
-) -> u32
-    requires { measure.now ≡ cost.cost_measure (app_of app.now) }
-    ensures { result ≡ waiting.statement_wait (app_of app.now) ceilings.now priority (statement_of stmt.now) }
+) -> Walk
+    ensures { let s = statement_of stmt.now in
+        result ≡ waiting.statement_walk (app_of app.now) measure.now ceilings.now priority s }
 {
     match stmt {
-        Stmt::Bind(_variable, value) => value_wait(app, ceilings, measure, priority, value),
-        Stmt::Assign(_atom, _expr, _at) => 0,
-        Stmt::Branch(_condition, first, second) => {
-            let wait = block_wait(app, ceilings, measure, priority, first);
-            wait.max(block_wait(app, ceilings, measure, priority, second))
+        Stmt::Bind(_variable, value) => {
+            let wait = value_wait(app, ceilings, measure, priority, value);
+            simple_walk(measure, stmt, wait)
         }
-        Stmt::Repeat(_variable, _first, _last, turn) => {
-            block_wait(app, ceilings, measure, priority, turn)
+        Stmt::Assign(_atom, _expr, _at) => simple_walk(measure, stmt, 0),
+        Stmt::Branch(condition, first, second) => {
+            let first = block_walk(app, ceilings, measure, priority, first);
+            let second = block_walk(app, ceilings, measure, priority, second);
+            branch_walk(measure, condition, first, second)
+        }
+        Stmt::Repeat(_variable, first, last, turn) => {
+            let turn = block_walk(app, ceilings, measure, priority, turn);
+            repeat_walk(measure, *first, *last, turn)
         }
         Stmt::Locked(resource, inner, _at) => {
-            let ceiling = shared_at(ceilings, *resource);
-            let own = if_reaches(priority, ceiling, measure.statement(stmt));
-            own.max(block_wait(app, ceilings, measure, priority, inner))
+            let inner = block_walk(app, ceilings, measure, priority, inner);
+            lock_walk(ceilings, priority, *resource, inner)
         }
-        Stmt::Emit(_expr) => 0,
-        Stmt::Pend(_irq) => 0,
-        Stmt::Call(spawn) => spawn_wait(app, ceilings, measure, priority, spawn),
+        Stmt::Emit(_expr) => simple_walk(measure, stmt, 0),
+        Stmt::Pend(_irq) => simple_walk(measure, stmt, 0),
+        Stmt::Call(spawn) => {
+            let wait = spawn_wait(app, ceilings, measure, priority, spawn);
+            simple_walk(measure, stmt, wait)
+        }
     }
 }
 
-/// The greatest cost of a section of statements that counts.
+/// Of statements.
 #[cycle(block)]
-fn block_wait(
+fn block_walk(
     app: &App,
     ceilings: &Ceilings,
     measure: &Measure,
     priority: u8,
     stmts: &[Stmt],
-) -> u32
-    requires { measure.now ≡ cost.cost_measure (app_of app.now) }
-    ensures { result ≡ waiting.block_wait (app_of app.now) ceilings.now priority (block_of stmts.now) }
+) -> Walk
+    ensures { let b = block_of stmts.now in
+        result ≡ waiting.block_walk (app_of app.now) measure.now ceilings.now priority b }
 {
-    let mut most: u32 = 0;
+    let mut walk = Walk { cost: 0, wait: 0 };
     for stmt in stmts {
-        most = most.max(statement_wait(app, ceilings, measure, priority, stmt));
+        walk = then(walk, statement_walk(app, ceilings, measure, priority, stmt));
     }
-    most
+    walk
 }
 
 /// The greatest cost of a section of `idle` that counts.
 fn idle_wait(app: &App, ceilings: &Ceilings, measure: &Measure, priority: u8) -> u32
-    requires { measure.now ≡ cost.cost_measure (app_of app.now) }
-    ensures { result ≡ waiting.idle_wait (app_of app.now) ceilings.now priority (option_map body_of app.now.idle) }
+    ensures { let all = app_of app.now in
+        result ≡ waiting.idle_wait all measure.now ceilings.now priority all.idle }
 {
     match &app.idle {
         None => 0,
         Some(body) => {
             if 0 < priority {
-                block_wait(app, ceilings, measure, priority, &body.block)
+                block_walk(app, ceilings, measure, priority, &body.block).wait
             } else {
                 0
             }
@@ -211,13 +287,12 @@ fn task_wait(
     task: &Task,
 ) -> u32
     requires few { length (app_of app.now).tasks ≤ TASKS }
-    requires measured { measure.now ≡ cost.cost_measure (app_of app.now) }
-    ensures { result ≡ waiting.task_wait (app_of app.now) ceilings.now priority number (task_of task.now) }
+    ensures { result ≡ waiting.task_wait (app_of app.now) measure.now ceilings.now priority number (task_of task.now) }
 {
     if priority <= task.priority {
         return 0;
     }
-    let own = block_wait(app, ceilings, measure, priority, &task.body.block);
+    let own = block_walk(app, ceilings, measure, priority, &task.body.block).wait;
     if is_software(task) {
         own.max(dispatcher_wait(app, ceilings, priority, number, task))
     } else {
@@ -228,8 +303,8 @@ fn task_wait(
 /// The greatest cost of a section of the tasks that counts.
 fn tasks_wait(app: &App, ceilings: &Ceilings, measure: &Measure, priority: u8) -> u32
     requires few { length (app_of app.now).tasks ≤ TASKS }
-    requires measured { measure.now ≡ cost.cost_measure (app_of app.now) }
-    ensures { let all = app_of app.now in result ≡ waiting.tasks_wait all ceilings.now priority 0 all.tasks }
+    ensures { let all = app_of app.now in
+        result ≡ waiting.tasks_wait all measure.now ceilings.now priority 0 all.tasks }
 {
     let mut most: u32 = 0;
     for number in 0..app.tasks.len() {
@@ -241,7 +316,9 @@ fn tasks_wait(app: &App, ceilings: &Ceilings, measure: &Measure, priority: u8) -
 
 /// The cost of the section of a task's ready queue, where the task can be armed and the section counts.
 fn move_wait(ceilings: &Ceilings, priority: u8, task: &Task, is_armed: bool) -> u32
-    ensures { let t = task_of task.now in result ≡ (if level.is_software t then (if is_armed then waiting.if_reaches priority (waiting.ready_at ceilings.now t.priority) READY_COST else 0) else 0) }
+    ensures { let t = task_of task.now in
+        let own = waiting.if_reaches priority (waiting.ready_at ceilings.now t.priority) READY_COST in
+        result ≡ (if level.is_software t then (if is_armed then own else 0) else 0) }
 {
     if is_software(task) && is_armed {
         if_reaches(priority, ready_at(ceilings, task.priority), READY_COST)
@@ -267,9 +344,8 @@ fn moves_wait(app: &App, ceilings: &Ceilings, armed: &Flags, priority: u8) -> u3
 /// The greatest cost of a section of the timer handler that counts.
 fn timer_wait(app: &App, ceilings: &Ceilings, measure: &Measure, armed: &Flags, priority: u8) -> u32
     requires few { length (app_of app.now).tasks ≤ TASKS }
-    requires measured { measure.now ≡ cost.cost_measure (app_of app.now) }
     requires armed { HasFlags armed.now (level.is_armed (app_of app.now)) }
-    ensures { result ≡ waiting.timer_wait (app_of app.now) ceilings.now priority app.now.mono }
+    ensures { result ≡ waiting.timer_wait (app_of app.now) measure.now ceilings.now priority app.now.mono }
 {
     match &app.mono {
         None => 0,
@@ -293,9 +369,8 @@ pub(crate) fn wait_within(
     priority: u8,
 ) -> u32
     requires few { length (app_of app.now).tasks ≤ TASKS }
-    requires measured { measure.now ≡ cost.cost_measure (app_of app.now) }
     requires armed { HasFlags armed.now (level.is_armed (app_of app.now)) }
-    ensures { result ≡ waiting.wait_within (app_of app.now) ceilings.now priority }
+    ensures { result ≡ waiting.wait_within (app_of app.now) measure.now ceilings.now priority }
 {
     let idle = idle_wait(app, ceilings, measure, priority);
     let tasks = tasks_wait(app, ceilings, measure, priority);

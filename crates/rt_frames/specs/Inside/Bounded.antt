@@ -19,5 +19,5 @@ saturated_bound m id args b = record { body = id; frame = saturated (frame_words
 abbrev pub member_bound : Measure → Member → BodyBound
 member_bound measure m = saturated_bound measure m.id m.args m.body
 
-abbrev pub wait_of : App → Ceilings → ℕ → Wait
-wait_of app c p = record { level = p; steps = wait_within app c p }
+abbrev pub wait_of : App → Measure → Ceilings → ℕ → Wait
+wait_of app m c p = record { level = p; steps = wait_within app m c p }
