@@ -38,14 +38,14 @@ impl Model for Measure {
 }
 
 /// A sum, stopped one above the greatest cost that a body may have.
-pub(crate) fn capped(sum: u32) -> u32
+fn capped(sum: u32) -> u32
     ensures { result ≡ cost.capped sum }
 {
     sum.min(BODY_COST + 1)
 }
 
 /// Of a lock, and of its section, round a block of this sum.
-pub(crate) fn lock_cost(inner: u32) -> u32
+fn lock_cost(inner: u32) -> u32
     ensures { result ≡ cost.lock_cost inner }
 {
     capped(inner.saturating_add(2))
@@ -153,7 +153,7 @@ impl Measure {
     }
 
     /// Of a branch by this condition, to blocks of these sums.
-    pub(crate) fn branch(&self, condition: &Expr, first: u32, second: u32) -> u32
+    fn branch(&self, condition: &Expr, first: u32, second: u32) -> u32
         ensures { let test = cost.expression_cost (expression_of condition.now) in
             result ≡ cost.capped (test + 2 + cost.branch_cost self.now first second) }
     {
@@ -173,7 +173,7 @@ impl Measure {
     }
 
     /// Of a loop from a number up to another, whose turn has a block of this sum.
-    pub(crate) fn repeat(&self, first: u32, last: u32, turn: u32) -> u32
+    fn repeat(&self, first: u32, last: u32, turn: u32) -> u32
         ensures { result ≡ cost.capped (LOOP_COST + cost.turns self.now first last * (turn + TURN_COST)) }
     {
         let one = turn.saturating_add(TURN_COST);

@@ -1,9 +1,7 @@
-ghost use Rattle.std.specs.Prelude.{◌≡◌, ◌+◌, ◌*◌, ◌≤◌, ◌==◌, max, length, map, find, if◌then◌else◌};
+ghost use Rattle.std.specs.Prelude.{◌≡◌, ◌≤◌, ◌==◌, length, map, find, if◌then◌else◌};
 ghost use Rattle.rt_ids.specs.Lists.{or_zero};
-ghost use Rattle.rt_app.specs.View.{expression_of, spawn_of, value_of, statement_of, block_of, body_of, task_of};
-ghost use Rattle.rt_app.specs.View.{app_of};
+ghost use Rattle.rt_app.specs.View.{spawn_of, value_of, statement_of, block_of, task_of, app_of};
 ghost use Rattle.rt_app.specs.Level as level;
-ghost use Rattle.rt_app.specs.Cost.{capped, expression_cost, branch_cost, turns, lock_cost, statement_cost};
 ghost use Rattle.rt_app.specs.BodyCost as cost;
 ghost use Rattle.rt_app.specs.Bodies.{task_priority};
 ghost use Rattle.rt_frames.specs.Inside.Waits as waiting;
@@ -12,11 +10,9 @@ ghost use Rattle.rt_frames.specs.Inside.Flags.{HasFlags};
 
 use crate::flags::Flags;
 use crate::level::{is_software, tasks_of_level};
-use crate::measure::{Measure, capped, lock_cost};
-use rt_app::costs::{
-    FREE_COST, LOOP_COST, MESSAGE_COST, READY_COST, READY_TASK_COST, TIMER_SECTION_COST, TURN_COST,
-};
-use rt_app::{App, Ceilings, Expr, ReadyCeiling, Spawn, Stmt, Task, Value};
+use crate::measure::Measure;
+use rt_app::costs::{FREE_COST, MESSAGE_COST, READY_COST, READY_TASK_COST, TIMER_SECTION_COST};
+use rt_app::{App, Ceilings, ReadyCeiling, Spawn, Stmt, Task, Value};
 use rt_ids::{ResId, TaskId};
 
 /// The ceiling of a resource, and 0 where there is none.
@@ -116,130 +112,58 @@ fn value_wait(app: &App, ceilings: &Ceilings, measure: &Measure, priority: u8, v
     }
 }
 
-/// What a walk over statements finds.
-#[derive(Clone, Copy, Debug)]
-pub(crate) struct Walk {
-    /// Core steps of the statements, stopped one above the greatest cost that a body may have.
-    cost: u32,
-    /// The greatest cost of a section of theirs that counts.
-    wait: u32,
-}
-
-/// Of a statement that holds no block, whose sections make a job wait so long.
-fn simple_walk(measure: &Measure, stmt: &Stmt, wait: u32) -> Walk
-    ensures { result ≡ record { cost = statement_cost measure.now (statement_of stmt.now); wait = wait } }
-{
-    Walk {
-        cost: measure.statement(stmt),
-        wait,
-    }
-}
-
-/// Of a branch.
-fn branch_walk(measure: &Measure, condition: &Expr, first: Walk, second: Walk) -> Walk
-    ensures cost { let test = expression_cost (expression_of condition.now) in
-        result.cost ≡ capped (test + 2 + branch_cost measure.now first.cost second.cost) }
-    ensures wait { result.wait ≡ max first.wait second.wait }
-{
-    Walk {
-        cost: measure.branch(condition, first.cost, second.cost),
-        wait: first.wait.max(second.wait),
-    }
-}
-
-/// Of a loop.
-fn repeat_walk(measure: &Measure, first: u32, last: u32, turn: Walk) -> Walk
-    ensures cost { result.cost ≡ capped (LOOP_COST + turns measure.now first last * (turn.cost + TURN_COST)) }
-    ensures wait { result.wait ≡ turn.wait }
-{
-    Walk {
-        cost: measure.repeat(first, last, turn.cost),
-        wait: turn.wait,
-    }
-}
-
-/// Of a section of a resource.
-fn lock_walk(ceilings: &Ceilings, priority: u8, resource: ResId, inner: Walk) -> Walk
-    ensures cost { result.cost ≡ lock_cost inner.cost }
-    ensures wait { let ceiling = waiting.shared_at ceilings.now resource in
-        result.wait ≡ max (waiting.if_reaches priority ceiling (lock_cost inner.cost)) inner.wait }
-{
-    let cost = lock_cost(inner.cost);
-    let own = if_reaches(priority, shared_at(ceilings, resource), cost);
-    Walk {
-        cost,
-        wait: own.max(inner.wait),
-    }
-}
-
-/// Of two parts, one behind the other.
-fn then(first: Walk, second: Walk) -> Walk
-    ensures cost { result.cost ≡ capped (first.cost + second.cost) }
-    ensures wait { result.wait ≡ max first.wait second.wait }
-{
-    Walk {
-        cost: capped(first.cost.saturating_add(second.cost)),
-        wait: first.wait.max(second.wait),
-    }
-}
-
-/// Of a statement.
+/// The greatest cost of a section of a statement that counts.
 #[cycle(block)]
-fn statement_walk(
+fn statement_wait(
     app: &App,
     ceilings: &Ceilings,
     measure: &Measure,
     priority: u8,
     stmt: &Stmt,
-) -> Walk
+) -> u32
     ensures { let s = statement_of stmt.now in
-        result ≡ waiting.statement_walk (app_of app.now) measure.now ceilings.now priority s }
+        result ≡ waiting.statement_wait (app_of app.now) measure.now ceilings.now priority s }
 {
     match stmt {
-        Stmt::Bind(_variable, value) => {
-            let wait = value_wait(app, ceilings, measure, priority, value);
-            simple_walk(measure, stmt, wait)
+        Stmt::Bind(_variable, value) => value_wait(app, ceilings, measure, priority, value),
+        Stmt::Assign(_atom, _expr, _at) => 0,
+        Stmt::Branch(_condition, first, second) => {
+            let wait = block_wait(app, ceilings, measure, priority, first);
+            wait.max(block_wait(app, ceilings, measure, priority, second))
         }
-        Stmt::Assign(_atom, _expr, _at) => simple_walk(measure, stmt, 0),
-        Stmt::Branch(condition, first, second) => {
-            let first = block_walk(app, ceilings, measure, priority, first);
-            let second = block_walk(app, ceilings, measure, priority, second);
-            branch_walk(measure, condition, first, second)
-        }
-        Stmt::Repeat(_variable, first, last, turn) => {
-            let turn = block_walk(app, ceilings, measure, priority, turn);
-            repeat_walk(measure, *first, *last, turn)
+        Stmt::Repeat(_variable, _first, _last, turn) => {
+            block_wait(app, ceilings, measure, priority, turn)
         }
         Stmt::Locked(resource, inner, _at) => {
-            let inner = block_walk(app, ceilings, measure, priority, inner);
-            lock_walk(ceilings, priority, *resource, inner)
+            if priority <= shared_at(ceilings, *resource) {
+                measure.statement(stmt)
+            } else {
+                block_wait(app, ceilings, measure, priority, inner)
+            }
         }
-        Stmt::Emit(_expr) => simple_walk(measure, stmt, 0),
-        Stmt::Pend(_irq) => simple_walk(measure, stmt, 0),
-        Stmt::Call(spawn) => {
-            let wait = spawn_wait(app, ceilings, measure, priority, spawn);
-            simple_walk(measure, stmt, wait)
-        }
+        Stmt::Emit(_expr) => 0,
+        Stmt::Pend(_irq) => 0,
+        Stmt::Call(spawn) => spawn_wait(app, ceilings, measure, priority, spawn),
     }
 }
 
-/// Of statements.
+/// The greatest cost of a section of statements that counts.
 #[cycle(block)]
-fn block_walk(
+fn block_wait(
     app: &App,
     ceilings: &Ceilings,
     measure: &Measure,
     priority: u8,
     stmts: &[Stmt],
-) -> Walk
+) -> u32
     ensures { let b = block_of stmts.now in
-        result ≡ waiting.block_walk (app_of app.now) measure.now ceilings.now priority b }
+        result ≡ waiting.block_wait (app_of app.now) measure.now ceilings.now priority b }
 {
-    let mut walk = Walk { cost: 0, wait: 0 };
+    let mut most: u32 = 0;
     for stmt in stmts {
-        walk = then(walk, statement_walk(app, ceilings, measure, priority, stmt));
+        most = most.max(statement_wait(app, ceilings, measure, priority, stmt));
     }
-    walk
+    most
 }
 
 /// The greatest cost of a section of `idle` that counts.
@@ -251,7 +175,7 @@ fn idle_wait(app: &App, ceilings: &Ceilings, measure: &Measure, priority: u8) ->
         None => 0,
         Some(body) => {
             if 0 < priority {
-                block_walk(app, ceilings, measure, priority, &body.block).wait
+                block_wait(app, ceilings, measure, priority, &body.block)
             } else {
                 0
             }
@@ -292,7 +216,7 @@ fn task_wait(
     if priority <= task.priority {
         return 0;
     }
-    let own = block_walk(app, ceilings, measure, priority, &task.body.block).wait;
+    let own = block_wait(app, ceilings, measure, priority, &task.body.block);
     if is_software(task) {
         own.max(dispatcher_wait(app, ceilings, priority, number, task))
     } else {

@@ -12,9 +12,8 @@ use Rattle.rt_app.specs.Tree.{Body, Task, App}
 use Rattle.rt_app.specs.Bodies.{task_priority}
 use Rattle.rt_app.specs.Level.{is_software, is_armed}
 use Rattle.rt_app.specs.Ceiling.{Ceilings}
-use Rattle.rt_app.specs.Cost.{Measure, lock_cost, statement_cost, block_cost}
+use Rattle.rt_app.specs.Cost.{Measure, lock_cost, block_cost}
 use Rattle.rt_app.specs.BodyCost.{dispatcher_section_cost}
-use Rattle.rt_frames.specs.declared.waiting.Walk.{Walk}
 
 abbrev pub or_zero_twice : Option (Option ℕ) → ℕ
 or_zero_twice None = 0
@@ -79,7 +78,7 @@ module _ (app : App) (m : Measure) (c : Ceilings) (p : ℕ) where
     statement_wait (Branch e first second) = max (block_wait first) (block_wait second)
     statement_wait (Repeat x first last turn) = block_wait turn
     statement_wait (Locked r inner at) =
-        max (if_reaches p (shared_at c r) (lock_cost (block_cost m inner))) (block_wait inner)
+        if nat_le p (shared_at c r) then lock_cost (block_cost m inner) else block_wait inner
     statement_wait (Emit e) = 0
     statement_wait (Pend i) = 0
     statement_wait (Spawns s) = spawn_wait s
@@ -87,13 +86,6 @@ module _ (app : App) (m : Measure) (c : Ceilings) (p : ℕ) where
     pub block_wait : Block → ℕ
     block_wait Empty = 0
     block_wait (Then s rest) = max (statement_wait s) (block_wait rest)
-
-  -- what one walk finds
-  abbrev pub statement_walk : Statement → Walk
-  statement_walk s = record { cost = statement_cost m s; wait = statement_wait s }
-
-  abbrev pub block_walk : Block → Walk
-  block_walk b = record { cost = block_cost m b; wait = block_wait b }
 
   abbrev pub idle_wait : Option Body → ℕ
   idle_wait None = 0
