@@ -4,9 +4,10 @@ use Rattle.rt_app.specs.Tree.{Expression, Spawn, Value, Statement, Block}
 use Rattle.rt_ids.specs.Lists.{greatest}
 use Rattle.rt_app.specs.Variables.{variables_in, variables}
 use Rattle.rt_app.specs.Spawned.{value_spawns, statement_spawns, spawns}
-use Rattle.rt_app.specs.Frame.{depth, spawn_depth, value_depth, statement_depth, block_depth, is_loop, has_loop, statement_locks, locks, spawn_words}
+use Rattle.rt_app.specs.Frame.{depth, spawn_depth, value_depth, statement_depth, block_depth, is_loop, has_loop}
+use Rattle.rt_app.specs.Frame.{statement_locks, locks, spawn_words}
 use Rattle.rt_frames.specs.declared.frame.Parts.{Parts}
-use Rattle.rt_frames.specs.Saturated.{saturated}
+use Rattle.rt_frames.specs.Inside.Saturated.{saturated}
 
 abbrev pub both : Parts → Parts → Parts
 both a b = record {
@@ -21,10 +22,22 @@ abbrev pub expression_parts : Expression → Parts
 expression_parts e = record { variables = 0; depth = saturated (depth e); has_loop = false; locks = 0; spawns = 0 }
 
 abbrev pub spawn_parts : Spawn → Parts
-spawn_parts s = record { variables = 0; depth = saturated (spawn_depth s); has_loop = false; locks = 0; spawns = spawn_words s }
+spawn_parts s = record {
+  variables = 0;
+  depth = saturated (spawn_depth s);
+  has_loop = false;
+  locks = 0;
+  spawns = spawn_words s;
+}
 
 abbrev pub value_parts : Value → Parts
-value_parts v = record { variables = 0; depth = saturated (value_depth v); has_loop = false; locks = 0; spawns = greatest (map spawn_words (value_spawns v)) }
+value_parts v = record {
+  variables = 0;
+  depth = saturated (value_depth v);
+  has_loop = false;
+  locks = 0;
+  spawns = greatest (map spawn_words (value_spawns v));
+}
 
 abbrev pub statement_parts : Statement → Parts
 statement_parts s = record {
