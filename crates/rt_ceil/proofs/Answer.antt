@@ -1,11 +1,11 @@
 -- What is read off the filled tables are the ceilings.
-use Rattle.std.proofs.Common.{◌≡◌, ℕ, zero, suc, ◌+◌, ◌<◌, ◌≤◌, ◌==◌, max, Bool, true, false, ◌||◌, if◌then◌else◌, List, [], ◌∷◌, ◌++◌, map, length, get_or, slice_get, replicate, Option, Some, None, option_map, refl, sym, ap, ◌∙◌, arith, add-zero, zero-add}
+use Rattle.std.proofs.Common.{◌≡◌, ℕ, zero, suc, ◌+◌, ◌<◌, ◌==◌, max, Bool, true, false, ◌||◌, if◌then◌else◌, List, [], ◌∷◌, ◌++◌, map, length, get_or, slice_get, replicate, Option, Some, None, option_map, refl, sym, ap, ◌∙◌, arith}
 use Rattle.std.specs.List.{list_any, range_with_len}
 use Rattle.std.proofs.lemmas.List.{length-map, length-replicate, get_or-replicate, map-append}
 use Rattle.std.proofs.lemmas.List.FromFn.{get_or-map-range_with_len, length-map-range_with_len}
 use Rattle.std.proofs.lemmas.Grind.{same_number_lists}
-use Rattle.std.proofs.lemmas.Option.{slice_get-get_or}
-use Rattle.rt_lemmas.proofs.Lists.{fold_keeps}
+use Rattle.std.proofs.lemmas.Option.{slice_get_within}
+use Rattle.rt_lemmas.proofs.Lists.{fold_keeps, AreFrom, all_from, first_from, rest_from}
 use Rattle.rt_app.specs.View.{task_of, app_of}
 use Rattle.rt_app.specs.declared.app.App as code
 use Rattle.rt_app.specs.declared.app.Task as code_task
@@ -32,31 +32,20 @@ shared_is app =
     same_number_lists (filled app).shared rows (sized ∙ sym (length-map-range_with_len (resource_ceiling app) 0 n))
     (λ r h. let b : r < n = omega arith in filled_shared app r b ∙ sym (get_or-map-range_with_len (resource_ceiling app) 0 n r r 0 b (omega arith)))
 
--- the items from a number on
-abbrev AreFrom : {X : Type 0} → ℕ → List X → List X → Type 0
-AreFrom {X} n xs all = (k : ℕ) (d : X) → k < length xs → get_or xs k d ≡ get_or all (n + k) d
-
-rest_from : {X : Type 0} (n : ℕ) (x : X) (xs all : List X) → AreFrom n (x ∷ xs) all → AreFrom (n + 1) xs all
-rest_from n x xs all from k d h = let e : n + suc k ≡ (n + 1) + k = omega arith in from (suc k) d (omega arith) ∙ ap (λ i. get_or all i d) e
-
-first_from : {X : Type 0} (n : ℕ) (x : X) (xs all : List X) → n < length all → AreFrom n (x ∷ xs) all → slice_get all n ≡ Some x
-first_from n x xs all b from = slice_get-get_or all n x b ∙ ap Some (ap (λ i. get_or all i x) (sym (add-zero n)) ∙ sym (from 0 x (omega arith)))
-
 row_of : (app : App) (n m : ℕ) (t : Task) → slice_get app.tasks n ≡ Some t → m ≡ greatest_priority (holds (λ s. target s == n)) app → free_row t m ≡ (if is_software t then Some (free_ceiling app n) else None)
 row_of app n m t at is =
     ap (free_row t) is ∙ ap (λ (o : Option Task). if is_software t then Some (max (or_zero (option_map (λ u. u.priority) o)) (greatest_priority (holds (λ s. target s == n)) app)) else None) (sym at)
 
 -- of the tasks from a number on
-free_from : (app : App) (n : ℕ) (ts : List Task) → n + length ts ≤ length app.tasks → AreFrom n ts app.tasks → free_rows (filled app).free n ts ≡ free_ceilings app n ts
-free_from app n [] h from = refl
-free_from app n (t ∷ ts) h from =
-    let b : n < length app.tasks = omega (arith, h) in
-    let r : (n + 1) + length ts ≤ length app.tasks = omega (arith, h) in
-    ap (λ x. x ∷ free_rows (filled app).free (n + 1) ts) (row_of app n (get_or (filled app).free n 0) t (first_from n t ts app.tasks b from) (filled_free app n b))
-    ∙ ap (λ xs. (if is_software t then Some (free_ceiling app n) else None) ∷ xs) (free_from app (n + 1) ts r (rest_from n t ts app.tasks from))
+free_from : (app : App) (n : ℕ) (ts : List Task) → AreFrom app.tasks n ts → free_rows (filled app).free n ts ≡ free_ceilings app n ts
+free_from app n [] from = refl
+free_from app n (t ∷ ts) from =
+    let at = first_from app.tasks n t ts from in
+    ap (λ x. x ∷ free_rows (filled app).free (n + 1) ts) (row_of app n (get_or (filled app).free n 0) t at (filled_free app n (slice_get_within app.tasks n t at)))
+    ∙ ap (λ xs. (if is_software t then Some (free_ceiling app n) else None) ∷ xs) (free_from app (n + 1) ts (rest_from app.tasks n t ts from))
 
 pub free_is : (app : App) → free_rows (filled app).free 0 app.tasks ≡ free_ceilings app 0 app.tasks
-free_is app = free_from app 0 app.tasks (omega arith) (λ k d h. ap (λ i. get_or app.tasks i d) (sym (zero-add k)))
+free_is app = free_from app 0 app.tasks (all_from app.tasks)
 
 -- the served levels
 mark_keeps : (served : List Bool) (t : Task) → length served ≡ PRIORITIES → length (marked served (level_of t)) ≡ PRIORITIES

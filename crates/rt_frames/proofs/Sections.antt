@@ -1,10 +1,11 @@
 -- The waits by cases and with the tables are the greatest costs of the sections that hold a priority off.
-use Rattle.std.proofs.Common.{◌≡◌, ℕ, zero, suc, ◌+◌, ◌<◌, ◌≤◌, ◌⊎◌, ◌==◌, nat_lt, nat_le, max, Bool, true, false, not, ◌&&◌, ◌||◌, if◌then◌else◌, cond, List, [], ◌∷◌, ◌++◌, map, filter, length, get_or, slice_get, Option, Some, None, option_map, refl, sym, ap, ◌∙◌, arith, inl, inr, eq-eqb, ⊎_elim}
+use Rattle.std.proofs.Common.{◌≡◌, ℕ, zero, suc, ◌+◌, ◌<◌, ◌≤◌, ◌⊎◌, ◌==◌, nat_lt, nat_le, max, Bool, true, false, not, ◌&&◌, if◌then◌else◌, cond, List, [], ◌∷◌, ◌++◌, map, filter, get_or, slice_get, Option, Some, None, option_map, refl, sym, ap, ◌∙◌, arith, inl, inr, eq-eqb, ⊎_elim}
 use Rattle.std.specs.List.{list_any}
 use Rattle.std.proofs.lemmas.List.{map-append, get_or_past}
 use Rattle.std.proofs.lemmas.Bool.{cases_order}
 use Rattle.std.proofs.lemmas.Bool.Decides.{nat_tests}
-use Rattle.rt_lemmas.proofs.Bools.{or_left, or_right, or_cases, and_left, and_right, and_both}
+use Rattle.rt_lemmas.proofs.Lists.{map_alike, AreFrom, all_from, first_from, rest_from}
+use Rattle.rt_lemmas.proofs.Bools.{or_left, or_right, or_cases, and_right, and_both}
 use Rattle.rt_ids.specs.Lists.{greatest, or_zero}
 use Rattle.rt_ids.specs.declared.ids.BodyId.TheVariants as body
 use Rattle.rt_ids.specs.declared.ids.Section.TheVariants as section
@@ -20,7 +21,7 @@ use Rattle.rt_app.specs.Cost.{Measure, lock_cost, block_cost}
 use Rattle.rt_app.specs.BodyCost.{cost_measure, dispatcher_section_cost, timer_section_cost}
 use Rattle.rt_app.specs.Sound.{IsSoundSpawn, IsSoundValue, IsSoundStatement, IsSoundBlock}
 use Rattle.rt_app.specs.Acceptance.{IsSound}
-use Rattle.rt_app.specs.Waiting.{Critical, spawn_sections, value_sections, statement_sections, block_sections, idle_sections, dispatcher_sections, tasks_sections, moved_sections, handler_sections, sections, holds_off, waiting_bound, free_section, ready_section, timer_section}
+use Rattle.rt_app.specs.Waiting.{Critical, spawn_sections, value_sections, statement_sections, block_sections, idle_sections, dispatcher_sections, tasks_sections, moved_sections, handler_sections, sections, holds_off, waiting_bound, free_section, ready_section}
 use Rattle.rt_frames.specs.Inside.Flags.{HasFlags}
 use Rattle.rt_frames.specs.Inside.Waits.{shared_at, free_at, ready_at, if_reaches, spawn_wait, value_wait, statement_wait, block_wait, idle_wait, dispatcher_wait, task_wait, tasks_wait, move_wait, moves_wait, timer_wait, wait_within}
 use Rattle.rt_frames.specs.Inside.Bounded.{wait_of}
@@ -183,22 +184,12 @@ module _ (app : App) (few : (q : ℕ) → list_any (is_of_level q) app.tasks ≡
         (dispatcher_most n t (is_software t) at refl)
         ∙ ap (λ x. counted x (max (block_wait app (cost_measure app) (ceilings app) p t.body.block) (if is_software t then dispatcher_wait app (ceilings app) p n t else 0))) (outermost t.priority p)
 
-    -- the tasks from a number on
-    abbrev AreFrom : ℕ → List Task → Type 0
-    AreFrom n ts = (k : ℕ) → slice_get app.tasks (n + k) ≡ slice_get ts k
-
-    first_from : (n : ℕ) (t : Task) (ts : List Task) → AreFrom n (t ∷ ts) → slice_get app.tasks n ≡ Some t
-    first_from n t ts from = let e : n ≡ n + 0 = omega arith in ap (slice_get app.tasks) e ∙ from 0
-
-    rest_from : (n : ℕ) (t : Task) (ts : List Task) → AreFrom n (t ∷ ts) → AreFrom (n + 1) ts
-    rest_from n t ts from k = let e : (n + 1) + k ≡ n + suc k = omega arith in ap (slice_get app.tasks) e ∙ from (suc k)
-
-    tasks_most : (n : ℕ) (ts : List Task) → AreFrom n ts → most p (tasks_sections app n ts) ≡ tasks_wait app (cost_measure app) (ceilings app) p n ts
+    tasks_most : (n : ℕ) (ts : List Task) → AreFrom app.tasks n ts → most p (tasks_sections app n ts) ≡ tasks_wait app (cost_measure app) (ceilings app) p n ts
     tasks_most n [] from = refl
     tasks_most n (t ∷ ts) from =
         most_append p (block_sections app t.priority 0 t.body.block ++ dispatcher_sections app n t) (tasks_sections app (n + 1) ts)
-        ∙ ap (λ x. max x (most p (tasks_sections app (n + 1) ts))) (task_most n t (first_from n t ts from))
-        ∙ ap (max (task_wait app (cost_measure app) (ceilings app) p n t)) (tasks_most (n + 1) ts (rest_from n t ts from))
+        ∙ ap (λ x. max x (most p (tasks_sections app (n + 1) ts))) (task_most n t (first_from app.tasks n t ts from))
+        ∙ ap (max (task_wait app (cost_measure app) (ceilings app) p n t)) (tasks_most (n + 1) ts (rest_from app.tasks n t ts from))
 
     moved_most : (level n : ℕ) (t : Task) (b armed : Bool) → slice_get app.tasks n ≡ Some t → is_software t ≡ b
         → most p (if b && armed then ready_section app level 0 t.priority READY_COST ∷ [] else [])
@@ -209,22 +200,19 @@ module _ (app : App) (few : (q : ℕ) → list_any (is_of_level q) app.tasks ≡
     moved_most level n t true false at soft = counted_none (can p level 0)
     moved_most level n t false armed at soft = counted_none (can p level 0)
 
-    moves_most : (level n : ℕ) (ts : List Task) → AreFrom n ts → most p (moved_sections app level n ts) ≡ counted (can p level 0) (moves_wait app (ceilings app) p n ts)
+    moves_most : (level n : ℕ) (ts : List Task) → AreFrom app.tasks n ts → most p (moved_sections app level n ts) ≡ counted (can p level 0) (moves_wait app (ceilings app) p n ts)
     moves_most level n [] from = counted_none (can p level 0)
     moves_most level n (t ∷ ts) from =
         joined p level 0 (if is_software t && is_armed app n then ready_section app level 0 t.priority READY_COST ∷ [] else []) (moved_sections app level (n + 1) ts)
         (move_wait app (ceilings app) p n t) (moves_wait app (ceilings app) p (n + 1) ts)
-        (moved_most level n t (is_software t) (is_armed app n) (first_from n t ts from) refl) (moves_most level (n + 1) ts (rest_from n t ts from))
-
-    all_from : AreFrom 0 app.tasks
-    all_from k = let e : 0 + k ≡ k = omega arith in ap (slice_get app.tasks) e
+        (moved_most level n t (is_software t) (is_armed app n) (first_from app.tasks n t ts from) refl) (moves_most level (n + 1) ts (rest_from app.tasks n t ts from))
 
     timer_most : (o : Option Mono) → app.mono ≡ o → most p (handler_sections app o) ≡ timer_wait app (cost_measure app) (ceilings app) p o
     timer_most None e = refl
     timer_most (Some mono) e =
         let own = if_reaches p (or_zero (ceilings app).timer) (timer_section_cost app) in
         ap (λ x. max x (most p (moved_sections app mono.priority 0 app.tasks))) (one_at p mono.priority 0 (ceiling app section.Timer) (timer_section_cost app) (or_zero (ceilings app).timer) (timer_at_is app mono e))
-        ∙ ap (max (counted (can p mono.priority 0) own)) (moves_most mono.priority 0 app.tasks all_from) ∙ both_counted (can p mono.priority 0) own (moves_wait app (ceilings app) p 0 app.tasks)
+        ∙ ap (max (counted (can p mono.priority 0) own)) (moves_most mono.priority 0 app.tasks (all_from app.tasks)) ∙ both_counted (can p mono.priority 0) own (moves_wait app (ceilings app) p 0 app.tasks)
         ∙ ap (λ x. counted x (max own (moves_wait app (ceilings app) p 0 app.tasks))) (outermost mono.priority p)
 
     all_most : most p (sections app) ≡ wait_within app (cost_measure app) (ceilings app) p
@@ -233,7 +221,7 @@ module _ (app : App) (few : (q : ℕ) → list_any (is_of_level q) app.tasks ≡
         ∙ ap (λ x. max x (most p (tasks_sections app 0 app.tasks ++ handler_sections app app.mono))) (idle_most app.idle refl)
         ∙ ap (max (idle_wait app (cost_measure app) (ceilings app) p app.idle))
         (most_append p (tasks_sections app 0 app.tasks) (handler_sections app app.mono)
-        ∙ ap (λ x. max x (most p (handler_sections app app.mono))) (tasks_most 0 app.tasks all_from)
+        ∙ ap (λ x. max x (most p (handler_sections app app.mono))) (tasks_most 0 app.tasks (all_from app.tasks))
         ∙ ap (max (tasks_wait app (cost_measure app) (ceilings app) p 0 app.tasks)) (timer_most app.mono refl))
 
 any_priority : (q : ℕ) (ts : List Task) → list_any (is_of_level q) ts ≡ true → list_any (λ t. t.priority == q) ts ≡ true
@@ -258,12 +246,9 @@ few_levels app flags has q h =
 wait_is : (app : App) (flags : List Bool) → HasFlags flags (has_handler app) → IsSound app → (p : ℕ) → wait_within app (cost_measure app) (ceilings app) p ≡ waiting_bound app p
 wait_is app flags has sound p = sym (all_most app (few_levels app flags has) sound p) ∙ most_is p (sections app)
 
-same_waits : (f g : ℕ → ℕ) → ((p : ℕ) → f p ≡ g p) → (ps : List ℕ) → map (λ p. let w : Wait = record { level = p; steps = f p } in w) ps ≡ map (λ p. let w : Wait = record { level = p; steps = g p } in w) ps
-same_waits f g same [] = refl
-same_waits f g same (p ∷ ps) =
-    ap (λ n. let w : Wait = record { level = p; steps = n } in w ∷ map (λ p. let w : Wait = record { level = p; steps = f p } in w) ps) (same p)
-    ∙ ap (λ ws. let w : Wait = record { level = p; steps = g p } in w ∷ ws) (same_waits f g same ps)
+abbrev wait : ℕ → ℕ → Wait
+wait p n = record { level = p; steps = n }
 
 pub waits_are : (app : App) (m : Measure) (c : Ceilings) (flags : List Bool) → m ≡ cost_measure app → c ≡ ceilings app → HasFlags flags (has_handler app) → IsSound app → (ps : List ℕ)
     → map (wait_of app m c) ps ≡ map (λ p. let w : Wait = record { level = p; steps = waiting_bound app p } in w) ps
-waits_are app m c flags measure is has sound ps = ap (λ n. map (wait_of app n c) ps) measure ∙ ap (λ d. map (wait_of app (cost_measure app) d) ps) is ∙ same_waits (wait_within app (cost_measure app) (ceilings app)) (waiting_bound app) (wait_is app flags has sound) ps
+waits_are app m c flags measure is has sound ps = ap (λ n. map (wait_of app n c) ps) measure ∙ ap (λ d. map (wait_of app (cost_measure app) d) ps) is ∙ map_alike (λ p. wait p (wait_within app (cost_measure app) (ceilings app) p)) (λ p. wait p (waiting_bound app p)) (λ p. ap (wait p) (wait_is app flags has sound p)) ps

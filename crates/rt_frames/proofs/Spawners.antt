@@ -1,5 +1,5 @@
 -- The tasks that bodies arm, as the flags of all their spawns, and what is summed over them.
-use Rattle.std.proofs.Common.{◌≡◌, ℕ, zero, suc, ◌+◌, ◌<◌, ◌≤◌, ◌==◌, Bool, true, false, not, ◌&&◌, ◌||◌, List, [], ◌∷◌, ◌++◌, length, get_or, drop, min, ⊎_elim, map, filter, flat_map, Option, Some, None, refl, sym, ap, ◌∙◌, cond, if◌then◌else◌, leb, arith}
+use Rattle.std.proofs.Common.{◌≡◌, ℕ, ◌+◌, ◌<◌, ◌≤◌, ◌==◌, Bool, true, false, not, ◌&&◌, ◌||◌, List, [], ◌∷◌, ◌++◌, length, get_or, drop, min, ⊎_elim, map, filter, flat_map, Option, Some, None, refl, sym, ap, ◌∙◌, cond, if◌then◌else◌, leb, arith}
 use Rattle.std.specs.List.{list_any}
 use Rattle.std.specs.Int.{from_bool}
 use Rattle.std.proofs.lemmas.List.{get_or_past, drop_all}

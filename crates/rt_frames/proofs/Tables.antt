@@ -1,6 +1,6 @@
 -- The tables of ceilings, seen at what there is.
-use Rattle.std.proofs.Common.{◌≡◌, ℕ, zero, suc, ◌+◌, ◌<◌, ◌==◌, nat_lt, max, Bool, true, false, ◌&&◌, ◌||◌, if◌then◌else◌, cond, List, [], ◌∷◌, ◌++◌, map, length, get_or, slice_get, find, Option, Some, None, option_map, refl, sym, ap, ◌∙◌, arith, add-zero, ◌⊎◌, ⊎_elim, inl, inr, eq-eqb}
-use Rattle.std.specs.List.{list_any, range_with_len}
+use Rattle.std.proofs.Common.{◌≡◌, ℕ, zero, suc, ◌+◌, ◌<◌, ◌==◌, Bool, true, false, ◌&&◌, ◌||◌, if◌then◌else◌, cond, List, [], ◌∷◌, map, length, slice_get, find, Option, Some, None, option_map, refl, sym, ap, ◌∙◌, arith, add-zero, ◌⊎◌, ⊎_elim, inl, inr, eq-eqb}
+use Rattle.std.specs.List.{list_any}
 use Rattle.std.proofs.lemmas.List.FromFn.{get_or-map-range_with_len}
 use Rattle.std.proofs.lemmas.List.Folds.{list_any-append}
 use Rattle.std.proofs.lemmas.Bool.{cases_order, eqb-true}

@@ -1,5 +1,4 @@
 use Rattle.std.proofs.Common.{arith}
-use Rattle.rt_app.specs.View.{block_of}
 use Rattle.rt_frames.proofs.Views.{branch_at, repeat_at, locked_at}
 use Rattle.rt_frames.proofs.Sums.{block_cost_more}
 use Rattle.rt_frames.proofs.measure.Measure.+block.Goals as goal
