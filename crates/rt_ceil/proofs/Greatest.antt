@@ -19,11 +19,6 @@ folded_marks f P keeps see test step s [] h = with_false (see s)
 folded_marks f P keeps see test step s (a ∷ items) h =
     folded_marks f P keeps see test step (f s a) items (keeps s a h) ∙ ap (λ (b : Bool). b || list_any test items) (step s a h) ∙ or_assoc (see s) (test a) (list_any test items)
 
--- amounts that are the same
-pub greatest_same : {A : Type 0} (f g : A → ℕ) → ((a : A) → f a ≡ g a) → (items : List A) → greatest (map f items) ≡ greatest (map g items)
-greatest_same f g same [] = refl
-greatest_same f g same (a ∷ items) = ap (λ n. max n (greatest (map f items))) (same a) ∙ ap (max (g a)) (greatest_same f g same items)
-
 -- one amount of the items that pass
 pub greatest_any : {A : Type 0} (test : A → Bool) (n : ℕ) (items : List A) → greatest (map (λ a. if test a then n else 0) items) ≡ (if list_any test items then n else 0)
 greatest_any test n [] = refl

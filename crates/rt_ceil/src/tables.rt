@@ -1,6 +1,6 @@
 ghost use Rattle.std.specs.Prelude.{◌≡◌, replicate, IfOk};
 ghost use Rattle.rt_app.specs.View.{app_of};
-ghost use Rattle.rt_ceil.specs.Tables.{untouched, raised, raised_level};
+ghost use Rattle.rt_ceil.specs.Inside.Tables.{untouched, raised, raised_level};
 
 use rt_app::App;
 use rt_app::costs::PRIORITIES;
@@ -21,11 +21,11 @@ pub(crate) struct Tables {
 }
 
 impl Model for Tables {
-    ghost use Rattle.rt_ceil.specs.Tables.{Tables};
+    ghost use Rattle.rt_ceil.specs.Inside.Tables.{Tables, tables};
 
     ghost Value = { Tables };
 
-    ghost view = { λ t. record { shared = t.shared.items; free = t.free.items; ready = t.ready.items; timer = t.timer } };
+    ghost view = { λ t. tables t.shared.items t.free.items t.ready.items t.timer };
 }
 
 impl Tables {

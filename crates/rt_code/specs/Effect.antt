@@ -1,9 +1,11 @@
--- What one instruction does. The instructions are this model's own; `raise`, `restore`, `mask`, `unmask` and `serve` do what
--- MSR and CPS do to BASEPRI and PRIMASK (ARMv7-M Architecture Reference Manual, sections B5.2.1 and B5.2.3), effective as the
--- instruction ends. A table of cells and slots that are touched, and a table of effects; the code tests slot by slot.
+-- What one instruction does. The instructions are this model's own; `raise`, `restore`, `mask`, `unmask` and `serve` do
+-- what MSR and CPS do to BASEPRI and PRIMASK (ARMv7-M Architecture Reference Manual, sections B5.2.1 and B5.2.3),
+-- effective as the instruction ends. A table of cells and slots that are touched, and a table of effects; the code
+-- tests slot by slot.
 use Rattle.std.specs.Prelude.{ℕ, suc, ◌+◌, ◌==◌, true, false, not, nat_le, if◌then◌else◌, slice_index, slice_set}
 use Rattle.rt_ids.specs.Operation.{operate, number_of}
-use Rattle.rt_code.specs.Operands.{slots_of, cells_of, are_there}
+use Rattle.rt_code.specs.Access.{cells_of}
+use Rattle.rt_code.specs.Operands.{slots_of, are_there}
 use Rattle.rt_code.specs.Processor.{Processor, Effect, Traps, Leads}
 use Rattle.rt_code.specs.declared.instr.Instr.{Instr}
 use Rattle.rt_code.specs.declared.instr.Instr.TheVariants as instr
@@ -26,9 +28,11 @@ stored p c v = record (next p) { cells = slice_set p.cells c v }
 
 -- PRIMASK takes 0 or 1
 abbrev pub unmask : Processor → ℕ → Effect
-unmask p value = if nat_le value 1 then Leads (record (next p) { primask = value == 1 }) request.Nothing else Traps trap.Stack
+unmask p value =
+    if nat_le value 1 then Leads (record (next p) { primask = value == 1 }) request.Nothing else Traps trap.Stack
 
--- what an instruction does at a time, where its cells and slots are there
+-- What an instruction does at a time, where its cells and slots are there. The number of a cell behind another, C +
+-- slot S, is a sum that does not wrap.
 abbrev pub done : Instr → ℕ → Processor → Effect
 done (instr.Set d v) time p = Leads (written p d v) request.Nothing
 done (instr.Copy d s) time p = Leads (written p d (slot p s)) request.Nothing

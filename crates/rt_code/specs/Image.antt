@@ -1,9 +1,10 @@
 -- An image: code, and the tables that a core needs to run it. The tables stand for the vector table (ARMv7-M
--- Architecture Reference Manual, section B1.5.3), the priority registers of the interrupt controller (section B3.4.9) and
--- the initial contents of memory. The code keeps vectors.
+-- Architecture Reference Manual, section B1.5.3), the priority registers of the interrupt controller (section B3.4.9)
+-- and the initial contents of memory. The code keeps vectors.
 use Rattle.std.specs.Prelude.{ℕ, List, Option}
 use Rattle.rt_ids.specs.Names.{Names}
 use Rattle.rt_ids.specs.declared.cell.CellRow.{CellRow}
+use Rattle.rt_code.specs.declared.image.TheConstants.{ENTRY_WORDS}
 use Rattle.rt_code.specs.declared.image.IrqRow.{IrqRow}
 use Rattle.rt_code.specs.declared.image.BodyRow.{BodyRow}
 use Rattle.rt_code.specs.declared.instr.Instr.{Instr}
@@ -25,3 +26,8 @@ pub record Image : Type 0 where
   -- the instructions by address, each with its note
   pub code : List (Instr × Option Note)
   pub names : Names
+
+-- How many words exception entry pushes: the eight of the basic frame (section B1.5.6), since no code of an image uses
+-- floating-point registers.
+abbrev pub entry_words : Image → ℕ
+entry_words img = ENTRY_WORDS

@@ -1,9 +1,13 @@
 pub mod Image
 pub mod Processor
+pub mod Access
 pub mod Operands
 pub mod Effect
-pub mod Does
+pub mod Laws
 pub mod Trap
 pub mod Runnable
+pub mod Cells
 pub mod Naming
 pub mod Listable
+pub mod Lines
+pub mod Inside

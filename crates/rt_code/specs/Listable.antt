@@ -1,6 +1,6 @@
--- Which images have a text that no other image over the same names has: each name that the text needs is in the tables of
--- names, and no name can be taken for another word or for two.
-use Rattle.std.specs.Prelude.{◌≡◌, ◌≢◌, ℕ, ◌<◌, List, length, map, codes, Option, Some, None, IsSome, slice_get, [], ◌∷◌}
+-- Which images have a text that no other image over the same names has: each name that the text needs is in the tables
+-- of names, and no name can be taken for another word or for two.
+use Rattle.std.specs.Prelude.{◌≢◌, ℕ, ◌<◌, List, length, map, codes, Option, Some, None, IsSome, [], ◌∷◌}
 use Rattle.std.specs.List.{Contains, AllByRecursion}
 use Rattle.rt_ids.specs.Lists.{AreDifferent}
 use Rattle.rt_ids.specs.Names.{Names}

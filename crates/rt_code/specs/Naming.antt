@@ -1,6 +1,7 @@
--- How interrupts, tasks, sections and bodies stand by name in the text of an image: interrupts, tasks and resources by the
--- names that the application declares, queues by the name of their task or the number of their level behind a dot.
-use Rattle.std.specs.Prelude.{ℕ, ◌==◌, List, [], ◌++◌, codes, decimal, find, option_map, unwrap_or, slice_index_or, Option}
+-- How interrupts, tasks, sections and bodies stand by name in the text of an image: interrupts, tasks and resources by
+-- the names that the application declares, queues by the name of their task or the number of their level behind a dot.
+use Rattle.std.specs.Prelude.{ℕ, ◌==◌, List, [], ◌++◌, codes, decimal, find, option_map, unwrap_or, slice_index_or}
+use Rattle.std.specs.Prelude.{Option}
 use Rattle.rt_ids.specs.Names.{Names}
 use Rattle.rt_ids.specs.declared.ids.BodyId.{BodyId}
 use Rattle.rt_ids.specs.declared.ids.BodyId.TheVariants as body

@@ -1,7 +1,6 @@
--- The slots that an instruction names, and the cells that it touches. Of a cell behind another the number is in a slot.
-use Rattle.std.specs.Prelude.{ℕ, ◌+◌, Bool, nat_lt, List, [], ◌∷◌, length, slice_get, Option, Some, None}
+-- The slots that an instruction names, and whether places are there.
+use Rattle.std.specs.Prelude.{ℕ, Bool, nat_lt, List, [], ◌∷◌, length}
 use Rattle.std.specs.List.{list_all}
-use Rattle.rt_code.specs.Processor.{Processor}
 use Rattle.rt_code.specs.declared.instr.Instr.{Instr}
 use Rattle.rt_code.specs.declared.instr.Instr.TheVariants as instr
 
@@ -23,19 +22,6 @@ slots_of (instr.Restore s) = s ∷ []
 slots_of (instr.Mask d) = d ∷ []
 slots_of (instr.Unmask s) = s ∷ []
 slots_of i = []
-
--- the cell so far behind another, where there is a number
-abbrev pub cell_behind : ℕ → Option ℕ → List ℕ
-cell_behind c None = []
-cell_behind c (Some n) = (c + n) ∷ []
-
--- the cells that an instruction touches
-abbrev pub cells_of : Instr → Processor → List ℕ
-cells_of (instr.Load d c) p = c ∷ []
-cells_of (instr.Store c s) p = c ∷ []
-cells_of (instr.LoadAt d c s) p = cell_behind c (slice_get p.slots s)
-cells_of (instr.StoreAt c s a) p = cell_behind c (slice_get p.slots s)
-cells_of i p = []
 
 -- all of these places are in the words
 abbrev pub are_there : List ℕ → List ℕ → Bool

@@ -1,6 +1,7 @@
--- What an instruction reads and writes by itself: the processor's registers that it names, the words of the running frame,
--- and the cells of memory (ARMv7-M Architecture Reference Manual, sections B1.4.2 and B1.4.3 for the masks). The general
--- registers are not modelled: an instruction works on the words of the frame. Also what it asks of the rest of the core.
+-- What an instruction reads and writes by itself: the processor's registers that it names, the words of the running
+-- frame, and the cells of memory (ARMv7-M Architecture Reference Manual, sections B1.4.2 and B1.4.3 for the masks). The
+-- general registers are not modelled: an instruction works on the words of the frame. Also what it asks of the rest of
+-- the core.
 use Rattle.std.specs.Prelude.{◌≡◌, ℕ, Bool, List, Result, Ok, Err}
 use Rattle.rt_code.specs.declared.processor.Registers.{Registers}
 use Rattle.rt_code.specs.declared.processor.Request.{Request}
@@ -20,7 +21,8 @@ pub record Processor : Type 0 where
 
 -- the parts of the code, together
 abbrev pub processor : Registers → List ℕ → List ℕ → Processor
-processor r slots cells = record { address = r.address; basepri = r.basepri; primask = r.primask; slots = slots; cells = cells }
+processor r slots cells =
+    record { address = r.address; basepri = r.basepri; primask = r.primask; slots = slots; cells = cells }
 
 -- what comes of an instruction: it cannot be done, or it leads to a state with a request to the rest of the core
 pub data Effect : Type 0 where

@@ -1,7 +1,7 @@
 ghost use Rattle.std.specs.Prelude.{◌≡◌, ℕ, ◌+◌, ◌^◌, ◌<◌, nat_lt, true, false, List, length, slice_index, slice_set, IfOk, OnOk, IfErr};
 ghost use Rattle.rt_code.specs.Processor.{processor, Gives};
 ghost use Rattle.rt_code.specs.Effect.{effect};
-ghost use Rattle.rt_code.specs.Does.{Does};
+ghost use Rattle.rt_code.specs.Inside.Does.{Does};
 
 use crate::instr::Instr;
 use crate::processor::{Registers, Request, Trap};

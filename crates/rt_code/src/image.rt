@@ -1,6 +1,12 @@
+ghost use Rattle.std.specs.Prelude.{◌≡◌};
+ghost use Rattle.rt_code.specs.Image.{entry_words};
+
 use crate::instr::{Instr, Note};
 use rt_ids::{CellRow, Irq, Name, Names, TaskId};
 use std::marker::Model;
+
+/// The words of the basic frame that exception entry pushes.
+pub const ENTRY_WORDS: u32 = 8;
 
 /// How an interrupt is served.
 #[derive(Clone, Copy, Debug, PartialEq, Eq)]
@@ -70,4 +76,14 @@ impl Model for Image {
       code = image.code.items;
       names = image.names;
     } };
+}
+
+impl Image {
+    /// The words that exception entry pushes.
+    pub fn entry_words(&self) -> u32
+        ensures { result ≡ entry_words self.now }
+    {
+        let _ = &self.bits;
+        ENTRY_WORDS
+    }
 }

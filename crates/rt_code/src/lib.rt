@@ -4,9 +4,11 @@
 pub mod execution;
 pub mod image;
 pub mod instr;
+mod laws;
 pub mod processor;
 
 pub use execution::execute;
-pub use image::{BodyRow, Handler, Image, IrqRow};
+pub use image::{BodyRow, ENTRY_WORDS, Handler, Image, IrqRow};
 pub use instr::{Instr, Note};
+pub use laws::effect_is_done;
 pub use processor::{Registers, Request, Trap};

@@ -1,8 +1,8 @@
 -- The frame of a called body, above that of its caller.
-use Rattle.std.proofs.Common.{◌≡◌, ℕ, zero, suc, ◌+◌, ◌-◌, ◌<◌, ◌≤◌, ◌==◌, ◌&&◌, ◌||◌, not, Bool, true, false, IsTrue, nat_le, Option, Some, None, is_none, List, [], ◌∷◌, ◌++◌, length, take, drop, set, replicate, reverse, refl, sym, ap, ◌∙◌, arith, append_assoc, append-nil, length-append, length-set, length-take, length-drop}
+use Rattle.std.proofs.Common.{◌≡◌, ℕ, ◌+◌, ◌-◌, ◌<◌, ◌≤◌, ◌==◌, ◌&&◌, ◌||◌, not, IsTrue, nat_le, Option, Some, None, is_none, List, [], ◌∷◌, ◌++◌, length, take, drop, set, replicate, reverse, refl, sym, ap, ◌∙◌, arith, append_assoc, append-nil, length-append, length-set, length-drop}
 use Rattle.std.proofs.lemmas.Bool.{leb-true}
 use Rattle.std.proofs.lemmas.Bool.Decides.{nat_tests}
-use Rattle.std.proofs.lemmas.List.{length-replicate, take-append-drop, take-append-le, drop-append-le, take_at, drop_at, drop-drop, drop-replicate, set-append_left}
+use Rattle.std.proofs.lemmas.List.{length-replicate, take-append-drop, take_at, drop_at, drop-drop, drop-replicate, set-append_left}
 use Rattle.rt_lemmas.proofs.Lists.{take-drop-front, length-take-drop}
 use Rattle.rt_lemmas.proofs.Bools.{both_true}
 use Rattle.rt_stack.specs.Region.{Region, used, top, below, pushed}
@@ -10,10 +10,11 @@ use Rattle.rt_stack.specs.Top.{with_top}
 use Rattle.rt_code.specs.declared.image.BodyRow.{BodyRow}
 use Rattle.rt_stack.proofs.Frames.{top-behind, below-behind, with_top-same}
 use Rattle.rt_context.specs.declared.frames.Frames.TheInside.{Inside}
-use Rattle.rt_context.specs.Frames.{Frames, words_of, words_below}
-use Rattle.rt_context.specs.Moves.{has_room, may_call, last_slot, call_fits, called}
+use Rattle.rt_context.specs.Stack.{words_of, last_slot, arguments_fit}
+use Rattle.rt_context.specs.Frames.{Frames, words_below}
+use Rattle.rt_context.specs.Moves.{has_room, may_call, call_fits, called}
 use Rattle.rt_ids.specs.Lists.{is_empty}
-use Rattle.rt_context.specs.Parts.{Spells}
+use Rattle.rt_context.specs.Inside.Parts.{Spells}
 use Rattle.rt_context.proofs.Running.{top_is, below_is}
 
 -- the slots of a caller and of a body above it, with the arguments copied
@@ -90,35 +91,37 @@ pub tested : (f : Frames) (row : BodyRow) (from : ℕ) → IsTrue (may_call f) �
 tested f row from may fits =
     let handler = both_true (is_none f.caller) (not (is_empty f.below) && not (is_empty f.slots)) may in
     let slot = both_true (not (is_empty f.below)) (not (is_empty f.slots)) handler.1 in
-    let there = both_true ((row.args == 0) || nat_le (from + row.args) (length f.slots)) (nat_le row.args row.frame && has_room f row.frame) fits in
-    let taken = both_true (nat_le row.args row.frame) (has_room f row.frame) there.1 in record {
+    let parts = both_true (arguments_fit f.slots row from) (has_room f row.frame) fits in
+    let there = both_true ((row.args == 0) || nat_le (from + row.args) (length f.slots)) (nat_le row.args row.frame) parts.0 in record {
       handler = none_from_test f.caller handler.0;
       slot = some_slot f.slots slot.1;
       there = arguments_from_test row.args from (length f.slots) there.0;
-      taken = leb-true row.args row.frame taken.0;
-      room = taken.1;
+      taken = leb-true row.args row.frame there.1;
+      room = parts.1;
     }
 
 pub spells_called : (f : Frames) (c d : Inside) (row : BodyRow) (from args address : ℕ) → Spells f c → MayCall f row from → args ≡ row.args
     → d.region ≡ record c.region { words = below c.region c.frame ++ called_with from args row.frame (set (top c.region c.frame) (c.frame - 1) address) }
-    → d.frame ≡ row.frame → d.caller ≡ Some c.frame → d.callers ≡ c.callers → Spells (called f row from address) d
-spells_called f c d row from args address s may args_are region frame caller callers =
+    → d.entry ≡ c.entry → d.frame ≡ row.frame → d.caller ≡ Some c.frame → d.callers ≡ c.callers → Spells (called f row from address) d
+spells_called f c d row from args address s may args_are region entry frame caller callers =
     let slots : List ℕ = set f.slots (last_slot f.slots) address in
     let long : length slots ≡ length f.slots = length-set f.slots (last_slot f.slots) address in
     let body : List ℕ = take row.args (drop from slots) ++ replicate (row.frame - row.args) 0 in
     let both : length (called_with from row.args row.frame slots) ≡ length f.slots + row.frame =
     length-called_with (length f.slots) from row.args row.frame slots long may.there may.taken in
-    let under : below c.region c.frame ≡ words_below f.below =
-    below_is f c s ∙ ap (λ o. words_below f.below ++ words_of o) may.handler ∙ append-nil (words_below f.below) in
-    let all : d.region.words ≡ words_below f.below ++ called_with from row.args row.frame slots =
+    let under : below c.region c.frame ≡ words_below f.entry f.below =
+    below_is f c s ∙ ap (λ o. words_below f.entry f.below ++ words_of o) may.handler ∙ append-nil (words_below f.entry f.below) in
+    let all : d.region.words ≡ words_below f.entry f.below ++ called_with from row.args row.frame slots =
     ap (λ (r : Region). r.words) region
     ∙ (λ i. under i ++ called_with from (args_are i) row.frame (set (top_is f c s i) (s.frame i - 1) address)) in record {
       spelled = all;
       size = ap (λ (r : Region). r.size) region ∙ s.size;
+      entry = entry ∙ s.entry;
       frame = frame ∙ omega (arith, both, long, length-append slots body);
       caller = caller ∙ ap Some (s.frame ∙ sym long);
       callers = ap (λ cs. reverse cs.items) callers ∙ s.callers;
       small = s.small;
+      eight = s.eight;
       returns = omega (arith, long, may.slot);
       below_return = s.below_return;
     }

@@ -1,15 +1,15 @@
 -- What fields spell after a return.
-use Rattle.std.proofs.Common.{◌≡◌, ℕ, ◌+◌, ◌-◌, ◌≤◌, List, [], ◌∷◌, ◌++◌, slice_index, length, reverse, Option, Some, None, refl, sym, ap, subst, ◌∙◌, arith, append_assoc, append-nil, length-append, length-take}
+use Rattle.std.proofs.Common.{◌≡◌, ℕ, ◌+◌, ◌-◌, ◌≤◌, List, [], ◌∷◌, ◌++◌, slice_index, length, reverse, Option, Some, None, option_map, refl, sym, ap, subst, ◌∙◌, arith, append_assoc, append-nil, length-append, length-take}
 use Rattle.std.specs.List.{AllByRecursion}
 use Rattle.std.proofs.lemmas.List.{reverse-append}
 use Rattle.rt_stack.specs.Region.{Region, top, popped}
 use Rattle.rt_stack.specs.Region.{used as used_words, below as below_top}
 use Rattle.rt_context.specs.declared.exception.TheConstants.{LINK, RETURN_ADDRESS}
-use Rattle.rt_context.specs.declared.sizes.TheConstants.{EXCEPTION_WORDS}
 use Rattle.rt_context.specs.declared.frames.Frames.TheInside.{Inside}
-use Rattle.rt_context.specs.Frames.{Saved, Frames, words_of, exception_frame, words_below, words}
-use Rattle.rt_context.specs.Moves.{returned, left, back}
-use Rattle.rt_context.specs.Parts.{frames, caller_size, HasReturn, Spells, IsSpelled}
+use Rattle.rt_context.specs.Stack.{words_of, interrupted}
+use Rattle.rt_context.specs.Frames.{Saved, Frames, exception_frame, words_below, words}
+use Rattle.rt_context.specs.Moves.{resumed, left, back}
+use Rattle.rt_context.specs.Inside.Parts.{frames, caller_size, HasReturn, Spells, IsSpelled}
 use Rattle.rt_context.proofs.Spelling.{last_of-append, without-append, length-exception_frame, sizes_of, spelled, kept}
 use Rattle.rt_context.proofs.Running.{below_is, used_is, popped_is}
 
@@ -29,18 +29,18 @@ leads_view o d address l a same =
     l.is ∙ (λ i. Some (sym (spelled l.after d l.spells) i, e i))
 
 -- A body's return.
-back_by : (size : ℕ) (slots : List ℕ) (handler : Option (List ℕ)) (saved : List Saved) (c d : Inside) (n address : ℕ)
-    → Spells (record { size = size; slots = slots; caller = handler; below = saved }) c → c.caller ≡ Some n
-    → d.region ≡ popped c.region c.frame → d.frame ≡ n → d.caller ≡ None → d.callers ≡ c.callers → address ≡ slice_index (top d.region n) (n - 1)
-    → Leads (back (record { size = size; slots = slots; caller = handler; below = saved })) d address
-back_by size slots None saved c d n address s calls region frame caller callers read = let is = s.caller in cc
-back_by size slots (Some own) saved c d n address s calls region frame caller callers read =
+back_by : (size entry : ℕ) (slots : List ℕ) (handler : Option (List ℕ)) (saved : List Saved) (c d : Inside) (n address : ℕ)
+    → Spells (record { size = size; entry = entry; slots = slots; caller = handler; below = saved }) c → c.caller ≡ Some n
+    → d.region ≡ popped c.region c.frame → d.entry ≡ c.entry → d.frame ≡ n → d.caller ≡ None → d.callers ≡ c.callers → address ≡ slice_index (top d.region n) (n - 1)
+    → Leads (back (record { size = size; entry = entry; slots = slots; caller = handler; below = saved })) d address
+back_by size entry slots None saved c d n address s calls region entry_is frame caller callers read = let is = s.caller in cc
+back_by size entry slots (Some own) saved c d n address s calls region entry_is frame caller callers read =
     let is = s.caller in
     let same : n ≡ length own = cc in
-    let under = region ∙ popped_is (record { size = size; slots = slots; caller = Some own; below = saved }) c s in
+    let under = region ∙ popped_is (record { size = size; entry = entry; slots = slots; caller = Some own; below = saved }) c s in
     let on_top : top d.region n ≡ own =
-    (λ i. top (under i) (same i)) ∙ last_of-append (length own) (words_below saved) own refl in
-    let after : Frames = record { size = size; slots = own; caller = None; below = saved } in
+    (λ i. top (under i) (same i)) ∙ last_of-append (length own) (words_below entry saved) own refl in
+    let after : Frames = record { size = size; entry = entry; slots = own; caller = None; below = saved } in
     let answer : address ≡ slice_index own (length own - 1) =
     read ∙ (λ i. slice_index (on_top i) (same i - 1)) in record {
       after = after;
@@ -48,19 +48,21 @@ back_by size slots (Some own) saved c d n address s calls region frame caller ca
       spells = record {
         spelled = ap (λ (r : Region). r.words) under;
         size = ap (λ (r : Region). r.size) under;
+        entry = entry_is ∙ s.entry;
         frame = frame ∙ same;
         caller = caller;
         callers = ap (λ cs. reverse cs.items) callers ∙ s.callers;
         small = s.small;
+        eight = s.eight;
         returns = tt;
         below_return = s.below_return;
       };
     }
 
 pub back_leads : (f : Frames) (c d : Inside) (n address : ℕ) → Spells f c → c.caller ≡ Some n
-    → d.region ≡ popped c.region c.frame → d.frame ≡ n → d.caller ≡ None → d.callers ≡ c.callers → address ≡ slice_index (top d.region n) (n - 1)
+    → d.region ≡ popped c.region c.frame → d.entry ≡ c.entry → d.frame ≡ n → d.caller ≡ None → d.callers ≡ c.callers → address ≡ slice_index (top d.region n) (n - 1)
     → Leads (back f) d address
-back_leads f = back_by f.size f.slots f.caller f.below
+back_leads f = back_by f.size f.entry f.slots f.caller f.below
 
 -- What an exception return finds below the running frame: a last context, its caller's size and those of the others.
 pub record Finds (f : Frames) (caller : Option ℕ) (callers : List (Option ℕ)) : Type 0 where
@@ -92,39 +94,41 @@ after f last others = record f { slots = last.slots; caller = last.caller; below
 -- An exception return.
 module _ (f : Frames) (c : Inside) (caller : Option ℕ) (callers : List (Option ℕ)) (s : Spells f c) (found : Finds f caller callers) where
   -- below the running frame are the words of the frames to come, and the architecture's frame
-  under_words : words_below f.below ++ words_of f.caller ≡ words (after f found.last found.others) ++ exception_frame found.last
+  under_words : words_below f.entry f.below ++ words_of f.caller ≡ words (after f found.last found.others) ++ exception_frame f.entry found.last
   under_words =
-      (λ i. words_below (found.below i) ++ words_of (found.handler i)) ∙ simp (append-nil, append_assoc)
+      (λ i. words_below f.entry (found.below i) ++ words_of (found.handler i)) ∙ simp (append-nil, append_assoc)
 
-  pub entry_is_there : c.frame + EXCEPTION_WORDS ≤ used_words c.region
+  pub entry_is_there : c.frame + c.entry ≤ used_words c.region
   entry_is_there =
       let count = ap length (below_is f c s ∙ under_words) in
-      omega (arith, count, used_is f c s, s.frame, length-take (used_words c.region - c.frame) c.region.words, length-append (words (after f found.last found.others)) (exception_frame found.last), length-exception_frame found.last)
+      omega (arith, count, used_is f c s, s.frame, s.entry, length-take (used_words c.region - c.frame) c.region.words, length-append (words (after f found.last found.others)) (exception_frame f.entry found.last), length-exception_frame f.entry s.eight found.last)
 
-  pub left_leads : (d : Inside) (address : ℕ) → d.region ≡ popped (popped c.region c.frame) EXCEPTION_WORDS
-      → d.frame ≡ slice_index (top (popped c.region c.frame) EXCEPTION_WORDS) LINK → d.caller ≡ caller → reverse d.callers.items ≡ callers
-      → address ≡ slice_index (top (popped c.region c.frame) EXCEPTION_WORDS) RETURN_ADDRESS → Leads (left f) d address
-  left_leads d address region frame caller_is callers_are read =
-      let entry : List ℕ = exception_frame found.last in
+  pub left_leads : (d : Inside) (address : ℕ) → d.region ≡ popped (popped c.region c.frame) c.entry
+      → d.entry ≡ c.entry → d.frame ≡ slice_index (top (popped c.region c.frame) c.entry) LINK → d.caller ≡ caller → reverse d.callers.items ≡ callers
+      → address ≡ slice_index (top (popped c.region c.frame) c.entry) RETURN_ADDRESS → Leads (left f) d address
+  left_leads d address region entry_is frame caller_is callers_are read =
+      let pushed : List ℕ = exception_frame f.entry found.last in
       let rest : List ℕ = words (after f found.last found.others) in
-      let whole : popped c.region c.frame ≡ record { words = rest ++ entry; size = f.size } =
+      let whole : popped c.region c.frame ≡ record { words = rest ++ pushed; size = f.size } =
       popped_is f c s ∙ (λ i. record { words = under_words i; size = f.size }) in
-      let on_top : top (popped c.region c.frame) EXCEPTION_WORDS ≡ entry =
-      ap (λ r. top r EXCEPTION_WORDS) whole ∙ last_of-append EXCEPTION_WORDS rest entry (length-exception_frame found.last) in
+      let on_top : top (popped c.region c.frame) c.entry ≡ pushed =
+      (λ i. top (whole i) (s.entry i)) ∙ last_of-append f.entry rest pushed (length-exception_frame f.entry s.eight found.last) in
       let left_words : d.region.words ≡ rest =
-      ap (λ (r : Region). r.words) region ∙ ap (λ r. below_top r EXCEPTION_WORDS) whole ∙ without-append EXCEPTION_WORDS rest entry (length-exception_frame found.last) in
+      ap (λ (r : Region). r.words) region ∙ (λ i. below_top (whole i) (s.entry i)) ∙ without-append f.entry rest pushed (length-exception_frame f.entry s.eight found.last) in
       let returns = subst (AllByRecursion (λ (x : Saved). HasReturn x.caller)) found.below s.below_return in
       let answer : address ≡ found.last.address = read ∙ ap (λ ws. slice_index ws RETURN_ADDRESS) on_top in record {
         after = after f found.last found.others;
         is =
-            (λ i. returned f (found.handler i) (found.below i)) ∙ ap (λ a. Some (after f found.last found.others, a)) (sym answer);
+            (λ i. option_map (resumed f) (interrupted (found.handler i) (found.below i))) ∙ ap (λ a. Some (after f found.last found.others, a)) (sym answer);
         spells = record {
           spelled = left_words;
           size = ap (λ (r : Region). r.size) region ∙ s.size;
+          entry = entry_is ∙ s.entry;
           frame = frame ∙ ap (λ ws. slice_index ws LINK) on_top;
           caller = caller_is ∙ found.caller_is;
           callers = callers_are ∙ found.callers_are;
           small = s.small;
+          eight = s.eight;
           returns = returns.0;
           below_return = returns.1;
         };

@@ -4,9 +4,10 @@ use Rattle.std.proofs.lemmas.Bool.Decides.{nat_tests}
 use Rattle.rt_stack.specs.Region.{Fits, top, below, popped}
 use Rattle.rt_stack.specs.Region.{used as used_words}
 use Rattle.rt_context.specs.declared.frames.Frames.TheInside.{Inside}
-use Rattle.rt_context.specs.Frames.{Frames, words_of, words_below, used}
+use Rattle.rt_context.specs.Stack.{words_of}
+use Rattle.rt_context.specs.Frames.{Frames, words_below, used}
 use Rattle.rt_context.specs.Moves.{has_room}
-use Rattle.rt_context.specs.Parts.{frames, Spells, IsSpelled}
+use Rattle.rt_context.specs.Inside.Parts.{frames, Spells, IsSpelled}
 use Rattle.rt_context.proofs.Spelling.{last_of-append, without-append}
 use Rattle.rt_context.proofs.Counting.{words_are_counted}
 
@@ -17,7 +18,7 @@ seen f c s is = subst (λ (g : Frames). Spells g c) is s
 -- the running frame is on top of the rest
 module _ (f : Frames) (c : Inside) (s : Spells f c) where
   rest : List ℕ
-  rest = words_below f.below ++ words_of f.caller
+  rest = words_below f.entry f.below ++ words_of f.caller
 
   regrouped : c.region.words ≡ rest ++ f.slots
   unfolding rest
@@ -27,14 +28,14 @@ module _ (f : Frames) (c : Inside) (s : Spells f c) where
   unfolding rest
   top_is = (λ i. drop (length (regrouped i) - s.frame i) (regrouped i)) ∙ last_of-append (length f.slots) rest f.slots refl
 
-  pub below_is : below c.region c.frame ≡ words_below f.below ++ words_of f.caller
+  pub below_is : below c.region c.frame ≡ words_below f.entry f.below ++ words_of f.caller
   unfolding rest
   below_is = (λ i. take (length (regrouped i) - s.frame i) (regrouped i)) ∙ without-append (length f.slots) rest f.slots refl
 
   pub used_is : used_words c.region ≡ used f
-  used_is = ap length s.spelled ∙ words_are_counted f
+  used_is = ap length s.spelled ∙ words_are_counted f s.eight
 
-  pub popped_is : popped c.region c.frame ≡ record { words = words_below f.below ++ words_of f.caller; size = f.size }
+  pub popped_is : popped c.region c.frame ≡ record { words = words_below f.entry f.below ++ words_of f.caller; size = f.size }
   popped_is = λ i. record { words = below_is i; size = s.size i }
 
 room_test : (r : Bool) (m n size : ℕ) → (IsTrue r ↔ (m + n ≤ size)) → r ≡ nat_le (m + n) size

@@ -1,11 +1,11 @@
 -- The frames that words spell are those whose words they are.
-use Rattle.std.proofs.Common.{◌≡◌, ℕ, ◌-◌, List, [], ◌∷◌, ◌++◌, length, map, take, drop, Option, Some, None, refl, sym, ap, subst, ◌∙◌, arith, append_assoc, length-append}
+use Rattle.std.proofs.Common.{◌≡◌, ℕ, ◌-◌, ◌≤◌, List, [], ◌∷◌, ◌++◌, length, map, take, drop, Option, Some, None, refl, sym, ap, subst, ◌∙◌, arith, append_assoc, length-append}
 use Rattle.std.proofs.lemmas.List.{length-replicate}
 use Rattle.std.proofs.Math.Seq.{take-append_seam, drop-append_seam}
-use Rattle.rt_context.specs.declared.sizes.TheConstants.{EXCEPTION_WORDS}
 use Rattle.rt_context.specs.declared.frames.Frames.TheInside.{Inside}
-use Rattle.rt_context.specs.Frames.{Saved, Frames, words_of, exception_frame, words_below, words}
-use Rattle.rt_context.specs.Parts.{last_of, without, caller_of, below_caller, saved, below_saved, saved_of, frames, caller_size, Spells, IsSpelled}
+use Rattle.rt_context.specs.Stack.{words_of}
+use Rattle.rt_context.specs.Frames.{Saved, Frames, exception_frame, words_below, words}
+use Rattle.rt_context.specs.Inside.Parts.{last_of, without, caller_of, below_caller, saved, below_saved, saved_of, frames, caller_size, Spells, IsSpelled}
 
 -- words behind others
 module _ (n : ℕ) (xs ys : List ℕ) (same : length ys ≡ n) where
@@ -27,74 +27,79 @@ below_caller-append : (caller : Option (List ℕ)) (xs : List ℕ) → below_cal
 below_caller-append None xs = without-append 0 xs [] refl
 below_caller-append (Some ws) xs = without-append (length ws) xs ws refl
 
-pub length-exception_frame : (s : Saved) → length (exception_frame s) ≡ EXCEPTION_WORDS
-length-exception_frame s = omega (arith, length-replicate {A = ℕ} (EXCEPTION_WORDS - 8) 0)
+pub length-exception_frame : (entry : ℕ) → 8 ≤ entry → (s : Saved) → length (exception_frame entry s) ≡ entry
+length-exception_frame entry eight s = omega (arith, length-replicate {A = ℕ} (entry - 8) 0)
 
 -- a context behind other words
-abbrev from_entry : Option ℕ → List (Option ℕ) → List ℕ → List ℕ → List Saved
-from_entry caller callers entry under = saved entry under caller ∷ saved_of (below_saved entry under caller) callers
+module _ (entry : ℕ) where
+  abbrev from_entry : Option ℕ → List (Option ℕ) → List ℕ → List ℕ → List Saved
+  from_entry caller callers pushed under = saved pushed under caller ∷ saved_of entry (below_saved pushed under caller) callers
 
-abbrev from_slots : Saved → List (Option ℕ) → List ℕ → List ℕ → List Saved
-from_slots s callers slots rest =
-    record { number = s.number; address = s.address; slots = slots; caller = caller_of (caller_size s.caller) rest }
-    ∷ saved_of (below_caller (caller_size s.caller) rest) callers
+  abbrev from_slots : Saved → List (Option ℕ) → List ℕ → List ℕ → List Saved
+  from_slots s callers slots rest =
+      record { number = s.number; address = s.address; slots = slots; caller = caller_of (caller_size s.caller) rest }
+      ∷ saved_of entry (below_caller (caller_size s.caller) rest) callers
 
-abbrev from_caller : Saved → List (Option ℕ) → Option (List ℕ) → List ℕ → List Saved
-from_caller s callers caller below =
-    record { number = s.number; address = s.address; slots = s.slots; caller = caller } ∷ saved_of below callers
+  abbrev from_caller : Saved → List (Option ℕ) → Option (List ℕ) → List ℕ → List Saved
+  from_caller s callers caller below =
+      record { number = s.number; address = s.address; slots = s.slots; caller = caller } ∷ saved_of entry below callers
 
-saved_of-append : (s : Saved) (xs : List ℕ) (callers : List (Option ℕ))
-    → saved_of (xs ++ (words_of s.caller ++ (s.slots ++ exception_frame s))) (caller_size s.caller ∷ callers) ≡ s ∷ saved_of xs callers
-saved_of-append s xs callers =
-    let entry = exception_frame s in
-    let rest : List ℕ = xs ++ words_of s.caller in
-    let under : List ℕ = rest ++ s.slots in
-    let regrouped : xs ++ (words_of s.caller ++ (s.slots ++ entry)) ≡ under ++ entry = simp append_assoc in
-    ap (λ ws. saved_of ws (caller_size s.caller ∷ callers)) regrouped
-    ∙ (λ i. from_entry (caller_size s.caller) callers (last_of-append EXCEPTION_WORDS under entry (length-exception_frame s) i) (without-append EXCEPTION_WORDS under entry (length-exception_frame s) i))
-    ∙ (λ i. from_slots s callers (last_of-append (length s.slots) rest s.slots refl i) (without-append (length s.slots) rest s.slots refl i))
-    ∙ (λ i. from_caller s callers (caller_of-append s.caller xs i) (below_caller-append s.caller xs i))
+  module _ (eight : 8 ≤ entry) where
+    saved_of-append : (s : Saved) (xs : List ℕ) (callers : List (Option ℕ))
+        → saved_of entry (xs ++ (words_of s.caller ++ (s.slots ++ exception_frame entry s))) (caller_size s.caller ∷ callers) ≡ s ∷ saved_of entry xs callers
+    saved_of-append s xs callers =
+        let pushed = exception_frame entry s in
+        let long = length-exception_frame entry eight s in
+        let rest : List ℕ = xs ++ words_of s.caller in
+        let under : List ℕ = rest ++ s.slots in
+        let regrouped : xs ++ (words_of s.caller ++ (s.slots ++ pushed)) ≡ under ++ pushed = simp append_assoc in
+        ap (λ ws. saved_of entry ws (caller_size s.caller ∷ callers)) regrouped
+        ∙ (λ i. from_entry (caller_size s.caller) callers (last_of-append entry under pushed long i) (without-append entry under pushed long i))
+        ∙ (λ i. from_slots s callers (last_of-append (length s.slots) rest s.slots refl i) (without-append (length s.slots) rest s.slots refl i))
+        ∙ (λ i. from_caller s callers (caller_of-append s.caller xs i) (below_caller-append s.caller xs i))
 
 abbrev pub sizes_of : List Saved → List (Option ℕ)
 sizes_of below = map (λ s. caller_size s.caller) below
 
-saved_of-words_below : (below : List Saved) → saved_of (words_below below) (sizes_of below) ≡ below
-saved_of-words_below [] = refl
-saved_of-words_below (s ∷ below) =
-    saved_of-append s (words_below below) (sizes_of below) ∙ ap (λ saved. s ∷ saved) (saved_of-words_below below)
+saved_of-words_below : (entry : ℕ) → 8 ≤ entry → (below : List Saved) → saved_of entry (words_below entry below) (sizes_of below) ≡ below
+saved_of-words_below entry eight [] = refl
+saved_of-words_below entry eight (s ∷ below) =
+    saved_of-append entry eight s (words_below entry below) (sizes_of below) ∙ ap (λ saved. s ∷ saved) (saved_of-words_below entry eight below)
 
 -- the view of any fields, by the words and the sizes
-abbrev by_sizes : ℕ → List ℕ → ℕ → Option ℕ → List (Option ℕ) → Frames
-by_sizes size ws frame caller callers =
+abbrev by_sizes : ℕ → ℕ → List ℕ → ℕ → Option ℕ → List (Option ℕ) → Frames
+by_sizes size entry ws frame caller callers =
     let under = without frame ws in
-    record { size = size; slots = last_of frame ws; caller = caller_of caller under; below = saved_of (below_caller caller under) callers }
+    record { size = size; entry = entry; slots = last_of frame ws; caller = caller_of caller under; below = saved_of entry (below_caller caller under) callers }
 
-by_sizes-words : (f : Frames) → by_sizes f.size (words f) (length f.slots) (caller_size f.caller) (sizes_of f.below) ≡ f
-by_sizes-words f =
-    let rest : List ℕ = words_below f.below ++ words_of f.caller in
+by_sizes-words : (f : Frames) → 8 ≤ f.entry → by_sizes f.size f.entry (words f) (length f.slots) (caller_size f.caller) (sizes_of f.below) ≡ f
+by_sizes-words f eight =
+    let rest : List ℕ = words_below f.entry f.below ++ words_of f.caller in
     let regrouped : words f ≡ rest ++ f.slots = simp append_assoc in
-    ap (λ ws. by_sizes f.size ws (length f.slots) (caller_size f.caller) (sizes_of f.below)) regrouped
+    ap (λ ws. by_sizes f.size f.entry ws (length f.slots) (caller_size f.caller) (sizes_of f.below)) regrouped
     ∙ (λ i.
     record {
       size = f.size;
+      entry = f.entry;
       slots = last_of-append (length f.slots) rest f.slots refl i;
       caller = caller_of (caller_size f.caller) (without-append (length f.slots) rest f.slots refl i);
-      below = saved_of (below_caller (caller_size f.caller) (without-append (length f.slots) rest f.slots refl i)) (sizes_of f.below);
+      below = saved_of f.entry (below_caller (caller_size f.caller) (without-append (length f.slots) rest f.slots refl i)) (sizes_of f.below);
     })
     ∙ (λ i.
     record {
       size = f.size;
+      entry = f.entry;
       slots = f.slots;
-      caller = caller_of-append f.caller (words_below f.below) i;
-      below = saved_of (below_caller-append f.caller (words_below f.below) i) (sizes_of f.below);
+      caller = caller_of-append f.caller (words_below f.entry f.below) i;
+      below = saved_of f.entry (below_caller-append f.caller (words_below f.entry f.below) i) (sizes_of f.below);
     })
-    ∙ (λ i. record f { below = saved_of-words_below f.below i })
+    ∙ (λ i. record f { below = saved_of-words_below f.entry eight f.below i })
 
 -- fields that spell frames are seen as these, and keep the invariant
 pub spelled : (f : Frames) (c : Inside) → Spells f c → frames c ≡ f
 unfolding frames
 spelled f c s =
-    (λ i. by_sizes (s.size i) (s.spelled i) (s.frame i) (s.caller i) (s.callers i)) ∙ by_sizes-words f
+    (λ i. by_sizes (s.size i) (s.entry i) (s.spelled i) (s.frame i) (s.caller i) (s.callers i)) ∙ by_sizes-words f s.eight
 
 pub kept : (f : Frames) (c : Inside) → Spells f c → IsSpelled c
 kept f c s = subst (λ (g : Frames). Spells g c) (sym (spelled f c s)) s

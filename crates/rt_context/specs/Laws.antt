@@ -1,7 +1,7 @@
--- What holds of all frames.
-use Rattle.std.specs.Prelude.{◌≡◌, ◌*◌, length}
+-- What holds of all frames with room for what the architecture pushes.
+use Rattle.std.specs.Prelude.{◌≡◌, ◌≤◌, ◌*◌, length}
 use Rattle.rt_context.specs.Frames.{Frames, words, depth}
 
 -- the depth counts the words, four bytes each
 abbrev pub DepthCountsTheWords : Type 0
-DepthCountsTheWords = (f : Frames) → depth f ≡ 4 * length (words f)
+DepthCountsTheWords = (f : Frames) → 8 ≤ f.entry → depth f ≡ 4 * length (words f)

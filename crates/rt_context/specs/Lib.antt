@@ -1,4 +1,5 @@
+pub mod Stack
 pub mod Frames
-pub mod Laws
 pub mod Moves
-pub mod Parts
+pub mod Laws
+pub mod Inside

@@ -3,7 +3,6 @@ ghost use Rattle.std.specs.Prelude.{◌≡◌, ◌+◌, ◌≤◌, ◌++◌, Non
 ghost use Rattle.rt_stack.specs.Region.{Fits, used, top, popped};
 ghost use Rattle.rt_context.specs.Frames.{Saved, exception_frame};
 
-use crate::sizes::EXCEPTION_WORDS;
 use rt_stack::Region;
 
 /// The place of LR, which holds the size of the interrupted frame.
@@ -22,35 +21,37 @@ pub(crate) struct Interrupted {
     pub(crate) address: u32,
 }
 
-/// Pushes the frame for the exception of a number, interrupted at a code address with the last so many words as its frame,
-/// and above it a frame of so many words of 0.
-pub(crate) fn enter(region: &mut Region, frame: u32, number: u32, address: u32, words: u32)
+/// Pushes the frame of so many words for the exception of a number, interrupted at a code address with the last so many
+/// words as its frame.
+pub(crate) fn push(region: &mut Region, entry: u32, frame: u32, number: u32, address: u32)
+    requires eight { 8 ≤ entry }
     requires frame { frame ≤ used region.old }
-    requires fits { Fits region.old (EXCEPTION_WORDS + words) }
+    requires fits { Fits region.old entry }
     ensures { let interrupted : Saved = record { number = number; address = address; slots = top region.old frame; caller = None } in
-        region.new ≡ record region.old { words = (region.old.words ++ exception_frame interrupted) ++ replicate words 0 } }
+        region.new ≡ record region.old { words = region.old.words ++ exception_frame entry interrupted } }
 {
-    region.push(EXCEPTION_WORDS);
-    let entry = region.top(EXCEPTION_WORDS);
-    entry[LINK] = frame;
-    entry[RETURN_ADDRESS] = address;
-    entry[STATUS] = number;
-    region.push(words);
+    region.push(entry);
+    let pushed = region.top(entry);
+    pushed[LINK] = frame;
+    pushed[RETURN_ADDRESS] = address;
+    pushed[STATUS] = number;
 }
 
-/// Pops the last so many words and the architecture's frame below them, and answers where the interrupted frame runs on.
-pub(crate) fn leave(region: &mut Region, words: u32) -> Interrupted
-    requires { words + EXCEPTION_WORDS ≤ used region.old }
-    ensures frame { result.frame ≡ slice_index (top (popped region.old words) EXCEPTION_WORDS) LINK }
-    ensures address { result.address ≡ slice_index (top (popped region.old words) EXCEPTION_WORDS) RETURN_ADDRESS }
-    ensures popped { region.new ≡ popped (popped region.old words) EXCEPTION_WORDS }
+/// Pops the last so many words and the architecture's frame of so many below them, and answers where the interrupted frame
+/// runs on.
+pub(crate) fn leave(region: &mut Region, entry: u32, words: u32) -> Interrupted
+    requires eight { 8 ≤ entry }
+    requires there { words + entry ≤ used region.old }
+    ensures frame { result.frame ≡ slice_index (top (popped region.old words) entry) LINK }
+    ensures address { result.address ≡ slice_index (top (popped region.old words) entry) RETURN_ADDRESS }
+    ensures popped { region.new ≡ popped (popped region.old words) entry }
 {
     region.pop(words);
-    let entry = region.top_ref(EXCEPTION_WORDS);
+    let pushed = region.top_ref(entry);
     let interrupted = Interrupted {
-        frame: entry[LINK],
-        address: entry[RETURN_ADDRESS],
+        frame: pushed[LINK],
+        address: pushed[RETURN_ADDRESS],
     };
-    region.pop(EXCEPTION_WORDS);
+    region.pop(entry);
     interrupted
 }

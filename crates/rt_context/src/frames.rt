@@ -1,11 +1,11 @@
 ghost use Rattle.std.specs.Prelude.{◌≡◌, ℕ, ◌+◌, ◌*◌, ◌/◌, ◌%◌, ◌^◌, ◌<◌, ◌≤◌, ◌↔◌, IsTrue, IfOk, Some, None, false, length, slice_index};
 ghost use Rattle.rt_code.specs.Processor.{processor, Gives};
 ghost use Rattle.rt_code.specs.Effect.{effect};
-ghost use Rattle.rt_context.specs.declared.sizes.TheConstants.{EXCEPTION_WORDS, CONTEXTS, STACK_WORDS};
+ghost use Rattle.rt_context.specs.declared.sizes.TheConstants.{CONTEXTS, STACK_WORDS};
 ghost use Rattle.rt_context.specs.Frames as spec;
 ghost use Rattle.rt_context.specs.Moves as moves;
 
-use crate::sizes::{CONTEXTS, EXCEPTION_WORDS};
+use crate::sizes::CONTEXTS;
 use crate::{body, exception};
 use arrayvec::ArrayVec;
 use rt_code::{BodyRow, Instr, Registers, Request, Trap, execute};
@@ -19,6 +19,8 @@ use std::marker::Model;
 #[derive(Drop)]
 pub struct Frames {
     region: Region,
+    /// The words that exception entry pushes.
+    entry: u32,
     /// Words of the running frame.
     frame: u32,
     /// Where a called body runs, the words of the frame of the handler that called it.
@@ -32,7 +34,7 @@ impl Model for Frames {
 
     ghost Value = { Frames };
 
-    ghost use Rattle.rt_context.specs.Parts.{frames, IsSpelled};
+    ghost use Rattle.rt_context.specs.Inside.Parts.{frames, IsSpelled};
 
     ghost view = { frames };
 
@@ -40,17 +42,25 @@ impl Model for Frames {
 }
 
 impl Frames {
-    /// The thread's frame of so many words of 0, alone in a stack of so many bytes.
-    pub fn new(alloc: Global, stack_bytes: u32, thread_words: u32) -> Result<Frames, NoMemory>
+    /// The thread's frame of so many words of 0, alone in a stack of so many bytes. Exception entry will push so many words,
+    /// of which the architecture names the first eight.
+    pub fn new(
+        alloc: Global,
+        stack_bytes: u32,
+        entry: u32,
+        thread_words: u32,
+    ) -> Result<Frames, NoMemory>
         requires pairs { stack_bytes % 8 ≡ 0 }
         requires small { stack_bytes ≤ 2 ^ 20 }
         requires fits { 4 * thread_words ≤ stack_bytes }
-        ensures { IfOk result (λ made. made ≡ moves.thread (stack_bytes / 4) thread_words) }
+        requires eight { 8 ≤ entry }
+        ensures { IfOk result (λ made. made ≡ moves.thread (stack_bytes / 4) entry thread_words) }
     {
         let mut region = Region::new(alloc, stack_bytes)?;
         region.push(thread_words);
         Ok(Frames {
             region,
+            entry,
             frame: thread_words,
             caller: None,
             callers: ArrayVec::new(),
@@ -91,14 +101,15 @@ impl Frames {
     /// address, and a frame of so many words of 0. It answers whether they fit; where they do not, nothing is pushed.
     pub fn enter(&mut self, number: u32, address: u32, words: u32) -> bool
         requires few { length self.old.below < CONTEXTS }
-        ensures fits { result ≡ moves.has_room self.old (EXCEPTION_WORDS + words) }
+        ensures fits { result ≡ moves.has_room self.old (self.old.entry + words) }
         ensures entered { IsTrue result → self.new ≡ moves.entered self.old number address words }
         ensures unchanged { result ≡ false → self.new ≡ self.old }
     {
-        if !self.has_room(EXCEPTION_WORDS.saturating_add(words)) {
+        if !self.has_room(self.entry.saturating_add(words)) {
             return false;
         }
-        exception::enter(&mut self.region, self.frame, number, address, words);
+        exception::push(&mut self.region, self.entry, self.frame, number, address);
+        self.region.push(words);
         self.callers.push(self.caller);
         self.caller = None;
         self.frame = words;
@@ -115,7 +126,7 @@ impl Frames {
             return None;
         }
         let caller = self.callers.pop()?;
-        let interrupted = exception::leave(&mut self.region, self.frame);
+        let interrupted = exception::leave(&mut self.region, self.entry, self.frame);
         self.frame = interrupted.frame;
         self.caller = caller;
         Some(interrupted.address)

@@ -1,22 +1,27 @@
 -- The contexts that the code's parts are, and the frames that lie below the running one.
 use Rattle.std.proofs.Common.{◌≡◌, ℕ, ◌+◌, ◌*◌, List, [], ◌∷◌, length, sum_by, Option, Some, None, slice_get, unwrap_or, refl, sym, ap, ◌∙◌, arith}
 use Rattle.std.proofs.lemmas.List.Sums.{sum_by-cons}
-use Rattle.rt_code.specs.Image.{Image}
-use Rattle.rt_context.specs.Frames.{Saved, Frames, words_of, used}
+use Rattle.rt_code.specs.Image.{Image, entry_words}
+use Rattle.rt_context.specs.Frames.{Saved, Frames}
+use Rattle.rt_context.specs.Stack.{words_of}
 use Rattle.rt_context.specs.Frames as frame
 use Rattle.rt_nvic.specs.Nvic.{Nvic, value_of_first}
-use Rattle.rt_core.specs.Core.{Context, Core, context_words, depth, saved, exception_number, frames_of}
+use Rattle.rt_core.specs.Core.{Context, Core, context_words, used, depth, saved, exception_number, frames_of}
 use Rattle.rt_core.specs.Priority.{running_value}
-use Rattle.rt_core.specs.Parts.{contexts}
+use Rattle.rt_core.specs.Inside.Parts.{contexts}
 
 -- the contexts take as many words as the frames
-pub words_alike : (below : List Context) → sum_by frame.context_words (saved below) ≡ sum_by context_words below
-words_alike [] = refl
-words_alike (x ∷ below) =
-    sum_by-cons frame.context_words (record { number = exception_number below; address = x.address; slots = x.slots; caller = x.caller }) (saved below) ∙ ap (λ n. context_words x + n) (words_alike below) ∙ sym (sum_by-cons context_words x below)
+words_alike : (entry : ℕ) (below : List Context) → sum_by (frame.saved_words entry) (saved below) ≡ sum_by (context_words entry) below
+words_alike entry [] = refl
+words_alike entry (x ∷ below) =
+    sum_by-cons (frame.saved_words entry) (record { number = exception_number below; address = x.address; slots = x.slots; caller = x.caller }) (saved below)
+    ∙ ap (λ n. context_words entry x + n) (words_alike entry below) ∙ sym (sum_by-cons (context_words entry) x below)
 
-pub depth_is : (img : Image) (c : Core) → frame.depth (frames_of img c) ≡ depth c
-depth_is img c = ap (λ n. 4 * (length (words_of c.caller) + length c.processor.slots + n)) (words_alike c.below)
+pub used_is : (img : Image) (c : Core) → frame.used (frames_of img c) ≡ used img c
+used_is img c = ap (λ n. length (words_of c.caller) + length c.processor.slots + n) (words_alike (entry_words img) c.below)
+
+pub depth_is : (img : Image) (c : Core) → frame.depth (frames_of img c) ≡ depth img c
+depth_is img c = ap (λ n. 4 * n) (used_is img c)
 
 -- the exception number of the interrupt that was entered last
 pub number_of_none : (priorities : List (Option ℕ)) (active : List ℕ) (below : List Saved) → None ≡ slice_get active 0 → 0 ≡ exception_number (contexts priorities active below)

@@ -4,10 +4,10 @@ use Rattle.std.proofs.lemmas.Bool.{cases_lt}
 use Rattle.std.proofs.lemmas.Bool.Decides.{nat_tests}
 use Rattle.rt_lemmas.proofs.Bools.{and_parts}
 use Rattle.rt_ids.specs.declared.limits.TheConstants.{IRQ_NUMBERS}
+use Rattle.rt_code.specs.Image.{Image, entry_words}
 use Rattle.rt_code.specs.declared.image.IrqRow.{IrqRow}
 use Rattle.rt_code.specs.declared.image.Handler.{Handler}
 use Rattle.rt_code.specs.declared.processor.Trap.TheVariants as trap
-use Rattle.rt_context.specs.declared.sizes.TheConstants.{EXCEPTION_WORDS}
 use Rattle.rt_context.specs.Frames.{Saved, Frames}
 use Rattle.rt_context.specs.Frames as frame
 use Rattle.rt_context.specs.Moves as moves
@@ -19,7 +19,7 @@ use Rattle.rt_trace.specs.declared.item.What.TheVariants as what
 use Rattle.rt_core.specs.Outcome.{Outcome, Trapped, Done}
 use Rattle.rt_core.specs.Stepping as stepping
 use Rattle.rt_core.specs.Transfer as transfer
-use Rattle.rt_core.specs.Parts.{contexts, core, IsFalling, IsSound, machine}
+use Rattle.rt_core.specs.Inside.Parts.{contexts, core, IsFalling, IsSound, machine}
 use Rattle.rt_core.specs.declared.machine.Core.TheInside.{Inside}
 use Rattle.rt_core.specs.Machine.{Machine}
 use Rattle.rt_core.proofs.Picking.{IsNext, next_row}
@@ -72,13 +72,13 @@ above_running c x h passes handler =
     min_low a b = grind arith
 
 -- what comes of an entry whose frame has room or not
-abbrev pub entry_outcome : Core → ℕ → Handler → Bool → Outcome
-entry_outcome c irq h fits = if fits then Done (transfer.entered c irq h) (Some (what.Take irq (depth (transfer.entered c irq h)))) else Trapped c trap.Stack
+abbrev pub entry_outcome : Image → Core → ℕ → Handler → Bool → Outcome
+entry_outcome img c irq h fits = if fits then Done (transfer.entered c irq h) (Some (what.Take irq (depth img (transfer.entered c irq h)))) else Trapped c trap.Stack
 
-pub enter_is : (c : Inside) → IsSound c → (irq : ℕ) (h : Handler) → transfer.enter c.program (core c) irq (Some h) ≡ entry_outcome (core c) irq h (moves.has_room c.frames (EXCEPTION_WORDS + h.frame))
+pub enter_is : (c : Inside) → IsSound c → (irq : ℕ) (h : Handler) → transfer.enter c.program (core c) irq (Some h) ≡ entry_outcome c.program (core c) irq h (moves.has_room c.frames (c.frames.entry + h.frame))
 enter_is c sound irq h =
-    ap (entry_outcome (core c) irq h)
-    (sym (room_alike c.program sound.runnable (core c) (EXCEPTION_WORDS + h.frame)) ∙ ap (λ f. moves.has_room f (EXCEPTION_WORDS + h.frame)) (sym sound.frames))
+    ap (entry_outcome c.program (core c) irq h)
+    (sym (room_alike c.program (core c) (entry_words c.program + h.frame)) ∙ ap (λ (f : Frames). moves.has_room f (f.entry + h.frame)) (sym sound.frames))
 
 module _ (c : Inside) (sound : IsSound c) (irq : ℕ) (h : Handler) (handler : handler_of c.program irq ≡ Some h) (next : IsNext c.program (core c) irq) where
   handler_is : next.row.handler ≡ Some h
@@ -94,8 +94,8 @@ module _ (c : Inside) (sound : IsSound c) (irq : ℕ) (h : Handler) (handler : h
 
   pub is_even : h.value % 2 ≡ 0
   is_even =
-      even_value c.program.bits h.value sound.runnable.few_bits sound.runnable.many_bits
-      (sound.runnable.values next.is_in.0 next.row h next.is_in.1 handler_is)
+      even_value c.program.bits h.value sound.runnable.sizes.few_bits sound.runnable.sizes.many_bits
+      (sound.runnable.rows.values next.is_in.0 next.row h next.is_in.1 handler_is)
 
   pub few_active : length c.nvic.active < 128
   few_active =
@@ -131,6 +131,7 @@ module _ (c : Inside) (sound : IsSound c) (irq : ℕ) (h : Handler) (handler : h
     frames_after =
         (λ i. record {
           size = (sound.frames i).size;
+          entry = (sound.frames i).entry;
           slots = replicate h.frame 0;
           caller = None;
           below = record { number = exception_number (core c).below; address = c.registers.address; slots = c.frames.slots; caller = c.frames.caller } ∷ (sound.frames i).below;
@@ -147,7 +148,7 @@ module _ (c : Inside) (sound : IsSound c) (irq : ℕ) (h : Handler) (handler : h
     }
 
     -- with the frames that the code has, which are these
-    pub entered_parts : (f : Frames) → f ≡ after.frames → (core (record after { frames = f }) ≡ transfer.entered (core c) irq h) × (frame.depth f ≡ depth (transfer.entered (core c) irq h))
+    pub entered_parts : (f : Frames) → f ≡ after.frames → (core (record after { frames = f }) ≡ transfer.entered (core c) irq h) × (frame.depth f ≡ depth c.program (transfer.entered (core c) irq h))
     entered_parts f is =
         let here = ap (λ (g : Frames). core (record after { frames = g })) is ∙ core_after in
-        (here, ap frame.depth is ∙ (ap frame.depth frames_after ∙ (depth_is c.program (core after) ∙ ap depth core_after)))
+        (here, ap frame.depth is ∙ (ap frame.depth frames_after ∙ (depth_is c.program (core after) ∙ ap (depth c.program) core_after)))

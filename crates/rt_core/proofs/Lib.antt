@@ -2,11 +2,17 @@ mod Contexts
 mod Arriving
 mod Tables
 mod Calls
-mod Picking
+pub mod Picking
 mod Numbers
 mod Entry
 mod Enabled
 mod RowParts
 mod Rows
 mod RowsLocks
-pub mod Timing
+mod RowsCalls
+pub mod Keeping
+pub mod Happening
+pub mod Storing
+pub mod Loading
+pub mod Showing
+pub mod Room

@@ -1,5 +1,5 @@
 -- The controller's choice by number is the choice by rows.
-use Rattle.std.proofs.Common.{◌≡◌, ℕ, ◌<◌, ◌≤◌, ◌&&◌, ◌==◌, Bool, true, false, nat_lt, Option, Some, None, option_map, unwrap_or, find, min, slice_index_or, IsSome, IfSome, IfNone, refl, sym, ap, subst, ⊎_elim, ◌∙◌, arith}
+use Rattle.std.proofs.Common.{◌≡◌, ℕ, ◌<◌, ◌≤◌, ◌==◌, Bool, true, false, nat_lt, Option, Some, None, option_map, unwrap_or, find, min, slice_index_or, IsSome, IfSome, IfNone, refl, sym, ap, subst, ⊎_elim, ◌∙◌, arith}
 use Rattle.std.proofs.lemmas.Bool.{cases_lt, false≢true}
 use Rattle.std.proofs.lemmas.List.{get_or_past}
 use Rattle.std.proofs.lemmas.Bool.Decides.{nat_tests}
@@ -13,10 +13,10 @@ use Rattle.rt_nvic.specs.Nvic.{Nvic, IsSized, IsReady, Precedes, is_pending, pri
 use Rattle.rt_ids.specs.Lists.{then_from}
 use Rattle.rt_core.specs.Core.{Core}
 use Rattle.rt_core.specs.Priority.{value_or_none, can_preempt, pick, execution, running_value, base_value, mask_value}
-use Rattle.rt_core.specs.Parts.{HasPriorities}
+use Rattle.rt_core.specs.Inside.Parts.{HasPriorities}
 use Rattle.rt_core.specs.Taken.{NoLater}
-use Rattle.rt_ids.specs.Choice.{IsIn}
-use Rattle.rt_core.proofs.Picking.{IsChoice, choice, all_at, picked_row, found_passes, handler_of_row}
+use Rattle.rt_ids.specs.Choice.{IsIn, IsBest}
+use Rattle.rt_core.proofs.Picking.{taken, all_at, picked_row, found_passes, handler_of_row}
 
 -- the controller's answer, in the words of its contract
 pub record IsPicked (n : Nvic) (exec : ℕ) (o : Option ℕ) : Type 0 where
@@ -99,15 +99,15 @@ module _ (img : Image) (runnable : IsRunnable img) (c : Core) (n : Nvic) (sized 
       one None is (Some x) h = let row = picked_row img c x h in absurd (is.none x.number (row_ready x row.0 row.1).0)
       one (Some irq) is None h =
           let row = ready_row irq is.ready in
-          let fails = all_at (λ y. can_preempt c y ≡ false) img.irqs row.0 (subst (IsChoice (can_preempt c) img.irqs) h (choice (can_preempt c) img.irqs)) row.1 in
+          let fails = all_at (λ y. can_preempt c y ≡ false) img.irqs row.0 (subst (IsBest (can_preempt c) NoLater img.irqs) h (taken img c)) row.1 in
           absurd (false≢true (sym fails ∙ row.3))
       one (Some irq) is (Some x) h =
           let chosen = picked_row img c x h in
           let ready = row_ready x chosen.0 chosen.1 in
           let row = ready_row irq is.ready in
           let here = is.first x.number ready.0 in
-          let best_is = subst (IsChoice (can_preempt c) img.irqs) h (choice (can_preempt c) img.irqs) in
-          let there = all_at (λ y. can_preempt c y ≡ true → NoLater x y) img.irqs row.0 best_is.1 row.1 row.3 in
+          let best_is = subst (IsBest (can_preempt c) NoLater img.irqs) h (taken img c) in
+          let there = all_at (λ y. can_preempt c y ≡ true → NoLater x y) img.irqs row.0 best_is.2 row.1 row.3 in
           let mine = value_alike x chosen.0 ready.1 in
           let within = pending_within n sized irq is.ready.pending in
           let theirs = ap (value_of n) (sym row.2) ∙ value_alike row.0 row.1 (subst (λ k. k < IRQ_NUMBERS) (sym row.2) within) in

@@ -6,7 +6,8 @@ use Rattle.rt_code.specs.Image.{Image}
 use Rattle.rt_code.specs.declared.instr.Instr.TheVariants as instr
 use Rattle.rt_code.specs.declared.instr.Note.TheVariants as note
 use Rattle.rt_trace.specs.declared.item.What.TheVariants as what
-use Rattle.rt_core.specs.Trace.{trace}
+use Rattle.rt_core.specs.Stepping.{step}
+use Rattle.rt_core.specs.Trace.{happen, labels, trace}
 use Rattle.rt_core.proofs.RowParts.{enabled, plain, noted, core_steps, at}
 
 -- A = 3 and B = 7, both of one level
@@ -29,7 +30,7 @@ lower_number_first : trace two (Arrive 7 ∷ Arrive 3 ∷ core_steps 20)
     ≡ at 0 (what.Pend 7) ∷ at 0 (what.Pend 3) ∷ at 0 (what.End body.Init)
     ∷ at 1 (what.Take 3 40) ∷ at 3 (what.Emit 10) ∷ at 4 (what.Ret 3)
     ∷ at 5 (what.Take 7 40) ∷ at 7 (what.Emit 20) ∷ at 8 (what.Ret 7) ∷ []
-unfolding two
+unfolding two labels happen step
 lower_number_first = refl
 
 -- LO = 0, MID = 1 and HI = 2, of three levels
@@ -58,19 +59,19 @@ higher_level_preempts : trace three (core_steps 1 ++ Arrive 0 ∷ core_steps 1 +
     ∷ at 2 (what.Pend 1) ∷ at 2 (what.Take 1 80) ∷ at 3 (what.Pend 2) ∷ at 3 (what.Take 2 120)
     ∷ at 5 (what.Emit 3) ∷ at 6 (what.Ret 2) ∷ at 8 (what.Emit 2) ∷ at 9 (what.Ret 1)
     ∷ at 11 (what.Emit 1) ∷ at 12 (what.Ret 0) ∷ []
-unfolding three
+unfolding three labels happen step
 higher_level_preempts = refl
 
 -- a pend of the handler that runs is kept, and it is entered again after its return
 pend_of_active_is_kept : trace three (core_steps 1 ++ Arrive 0 ∷ core_steps 2 ++ Arrive 0 ∷ core_steps 20)
     ≡ at 0 (what.End body.Init) ∷ at 1 (what.Pend 0) ∷ at 1 (what.Take 0 40) ∷ at 3 (what.Pend 0)
     ∷ at 3 (what.Emit 1) ∷ at 4 (what.Ret 0) ∷ at 5 (what.Take 0 40) ∷ at 7 (what.Emit 1) ∷ at 8 (what.Ret 0) ∷ []
-unfolding three
+unfolding three labels happen step
 pend_of_active_is_kept = refl
 
 -- a pend of what is pending changes nothing: two pends are one entry
 two_pends_one_entry : trace three (Arrive 0 ∷ Arrive 0 ∷ core_steps 10)
     ≡ at 0 (what.Pend 0) ∷ at 0 (what.Pend 0) ∷ at 0 (what.End body.Init)
     ∷ at 1 (what.Take 0 40) ∷ at 3 (what.Emit 1) ∷ at 4 (what.Ret 0) ∷ []
-unfolding three
+unfolding three labels happen step
 two_pends_one_entry = refl

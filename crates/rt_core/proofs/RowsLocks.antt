@@ -8,7 +8,8 @@ use Rattle.rt_code.specs.Image.{Image}
 use Rattle.rt_code.specs.declared.instr.Instr.TheVariants as instr
 use Rattle.rt_code.specs.declared.instr.Note.TheVariants as note
 use Rattle.rt_trace.specs.declared.item.What.TheVariants as what
-use Rattle.rt_core.specs.Trace.{trace}
+use Rattle.rt_core.specs.Stepping.{step}
+use Rattle.rt_core.specs.Trace.{happen, labels, trace}
 use Rattle.rt_core.proofs.RowParts.{enabled, plain, noted, core_steps, at}
 
 -- A = 0 alone locks s, which is 5 after reset
@@ -31,7 +32,7 @@ own = record {
 lock_at_own_level : trace own (Arrive 0 ∷ core_steps 100)
     ≡ at 0 (what.Pend 0) ∷ at 0 (what.End body.Init) ∷ at 1 (what.Take 0 48)
     ∷ at 2 (what.Enter (section.Res 0)) ∷ at 7 (what.Leave (section.Res 0) (Some 6)) ∷ at 8 (what.Ret 0) ∷ []
-unfolding own
+unfolding own labels happen step
 lock_at_own_level = refl
 
 -- LO = 0 of the lowest level and TOP = 1 of the highest, whose priority value is 0, lock s
@@ -59,7 +60,7 @@ ceiling_of_the_highest_level : trace top (Arrive 0 ∷ core_steps 200)
     ∷ at 9 (what.Take 1 80) ∷ at 10 (what.Enter (section.Res 0)) ∷ at 12 (what.Emit 2)
     ∷ at 13 (what.Leave (section.Res 0) (Some 2)) ∷ at 14 (what.Ret 1)
     ∷ at 16 (what.Emit 9) ∷ at 17 (what.Ret 0) ∷ []
-unfolding top
+unfolding top labels happen step
 ceiling_of_the_highest_level = refl
 
 -- L = 0, M = 1 and H = 2, of three levels: L locks a, whose ceiling is M's level, and in it b, whose ceiling is H's
@@ -94,5 +95,5 @@ nested_locks : trace nest (Arrive 0 ∷ core_steps 200)
     ∷ at 7 (what.Post 2) ∷ at 8 (what.Take 2 88) ∷ at 9 (what.Enter (section.Res 1)) ∷ at 11 (what.Emit 1)
     ∷ at 12 (what.Leave (section.Res 1) (Some 1)) ∷ at 13 (what.Ret 2)
     ∷ at 16 (what.Leave (section.Res 0) (Some 1)) ∷ at 17 (what.Ret 0) ∷ []
-unfolding nest
+unfolding nest labels happen step
 nested_locks = refl

@@ -13,5 +13,5 @@ arguments_few img runnable task = one (find (λ row. row.task == task) img.bodie
     one : (o : Option BodyRow) → find (λ row. row.task == task) img.bodies ≡ o → unwrap_or (option_map (λ row. row.args) o) 0 < 5
     one None h = omega arith
     one (Some row) h =
-        let few = runnable.arguments (position_or_len (λ row. row.task == task) img.bodies) row (sym (find_at (λ row. row.task == task) img.bodies) ∙ h) in
+        let few = runnable.rows.arguments (position_or_len (λ row. row.task == task) img.bodies) row (sym (find_at (λ row. row.task == task) img.bodies) ∙ h) in
         omega (arith, few)

@@ -1,13 +1,14 @@
--- The core with its interrupt controller, after the exception model of the ARMv7-M Architecture Reference Manual (section
--- B1.5): what is pending, which handlers are active, the execution priority, and which interrupt is taken. The frames are
--- a structure; `stack_words` says how they lie in the stack region. Time and alarm stand for the system timer (section
--- B3.3), in ticks; the alarm, and that PRIMASK is 1 after reset, are this model's own. The code keeps arrays and a region.
-use Rattle.std.specs.Prelude.{ℕ, ◌+◌, ◌*◌, ◌/◌, Bool, true, false, List, [], ◌∷◌, length, map, replicate, sum_by, Option, None}
+-- The core with its interrupt controller, after the exception model of the ARMv7-M Architecture Reference Manual
+-- (section B1.5): what is pending, which handlers are active, the execution priority, and which interrupt is taken. The
+-- frames are a structure; `stack_words` says how they lie in the stack region. Time and alarm stand for the system
+-- timer (section B3.3), in ticks; the alarm, and that PRIMASK is 1 after reset, are this model's own. The code keeps
+-- arrays and a region.
+use Rattle.std.specs.Prelude.{ℕ, ◌+◌, ◌*◌, ◌/◌, Bool, true, false, List, [], ◌∷◌, map, replicate, Option, None}
 use Rattle.rt_ids.specs.declared.limits.TheConstants.{IRQ_NUMBERS}
-use Rattle.rt_code.specs.Image.{Image}
+use Rattle.rt_code.specs.Image.{Image, entry_words}
 use Rattle.rt_code.specs.Processor.{Processor}
-use Rattle.rt_context.specs.declared.sizes.TheConstants.{EXCEPTION_WORDS}
-use Rattle.rt_context.specs.Frames.{Saved, Frames, words_of, words}
+use Rattle.rt_context.specs.Stack as stack
+use Rattle.rt_context.specs.Frames.{Saved, Frames, words}
 use Rattle.rt_core.specs.declared.alarm.Alarm.{Alarm}
 
 -- a handler that was entered, and what it interrupted
@@ -41,19 +42,28 @@ reset img = record {
   time = 0;
   alarm = None;
   pending = replicate IRQ_NUMBERS false;
-  processor = record { address = 0; basepri = 0; primask = true; slots = replicate img.thread_words 0; cells = map (λ cell. cell.first) img.cells };
+  processor = record {
+    address = 0;
+    basepri = 0;
+    primask = true;
+    slots = replicate img.thread_words 0;
+    cells = map (λ cell. cell.first) img.cells;
+  };
   caller = None;
   below = [];
   stopped = false;
 }
 
--- the stack words of what a handler interrupted, with those that exception entry pushed
-abbrev pub context_words : Context → ℕ
-context_words x = length (words_of x.caller) + length x.slots + EXCEPTION_WORDS
+-- the stack words of what a handler interrupted, with the so many that exception entry pushed
+abbrev pub context_words : ℕ → Context → ℕ
+context_words entry x = stack.context_words entry x.caller x.slots
 
--- the stack bytes in use
-abbrev pub depth : Core → ℕ
-depth c = 4 * (length (words_of c.caller) + length c.processor.slots + sum_by context_words c.below)
+-- the stack words in use, and the stack bytes
+abbrev pub used : Image → Core → ℕ
+used img c = stack.used (context_words (entry_words img)) c.caller c.processor.slots c.below
+
+abbrev pub depth : Image → Core → ℕ
+depth img c = 4 * used img c
 
 -- the exception number of what runs: interrupt n is the exception 16 + n, and the thread has 0
 abbrev pub exception_number : List Context → ℕ
@@ -66,7 +76,13 @@ saved (x ∷ below) =
     record { number = exception_number below; address = x.address; slots = x.slots; caller = x.caller } ∷ saved below
 
 abbrev pub frames_of : Image → Core → Frames
-frames_of img c = record { size = img.stack_bytes / 4; slots = c.processor.slots; caller = c.caller; below = saved c.below }
+frames_of img c = record {
+  size = img.stack_bytes / 4;
+  entry = entry_words img;
+  slots = c.processor.slots;
+  caller = c.caller;
+  below = saved c.below;
+}
 
 -- the words of the stack region
 abbrev pub stack_words : Image → Core → List ℕ

@@ -6,7 +6,8 @@ pub mod Transfer
 pub mod Stepping
 pub mod Trace
 pub mod Machine
-pub mod Parts
-pub mod Came
-pub mod Enabling
 pub mod Taken
+pub mod Access
+pub mod Touching
+pub mod Laws
+pub mod Inside

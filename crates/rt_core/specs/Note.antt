@@ -1,6 +1,7 @@
--- The item of a note, read from the core after the instruction that it stands on. Notes are this model's own: they say in the
--- terms of RTIC 1 what the code has done. None where a slot that the note names is not in the frame.
-use Rattle.std.specs.Prelude.{ℕ, ◌+◌, ◌==◌, ◌||◌, nat_le, if◌then◌else◌, List, length, take, drop, slice_get, option_map, Option, Some, None}
+-- The item of a note, read from the core after the instruction that it stands on. Notes are this model's own: they say
+-- in the terms of RTIC 1 what the code has done. None where a slot that the note names is not in the frame.
+use Rattle.std.specs.Prelude.{ℕ, ◌+◌, ◌==◌, ◌||◌, nat_le, if◌then◌else◌, List, length, take, drop, slice_get}
+use Rattle.std.specs.Prelude.{option_map, Option, Some, None}
 use Rattle.rt_code.specs.Image.{Image}
 use Rattle.rt_code.specs.declared.instr.Note.{Note}
 use Rattle.rt_code.specs.declared.instr.Note.TheVariants as note
@@ -9,7 +10,8 @@ use Rattle.rt_ids.specs.declared.ids.Section.TheVariants as section
 use Rattle.rt_trace.specs.declared.item.What.{What}
 use Rattle.rt_trace.specs.declared.item.What.TheVariants as what
 use Rattle.rt_core.specs.Core.{Core}
-use Rattle.rt_program.specs.Tables.{resource_value, argument_count}
+use Rattle.rt_code.specs.Cells.{resource_value}
+use Rattle.rt_program.specs.Tables.{argument_count}
 
 -- the value that a leave shows: a resource's, and none of another section
 abbrev pub left_value : Image → Core → Section → Option ℕ
@@ -19,7 +21,8 @@ left_value img c s = None
 -- so many slots from one on, where they are in the frame
 abbrev pub slots_from : Core → ℕ → ℕ → Option (List ℕ)
 slots_from c from n =
-    if (n == 0) || nat_le (from + n) (length c.processor.slots) then Some (take n (drop from c.processor.slots)) else None
+    if (n == 0) || nat_le (from + n) (length c.processor.slots)
+    then Some (take n (drop from c.processor.slots)) else None
 
 abbrev pub shown_by : Image → Core → Note → Option What
 shown_by img c (note.Enter s) = Some (what.Enter s)

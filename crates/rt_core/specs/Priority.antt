@@ -1,6 +1,7 @@
--- The execution priority, and which interrupt is taken (ARMv7-M Architecture Reference Manual, section B1.5.4). There are no
--- sub-priorities. The code scans the interrupt numbers once.
-use Rattle.std.specs.Prelude.{ℕ, ◌==◌, Bool, false, ◌&&◌, ◌||◌, nat_lt, if◌then◌else◌, List, [], ◌∷◌, min, slice_index_or, Option, Some, None}
+-- The execution priority, and which interrupt is taken (ARMv7-M Architecture Reference Manual, section B1.5.4). There
+-- are no sub-priorities. The code scans the interrupt numbers once.
+use Rattle.std.specs.Prelude.{ℕ, ◌==◌, Bool, false, ◌&&◌, ◌||◌, nat_lt, if◌then◌else◌, List, [], ◌∷◌, min}
+use Rattle.std.specs.Prelude.{slice_index_or, Option, Some, None}
 use Rattle.rt_ids.specs.declared.limits.TheConstants.{THREAD_VALUE}
 use Rattle.rt_ids.specs.Choice.{best}
 use Rattle.rt_code.specs.Image.{Image}

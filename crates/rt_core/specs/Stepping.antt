@@ -1,5 +1,5 @@
--- What a core step does: exception entry, or one instruction, with exception return (ARMv7-M Architecture Reference Manual,
--- sections B1.5.6 to B1.5.8) and calls of bodies, which are this model's own.
+-- What a core step does: exception entry, or one instruction, with exception return (ARMv7-M Architecture Reference
+-- Manual, sections B1.5.6 to B1.5.8) and calls of bodies, which are this model's own.
 use Rattle.std.specs.Prelude.{if◌then◌else◌, slice_get, Option, Some, None}
 use Rattle.rt_code.specs.Image.{Image}
 use Rattle.rt_code.specs.Effect.{effect}
@@ -27,8 +27,8 @@ answer img c (request.Clock time) = Done c (Some (what.Clock time))
 answer img c (request.Alarm instant irq) = set_alarm c instant irq
 answer img c request.NoAlarm = Done (record c { alarm = None }) (Some what.AlarmSet)
 answer img c (request.Call row from) = call img c row from
-answer img c request.Back = back c c.caller
-answer img c request.Return = return c c.caller c.below
+answer img c request.Back = back c
+answer img c request.Return = return c
 
 -- the item of a note, or a trap where there is none
 abbrev pub noted : Core → Option What → Outcome
@@ -54,5 +54,5 @@ attempt img c (Some row) = enter img c row.number row.handler
 attempt img c None = run img c (slice_get img.code c.processor.address)
 
 -- a core step, and the item that it gives; a stopped core is silent
-abbrev pub step : Image → Core → Core × Option What
+unfoldable pub step : Image → Core → Core × Option What
 step img c = if c.stopped then (c, None) else settle (attempt img c (pick img c))

@@ -1,9 +1,8 @@
--- Which interrupt is taken, by what is true of it (ARMv7-M Architecture Reference Manual, section B1.5.4): of those that are
--- pending, enabled and of a higher priority than the execution priority, the one of the highest priority, and of equal ones
--- the one of the lowest number. The choice that the core makes is one pass over the rows.
-use Rattle.std.specs.Prelude.{◌≡◌, ℕ, ◌<◌, ◌≤◌, ◌⊎◌, true, false, List, slice_get, Option, Some, None}
-use Rattle.std.specs.List.{AllByRecursion}
-use Rattle.rt_ids.specs.Choice.{IsIn}
+-- Which interrupt is taken, by what is true of it (ARMv7-M Architecture Reference Manual, section B1.5.4): of those
+-- that are pending, enabled and of a higher priority than the execution priority, the one of the highest priority, and
+-- of equal ones the one of the lowest number. The choice that the core makes is one pass over the rows.
+use Rattle.std.specs.Prelude.{◌≡◌, ◌<◌, ◌≤◌, ◌⊎◌}
+use Rattle.rt_ids.specs.Choice.{IsBest}
 use Rattle.rt_code.specs.Image.{Image}
 use Rattle.rt_code.specs.declared.image.IrqRow.{IrqRow}
 use Rattle.rt_core.specs.Core.{Core}
@@ -11,12 +10,9 @@ use Rattle.rt_core.specs.Priority.{value_or_none, can_preempt, pick}
 
 -- the first is of a higher priority, or of the same with no greater number
 abbrev pub NoLater : IrqRow → IrqRow → Type 0
-NoLater x y = (value_or_none x.handler < value_or_none y.handler) ⊎ ((value_or_none x.handler ≡ value_or_none y.handler) × (x.number ≤ y.number))
-
-abbrev pub IsTaken : Image → Core → Option IrqRow → Type 0
-IsTaken img c None = AllByRecursion (λ row. can_preempt c row ≡ false) img.irqs
-IsTaken img c (Some x) =
-    IsIn img.irqs x × (can_preempt c x ≡ true) × AllByRecursion (λ row. can_preempt c row ≡ true → NoLater x row) img.irqs
+NoLater x y =
+    (value_or_none x.handler < value_or_none y.handler)
+    ⊎ ((value_or_none x.handler ≡ value_or_none y.handler) × (x.number ≤ y.number))
 
 abbrev pub TakesTheFirst : Type 0
-TakesTheFirst = (img : Image) (c : Core) → IsTaken img c (pick img c)
+TakesTheFirst = (img : Image) (c : Core) → IsBest (can_preempt c) NoLater img.irqs (pick img c)

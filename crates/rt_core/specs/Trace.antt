@@ -12,24 +12,25 @@ use Rattle.rt_core.specs.Transfer.{pended}
 -- the alarm comes where its instant is not later than the time
 abbrev pub ring : Core → Option Alarm → Core × List Label
 ring c None = (c, [])
-ring c (Some alarm) = if nat_le alarm.instant c.time then (record (pended c alarm.irq) { alarm = None }, Rang ∷ []) else (c, [])
+ring c (Some alarm) =
+    if nat_le alarm.instant c.time then (record (pended c alarm.irq) { alarm = None }, Rang ∷ []) else (c, [])
 
 -- a tick: the time rises by one, and then the alarm may come
 abbrev pub tick : Core → Core × List Label
 tick c = ring (record c { time = suc c.time }) c.alarm
 
 -- one event: the core after it, and what it shows
-abbrev pub happen : Image → Core → Event → Core × List Label
+unfoldable pub happen : Image → Core → Event → Core × List Label
 happen img c (Arrive irq) = (pended c irq, Arrived irq ∷ [])
 happen img c Tick = ((tick c).0, Ticked ∷ (tick c).1)
 happen img c Step = ((step img c).0, Stepped (step img c).1 ∷ [])
 
 -- the core after events
-abbrev pub core_after : Image → Core → List Event → Core
+unfoldable pub core_after : Image → Core → List Event → Core
 core_after img c [] = c
 core_after img c (e ∷ events) = core_after img (happen img c e).0 events
 
-abbrev pub labels : Image → Core → List Event → List Label
+unfoldable pub labels : Image → Core → List Event → List Label
 labels img c [] = []
 labels img c (e ∷ events) = (happen img c e).1 ++ labels img (happen img c e).0 events
 
@@ -39,4 +40,4 @@ trace img events = items_of 0 (labels img (reset img) events)
 
 -- the stack bytes in use after events from reset
 abbrev pub depth_after : Image → List Event → ℕ
-depth_after img events = depth (core_after img (reset img) events)
+depth_after img events = depth img (core_after img (reset img) events)

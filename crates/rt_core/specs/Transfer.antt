@@ -1,20 +1,19 @@
--- Exception entry and return (ARMv7-M Architecture Reference Manual, sections B1.5.6 and B1.5.8), and calls of bodies and the
--- setting of the alarm, which are this model's own.
-use Rattle.std.specs.Prelude.{ℕ, suc, ◌+◌, ◌-◌, ◌*◌, ◌==◌, Bool, true, false, not, ◌&&◌, ◌||◌, is_none, nat_le, if◌then◌else◌, List, ◌∷◌, ◌++◌, length, replicate, take, drop, slice_get, slice_index, slice_set, Option, Some, None}
-use Rattle.rt_code.specs.Image.{Image}
+-- Exception entry and return (ARMv7-M Architecture Reference Manual, sections B1.5.6 and B1.5.8), and calls of bodies
+-- and the setting of the alarm, which are this model's own.
+use Rattle.std.specs.Prelude.{ℕ, suc, ◌+◌, ◌/◌, Bool, true, false, ◌&&◌, nat_le, if◌then◌else◌, List, ◌∷◌, replicate}
+use Rattle.std.specs.Prelude.{slice_get, slice_set, Option, Some, None}
+use Rattle.rt_code.specs.Image.{Image, entry_words}
 use Rattle.rt_code.specs.declared.image.Handler.{Handler}
 use Rattle.rt_code.specs.declared.image.BodyRow.{BodyRow}
 use Rattle.rt_code.specs.declared.processor.Trap.TheVariants as trap
-use Rattle.rt_context.specs.declared.sizes.TheConstants.{EXCEPTION_WORDS}
-use Rattle.rt_context.specs.Moves.{last_slot}
-use Rattle.rt_ids.specs.Lists.{is_empty}
+use Rattle.rt_context.specs.Stack as stack
 use Rattle.rt_trace.specs.declared.item.What.TheVariants as what
-use Rattle.rt_core.specs.Core.{Core, Context, depth}
+use Rattle.rt_core.specs.Core.{Core, Context, used, depth}
 use Rattle.rt_core.specs.Outcome.{Outcome, Trapped, Done}
 
 -- so many words more fit into the stack region
 abbrev pub has_room : Image → Core → ℕ → Bool
-has_room img c n = nat_le (depth c + 4 * n) img.stack_bytes
+has_room img c n = stack.has_room (img.stack_bytes / 4) (used img c) n
 
 abbrev pub pended : Core → ℕ → Core
 pended c irq = record c { pending = slice_set c.pending irq true }
@@ -25,50 +24,59 @@ entered c irq h = record c {
   pending = slice_set c.pending irq false;
   processor = record c.processor { address = h.entry; slots = replicate h.frame 0 };
   caller = None;
-  below = record { irq = irq; value = h.value; address = c.processor.address; slots = c.processor.slots; caller = c.caller } ∷ c.below;
+  below =
+      record { irq = irq; value = h.value; address = c.processor.address; slots = c.processor.slots; caller = c.caller }
+      ∷ c.below;
 }
 
 abbrev pub enter : Image → Core → ℕ → Option Handler → Outcome
 enter img c irq None = Done c None
 enter img c irq (Some h) =
-    if has_room img c (EXCEPTION_WORDS + h.frame)
-    then Done (entered c irq h) (Some (what.Take irq (depth (entered c irq h)))) else Trapped c trap.Stack
+    if has_room img c (entry_words img + h.frame)
+    then Done (entered c irq h) (Some (what.Take irq (depth img (entered c irq h)))) else Trapped c trap.Stack
 
--- exception return: a called body and the thread have none
-abbrev pub return : Core → Option (List ℕ) → List Context → Outcome
-return c None (x ∷ below) =
-    Done (record c { processor = record c.processor { address = x.address; slots = x.slots }; caller = x.caller; below = below }) (Some (what.Ret x.irq))
-return c caller below = Trapped c trap.Stack
+-- exception return: what was interrupted runs on
+abbrev pub resumed : Core → Option (Context × List Context) → Outcome
+resumed c None = Trapped c trap.Stack
+resumed c (Some found) =
+    let x = found.0 in
+    let after = record c.processor { address = x.address; slots = x.slots } in
+    Done (record c { processor = after; caller = x.caller; below = found.1 }) (Some (what.Ret x.irq))
 
--- a handler's own code runs, and its frame has a slot for the return address
+abbrev pub return : Core → Outcome
+return c = resumed c (stack.interrupted c.caller c.below)
+
 abbrev pub may_call : Core → Bool
-may_call c = is_none c.caller && (not (is_empty c.below) && not (is_empty c.processor.slots))
+may_call c = stack.may_call c.caller c.processor.slots c.below
 
--- the arguments are in both frames, and the body's frame has room
 abbrev pub call_fits : Image → Core → BodyRow → ℕ → Bool
-call_fits img c row from =
-    ((row.args == 0) || nat_le (from + row.args) (length c.processor.slots)) && (nat_le row.args row.frame && has_room img c row.frame)
+call_fits img c row from = stack.arguments_fit c.processor.slots row from && has_room img c row.frame
 
--- the last slot becomes the return address, and the body's frame begins with the arguments
+-- a call returns to the next address
 abbrev pub called : Core → BodyRow → ℕ → Core
 called c row from =
-    let caller = slice_set c.processor.slots (last_slot c.processor.slots) (suc c.processor.address) in
-    record c {
-      processor = record c.processor { address = row.entry; slots = take row.args (drop from caller) ++ replicate (row.frame - row.args) 0 };
+    let caller = stack.caller_frame c.processor.slots (suc c.processor.address) in record c {
+      processor = record c.processor { address = row.entry; slots = stack.body_frame caller row from };
       caller = Some caller;
     }
 
 abbrev pub call_row : Image → Core → Option BodyRow → ℕ → Outcome
 call_row img c None from = Trapped c trap.Jump
-call_row img c (Some row) from = if call_fits img c row from then Done (called c row from) None else Trapped c trap.Stack
+call_row img c (Some row) from =
+    if call_fits img c row from then Done (called c row from) None else Trapped c trap.Stack
 
 abbrev pub call : Image → Core → ℕ → ℕ → Outcome
 call img c row from = if may_call c then call_row img c (slice_get img.bodies row) from else Trapped c trap.Stack
 
--- a body's return: its handler goes on at the address in its last slot
-abbrev pub back : Core → Option (List ℕ) → Outcome
-back c None = Trapped c trap.Stack
-back c (Some slots) = Done (record c { processor = record c.processor { address = slice_index slots (last_slot slots); slots = slots }; caller = None }) None
+-- a body's return to the frame of its handler
+abbrev pub back_to : Core → Option (List ℕ) → Outcome
+back_to c None = Trapped c trap.Stack
+back_to c (Some slots) =
+    let after = record c.processor { address = stack.return_address slots; slots = slots } in
+    Done (record c { processor = after; caller = None }) None
+
+abbrev pub back : Core → Outcome
+back c = back_to c c.caller
 
 -- setting the alarm to an instant: one that is not later than the time comes at once
 abbrev pub set_alarm : Core → ℕ → ℕ → Outcome

@@ -6,9 +6,10 @@ ghost use Rattle.rt_ids.specs.Arrivals.{arrivals};
 ghost use Rattle.rt_code.specs.Runnable.{IsRunnable};
 ghost use Rattle.rt_trace.specs.Label.{Ticked, Rang};
 ghost use Rattle.rt_core.specs.Core as spec;
+ghost use Rattle.rt_core.specs.Machine.{IsFresh};
 ghost use Rattle.rt_core.specs.Trace as trace;
-ghost use Rattle.rt_core.specs.Parts.{HasPriorities};
-ghost use Rattle.rt_core.specs.Enabling.{HasPrioritiesBelow};
+ghost use Rattle.rt_core.specs.Inside.Parts.{HasPriorities};
+ghost use Rattle.rt_core.specs.Inside.Enabling.{HasPrioritiesBelow};
 
 use crate::alarm::Alarm;
 use rt_code::{Image, Registers};
@@ -40,7 +41,7 @@ impl Model for Core {
 
     ghost Value = { Machine };
 
-    ghost use Rattle.rt_core.specs.Parts.{machine, IsSound};
+    ghost use Rattle.rt_core.specs.Inside.Parts.{machine, IsSound};
 
     ghost view = { machine };
 
@@ -90,10 +91,16 @@ impl Core {
     /// A core after reset, with PRIMASK 1: the time is 0, nothing is pending, and no event has come.
     pub fn new(alloc: Global, image: Image) -> Result<Core, NoMemory>
         requires { IsRunnable image }
-        ensures { IfOk result (λ made. made ≡ record { image = image; core = spec.reset image; steps = 0 }) }
+        ensures image { IfOk result (λ made. made.image ≡ image) }
+        ensures fresh { IfOk result (λ made. IsFresh made) }
     {
         let cells = first_values(alloc, &image.cells)?;
-        let frames = Frames::new(alloc, image.stack_bytes, image.thread_words)?;
+        let frames = Frames::new(
+            alloc,
+            image.stack_bytes,
+            image.entry_words(),
+            image.thread_words,
+        )?;
         let program = Program::new(alloc, image)?;
         let nvic = controller(&program);
         Ok(Core {
@@ -115,7 +122,8 @@ impl Core {
 
     /// A core after reset with an image that is the same.
     pub fn fresh(&self, alloc: Global) -> Result<Core, NoMemory>
-        ensures { IfOk result (λ made. made ≡ record { image = self.now.image; core = spec.reset self.now.image; steps = 0 }) }
+        ensures image { IfOk result (λ made. made.image ≡ self.now.image) }
+        ensures fresh { IfOk result (λ made. IsFresh made) }
     {
         let _ = &self.stopped;
         let image = self.program.copy_of_image(alloc)?;
@@ -131,6 +139,7 @@ impl Core {
     }
 
     /// The time rises by one. It answers whether the alarm came.
+    #[tactic(auto, unfolding(crate::specs::Trace::happen))]
     pub fn tick(&mut self) -> bool
         requires { self.old.core.time < 2 ^ 31 }
         ensures state { self.new ≡ record self.old { core = (trace.happen self.old.image self.old.core Tick).0 } }
@@ -150,7 +159,7 @@ impl Core {
 
     /// The stack bytes in use.
     pub fn depth(&self) -> u32
-        ensures bytes { result ≡ spec.depth self.now.core }
+        ensures bytes { result ≡ spec.depth self.now.image self.now.core }
         ensures within { result ≤ self.now.image.stack_bytes }
     {
         let _ = &self.stopped;

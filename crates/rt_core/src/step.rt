@@ -7,7 +7,7 @@ ghost use Rattle.rt_core.specs.Priority as priority;
 ghost use Rattle.rt_core.specs.Outcome.{Outcome, settle};
 ghost use Rattle.rt_core.specs.Note as notes;
 ghost use Rattle.rt_core.specs.Stepping as stepping;
-ghost use Rattle.rt_core.specs.Came.{Comes};
+ghost use Rattle.rt_core.specs.Inside.Came.{Comes};
 
 use crate::alarm::Alarm;
 use crate::machine::Core;
@@ -256,6 +256,7 @@ impl Core {
 
     /// One core step: the entry of the interrupt that is to be taken, else one instruction. It answers the item that the
     /// step gives, and None where it gives none. A trap gives its item and stops the core, and every later step is silent.
+    #[tactic(auto, unfolding(crate::specs::Stepping::step))]
     pub fn step(&mut self) -> Option<What>
         requires { self.old.steps < 2 ^ 31 }
         ensures item { result ≡ (stepping.step self.old.image self.old.core).1 }

@@ -10,7 +10,7 @@ use Rattle.rt_app.specs.Tree.{Task, App}
 use Rattle.rt_app.specs.Level.{is_software, is_of_level, tasks_of_level, levels}
 use Rattle.rt_ids.specs.Lists.{those_below}
 use Rattle.rt_app.specs.BodyCost.{dispatcher_size}
-use Rattle.rt_frames.specs.Flags.{HasFlags, level_numbers}
+use Rattle.rt_frames.specs.Inside.Flags.{HasFlags, level_numbers}
 
 pub below_more : (test : ℕ → Bool) (n : ℕ) → those_below test (n + 1) ≡ those_below test n ++ (if test n then n ∷ [] else [])
 unfolding those_below
@@ -120,8 +120,3 @@ map_below_more f test flags has n k before after same e g =
     g ∙ ap (λ xs. xs ++ map f (if get_or flags k false then n ∷ [] else [])) e
     ∙ ap (λ b. map f (those_below test n) ++ map f (if b then n ∷ [] else [])) (ap (λ j. get_or flags j false) same ∙ has.flag n)
     ∙ sym (map-append f (those_below test n) (if test n then n ∷ [] else [])) ∙ ap (map f) (sym (below_more test n))
-
-pub none_below_any : (test : ℕ → Bool) → ((n : ℕ) → test n ≡ false) → (n : ℕ) → those_below test n ≡ []
-unfolding those_below
-none_below_any test none zero = refl
-none_below_any test none (suc n) = rw (none_below_any test none n, none n) refl

@@ -17,7 +17,7 @@ use rt_ids::BodyId;
 
 /// Of `init` or `idle`, where it is declared, else of an end alone.
 fn thread_cost(measure: &Measure, body: &Option<Body>) -> u32
-    ensures { result ≡ cost.cost_of measure.now (option_map (body_of 0) body.now) }
+    ensures { result ≡ cost.cost_of measure.now (option_map body_of body.now) }
 {
     match body {
         None => 1,
@@ -39,16 +39,16 @@ fn cost_at(measure: &Measure, app: &App, body: BodyId) -> u32
     }
 }
 
-/// The core steps of a declared body, at most, and 1 for one that is not declared. A sum stops one above the greatest cost
-/// that a body may have.
+/// The core steps of a declared body, at most, and 1 for one that is not declared. A sum stops one above the greatest
+/// cost that a body may have.
 pub fn body_cost(app: &App, body: BodyId) -> u32
     ensures { result ≡ cost.cost_of (cost.cost_measure (app_of app.now)) (body_at (app_of app.now) body) }
 {
     cost_at(&Measure::cost(app), app, body)
 }
 
-/// The instructions of a declared body, and 1 for one that is not declared. A sum stops one above the greatest cost that a
-/// body may have.
+/// The instructions of a declared body, and 1 for one that is not declared. A sum stops one above the greatest cost
+/// that a body may have.
 pub fn body_size(app: &App, body: BodyId) -> u32
     ensures { result ≡ cost.cost_of (cost.size_measure (app_of app.now)) (body_at (app_of app.now) body) }
 {

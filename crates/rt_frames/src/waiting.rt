@@ -1,11 +1,12 @@
-ghost use Rattle.std.specs.Prelude.{◌≡◌, ◌+◌, ◌*◌, ◌<◌, ◌≤◌, ◌==◌, length, map, find, option_map, if◌then◌else◌};
+ghost use Rattle.std.specs.Prelude.{◌≡◌, ◌≤◌, ◌==◌, length, map, find, if◌then◌else◌};
 ghost use Rattle.rt_ids.specs.Lists.{or_zero};
-ghost use Rattle.rt_app.specs.View.{spawn_of, value_of, statement_of, block_of, body_of, task_of, app_of};
+ghost use Rattle.rt_app.specs.View.{spawn_of, value_of, statement_of, block_of, task_of, app_of};
 ghost use Rattle.rt_app.specs.Level as level;
 ghost use Rattle.rt_app.specs.BodyCost as cost;
-ghost use Rattle.rt_app.specs.Waiting as waiting;
+ghost use Rattle.rt_app.specs.Bodies.{task_priority};
+ghost use Rattle.rt_frames.specs.Inside.Waits as waiting;
 ghost use Rattle.rt_ids.specs.declared.limits.TheConstants.{TASKS};
-ghost use Rattle.rt_frames.specs.Flags.{HasFlags};
+ghost use Rattle.rt_frames.specs.Inside.Flags.{HasFlags};
 
 use crate::flags::Flags;
 use crate::level::{is_software, tasks_of_level};
@@ -60,7 +61,7 @@ fn timer_at(ceilings: &Ceilings) -> u8
 
 /// The level of a task, and 0 where there is none.
 fn level_of(app: &App, task: TaskId) -> u8
-    ensures { result ≡ waiting.level_of (app_of app.now) task }
+    ensures { result ≡ task_priority (app_of app.now) task }
 {
     match app.tasks.get(usize::from(task.0)) {
         None => 0,
@@ -77,15 +78,14 @@ fn if_reaches(priority: u8, ceiling: u8, cost: u32) -> u32
 
 /// Core steps of a section of the timer queue, where so many messages may be armed as the measure counts.
 fn timer_section(measure: &Measure) -> u32
-    ensures { result ≡ TIMER_SECTION_COST + MESSAGE_COST * measure.now.messages }
+    ensures { result ≡ waiting.timer_section measure.now }
 {
     TIMER_SECTION_COST + MESSAGE_COST * measure.messages()
 }
 
 /// The greatest cost of a section of a spawn that counts.
 fn spawn_wait(app: &App, ceilings: &Ceilings, measure: &Measure, priority: u8, spawn: &Spawn) -> u32
-    requires { measure.now ≡ cost.cost_measure (app_of app.now) }
-    ensures { result ≡ waiting.spawn_wait (app_of app.now) ceilings.now priority (spawn_of spawn.now) }
+    ensures { result ≡ waiting.spawn_wait (app_of app.now) measure.now ceilings.now priority (spawn_of spawn.now) }
 {
     match spawn {
         Spawn::Soon(task, _args, _at) => {
@@ -103,8 +103,7 @@ fn spawn_wait(app: &App, ceilings: &Ceilings, measure: &Measure, priority: u8, s
 
 /// The greatest cost of a section that counts, of a value that a variable is bound to.
 fn value_wait(app: &App, ceilings: &Ceilings, measure: &Measure, priority: u8, value: &Value) -> u32
-    requires { measure.now ≡ cost.cost_measure (app_of app.now) }
-    ensures { result ≡ waiting.value_wait (app_of app.now) ceilings.now priority (value_of value.now) }
+    ensures { result ≡ waiting.value_wait (app_of app.now) measure.now ceilings.now priority (value_of value.now) }
 {
     match value {
         Value::Calc(_expr) => 0,
@@ -122,8 +121,8 @@ fn statement_wait(
     priority: u8,
     stmt: &Stmt,
 ) -> u32
-    requires { measure.now ≡ cost.cost_measure (app_of app.now) }
-    ensures { result ≡ waiting.statement_wait (app_of app.now) ceilings.now priority (statement_of stmt.now) }
+    ensures { let s = statement_of stmt.now in
+        result ≡ waiting.statement_wait (app_of app.now) measure.now ceilings.now priority s }
 {
     match stmt {
         Stmt::Bind(_variable, value) => value_wait(app, ceilings, measure, priority, value),
@@ -157,8 +156,8 @@ fn block_wait(
     priority: u8,
     stmts: &[Stmt],
 ) -> u32
-    requires { measure.now ≡ cost.cost_measure (app_of app.now) }
-    ensures { result ≡ waiting.block_wait (app_of app.now) ceilings.now priority (block_of stmts.now) }
+    ensures { let b = block_of stmts.now in
+        result ≡ waiting.block_wait (app_of app.now) measure.now ceilings.now priority b }
 {
     let mut most: u32 = 0;
     for stmt in stmts {
@@ -169,8 +168,8 @@ fn block_wait(
 
 /// The greatest cost of a section of `idle` that counts.
 fn idle_wait(app: &App, ceilings: &Ceilings, measure: &Measure, priority: u8) -> u32
-    requires { measure.now ≡ cost.cost_measure (app_of app.now) }
-    ensures { result ≡ waiting.idle_wait (app_of app.now) ceilings.now priority (option_map (body_of 0) app.now.idle) }
+    ensures { let all = app_of app.now in
+        result ≡ waiting.idle_wait all measure.now ceilings.now priority all.idle }
 {
     match &app.idle {
         None => 0,
@@ -212,8 +211,7 @@ fn task_wait(
     task: &Task,
 ) -> u32
     requires few { length (app_of app.now).tasks ≤ TASKS }
-    requires measured { measure.now ≡ cost.cost_measure (app_of app.now) }
-    ensures { result ≡ waiting.task_wait (app_of app.now) ceilings.now priority number (task_of task.now) }
+    ensures { result ≡ waiting.task_wait (app_of app.now) measure.now ceilings.now priority number (task_of task.now) }
 {
     if priority <= task.priority {
         return 0;
@@ -229,8 +227,8 @@ fn task_wait(
 /// The greatest cost of a section of the tasks that counts.
 fn tasks_wait(app: &App, ceilings: &Ceilings, measure: &Measure, priority: u8) -> u32
     requires few { length (app_of app.now).tasks ≤ TASKS }
-    requires measured { measure.now ≡ cost.cost_measure (app_of app.now) }
-    ensures { let all = app_of app.now in result ≡ waiting.tasks_wait all ceilings.now priority 0 all.tasks }
+    ensures { let all = app_of app.now in
+        result ≡ waiting.tasks_wait all measure.now ceilings.now priority 0 all.tasks }
 {
     let mut most: u32 = 0;
     for number in 0..app.tasks.len() {
@@ -242,7 +240,9 @@ fn tasks_wait(app: &App, ceilings: &Ceilings, measure: &Measure, priority: u8) -
 
 /// The cost of the section of a task's ready queue, where the task can be armed and the section counts.
 fn move_wait(ceilings: &Ceilings, priority: u8, task: &Task, is_armed: bool) -> u32
-    ensures { let t = task_of task.now in result ≡ (if level.is_software t then (if is_armed then waiting.if_reaches priority (waiting.ready_at ceilings.now t.priority) READY_COST else 0) else 0) }
+    ensures { let t = task_of task.now in
+        let own = waiting.if_reaches priority (waiting.ready_at ceilings.now t.priority) READY_COST in
+        result ≡ (if level.is_software t then (if is_armed then own else 0) else 0) }
 {
     if is_software(task) && is_armed {
         if_reaches(priority, ready_at(ceilings, task.priority), READY_COST)
@@ -268,9 +268,8 @@ fn moves_wait(app: &App, ceilings: &Ceilings, armed: &Flags, priority: u8) -> u3
 /// The greatest cost of a section of the timer handler that counts.
 fn timer_wait(app: &App, ceilings: &Ceilings, measure: &Measure, armed: &Flags, priority: u8) -> u32
     requires few { length (app_of app.now).tasks ≤ TASKS }
-    requires measured { measure.now ≡ cost.cost_measure (app_of app.now) }
     requires armed { HasFlags armed.now (level.is_armed (app_of app.now)) }
-    ensures { result ≡ waiting.timer_wait (app_of app.now) ceilings.now priority app.now.mono }
+    ensures { result ≡ waiting.timer_wait (app_of app.now) measure.now ceilings.now priority app.now.mono }
 {
     match &app.mono {
         None => 0,
@@ -294,9 +293,8 @@ pub(crate) fn wait_within(
     priority: u8,
 ) -> u32
     requires few { length (app_of app.now).tasks ≤ TASKS }
-    requires measured { measure.now ≡ cost.cost_measure (app_of app.now) }
     requires armed { HasFlags armed.now (level.is_armed (app_of app.now)) }
-    ensures { result ≡ waiting.wait_within (app_of app.now) ceilings.now priority }
+    ensures { result ≡ waiting.wait_within (app_of app.now) measure.now ceilings.now priority }
 {
     let idle = idle_wait(app, ceilings, measure, priority);
     let tasks = tasks_wait(app, ceilings, measure, priority);

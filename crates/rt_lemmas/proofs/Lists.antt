@@ -113,6 +113,23 @@ pub flat_map_alike : {A B : Type 0} (f g : A → List B) → ((x : A) → f x �
 flat_map_alike f g same [] = refl
 flat_map_alike f g same (x ∷ xs) = ap (λ ys. ys ++ flat_map f xs) (same x) ∙ ap (λ ys. g x ++ ys) (flat_map_alike f g same xs)
 
+pub map_alike : {A B : Type 0} (f g : A → B) → ((x : A) → f x ≡ g x) → (xs : List A) → map f xs ≡ map g xs
+map_alike f g same [] = refl
+map_alike f g same (x ∷ xs) = ap (λ y. y ∷ map f xs) (same x) ∙ ap (λ ys. g x ∷ ys) (map_alike f g same xs)
+
+-- the items of a list from a number on
+abbrev pub AreFrom : {X : Type 0} → List X → ℕ → List X → Type 0
+AreFrom all n xs = (k : ℕ) → slice_get all (n + k) ≡ slice_get xs k
+
+pub all_from : {X : Type 0} (all : List X) → AreFrom all 0 all
+all_from all k = let e : 0 + k ≡ k = omega arith in ap (slice_get all) e
+
+pub first_from : {X : Type 0} (all : List X) (n : ℕ) (x : X) (xs : List X) → AreFrom all n (x ∷ xs) → slice_get all n ≡ Some x
+first_from all n x xs from = let e : n ≡ n + 0 = omega arith in ap (slice_get all) e ∙ from 0
+
+pub rest_from : {X : Type 0} (all : List X) (n : ℕ) (x : X) (xs : List X) → AreFrom all n (x ∷ xs) → AreFrom all (n + 1) xs
+rest_from all n x xs from k = let e : (n + 1) + k ≡ n + suc k = omega arith in ap (slice_get all) e ∙ from (suc k)
+
 -- the views of one element more
 pub map_next : {X Y : Type 0} (f : X → Y) (xs : List X) (i : ℕ) (x : X) → i < length xs → x ≡ get_or xs i x → map f (take (i + 1) xs) ≡ map f (take i xs) ++ f x ∷ []
 map_next f xs i x within is = ap (map f) (take_more xs i x within) ∙ (map_push f (take i xs) (get_or xs i x) ∙ ap (λ y. map f (take i xs) ++ f y ∷ []) (sym is))

@@ -4,3 +4,4 @@ pub mod Longest
 pub mod OfKind
 pub mod Parts
 pub mod Gaps
+pub mod Unique

@@ -96,24 +96,24 @@ one_is_none b no_letter no_digit no_sign =
     ])
     (λ h. true_and_false (is_short_sign b) h no_sign)
 
-short_kind : (b : ℕ) (test : Bool) → is_letter b ≡ false → is_digit b ≡ false → is_short_sign b ≡ test → has_kind (cond test kind.Sign kind.Foreign) (b ∷ []) ≡ true
-short_kind b true no_letter no_digit e = e
-short_kind b false no_letter no_digit e = rw (one_is_none b no_letter no_digit e) refl
+short_kind : (b : ℕ) (test : Bool) → is_blank b ≡ false → is_letter b ≡ false → is_digit b ≡ false → is_short_sign b ≡ test → has_kind (cond test kind.Sign kind.Foreign) (b ∷ []) ≡ true
+short_kind b true no_blank no_letter no_digit e = e
+short_kind b false no_blank no_letter no_digit e = rw (no_blank, one_is_none b no_letter no_digit e) refl
 
-sign_kind : (b : ℕ) (text : List ℕ) → is_letter b ≡ false → is_digit b ≡ false → HasOwnKind (b ∷ text) (sign_front b (take 2 (b ∷ text)))
-sign_kind b text no_letter no_digit =
+sign_kind : (b : ℕ) (text : List ℕ) → is_blank b ≡ false → is_letter b ≡ false → is_digit b ≡ false → HasOwnKind (b ∷ text) (sign_front b (take 2 (b ∷ text)))
+sign_kind b text no_blank no_letter no_digit =
     let whole = b ∷ text in
     let short = cond (is_short_sign b) kind.Sign kind.Foreign in
     by_test (HasOwnKind whole) (is_long_sign (take 2 whole)) (makes 2 kind.Sign) (makes 1 short)
     (λ e. of_kind whole 2 kind.Sign (long_kind b text e))
-    (λ e. of_kind whole 1 short (short_kind b (is_short_sign b) no_letter no_digit refl))
+    (λ e. of_kind whole 1 short (short_kind b (is_short_sign b) no_blank no_letter no_digit refl))
 
 -- the bytes of a front that is a token are a text of its kind
 pub front_has_kind : (b : ℕ) (text : List ℕ) → HasOwnKind (b ∷ text) (front_of b (b ∷ text))
 front_has_kind b text =
     let whole = b ∷ text in
-    by_test (HasOwnKind whole) (is_blank b) (skips 1) _ (λ e k i. absurd cc) (λ e.
+    by_test (HasOwnKind whole) (is_blank b) (skips 1) _ (λ e k i. absurd cc) (λ no_blank.
     by_test (HasOwnKind whole) (starts_with eqb whole (47 ∷ 47 ∷ [])) (skips (length (comment whole))) _ (λ e k i. absurd cc) (λ e.
     by_test (HasOwnKind whole) (is_letter b) (name_front (take_while is_name_byte whole)) _ (name_kind b text) (λ no_letter.
     by_test (HasOwnKind whole) (is_digit b) (number_front (take_while is_digit whole) (hex_digits whole)) (sign_front b (take 2 whole))
-    (number_kind b text) (sign_kind b text no_letter))))
+    (number_kind b text) (sign_kind b text no_blank no_letter))))

@@ -8,4 +8,4 @@ pub mod Gap
 pub mod Number
 pub mod Place
 pub mod FrontView
-pub mod Step
+pub mod Inside

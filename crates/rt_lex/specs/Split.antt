@@ -4,7 +4,7 @@ use Rattle.std.specs.Prelude.{◌≡◌, ℕ, ◌+◌, ◌<◌, ◌≤◌, Bool,
 use Rattle.std.specs.List.{list_all, starts_with}
 use Rattle.rt_lex.specs.declared.token.Kind.{Kind}
 use Rattle.rt_lex.specs.declared.token.Kind.TheVariants as kind
-use Rattle.rt_lex.specs.Bytes.{is_hex_digit}
+use Rattle.rt_lex.specs.Bytes.{is_blank, is_hex_digit}
 use Rattle.rt_ids.specs.Byte.{is_digit, is_letter, is_name_byte}
 use Rattle.rt_lex.specs.Spelling.{is_long_sign, is_short_sign}
 use Rattle.rt_ids.specs.Word.{is_word, is_identifier}
@@ -30,13 +30,19 @@ is_sign (b ∷ c ∷ text) = is_long_sign (b ∷ c ∷ text)
 abbrev pub is_whole : List ℕ → Bool
 is_whole text = is_identifier text || is_number text || is_sign text
 
+-- one byte that is no blank, and with which no name, number or sign of one byte begins
+abbrev pub is_foreign : List ℕ → Bool
+is_foreign [] = false
+is_foreign (b ∷ []) = not (is_blank b) && not (is_whole (b ∷ []))
+is_foreign (b ∷ c ∷ text) = false
+
 -- whether a text is one token of this kind
 abbrev pub has_kind : Kind → List ℕ → Bool
 has_kind kind.Name text = is_identifier text && not (is_word text)
 has_kind kind.Word text = is_identifier text && is_word text
 has_kind kind.Num text = is_number text
 has_kind kind.Sign text = is_sign text
-has_kind kind.Foreign text = not (is_whole text)
+has_kind kind.Foreign text = is_foreign text
 
 -- a token's bytes are the slice of the text at its offset
 pub record IsSlice (src : List ℕ) (t : Token) : Type 0 where

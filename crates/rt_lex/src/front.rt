@@ -1,10 +1,11 @@
 // What a text begins with: a blank, a comment, or the longest token that fits.
 
-ghost use Rattle.std.specs.Prelude.{◌≡◌, not, ◌==◌, ◌∷◌, List, ℕ, take, take_while};
+ghost use Rattle.std.specs.Prelude.{◌≡◌, not, ◌==◌, ◌∷◌, List, ℕ, take, take_while, bytes_eq};
 ghost use Rattle.rt_lex.specs.Bytes.{is_blank, is_hex_digit};
 ghost use Rattle.rt_ids.specs.Byte.{is_digit, is_letter, is_name_byte};
 ghost use Rattle.rt_lex.specs.Spelling.{is_long_sign, is_short_sign};
 ghost use Rattle.rt_ids.specs.Word.{is_word};
+ghost use Rattle.rt_lex.specs.Inside.Initial.{is_one_of, words_from};
 ghost use Rattle.rt_lex.specs.Front.{comment, hex_digits, front_of, name_front, number_front, sign_front};
 ghost use Rattle.rt_lex.specs.FrontView.{front_view};
 
@@ -16,42 +17,6 @@ pub(crate) struct Front {
     pub(crate) len: usize,
     pub(crate) kind: Option<Kind>,
 }
-
-/// The names that the grammar keeps for itself.
-const WORDS: [&[u8]; 26] = [
-    b"app",
-    b"bits",
-    b"dispatchers",
-    b"interrupts",
-    b"monotonic",
-    b"binds",
-    b"priority",
-    b"capacity",
-    b"shared",
-    b"local",
-    b"lock_free",
-    b"init",
-    b"idle",
-    b"task",
-    b"with",
-    b"let",
-    b"if",
-    b"else",
-    b"for",
-    b"in",
-    b"lock",
-    b"emit",
-    b"pend",
-    b"spawn",
-    b"spawn_after",
-    b"now",
-];
-
-/// The signs of two bytes.
-const LONG_SIGNS: [&[u8]; 7] = [b"<<", b">>", b"==", b"!=", b"<=", b">=", b".."];
-
-/// The signs of one byte.
-const SHORT_SIGNS: &[u8] = b"(){}[]=,;&|^+-*/%<>";
 
 fn is_blank(b: u8) -> bool
     ensures { result ≡ is_blank b }
@@ -71,16 +36,87 @@ fn is_name_byte(b: u8) -> bool
     is_letter(b) || b.is_ascii_digit()
 }
 
+fn spells(text: &[u8], word: &[u8]) -> bool
+    ensures { result ≡ bytes_eq text.now word.now }
+{
+    text == word
+}
+
+/// Whether it is a word of the language, of those that begin with its first byte.
 fn is_word(text: &[u8]) -> bool
     ensures { result ≡ is_word text.now }
 {
-    WORDS.contains(&text)
+    let Some(first) = text.first() else {
+        return false;
+    };
+    match *first {
+        b'a' => spells(text, b"app"),
+        b'b' => spells(text, b"bits") || spells(text, b"binds"),
+        b'c' => spells(text, b"capacity"),
+        b'd' => spells(text, b"dispatchers"),
+        b'e' => spells(text, b"else") || spells(text, b"emit"),
+        b'f' => spells(text, b"for"),
+        b'i' => is_word_from_i(text),
+        b'l' => is_word_from_l(text),
+        b'm' => spells(text, b"monotonic"),
+        b'n' => spells(text, b"now"),
+        b'p' => spells(text, b"priority") || spells(text, b"pend"),
+        b's' => spells(text, b"shared") || spells(text, b"spawn") || spells(text, b"spawn_after"),
+        b't' => spells(text, b"task"),
+        b'w' => spells(text, b"with"),
+        _ => false,
+    }
+}
+
+fn is_word_from_i(text: &[u8]) -> bool
+    ensures { result ≡ is_one_of (words_from 105) text.now }
+{
+    spells(text, b"interrupts")
+        || spells(text, b"init")
+        || spells(text, b"idle")
+        || spells(text, b"if")
+        || spells(text, b"in")
+}
+
+fn is_word_from_l(text: &[u8]) -> bool
+    ensures { result ≡ is_one_of (words_from 108) text.now }
+{
+    spells(text, b"local")
+        || spells(text, b"lock_free")
+        || spells(text, b"let")
+        || spells(text, b"lock")
 }
 
 fn is_long_sign(text: &[u8]) -> bool
     ensures { result ≡ is_long_sign text.now }
 {
-    LONG_SIGNS.contains(&text)
+    matches!(text, b"<<" | b">>" | b"==" | b"!=" | b"<=" | b">=" | b"..")
+}
+
+fn is_short_sign(b: u8) -> bool
+    ensures { result ≡ is_short_sign b }
+{
+    matches!(
+        b,
+        b'(' | b')'
+            | b'{'
+            | b'}'
+            | b'['
+            | b']'
+            | b'='
+            | b','
+            | b';'
+            | b'&'
+            | b'|'
+            | b'^'
+            | b'+'
+            | b'-'
+            | b'*'
+            | b'/'
+            | b'%'
+            | b'<'
+            | b'>'
+    )
 }
 
 /// The rest of a line, without its end.
@@ -161,7 +197,7 @@ fn sign_front(first: u8, text: &[u8]) -> Front
 {
     let (len, kind) = if is_long_sign(&text[..text.len().min(2)]) {
         (2, Kind::Sign)
-    } else if SHORT_SIGNS.contains(&first) {
+    } else if is_short_sign(first) {
         (1, Kind::Sign)
     } else {
         (1, Kind::Foreign)

@@ -1,7 +1,8 @@
 // What the definition of tokens says of every text.
 
-ghost use Rattle.std.specs.Prelude.{ℕ, List};
+ghost use Rattle.std.specs.Prelude.{◌≡◌, ℕ, List};
 ghost use Rattle.std.specs.List.{AllByRecursion};
+ghost use Rattle.rt_lex.specs.Token.{Token};
 ghost use Rattle.rt_lex.specs.Tokens.{tokens};
 ghost use Rattle.rt_lex.specs.Gap.{HaveGaps};
 ghost use Rattle.rt_lex.specs.Split.{LieIn, IsLongest};
@@ -22,4 +23,10 @@ pub fn tokens_are_longest()
 #[tactic(auto, using(crate::proofs::Gaps::tokens_have_gaps))]
 pub fn gaps_are_blanks_and_comments()
     ensures { (src : List ℕ) → HaveGaps src 0 (tokens src) }
+{}
+
+/// A list of tokens that meets these three, whatever it is, is the text's.
+#[tactic(auto, using(crate::proofs::Unique::tokens_are_the_only))]
+pub fn no_other_tokens_fit()
+    ensures { (src : List ℕ) (split : List Token) → LieIn src 0 split → AllByRecursion (IsLongest src) split → HaveGaps src 0 split → split ≡ tokens src }
 {}

@@ -3,7 +3,7 @@ ghost use Rattle.std.specs.Iterator.{YieldsFirstBy, item_count};
 ghost use Rattle.rt_ids.specs.declared.limits.TheConstants.{TEXT_BYTES};
 ghost use Rattle.rt_lex.specs.Token.{Token, view};
 ghost use Rattle.rt_lex.specs.Tokens.{tokens, tokens_at};
-ghost use Rattle.rt_lex.specs.Step.{IsNext};
+ghost use Rattle.rt_lex.specs.Inside.Ahead.{with_ahead};
 
 use crate::front::front_of;
 use crate::token::Token;
@@ -12,14 +12,18 @@ use std::marker::Model;
 /// The tokens of a text that are left, in order. They lend from the text. Contracts see their list.
 #[derive(Drop, Debug)]
 pub struct Tokens<'a> {
+    /// The token that comes next.
+    ahead: Option<Token<'a>>,
+    /// What stands behind it.
     rest: &'a [u8],
+    /// The bytes of the text before the rest.
     at: u32,
 }
 
 impl<'a> Model for Tokens<'a> {
     ghost Value = { List Token };
 
-    ghost view = { λ t. tokens_at t.at t.rest.now };
+    ghost view = { λ t. with_ahead t.ahead (tokens_at t.at t.rest.now) };
 
     ghost invariant = { λ t. t.at + length t.rest.now ≤ TEXT_BYTES };
 }
@@ -32,15 +36,14 @@ impl<'a> Tokens<'a> {
         ensures all { result ≡ tokens src.now }
         ensures few { length result ≤ length src.now }
     {
-        Tokens { rest: src, at: 0 }
+        tokens_from(src, 0)
     }
 
     /// The token that `next` gives, which stays. None exactly where only blanks and comments are left.
     pub fn peek(&self) -> Option<Token<'a>>
         ensures { MatchOption result (self.now ≡ []) (λ t. self.now ≡ view t ∷ drop 1 self.now) }
     {
-        let (token, _) = next_token(self.rest, self.at)?;
-        Some(token)
+        self.ahead
     }
 }
 
@@ -52,35 +55,41 @@ impl<'a> Iterator for Tokens<'a> {
     ghost remaining = { item_count (λ tokens. tokens) };
 
     fn next(&mut self) -> Option<Token<'a>> {
-        let Some((token, rest)) = next_token(self.rest, self.at) else {
-            return None;
-        };
-        self.at = token.at + token.text.len() as u32;
-        self.rest = rest;
+        let token = self.ahead?;
+        *self = tokens_from(self.rest, self.at);
         Some(token)
     }
 }
 
-/// The first token of a text that stands at an offset, and the text behind. None where only blanks and comments are left.
-fn next_token(text: &[u8], start: u32) -> Option<(Token<'_>, &[u8])>
+/// The tokens of a text that stands at an offset.
+fn tokens_from(text: &[u8], start: u32) -> Tokens<'_>
     requires { start + length text.now ≤ TEXT_BYTES }
-    ensures { MatchOption result (tokens_at start text.now ≡ []) (λ x. IsNext start text.now (view x.0) x.1.now) }
+    ensures { result ≡ tokens_at start text.now }
 {
     let mut rest = text;
     let mut at = start;
     while let [first, ..] = rest {
         let front = front_of(*first, rest);
         let (bytes, behind) = rest.split_at(front.len);
+        let end = at + front.len as u32;
         if let Some(kind) = front.kind {
             let token = Token {
                 text: bytes,
                 at,
                 kind,
             };
-            return Some((token, behind));
+            return Tokens {
+                ahead: Some(token),
+                rest: behind,
+                at: end,
+            };
         }
         rest = behind;
-        at += front.len as u32;
+        at = end;
     }
-    None
+    Tokens {
+        ahead: None,
+        rest,
+        at,
+    }
 }

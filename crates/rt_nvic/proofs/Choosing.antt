@@ -1,19 +1,13 @@
 -- The choice among the numbers below one, as it grows by that one.
-use Rattle.std.proofs.Common.{◌≡◌, ℕ, ◌+◌, ◌<◌, ◌⊎◌, inl, inr, ◌&&◌, Bool, true, false, nat_lt, nat_le, if◌then◌else◌, List, [], ◌∷◌, ◌++◌, Option, Some, None, unwrap_or, IsTrue, IsSome, IfSome, refl, sym, ap, ◌∙◌, arith}
+use Rattle.std.proofs.Common.{◌≡◌, ℕ, ◌<◌, ◌⊎◌, inl, inr, ◌&&◌, Bool, true, false, nat_lt, nat_le, if◌then◌else◌, List, [], ◌∷◌, ◌++◌, Option, Some, None, unwrap_or, IsTrue, IsSome, refl, ap, ◌∙◌, arith}
 use Rattle.std.proofs.lemmas.Bool.Decides.{nat_tests}
 use Rattle.rt_ids.specs.Choice.{best, better_of}
 use Rattle.rt_ids.specs.declared.limits.TheConstants.{THREAD_VALUE}
 use Rattle.rt_nvic.specs.Nvic.{Nvic, value_of, is_below, is_pending, priority_of, is_ready, beats, IsReady}
-use Rattle.rt_ids.specs.Lists.{numbers_below}
-use Rattle.rt_nvic.proofs.Arriving.{numbers_below-more}
+use Rattle.rt_nvic.specs.Inside.First.{limit_of}
 
 abbrev pub chosen : Nvic → ℕ → List ℕ → Option ℕ
 chosen n exec irqs = best (is_ready n exec) (beats n) irqs
-
--- a value below this one is taken in place of what was chosen
-abbrev pub limit_of : Nvic → ℕ → Option ℕ → ℕ
-limit_of n exec None = exec
-limit_of n exec (Some irq) = value_of n irq
 
 -- what the test tells, part by part
 parts_from_test : (p : Bool) (o : Option ℕ) (exec : ℕ) → (p && is_below o exec) ≡ true → IsTrue p × IsSome o × (unwrap_or o THREAD_VALUE < exec)
@@ -76,34 +70,3 @@ pub chosen_more : (n : Nvic) (exec x : ℕ) (irqs : List ℕ) → chosen n exec 
 chosen_more n exec x [] = refl
 chosen_more n exec x (y ∷ irqs) =
     ap (λ (o : Option ℕ). if is_ready n exec y then better_of (beats n) y o else o) (chosen_more n exec x irqs) ∙ next_after n exec y x (chosen n exec irqs) (is_ready n exec y) refl
-
-chosen_next : (n : Nvic) (exec k : ℕ) → chosen n exec (numbers_below (k + 1)) ≡ (if is_ready n (limit_of n exec (chosen n exec (numbers_below k))) k then Some k else chosen n exec (numbers_below k))
-chosen_next n exec k = ap (chosen n exec) (numbers_below-more k) ∙ chosen_more n exec k (numbers_below k)
-
-taken_from : (b : Bool) (value v : ℕ) → Some value ≡ (if b then Some v else None) → (b ≡ true) × (value ≡ v)
-taken_from true value v h = (refl, cc)
-taken_from false value v h = (cc, cc)
-
-passed_from : (b : Bool) (v : ℕ) → None ≡ (if b then Some v else None) → b ≡ false
-passed_from true v h = cc
-passed_from false v h = refl
-
--- the scan takes a number
-pub takes : (n : Nvic) (exec k limit value : ℕ) (first : Option ℕ) → first ≡ chosen n exec (numbers_below k) → limit ≡ limit_of n exec first → Some value ≡ (if is_ready n limit k then Some (value_of n k) else None)
-    → (Some k ≡ chosen n exec (numbers_below (k + 1))) × (value ≡ value_of n k)
-takes n exec k limit value first so_far at h =
-    let t = taken_from (is_ready n limit k) value (value_of n k) h in
-    let e : is_ready n (limit_of n exec (chosen n exec (numbers_below k))) k ≡ true = ap (λ l. is_ready n l k) (sym (at ∙ ap (limit_of n exec) so_far)) ∙ t.0 in
-    (sym (chosen_next n exec k ∙ ap (λ (b : Bool). if b then Some k else chosen n exec (numbers_below k)) e), t.1)
-
--- and passes one by
-pub passes_by : (n : Nvic) (exec k limit : ℕ) (first : Option ℕ) → first ≡ chosen n exec (numbers_below k) → limit ≡ limit_of n exec first → None ≡ (if is_ready n limit k then Some (value_of n k) else None)
-    → first ≡ chosen n exec (numbers_below (k + 1))
-passes_by n exec k limit first so_far at h =
-    let e : is_ready n (limit_of n exec (chosen n exec (numbers_below k))) k ≡ false = ap (λ l. is_ready n l k) (sym (at ∙ ap (limit_of n exec) so_far)) ∙ passed_from (is_ready n limit k) (value_of n k) h in
-    so_far ∙ sym (chosen_next n exec k ∙ ap (λ (b : Bool). if b then Some k else chosen n exec (numbers_below k)) e)
-
--- a number that is in range, as an interrupt
-pub made : (o : Option ℕ) (k : ℕ) → IsSome o → IfSome o (λ irq. irq ≡ k) → o ≡ Some k
-made None k is e = cc
-made (Some irq) k is e = ap Some e

@@ -6,7 +6,7 @@ use Rattle.std.proofs.lemmas.List.{length-drop, get_or_past}
 use Rattle.rt_ids.specs.declared.limits.TheConstants.{IRQ_NUMBERS, THREAD_VALUE}
 use Rattle.rt_nvic.specs.declared.sizes.TheConstants.{ACTIVE}
 use Rattle.rt_nvic.specs.Nvic.{Nvic, IsSized, IsReady, running, value_of_first}
-use Rattle.rt_nvic.specs.Fields.{IsFixed}
+use Rattle.rt_nvic.specs.Inside.Fields.{IsFixed}
 
 abbrev pub shown : List (Option ℕ) → List Bool → List ℕ → ℕ → Nvic
 shown priorities pending active top = record { priorities = priorities; pending = pending; active = drop top active }

@@ -1,5 +1,11 @@
 pub mod Arriving
 pub mod Choosing
 pub mod Precedence
+pub mod Least
+pub mod Taking
+pub mod Growing
+pub mod Ready
+pub mod Scanning
+pub mod OneBit
 pub mod Fitting
 pub mod Pending

@@ -5,7 +5,8 @@ use Rattle.rt_lemmas.proofs.Numbers.{below_suc}
 use Rattle.rt_ids.specs.declared.limits.TheConstants.{IRQ_NUMBERS}
 use Rattle.rt_nvic.specs.Nvic.{Nvic, IsSized, value_of, is_ready, picked, IsReady, Precedes}
 use Rattle.rt_ids.specs.Lists.{numbers_below}
-use Rattle.rt_nvic.proofs.Choosing.{limit_of, chosen, chosen_more, ready_from_test, test_from_ready}
+use Rattle.rt_nvic.specs.Inside.First.{limit_of}
+use Rattle.rt_nvic.proofs.Choosing.{chosen, chosen_more, ready_from_test, test_from_ready}
 use Rattle.rt_nvic.proofs.Fitting.{number_of_ready}
 
 -- the choice among the numbers below a count
@@ -26,7 +27,7 @@ not_ready n exec irq h is = false≢true (sym h ∙ test_from_ready n exec irq i
 not_higher : (n : Nvic) (exec limit irq : ℕ) → is_ready n limit irq ≡ false → IsReady n exec irq → limit ≤ value_of n irq
 not_higher n exec limit irq h is = ⊎_elim (λ less. absurd (not_ready n limit irq h (ready_below n exec limit irq is less))) (λ ge. ge) (cases_lt (value_of n irq) limit)
 
-choice_more_by : (n : Nvic) (exec count : ℕ) (o : Option ℕ) (passes : Bool) → is_ready n (limit_of n exec o) count ≡ passes → IsChoice n exec count o → IsChoice n exec (suc count) (if passes then Some count else o)
+pub choice_more_by : (n : Nvic) (exec count : ℕ) (o : Option ℕ) (passes : Bool) → is_ready n (limit_of n exec o) count ≡ passes → IsChoice n exec count o → IsChoice n exec (suc count) (if passes then Some count else o)
 choice_more_by n exec count None true h is =
     (omega arith, ready_from_test n exec count h, below_suc (λ k. IsReady n exec k → Precedes n count k) count (λ k l r. absurd (is k l r)) (λ r. inr (refl, omega arith)))
 choice_more_by n exec count None false h is = below_suc (λ k. ¬ IsReady n exec k) count is (not_ready n exec count h)

@@ -1,2 +1,2 @@
 pub mod Nvic
-pub mod Fields
+pub mod Inside

@@ -1,6 +1,8 @@
 // The interrupt controller: which interrupts are enabled, pending and active, and which one is taken.
 #![tactic(auto)]
 
+mod best;
+mod bits;
 pub mod nvic;
 pub mod sizes;
 

@@ -5,13 +5,15 @@ ghost use Rattle.rt_nvic.specs.declared.sizes.TheConstants.{ACTIVE};
 ghost use Rattle.rt_nvic.specs.Nvic as spec;
 ghost use Rattle.rt_ids.specs.Arrivals.{arrivals, pended, holds};
 
-use crate::sizes::{ACTIVE, NUMBERS};
+use crate::best::{Best, NO_BEST};
+use crate::bits::{clear_bit, set_bit};
+use crate::sizes::{ACTIVE, NUMBERS, WORDS};
 use rt_ids::Irq;
 use rt_ids::limits::{IRQ_NUMBERS, THREAD_VALUE};
 use std::marker::Model;
 
-/// The state of each external interrupt: whether it is enabled and with which priority value, whether it is pending, and
-/// which ones are active. An interrupt may be active and pending.
+/// The state of each external interrupt: whether it is enabled and with which priority value, whether it is pending,
+/// and which ones are active. An interrupt may be active and pending.
 #[derive(Debug, Drop)]
 pub struct Nvic {
     /// By number, the priority value of an enabled interrupt.
@@ -22,36 +24,29 @@ pub struct Nvic {
     active: [Irq; ACTIVE],
     /// From 0, where all places are taken, to `ACTIVE`, where none is.
     top: usize,
+    /// The bits of those that are pending and enabled.
+    ready: [u32; WORDS],
+    /// Of these the one that is taken first.
+    best: Best,
 }
 
 impl Model for Nvic {
     ghost use Rattle.std.specs.Prelude.{drop};
     ghost use Rattle.rt_nvic.specs.Nvic.{Nvic};
-    ghost use Rattle.rt_nvic.specs.Fields.{IsFixed};
+    ghost use Rattle.rt_nvic.specs.Inside.Fields.{IsKept};
 
     ghost Value = { Nvic };
 
     ghost view = { λ n. record { priorities = n.priorities; pending = n.pending; active = drop n.top n.active } };
 
-    ghost invariant = { λ n. IsFixed n.priorities n.pending n.active n.top };
-}
-
-/// Sets the interrupts pending whose bits the word of this number holds.
-fn set_pending(pending: &mut [bool], k: u8, bits: u32)
-    requires { (bit : ℕ) → bit < 32 → bit_at bits bit ≡ 1 → 32 * k + bit < length pending.old }
-    ensures { pending.new ≡ pended (arrivals k bits) pending.old }
-{
-    for bit in 0..32 {
-        if (bits >> bit) & 1 == 1 {
-            pending[32 * usize::from(k) + bit] = true;
-        }
-    }
+    ghost invariant = { λ n. IsKept n.priorities n.pending n.active n.top n.ready n.best };
 }
 
 impl Nvic {
     /// A controller with nothing enabled, pending or active.
     pub fn new() -> Nvic
-        ensures { result ≡ record { priorities = replicate IRQ_NUMBERS None; pending = replicate IRQ_NUMBERS false; active = [] } }
+        ensures { result
+            ≡ record { priorities = replicate IRQ_NUMBERS None; pending = replicate IRQ_NUMBERS false; active = [] } }
     {
         let Some(irq) = Irq::new(0) else {
             unreachable!()
@@ -61,6 +56,8 @@ impl Nvic {
             pending: [false; NUMBERS],
             active: [irq; ACTIVE],
             top: ACTIVE,
+            ready: [0; WORDS],
+            best: NO_BEST,
         }
     }
 
@@ -68,66 +65,76 @@ impl Nvic {
     pub fn enable(&mut self, irq: Irq, prio: u8)
         ensures { self.new ≡ record self.old { priorities = slice_set self.old.priorities irq (Some prio) } }
     {
-        self.priorities[usize::from(irq.get())] = Some(prio);
+        let number = usize::from(irq.get());
+        self.priorities[number] = Some(prio);
+        set_bit(&mut self.ready, irq.get(), self.pending[number]);
+        self.best = Best::of(&self.priorities, &self.ready);
     }
 
     /// Sets the interrupts pending whose bits this word holds: bit b of word k is interrupt 32 * k + b.
     pub fn arrive(&mut self, k: u8, bits: u32)
         requires in_range { (bit : ℕ) → bit < 32 → bit_at bits bit ≡ 1 → 32 * k + bit < IRQ_NUMBERS }
         ensures state { self.new ≡ record self.old { pending = pended (arrivals k bits) self.old.pending } }
-        ensures each { (irq : ℕ) → irq < IRQ_NUMBERS → spec.is_pending self.new irq ≡ (spec.is_pending self.old irq || holds k bits irq) }
+        ensures each { (irq : ℕ) → irq < IRQ_NUMBERS
+            → spec.is_pending self.new irq ≡ (spec.is_pending self.old irq || holds k bits irq) }
     {
-        set_pending(&mut self.pending, k, bits);
+        // The clauses need the lengths, which are known where a field is used.
+        let _ = &self.top;
+        for bit in 0..32 {
+            if (bits >> bit) & 1 == 1 {
+                self.post_number(32 * u16::from(k) + bit);
+            }
+        }
     }
 
     /// Sets an interrupt pending. One that is active is then active and pending; one that is pending stays as it is.
+    #[inline]
     pub fn post(&mut self, irq: Irq)
         ensures { self.new ≡ record self.old { pending = slice_set self.old.pending irq true } }
     {
-        self.pending[usize::from(irq.get())] = true;
+        let number = usize::from(irq.get());
+        self.pending[number] = true;
+        let priority = self.priorities[number];
+        set_bit(&mut self.ready, irq.get(), priority.is_some());
+        self.best = self.best.with(irq, priority);
+    }
+
+    /// Sets the interrupt of a number pending.
+    #[inline]
+    fn post_number(&mut self, number: u16)
+        requires { number < IRQ_NUMBERS }
+        ensures { self.new ≡ record self.old { pending = slice_set self.old.pending number true } }
+    {
+        let Some(irq) = Irq::new(number) else {
+            unreachable!()
+        };
+        self.post(irq);
     }
 
     /// Whether an interrupt is pending.
+    #[inline]
     pub fn is_pending(&self, irq: Irq) -> bool
         ensures { result ≡ spec.is_pending self.now irq }
     {
         self.pending[usize::from(irq.get())]
     }
 
-    /// The priority value of a pending interrupt that is enabled with a value below a limit.
-    fn value_below(&self, limit: u16, number: u16) -> Option<u16>
-        requires { number < IRQ_NUMBERS }
-        ensures { result ≡ (if spec.is_ready self.now limit number then Some (spec.value_of self.now number) else None) }
-    {
-        let number = usize::from(number);
-        let value = u16::from(self.priorities[number]?);
-        if self.pending[number] && value < limit {
-            Some(value)
-        } else {
-            None
-        }
-    }
-
-    /// The interrupt that is taken at an execution priority, which is 256 where nothing runs or masks: of those that are
-    /// ready the one of the smallest priority value, and of equal ones the one of the lowest number.
+    /// The interrupt that is taken at an execution priority, which is 256 where nothing runs or masks: of those that
+    /// are ready the one of the smallest priority value, and of equal ones the one of the lowest number.
+    #[inline]
     pub fn pick(&self, exec: u16) -> Option<Irq>
         ensures value { result ≡ spec.picked self.now exec }
         ensures ready { IfSome result (λ irq. spec.IsReady self.now exec irq) }
-        ensures first { IfSome result (λ irq. (other : ℕ) → spec.IsReady self.now exec other → spec.Precedes self.now irq other) }
+        ensures first { IfSome result
+            (λ irq. (other : ℕ) → spec.IsReady self.now exec other → spec.Precedes self.now irq other) }
         ensures none { IfNone result ((irq : ℕ) → ¬ spec.IsReady self.now exec irq) }
         ensures sizes { spec.IsSized self.now }
     {
-        // The clauses need the lengths, which are known where a field is used.
-        let _ = &self.top;
-        let mut first = None;
-        let mut limit = exec;
-        for number in 0..IRQ_NUMBERS {
-            if let Some(value) = self.value_below(limit, number) {
-                first = Irq::new(number);
-                limit = value;
-            }
+        if self.best.value < exec {
+            self.best.irq
+        } else {
+            None
         }
-        first
     }
 
     /// Enters an interrupt: it is pending no more, and active.
@@ -140,8 +147,10 @@ impl Nvic {
         ensures priorities { self.new.priorities ≡ self.old.priorities }
     {
         self.pending[usize::from(irq.get())] = false;
+        clear_bit(&mut self.ready, irq.get());
         self.top -= 1;
         self.active[self.top] = irq;
+        self.best = Best::of(&self.priorities, &self.ready);
     }
 
     /// Leaves the interrupt that was entered last.
@@ -157,6 +166,7 @@ impl Nvic {
     }
 
     /// The interrupt that was entered last, and None where none is active.
+    #[inline]
     pub fn last_entered(&self) -> Option<Irq>
         ensures { result ≡ slice_get self.now.active 0 }
     {
@@ -164,6 +174,7 @@ impl Nvic {
     }
 
     /// The priority value of the interrupt that was entered last, and 256 where none is active.
+    #[inline]
     pub fn running(&self) -> u16
         ensures { result ≡ spec.running self.now }
     {

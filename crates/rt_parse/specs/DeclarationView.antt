@@ -5,11 +5,16 @@ use Rattle.rt_grammar.specs.Options as grammar
 use Rattle.rt_grammar.specs.Declaration.{Head}
 use Rattle.rt_parse.specs.declared.declaration.Opening.{Opening}
 use Rattle.rt_parse.specs.declared.body.BodyOptions.{BodyOptions}
+use Rattle.rt_parse.specs.declared.body.Declared.{Declared}
+use Rattle.rt_parse.specs.ReadingDeclaration as reading
 use Rattle.rt_parse.specs.declared.body.Owner.{Owner}
 use Rattle.rt_parse.specs.declared.body.Owner.TheVariants as owner
 
 abbrev pub opening_view : Opening → Head
 opening_view h = record { name = h.name; bits = h.bits; dispatchers = h.dispatchers.items }
+
+abbrev pub declared_view : Declared → reading.Declared
+declared_view d = record { first = opening_view d.first; irqs = d.irqs.items; mono = d.mono; shared = d.shared.items; locals = d.locals.items }
 
 abbrev pub owner_view : Owner → grammar.Owner
 owner_view owner.Init = grammar.OfInit

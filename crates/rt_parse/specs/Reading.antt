@@ -6,7 +6,8 @@ use Rattle.rt_ids.specs.declared.refusal.Refusal.{Refusal}
 use Rattle.rt_ids.specs.declared.refusal.Refusal.TheVariants as refusal
 use Rattle.rt_lex.specs.declared.token.Kind.{Kind}
 use Rattle.rt_lex.specs.declared.token.Kind.TheVariants as kind
-use Rattle.rt_lex.specs.Token.{Token}
+use Rattle.rt_lex.specs.declared.token.Token as code
+use Rattle.rt_lex.specs.Token.{Token, view}
 use Rattle.rt_ast.specs.declared.ident.Ident.{Ident}
 use Rattle.rt_ast.specs.declared.ident.Number.{Number}
 use Rattle.rt_grammar.specs.Tokens.{free, word_of, sign_of, ident_of, number_of, name_limit, number_limit}
@@ -47,6 +48,11 @@ refusal_at (t ∷ tokens) = refusal_of t.kind
 
 abbrev pub wrong_at : List Token → Found
 wrong_at tokens = record { at = next_offset tokens; refusal = refusal_at tokens }
+
+-- what is wrong with a token that was met, or with the end of the text
+abbrev pub wrong_token : Option code.Token → Found
+wrong_token None = wrong_at []
+wrong_token (Some t) = wrong_at (view t ∷ [])
 
 -- what was read, unless it passes a limit
 abbrev pub unless_limited : {A : Type 0} → ℕ → Option Limit → A → List Token → Result (A × List Token) Found

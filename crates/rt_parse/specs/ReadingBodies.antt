@@ -7,7 +7,7 @@ use Rattle.rt_ast.specs.declared.ident.Ident.{Ident}
 use Rattle.rt_ast.specs.Tree.{Body, Task, Block}
 use Rattle.rt_grammar.specs.Limits.{at_most}
 use Rattle.rt_grammar.specs.Simple.{Counted}
-use Rattle.rt_grammar.specs.Options.{Owner, OfTask}
+use Rattle.rt_grammar.specs.Options.{Owner, OfTask, Options}
 use Rattle.rt_grammar.specs.Bodies.{body_of}
 use Rattle.rt_parse.specs.Reading.{Reader, ◌>>=◌, begins_with, repeat_at, limited_word_at, word_at, sign_at, limited_name_at, name_at}
 use Rattle.rt_parse.specs.ReadingStatement.{block_at}
@@ -48,11 +48,20 @@ parameters_at tokens = do
 unfoldable pub task_arguments_at : Reader (List Ident)
 task_arguments_at tokens = if begins_with (is_this_word (codes "with")) tokens then parameters_at tokens else Ok ([], tokens)
 
+-- a task of what was read of it
+abbrev pub task_is : Ident → Options → List Ident → Block → Task
+task_is name o args block = record { name = name; binds = o.binds; priority = o.priority; capacity = o.capacity; args = args; body = body_of o block name.at }
+
+-- a task's arguments and its block, behind its options
+abbrev pub task_block_at : Ident → Options → Reader Task
+task_block_at name o tokens = do
+  args ← task_arguments_at tokens
+  b ← body_block_at args.1
+  Ok (task_is name o args.0 b.0.0, b.1)
+
 unfoldable pub task_at : ℕ → Reader Task
 task_at before tokens = do
   a ← limited_word_at (codes "task") (at_most TASKS limit.Tasks before) tokens
   x ← name_at a.1
   o ← options_at OfTask x.1
-  args ← task_arguments_at o.1
-  b ← body_block_at args.1
-  Ok (record { name = x.0; binds = o.0.binds; priority = o.0.priority; capacity = o.0.capacity; args = args.0; body = body_of o.0 b.0.0 x.0.at }, b.1)
+  task_block_at x.0 o.0 o.1

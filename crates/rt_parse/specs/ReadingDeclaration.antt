@@ -1,10 +1,14 @@
 -- The readers of the first declaration and of the whole application.
-use Rattle.std.specs.Prelude.{Bool, true, false, codes, List, [], ◌∷◌, length, Result, Ok, Err, if◌then◌else◌}
+use Rattle.std.specs.Prelude.{ℕ, Bool, true, false, codes, List, [], ◌∷◌, length, Option, Result, Ok, Err, if◌then◌else◌}
 use Rattle.rt_ids.specs.declared.limit.Limit.TheVariants as limit
 use Rattle.rt_ids.specs.declared.limits.TheConstants.{LEAST_BITS, MOST_BITS}
 use Rattle.rt_lex.specs.Token.{Token, is_this_word, is_this_sign}
 use Rattle.rt_ast.specs.declared.ident.Ident.{Ident}
-use Rattle.rt_ast.specs.Tree.{App}
+use Rattle.rt_ast.specs.declared.app.IrqTree.{IrqTree}
+use Rattle.rt_ast.specs.declared.app.MonoTree.{MonoTree}
+use Rattle.rt_ast.specs.declared.app.SharedTree.{SharedTree}
+use Rattle.rt_ast.specs.declared.app.LocalTree.{LocalTree}
+use Rattle.rt_ast.specs.Tree.{App, Body, Task}
 use Rattle.rt_grammar.specs.Limits.{within}
 use Rattle.rt_grammar.specs.Options.{OfInit, OfIdle}
 use Rattle.rt_grammar.specs.Declaration.{Head}
@@ -25,44 +29,73 @@ dispatcher_names_at tokens = do
 unfoldable pub dispatchers_at : Reader (List Ident)
 dispatchers_at tokens = if begins_with (is_this_sign (codes ",")) tokens then dispatcher_names_at tokens else Ok ([], tokens)
 
+-- the first declaration from its dispatchers on
+abbrev pub dispatched_at : Ident → ℕ → Reader Head
+dispatched_at name bits tokens = do
+  ds ← dispatchers_at tokens
+  e ← sign_at (codes ")") ds.1
+  f ← sign_at (codes ";") e.1
+  Ok (record { name = name; bits = bits; dispatchers = ds.0 }, f.1)
+
+-- the first declaration from its parenthesis on
+abbrev pub levels_at : Ident → Reader Head
+levels_at name tokens = do
+  b ← sign_at (codes "(") tokens
+  c ← word_at (codes "bits") b.1
+  d ← sign_at (codes "=") c.1
+  bits ← limited_number_at (within LEAST_BITS MOST_BITS limit.Bits) d.1
+  dispatched_at name bits.0.value bits.1
+
 unfoldable pub head_at : Reader Head
 head_at tokens = do
   a ← word_at (codes "app") tokens
   x ← name_at a.1
-  b ← sign_at (codes "(") x.1
-  c ← word_at (codes "bits") b.1
-  d ← sign_at (codes "=") c.1
-  bits ← limited_number_at (within LEAST_BITS MOST_BITS limit.Bits) d.1
-  ds ← dispatchers_at bits.1
-  e ← sign_at (codes ")") ds.1
-  f ← sign_at (codes ";") e.1
-  Ok (record { name = x.0; bits = bits.0.value; dispatchers = ds.0 }, f.1)
+  levels_at x.0 x.1
+
+-- what is declared before the bodies
+pub record Declared : Type 0 where
+  pub first : Head
+  pub irqs : List IrqTree
+  pub mono : Option MonoTree
+  pub shared : List SharedTree
+  pub locals : List LocalTree
+
+-- an application of what was read of it
+abbrev pub app_is : Declared → Option Body → Option Body → List Task → App
+app_is d init idle tasks = record {
+  name = d.first.name;
+  bits = d.first.bits;
+  dispatchers = d.first.dispatchers;
+  irqs = d.irqs;
+  mono = d.mono;
+  shared = d.shared;
+  locals = d.locals;
+  init = init;
+  idle = idle;
+  tasks = tasks;
+}
+
+-- the bodies of an application, behind what it declares
+abbrev pub bodies_at : Declared → Reader App
+bodies_at d tokens = do
+  init ← thread_body_at OfInit (codes "init") tokens
+  idle ← thread_body_at OfIdle (codes "idle") init.1
+  tasks ← repeat_at (is_this_word (codes "task")) (adds_at task_at) (length idle.1) [] idle.1
+  Ok (app_is d init.0 idle.0 tasks.0, tasks.1)
+
+-- an application behind its first declaration
+abbrev pub declarations_at : Head → Reader App
+declarations_at first tokens = do
+  irqs ← interrupts_at tokens
+  mono ← monotonic_at irqs.1
+  ss ← shared_at mono.1
+  ls ← locals_at ss.1
+  bodies_at (record { first = first; irqs = irqs.0; mono = mono.0; shared = ss.0; locals = ls.0 }) ls.1
 
 unfoldable pub application_at : Reader App
 application_at tokens = do
   first ← head_at tokens
-  irqs ← interrupts_at first.1
-  mono ← monotonic_at irqs.1
-  ss ← shared_at mono.1
-  ls ← locals_at ss.1
-  init ← thread_body_at OfInit (codes "init") ls.1
-  idle ← thread_body_at OfIdle (codes "idle") init.1
-  tasks ← repeat_at (is_this_word (codes "task")) (adds_at task_at) (length idle.1) [] idle.1
-  Ok (
-    record {
-      name = first.0.name;
-      bits = first.0.bits;
-      dispatchers = first.0.dispatchers;
-      irqs = irqs.0;
-      mono = mono.0;
-      shared = ss.0;
-      locals = ls.0;
-      init = init.0;
-      idle = idle.0;
-      tasks = tasks.0;
-    },
-    tasks.1,
-  )
+  declarations_at first.0 first.1
 
 abbrev pub is_end : List Token → Bool
 is_end [] = true

@@ -3,6 +3,7 @@ use Rattle.std.specs.Prelude.{ℕ, ◌-◌, true, false, codes, List, [], length
 use Rattle.rt_ids.specs.declared.limit.Limit.TheVariants as limit
 use Rattle.rt_ids.specs.declared.limits.TheConstants.{SHARED, LOCALS, IRQS, IRQ_NUMBERS}
 use Rattle.rt_lex.specs.Token.{is_this_word}
+use Rattle.rt_ast.specs.declared.ident.Ident.{Ident}
 use Rattle.rt_ast.specs.declared.app.IrqTree.{IrqTree}
 use Rattle.rt_ast.specs.declared.app.MonoTree.{MonoTree}
 use Rattle.rt_ast.specs.declared.app.SharedTree.{SharedTree}
@@ -24,6 +25,17 @@ interrupts_at tokens = do
   b ← sign_at (codes "{") a.1
   items_at (codes "}") (adds_at interrupt_at) (length b.1) [] b.1
 
+-- a monotonic's priority, behind its interrupt
+abbrev pub clock_priority_at : Ident → Reader (Option MonoTree)
+clock_priority_at irq tokens = do
+  e ← sign_at (codes ",") tokens
+  f ← word_at (codes "priority") e.1
+  g ← sign_at (codes "=") f.1
+  n ← number_at g.1
+  h ← sign_at (codes ")") n.1
+  i ← sign_at (codes ";") h.1
+  Ok (Some (record { binds = irq; priority = n.0 }), i.1)
+
 unfoldable pub clock_at : Reader (Option MonoTree)
 clock_at tokens = do
   a ← word_at (codes "monotonic") tokens
@@ -31,13 +43,7 @@ clock_at tokens = do
   c ← word_at (codes "binds") b.1
   d ← sign_at (codes "=") c.1
   irq ← name_at d.1
-  e ← sign_at (codes ",") irq.1
-  f ← word_at (codes "priority") e.1
-  g ← sign_at (codes "=") f.1
-  n ← number_at g.1
-  h ← sign_at (codes ")") n.1
-  i ← sign_at (codes ";") h.1
-  Ok (Some (record { binds = irq.0; priority = n.0 }), i.1)
+  clock_priority_at irq.0 irq.1
 
 unfoldable pub monotonic_at : Reader (Option MonoTree)
 monotonic_at tokens = if begins_with (is_this_word (codes "monotonic")) tokens then clock_at tokens else Ok (None, tokens)

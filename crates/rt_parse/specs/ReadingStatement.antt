@@ -15,16 +15,26 @@ use Rattle.rt_parse.specs.ReadingNested.{branch_at, loop_at, further_at, lock_at
 abbrev pub Blocks : Type 0
 Blocks = ℕ → ℕ → Reader (Counted Block)
 
+-- a statement that begins with another word, in which no block stands
+abbrev pub simple_at : ℕ → Reader (Counted Statement)
+simple_at room tokens =
+    if begins_with (is_this_word (codes "emit")) tokens then emit_at room tokens
+    else if begins_with (is_this_word (codes "pend")) tokens then pend_at room tokens
+    else call_at room tokens
+
+-- a statement in which blocks stand, or a simple one
+abbrev pub compound_at : (ℕ → Reader (Counted Block)) → (ℕ → Reader (Counted Block)) → ℕ → Reader (Counted Statement)
+compound_at block inside room tokens =
+    if begins_with (is_this_word (codes "if")) tokens then branch_at block room tokens
+    else if begins_with (is_this_word (codes "for")) tokens then loop_at block room tokens
+    else if begins_with (is_this_word (codes "lock")) tokens then lock_at inside room tokens
+    else simple_at room tokens
+
 unfoldable pub statement_at : (ℕ → Reader (Counted Block)) → (ℕ → Reader (Counted Block)) → ℕ → Reader (Counted Statement)
 statement_at block inside room tokens =
     if begins_with is_name tokens then assign_at room tokens
     else if begins_with (is_this_word (codes "let")) tokens then bind_at room tokens
-    else if begins_with (is_this_word (codes "if")) tokens then branch_at block room tokens
-    else if begins_with (is_this_word (codes "for")) tokens then loop_at block room tokens
-    else if begins_with (is_this_word (codes "lock")) tokens then lock_at inside room tokens
-    else if begins_with (is_this_word (codes "emit")) tokens then emit_at room tokens
-    else if begins_with (is_this_word (codes "pend")) tokens then pend_at room tokens
-    else call_at room tokens
+    else compound_at block inside room tokens
 
 unfoldable pub one_more_at : (ℕ → Reader (Counted Block)) → (ℕ → Reader (Counted Block)) → Counted (List Statement) → Reader (Counted (List Statement))
 one_more_at block inside so_far tokens = do

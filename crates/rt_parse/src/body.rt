@@ -2,17 +2,17 @@
 
 ghost use Rattle.std.specs.Prelude.{◌≡◌, ◌&&◌, [], ◌∷◌, codes, length, map, not, is_none};
 ghost use Rattle.rt_lex.specs.Token.{is_this_sign, is_this_word};
-ghost use Rattle.rt_ast.specs.View.{body_of, task_of, app_of, option_map};
+ghost use Rattle.rt_ast.specs.View.{block_of, body_of, task_of, app_of, option_map};
 ghost use Rattle.rt_grammar.specs.Options.{no_options, is_task, is_init};
 ghost use Rattle.rt_grammar.specs.Bodies.{or_empty};
 ghost use Rattle.rt_parse.specs.Reading.{Gives, begins_with, repeat_at};
 ghost use Rattle.rt_parse.specs.ReadingList.{items_at, adds_at};
 ghost use Rattle.rt_parse.specs.ReadingOptions.{binds_at, priority_at, capacity_at, shared_list_at, local_list_at, takes, option_at, some_options_at, options_at};
-ghost use Rattle.rt_parse.specs.ReadingBodies.{thread_at, thread_body_at, one_argument_at, argument_at, parameters_at, task_arguments_at, task_at};
-ghost use Rattle.rt_parse.specs.ReadingDeclaration.{application_at, text_at};
-ghost use Rattle.rt_parse.specs.DeclarationView.{options_view, owner_view, items_of};
+ghost use Rattle.rt_parse.specs.ReadingBodies.{thread_at, thread_body_at, one_argument_at, argument_at, parameters_at, task_arguments_at, task_is, task_block_at, task_at};
+ghost use Rattle.rt_parse.specs.ReadingDeclaration.{app_is, bodies_at, declarations_at, application_at, text_at};
+ghost use Rattle.rt_parse.specs.DeclarationView.{declared_view, opening_view, options_view, owner_view, items_of};
 
-use crate::declaration::{heading, interrupts, locals, monotonic, names, shared};
+use crate::declaration::{Opening, heading, interrupts, locals, monotonic, names, shared};
 use crate::list::{comma, goes_past, list};
 use crate::statement::block;
 use crate::stop::Stop;
@@ -20,7 +20,10 @@ use crate::tokens::{
     begins_sign, begins_word, limit_if, limited_name, limited_word, name, number, number_within,
     sign, word, wrong,
 };
-use rt_ast::{AppTree, BodyTree, Ident, ListedTree, Number, Stmt, TaskTree};
+use rt_ast::{
+    AppTree, BodyTree, Ident, IrqTree, ListedTree, LocalTree, MonoTree, Number, SharedTree, Stmt,
+    TaskTree,
+};
 use rt_ids::Limit;
 use rt_ids::limits::{ARGUMENTS, CAPACITY, NESTING, STATEMENTS, TASKS};
 use rt_lex::Tokens;
@@ -335,6 +338,45 @@ fn task_arguments<'a>(alloc: Global, tokens: Tokens<'a>) -> Result<(Vec<Ident>, 
     more_arguments(alloc, tokens, first)
 }
 
+fn task_tree(
+    alloc: Global,
+    name: Ident,
+    options: BodyOptions,
+    args: Vec<Ident>,
+    block: Vec<Stmt>,
+) -> TaskTree
+    ensures { task_of result ≡ task_is name (options_view options) args.items (block_of block.items) }
+{
+    let body = BodyTree {
+        shared: or_empty(alloc, options.shared),
+        local: or_empty(alloc, options.local),
+        block,
+        at: name.at,
+    };
+    TaskTree {
+        name,
+        binds: options.binds,
+        priority: options.priority,
+        capacity: options.capacity,
+        args,
+        body,
+    }
+}
+
+/// A task's arguments and its block, behind its options.
+fn task_block<'a>(
+    alloc: Global,
+    tokens: Tokens<'a>,
+    name: Ident,
+    options: BodyOptions,
+) -> Result<(TaskTree, Tokens<'a>), Stop>
+    ensures { Gives (λ x. (task_of x.0, x.1)) result (task_block_at name (options_view options) tokens.entry) }
+{
+    let (args, tokens) = task_arguments(alloc, tokens)?;
+    let ((block, _), tokens) = block(alloc, tokens, NESTING, STATEMENTS as u32)?;
+    Ok((task_tree(alloc, name, options, args, block), tokens))
+}
+
 /// One more task, behind so many.
 #[tactic(auto, unfolding(crate::specs::ReadingBodies::task_at))]
 fn task<'a>(
@@ -348,23 +390,7 @@ fn task<'a>(
     let (_, tokens) = limited_word(tokens, b"task", limit)?;
     let (name, tokens) = name(alloc, tokens)?;
     let (options, tokens) = options(alloc, tokens, Owner::Task)?;
-    let (args, tokens) = task_arguments(alloc, tokens)?;
-    let ((block, _), tokens) = block(alloc, tokens, NESTING, STATEMENTS as u32)?;
-    let body = BodyTree {
-        shared: or_empty(alloc, options.shared),
-        local: or_empty(alloc, options.local),
-        block,
-        at: name.at,
-    };
-    let task = TaskTree {
-        name,
-        binds: options.binds,
-        priority: options.priority,
-        capacity: options.capacity,
-        args,
-        body,
-    };
-    Ok((task, tokens))
+    task_block(alloc, tokens, name, options)
 }
 
 /// The tasks.
@@ -381,20 +407,33 @@ fn tasks<'a>(alloc: Global, tokens: Tokens<'a>) -> Result<(Vec<TaskTree>, Tokens
     Ok((tasks, rest))
 }
 
-/// A whole application.
-#[tactic(auto, unfolding(crate::specs::ReadingDeclaration::application_at))]
-fn application<'a>(alloc: Global, tokens: Tokens<'a>) -> Result<(AppTree, Tokens<'a>), Stop>
-    ensures { Gives (λ x. (app_of x.0, x.1)) result (application_at tokens.entry) }
+/// What is declared before the bodies.
+#[derive(Drop)]
+struct Declared {
+    first: Opening,
+    irqs: Vec<IrqTree>,
+    mono: Option<MonoTree>,
+    shared: Vec<SharedTree>,
+    locals: Vec<LocalTree>,
+}
+
+/// An application's tree.
+fn app_tree(
+    declared: Declared,
+    init: Option<BodyTree>,
+    idle: Option<BodyTree>,
+    tasks: Vec<TaskTree>,
+) -> AppTree
+    ensures { app_of result ≡ app_is (declared_view declared) (option_map body_of init) (option_map body_of idle) (map task_of tasks.items) }
 {
-    let (first, tokens) = heading(alloc, tokens)?;
-    let (irqs, tokens) = interrupts(alloc, tokens)?;
-    let (mono, tokens) = monotonic(alloc, tokens)?;
-    let (shared, tokens) = shared(alloc, tokens)?;
-    let (locals, tokens) = locals(alloc, tokens)?;
-    let (init, tokens) = thread_body(alloc, tokens, Owner::Init, b"init")?;
-    let (idle, tokens) = thread_body(alloc, tokens, Owner::Idle, b"idle")?;
-    let (tasks, tokens) = tasks(alloc, tokens)?;
-    let app = AppTree {
+    let Declared {
+        first,
+        irqs,
+        mono,
+        shared,
+        locals,
+    } = declared;
+    AppTree {
         name: first.name,
         bits: first.bits,
         dispatchers: first.dispatchers,
@@ -405,8 +444,52 @@ fn application<'a>(alloc: Global, tokens: Tokens<'a>) -> Result<(AppTree, Tokens
         init,
         idle,
         tasks,
+    }
+}
+
+/// The bodies of an application, behind what it declares.
+fn bodies<'a>(
+    alloc: Global,
+    tokens: Tokens<'a>,
+    declared: Declared,
+) -> Result<(AppTree, Tokens<'a>), Stop>
+    ensures { Gives (λ x. (app_of x.0, x.1)) result (bodies_at (declared_view declared) tokens.entry) }
+{
+    let (init, tokens) = thread_body(alloc, tokens, Owner::Init, b"init")?;
+    let (idle, tokens) = thread_body(alloc, tokens, Owner::Idle, b"idle")?;
+    let (tasks, tokens) = tasks(alloc, tokens)?;
+    Ok((app_tree(declared, init, idle, tasks), tokens))
+}
+
+/// An application behind its first declaration.
+fn declarations<'a>(
+    alloc: Global,
+    tokens: Tokens<'a>,
+    first: Opening,
+) -> Result<(AppTree, Tokens<'a>), Stop>
+    ensures { Gives (λ x. (app_of x.0, x.1)) result (declarations_at (opening_view first) tokens.entry) }
+{
+    let (irqs, tokens) = interrupts(alloc, tokens)?;
+    let (mono, tokens) = monotonic(alloc, tokens)?;
+    let (shared, tokens) = shared(alloc, tokens)?;
+    let (locals, tokens) = locals(alloc, tokens)?;
+    let declared = Declared {
+        first,
+        irqs,
+        mono,
+        shared,
+        locals,
     };
-    Ok((app, tokens))
+    bodies(alloc, tokens, declared)
+}
+
+/// A whole application.
+#[tactic(auto, unfolding(crate::specs::ReadingDeclaration::application_at))]
+fn application<'a>(alloc: Global, tokens: Tokens<'a>) -> Result<(AppTree, Tokens<'a>), Stop>
+    ensures { Gives (λ x. (app_of x.0, x.1)) result (application_at tokens.entry) }
+{
+    let (first, tokens) = heading(alloc, tokens)?;
+    declarations(alloc, tokens, first)
 }
 
 /// An application, and nothing behind it.

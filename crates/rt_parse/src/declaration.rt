@@ -7,10 +7,10 @@ ghost use Rattle.rt_grammar.specs.Limits.{at_most};
 ghost use Rattle.rt_parse.specs.DeclarationView.{opening_view};
 ghost use Rattle.rt_parse.specs.Reading.{Gives, begins_with, repeat_at, name_at};
 ghost use Rattle.rt_parse.specs.ReadingList.{items_at, adds_at, names_at};
-ghost use Rattle.rt_parse.specs.ReadingResources.{interrupt_at, interrupts_at, clock_at, monotonic_at, first_value_at, lock_free_at, locked_at, resource_at, resources_at, shared_at, local_at, local_resources_at, locals_at};
+ghost use Rattle.rt_parse.specs.ReadingResources.{interrupt_at, interrupts_at, clock_priority_at, clock_at, monotonic_at, first_value_at, lock_free_at, locked_at, resource_at, resources_at, shared_at, local_at, local_resources_at, locals_at};
 ghost use Rattle.rt_parse.specs.ReadingOptions.{binds_at, priority_at, capacity_at, listed_by_ref_at, listed_plainly_at, listed_at, shared_list_at, local_list_at, takes, option_at, some_options_at, options_at};
 ghost use Rattle.rt_parse.specs.ReadingBodies.{body_block_at, thread_at, thread_body_at, argument_at, parameters_at, task_arguments_at, task_at};
-ghost use Rattle.rt_parse.specs.ReadingDeclaration.{dispatcher_names_at, dispatchers_at, head_at, application_at, text_at};
+ghost use Rattle.rt_parse.specs.ReadingDeclaration.{dispatcher_names_at, dispatchers_at, dispatched_at, levels_at, head_at, application_at, text_at};
 
 use crate::list::{Item, comma, goes_past, list};
 use crate::statement::block;
@@ -121,43 +121,53 @@ pub(crate) struct Opening {
     pub(crate) dispatchers: Vec<Ident>,
 }
 
+/// The first declaration from its dispatchers on.
+fn dispatched<'a>(
+    alloc: Global,
+    tokens: Tokens<'a>,
+    name: Ident,
+    bits: u32,
+) -> Result<(Opening, Tokens<'a>), Stop>
+    ensures { Gives (λ x. (opening_view x.0, x.1)) result (dispatched_at name bits tokens.entry) }
+{
+    let (dispatchers, tokens) = dispatchers(alloc, tokens)?;
+    let (_, tokens) = sign(tokens, b")")?;
+    let (_, tokens) = sign(tokens, b";")?;
+    let opening = Opening {
+        name,
+        bits,
+        dispatchers,
+    };
+    Ok((opening, tokens))
+}
+
+/// The first declaration from its parenthesis on.
+fn levels<'a>(alloc: Global, tokens: Tokens<'a>, name: Ident) -> Result<(Opening, Tokens<'a>), Stop>
+    ensures { Gives (λ x. (opening_view x.0, x.1)) result (levels_at name tokens.entry) }
+{
+    let (_, tokens) = sign(tokens, b"(")?;
+    let (_, tokens) = word(tokens, b"bits")?;
+    let (_, tokens) = sign(tokens, b"=")?;
+    let (bits, tokens) = number_within(tokens, LEAST_BITS, MOST_BITS, Limit::Bits)?;
+    dispatched(alloc, tokens, name, bits.value)
+}
+
 #[tactic(auto, unfolding(crate::specs::ReadingDeclaration::head_at))]
 pub(crate) fn heading<'a>(alloc: Global, tokens: Tokens<'a>) -> Result<(Opening, Tokens<'a>), Stop>
     ensures { Gives (λ x. (opening_view x.0, x.1)) result (head_at tokens.entry) }
 {
     let (_, tokens) = word(tokens, b"app")?;
     let (name, tokens) = name(alloc, tokens)?;
-    let (_, tokens) = sign(tokens, b"(")?;
-    let (_, tokens) = word(tokens, b"bits")?;
-    let (_, tokens) = sign(tokens, b"=")?;
-    let (bits, tokens) = number_within(tokens, LEAST_BITS, MOST_BITS, Limit::Bits)?;
-    let (dispatchers, tokens) = dispatchers(alloc, tokens)?;
-    let (_, tokens) = sign(tokens, b")")?;
-    let (_, tokens) = sign(tokens, b";")?;
-    let heading = Opening {
-        name,
-        bits: bits.value,
-        dispatchers,
-    };
-    Ok((heading, tokens))
+    levels(alloc, tokens, name)
 }
 
-/// The monotonic, where one is declared.
-#[tactic(auto, unfolding(crate::specs::ReadingResources::monotonic_at, crate::specs::ReadingResources::clock_at))]
-pub(crate) fn monotonic<'a>(
-    alloc: Global,
+/// A monotonic's priority, behind its interrupt.
+fn clock_priority<'a>(
     tokens: Tokens<'a>,
+    binds: Ident,
 ) -> Result<(Option<MonoTree>, Tokens<'a>), Stop>
-    ensures { Gives (λ x. x) result (monotonic_at tokens.entry) }
+    ensures { Gives (λ x. x) result (clock_priority_at binds tokens.entry) }
 {
-    if !begins_word(&tokens, b"monotonic") {
-        return Ok((None, tokens));
-    }
-    let (_, tokens) = word(tokens, b"monotonic")?;
-    let (_, tokens) = sign(tokens, b"(")?;
-    let (_, tokens) = word(tokens, b"binds")?;
-    let (_, tokens) = sign(tokens, b"=")?;
-    let (binds, tokens) = name(alloc, tokens)?;
     let (_, tokens) = sign(tokens, b",")?;
     let (_, tokens) = word(tokens, b"priority")?;
     let (_, tokens) = sign(tokens, b"=")?;
@@ -165,6 +175,33 @@ pub(crate) fn monotonic<'a>(
     let (_, tokens) = sign(tokens, b")")?;
     let (_, tokens) = sign(tokens, b";")?;
     Ok((Some(MonoTree { binds, priority }), tokens))
+}
+
+#[tactic(auto, unfolding(crate::specs::ReadingResources::clock_at))]
+fn clock<'a>(alloc: Global, tokens: Tokens<'a>) -> Result<(Option<MonoTree>, Tokens<'a>), Stop>
+    ensures { Gives (λ x. x) result (clock_at tokens.entry) }
+{
+    let (_, tokens) = word(tokens, b"monotonic")?;
+    let (_, tokens) = sign(tokens, b"(")?;
+    let (_, tokens) = word(tokens, b"binds")?;
+    let (_, tokens) = sign(tokens, b"=")?;
+    let (binds, tokens) = name(alloc, tokens)?;
+    clock_priority(tokens, binds)
+}
+
+/// The monotonic, where one is declared.
+#[tactic(auto, unfolding(crate::specs::ReadingResources::monotonic_at))]
+pub(crate) fn monotonic<'a>(
+    alloc: Global,
+    tokens: Tokens<'a>,
+) -> Result<(Option<MonoTree>, Tokens<'a>), Stop>
+    ensures { Gives (λ x. x) result (monotonic_at tokens.entry) }
+{
+    if begins_word(&tokens, b"monotonic") {
+        clock(alloc, tokens)
+    } else {
+        Ok((None, tokens))
+    }
 }
 
 #[tactic(auto, unfolding(crate::specs::ReadingResources::first_value_at))]

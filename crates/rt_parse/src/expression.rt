@@ -11,7 +11,7 @@ ghost use Rattle.rt_parse.specs.ReadingExpression.{is_number, is_name, operator_
 ghost use Rattle.rt_parse.specs.ExpressionView.{signs_of, stronger_than, measured_view};
 
 use crate::stop::{Found, Stop};
-use crate::tokens::{limited_sign, name, number, sign, wrong};
+use crate::tokens::{limited_sign, name, number, sign, wrong, wrong_token};
 use rt_ast::Expr;
 use rt_ids::limits::{DEPTH, PARENTHESES};
 use rt_ids::{Limit, Op, Refusal};
@@ -126,11 +126,10 @@ fn compares(tokens: &Tokens<'_>) -> bool
 fn operator(mut tokens: Tokens<'_>, strength: Strength) -> Result<(Op, Tokens<'_>), Stop>
     ensures { Gives (λ x. x) result (operator_at (signs_of strength) tokens.entry) }
 {
-    let wrong = wrong(&tokens);
-    let token = tokens.next().ok_or(Stop::At(wrong))?;
+    let token = tokens.next().ok_or(Stop::At(wrong_token(None)))?;
     match strength.op(&token) {
         Some(op) => Ok((op, tokens)),
-        None => Err(Stop::At(wrong)),
+        None => Err(Stop::At(wrong_token(Some(token)))),
     }
 }
 
@@ -138,11 +137,10 @@ fn operator(mut tokens: Tokens<'_>, strength: Strength) -> Result<(Op, Tokens<'_
 fn comparison_operator(mut tokens: Tokens<'_>) -> Result<(Op, Tokens<'_>), Stop>
     ensures { Gives (λ x. x) result (operator_at comparisons tokens.entry) }
 {
-    let wrong = wrong(&tokens);
-    let token = tokens.next().ok_or(Stop::At(wrong))?;
+    let token = tokens.next().ok_or(Stop::At(wrong_token(None)))?;
     match comparison_op(&token) {
         Some(op) => Ok((op, tokens)),
-        None => Err(Stop::At(wrong)),
+        None => Err(Stop::At(wrong_token(Some(token)))),
     }
 }
 

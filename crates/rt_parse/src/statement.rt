@@ -11,7 +11,7 @@ ghost use Rattle.rt_parse.specs.ReadingExpression.{expression_at};
 ghost use Rattle.rt_parse.specs.ReadingSpawn.{is_spawn, arguments_at, soon_at, after_at, spawn_at, now_at, call_value_at, calc_at, value_at};
 ghost use Rattle.rt_parse.specs.ReadingSimple.{counted_limit, bind_at, assign_at, emit_at, pend_at, call_at};
 ghost use Rattle.rt_parse.specs.ReadingNested.{nested_limit, else_block_at, else_at, branch_at, loop_at, further_at, lock_at};
-ghost use Rattle.rt_parse.specs.ReadingStatement.{statement_at, one_more_at, is_inside, braced_at, closed_block_at, block_at, inside_at, below_at};
+ghost use Rattle.rt_parse.specs.ReadingStatement.{simple_at, compound_at, statement_at, one_more_at, is_inside, braced_at, closed_block_at, block_at, inside_at, below_at};
 
 use crate::expression::expression;
 use crate::list::{comma, goes_past};
@@ -269,6 +269,44 @@ fn lock<'a>(
     Ok(((Stmt::lock(resource, inner), room), tokens))
 }
 
+/// A statement that begins with another word, in which no block stands.
+fn simple<'a>(
+    alloc: Global,
+    tokens: Tokens<'a>,
+    room: u32,
+) -> Result<((Stmt, u32), Tokens<'a>), Stop>
+    ensures { Gives (λ x. ((statement_of x.0.0, x.0.1), x.1)) result (simple_at room tokens.entry) }
+{
+    if begins_word(&tokens, b"emit") {
+        emit(alloc, tokens, room)
+    } else if begins_word(&tokens, b"pend") {
+        pend(alloc, tokens, room)
+    } else {
+        call(alloc, tokens, room)
+    }
+}
+
+/// A statement inside which so many blocks may be opened, or a simple one.
+#[cycle(statement)]
+fn compound<'a>(
+    alloc: Global,
+    tokens: Tokens<'a>,
+    left: u32,
+    room: u32,
+) -> Result<((Stmt, u32), Tokens<'a>), Stop>
+    ensures { Gives (λ x. ((statement_of x.0.0, x.0.1), x.1)) result (compound_at (block_at left) (inside_at left) room tokens.entry) }
+{
+    if begins_word(&tokens, b"if") {
+        branch(alloc, tokens, left, room)
+    } else if begins_word(&tokens, b"for") {
+        repeat(alloc, tokens, left, room)
+    } else if begins_word(&tokens, b"lock") {
+        lock(alloc, tokens, left, room)
+    } else {
+        simple(alloc, tokens, room)
+    }
+}
+
 /// A statement, inside which so many blocks may be opened.
 #[cycle(statement)]
 #[tactic(auto, unfolding(crate::specs::ReadingStatement::statement_at))]
@@ -284,18 +322,8 @@ fn statement<'a>(
         assign(alloc, tokens, room)
     } else if begins_word(&tokens, b"let") {
         bind(alloc, tokens, room)
-    } else if begins_word(&tokens, b"if") {
-        branch(alloc, tokens, left, room)
-    } else if begins_word(&tokens, b"for") {
-        repeat(alloc, tokens, left, room)
-    } else if begins_word(&tokens, b"lock") {
-        lock(alloc, tokens, left, room)
-    } else if begins_word(&tokens, b"emit") {
-        emit(alloc, tokens, room)
-    } else if begins_word(&tokens, b"pend") {
-        pend(alloc, tokens, room)
     } else {
-        call(alloc, tokens, room)
+        compound(alloc, tokens, left, room)
     }
 }
 

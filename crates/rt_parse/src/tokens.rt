@@ -2,9 +2,9 @@
 
 ghost use Rattle.std.specs.Prelude.{◌≡◌, ◌≤◌, nat_le, ◌&&◌};
 ghost use Rattle.rt_ids.specs.declared.limit.Limit.{Limit};
-ghost use Rattle.rt_lex.specs.Token.{is_this_sign, is_this_word};
+ghost use Rattle.rt_lex.specs.Token.{view, is_this_sign, is_this_word};
 ghost use Rattle.rt_grammar.specs.Tokens.{free, limit_if, word_of, sign_of, ident_of, number_of, name_limit, number_limit};
-ghost use Rattle.rt_parse.specs.Reading.{Gives, begins_with, token_at, wrong_at, limited_word_at, word_at, limited_sign_at, sign_at, limited_name_at, name_at, number_at, limited_number_at, unless_limited};
+ghost use Rattle.rt_parse.specs.Reading.{Gives, begins_with, token_at, wrong_at, wrong_token, limited_word_at, word_at, limited_sign_at, sign_at, limited_name_at, name_at, number_at, limited_number_at, unless_limited};
 ghost use Rattle.rt_parse.specs.ReadingExpression.{is_name};
 ghost use Rattle.rt_grammar.specs.Limits.{within, turned};
 
@@ -12,7 +12,7 @@ use crate::stop::{Found, Stop};
 use rt_ast::{Ident, Number};
 use rt_ids::limits::{NAME_BYTES, TURNS};
 use rt_ids::{Limit, Name, Refusal};
-use rt_lex::{Kind, Tokens};
+use rt_lex::{Kind, Token, Tokens};
 use std::alloc::Global;
 
 /// Whether this sign comes next.
@@ -46,7 +46,14 @@ pub(crate) fn limit_if(passed: bool, limit: Limit) -> Option<Limit>
 pub(crate) fn wrong(tokens: &Tokens<'_>) -> Found
     ensures { result ≡ wrong_at tokens.now }
 {
-    match tokens.peek() {
+    wrong_token(tokens.peek())
+}
+
+/// What is wrong with a token that was met, or with the end of the text.
+pub(crate) fn wrong_token(token: Option<Token<'_>>) -> Found
+    ensures { result ≡ wrong_token token.entry }
+{
+    match token {
         Some(token) => Found {
             at: Some(token.at),
             refusal: if token.kind == Kind::Foreign {
@@ -71,16 +78,9 @@ pub(crate) fn limited_word<'a>(
 ) -> Result<(u32, Tokens<'a>), Stop>
     ensures { Gives (λ x. x) result (limited_word_at word.now limit tokens.entry) }
 {
-    let wrong = wrong(&tokens);
     match tokens.next() {
-        Some(token) if token.is_word(word) => match limit {
-            None => Ok((token.at, tokens)),
-            Some(limit) => Err(Stop::At(Found {
-                at: Some(token.at),
-                refusal: Refusal::Limit(limit),
-            })),
-        },
-        _ => Err(Stop::At(wrong)),
+        Some(token) if token.is_word(word) => unless_limited(token.at, limit, token.at, tokens),
+        other => Err(Stop::At(wrong_token(other))),
     }
 }
 
@@ -99,16 +99,9 @@ pub(crate) fn limited_sign<'a>(
 ) -> Result<(u32, Tokens<'a>), Stop>
     ensures { Gives (λ x. x) result (limited_sign_at sign.now limit tokens.entry) }
 {
-    let wrong = wrong(&tokens);
     match tokens.next() {
-        Some(token) if token.is_sign(sign) => match limit {
-            None => Ok((token.at, tokens)),
-            Some(limit) => Err(Stop::At(Found {
-                at: Some(token.at),
-                refusal: Refusal::Limit(limit),
-            })),
-        },
-        _ => Err(Stop::At(wrong)),
+        Some(token) if token.is_sign(sign) => unless_limited(token.at, limit, token.at, tokens),
+        other => Err(Stop::At(wrong_token(other))),
     }
 }
 
@@ -127,22 +120,14 @@ pub(crate) fn limited_name<'a>(
 ) -> Result<(Ident, Tokens<'a>), Stop>
     ensures { Gives (λ x. x) result (limited_name_at limit tokens.entry) }
 {
-    let wrong = wrong(&tokens);
-    let token = tokens.next().ok_or(Stop::At(wrong))?;
-    match token.kind {
-        Kind::Name => {
-            match limit_if(token.text.len() > NAME_BYTES, Limit::Name).or(limit) {
-                Some(limit) => Err(Stop::At(Found {
-                    at: Some(token.at),
-                    refusal: Refusal::Limit(limit),
-                })),
-                None => {
-                    let name = Name::of(alloc, token.text)?;
-                    Ok((Ident { name, at: token.at }, tokens))
-                }
-            }
+    match tokens.next() {
+        Some(token) if is_name(&token) => {
+            let limit = limit_if(token.text.len() > NAME_BYTES, Limit::Name).or(limit);
+            let ((), tokens) = unless_limited(token.at, limit, (), tokens)?;
+            let name = Name::of(alloc, token.text)?;
+            Ok((Ident { name, at: token.at }, tokens))
         }
-        _ => Err(Stop::At(wrong)),
+        other => Err(Stop::At(wrong_token(other))),
     }
 }
 
@@ -157,8 +142,7 @@ pub(crate) fn name<'a>(alloc: Global, tokens: Tokens<'a>) -> Result<(Ident, Toke
 pub(crate) fn number(mut tokens: Tokens<'_>) -> Result<(Number, Tokens<'_>), Stop>
     ensures { Gives (λ x. x) result (number_at tokens.entry) }
 {
-    let wrong = wrong(&tokens);
-    let token = tokens.next().ok_or(Stop::At(wrong))?;
+    let token = tokens.next().ok_or(Stop::At(wrong_token(None)))?;
     match token.kind {
         Kind::Num => match token.value() {
             Some(value) => Ok((
@@ -173,7 +157,16 @@ pub(crate) fn number(mut tokens: Tokens<'_>) -> Result<(Number, Tokens<'_>), Sto
                 refusal: Refusal::Limit(Limit::Number),
             })),
         },
-        _ => Err(Stop::At(wrong)),
+        _ => Err(Stop::At(wrong_token(Some(token)))),
+    }
+}
+
+fn is_name(token: &Token<'_>) -> bool
+    ensures { result ≡ is_name (view token.now) }
+{
+    match token.kind {
+        Kind::Name => true,
+        _ => false,
     }
 }
 
@@ -182,26 +175,24 @@ pub(crate) fn begins_name(tokens: &Tokens<'_>) -> bool
     ensures { result ≡ begins_with is_name tokens.now }
 {
     match tokens.peek() {
-        Some(token) => match token.kind {
-            Kind::Name => true,
-            _ => false,
-        },
+        Some(token) => is_name(&token),
         None => false,
     }
 }
 
-/// A number, unless it passes a limit.
-fn unless_limited(
-    number: Number,
+/// What was read at this offset, unless it passes a limit.
+fn unless_limited<T: Drop>(
+    at: u32,
     limit: Option<Limit>,
+    read: T,
     tokens: Tokens<'_>,
-) -> Result<(Number, Tokens<'_>), Stop>
-    ensures { Gives (λ x. x) result (unless_limited number.at limit number tokens.entry) }
+) -> Result<(T, Tokens<'_>), Stop>
+    ensures { Gives (λ x. x) result (unless_limited at limit read tokens.entry) }
 {
     match limit {
-        None => Ok((number, tokens)),
+        None => Ok((read, tokens)),
         Some(limit) => Err(Stop::At(Found {
-            at: Some(number.at),
+            at: Some(at),
             refusal: Refusal::Limit(limit),
         })),
     }
@@ -224,7 +215,8 @@ pub(crate) fn number_within(
 {
     let (number, tokens) = number(tokens)?;
     let passes = !is_within(number.value, least, greatest);
-    unless_limited(number, limit_if(passes, limit), tokens)
+    let limit = limit_if(passes, limit);
+    unless_limited(number.at, limit, number, tokens)
 }
 
 /// The number behind the last turn of a loop that begins at the first one.
@@ -233,5 +225,6 @@ pub(crate) fn last_number(tokens: Tokens<'_>, first: u32) -> Result<(Number, Tok
 {
     let (number, tokens) = number(tokens)?;
     let turns = number.value.saturating_sub(first);
-    unless_limited(number, limit_if(turns > TURNS, Limit::Turns), tokens)
+    let limit = limit_if(turns > TURNS, Limit::Turns);
+    unless_limited(number.at, limit, number, tokens)
 }

@@ -1,5 +1,2 @@
 pub mod Tables
-pub mod Found
-pub mod Made
-pub mod Sizes
-pub mod Rows
+pub mod Inside

@@ -1,5 +1,6 @@
 ghost use Rattle.std.specs.Prelude.{◌≡◌, IfOk, slice_get};
-ghost use Rattle.rt_program.specs.Tables.{handler_of, resource_cell, argument_count};
+ghost use Rattle.rt_code.specs.Cells.{resource_cell};
+ghost use Rattle.rt_program.specs.Tables.{handler_of, argument_count};
 
 use crate::{copy, tables};
 use rt_code::{BodyRow, Handler, Image, Instr, Note};
@@ -24,7 +25,7 @@ impl Model for Program {
 
     ghost Value = { Image };
 
-    ghost use Rattle.rt_program.specs.Made.{HasTables};
+    ghost use Rattle.rt_program.specs.Inside.Made.{HasTables};
 
     ghost view = { λ p. p.image };
 

@@ -1,7 +1,6 @@
 ghost use Rattle.std.specs.Prelude.{◌≡◌, ◌==◌, ◌-◌, ◌≤◌, ◌%◌, ◌^◌, ◌↔◌, IsTrue, Some, position};
-ghost use Rattle.rt_code.specs.Runnable.{IsRunnable};
-ghost use Rattle.rt_program.specs.Sizes.{HasRightSizes};
-ghost use Rattle.rt_program.specs.Rows.{TakeFewArguments, HaveImplementedValues, HaveNumbersApart, HasRightRows};
+ghost use Rattle.rt_code.specs.Runnable.{HasRightSizes, TakeFewArguments, HaveImplementedValues};
+ghost use Rattle.rt_code.specs.Runnable.{HaveNumbersApart, HasRightRows, IsRunnable};
 ghost use Rattle.rt_code.specs.declared.image.Handler.{Handler as Entry};
 
 use rt_code::{BodyRow, Image, IrqRow};

@@ -2,7 +2,9 @@ ghost use Rattle.std.specs.Prelude.{◌≡◌, ◌==◌, IfOk, find, map};
 ghost use Rattle.std.specs.Option.{option_copied};
 ghost use Rattle.rt_ids.specs.declared.limits.TheConstants.{IRQ_NUMBERS};
 ghost use Rattle.rt_program.specs.declared.tables.TheConstants.{TASK_NUMBERS};
-ghost use Rattle.rt_program.specs.Found.{IsTable, handler_in, cell_named, arguments_in};
+ghost use Rattle.rt_code.specs.Cells.{cell_named};
+ghost use Rattle.rt_program.specs.Tables.{handler_in, arguments_in};
+ghost use Rattle.rt_program.specs.Inside.Found.{IsTable};
 
 use rt_code::{BodyRow, Handler, IrqRow};
 use rt_ids::limits::IRQ_NUMBERS;

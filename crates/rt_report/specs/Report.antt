@@ -1,5 +1,5 @@
--- What `check` prints: a line for each ceiling, frame, cost, waiting bound, and the stack bound. Ceilings are priorities,
--- frames are in words, costs and waiting bounds in core steps, the stack bound is in bytes.
+-- What `check` prints: a line for each ceiling, frame, cost, waiting bound, and the stack bound. Ceilings are
+-- priorities, frames are in words, costs and waiting bounds in core steps, the stack bound is in bytes.
 use Rattle.std.specs.Prelude.{ℕ, List, [], ◌∷◌, ◌++◌, codes, decimal, flat_map, slice_get, Option, Some, None}
 use Rattle.rt_ids.specs.declared.ids.BodyId.{BodyId}
 use Rattle.rt_ids.specs.declared.ids.BodyId.TheVariants as body
@@ -48,7 +48,8 @@ body_name tasks body.Idle = codes "idle"
 body_name tasks (body.Task n) = name_or_none (slice_get tasks n)
 
 abbrev pub body_lines : List Task → BodyBound → List ℕ
-body_lines tasks b = line (codes "frame") (body_name tasks b.body) b.frame ++ line (codes "cost") (body_name tasks b.body) b.cost
+body_lines tasks b =
+    line (codes "frame") (body_name tasks b.body) b.frame ++ line (codes "cost") (body_name tasks b.body) b.cost
 
 abbrev pub wait_line : Wait → List ℕ
 wait_line w = line (codes "wait") (decimal w.level) w.steps
@@ -57,7 +58,9 @@ abbrev pub stack_line : ℕ → List ℕ
 stack_line n = codes "stack " ++ decimal n ++ codes "\n"
 
 abbrev pub ceiling_lines : App → Ceilings → List ℕ
-ceiling_lines app c = shared_lines app.shared c.shared ++ (free_lines app.tasks c.free ++ (flat_map ready_line c.ready ++ timer_line c.timer))
+ceiling_lines app c =
+    shared_lines app.shared c.shared
+    ++ (free_lines app.tasks c.free ++ (flat_map ready_line c.ready ++ timer_line c.timer))
 
 abbrev pub bound_lines : App → Bounds → List ℕ
 bound_lines app b = flat_map (body_lines app.tasks) b.bodies ++ (flat_map wait_line b.waits ++ stack_line b.stack_bytes)

@@ -15,8 +15,9 @@ use rt_app::{App, Bounds, Ceilings};
 use rt_ids::NoMemory;
 use std::alloc::Global;
 
-/// The report on an application with these ceilings and these bounds, a line each: `ceiling NAME PRIORITY` for what sections
-/// guard, `frame BODY WORDS` and `cost BODY STEPS` for each body, `wait LEVEL STEPS` for each level, and `stack BYTES`.
+/// The report on an application with these ceilings and these bounds, a line each: `ceiling NAME PRIORITY` for what
+/// sections guard, `frame BODY WORDS` and `cost BODY STEPS` for each body, `wait LEVEL STEPS` for each level, and
+/// `stack BYTES`.
 pub fn report(
     alloc: Global,
     app: &App,

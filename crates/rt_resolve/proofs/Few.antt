@@ -1,5 +1,5 @@
 -- A body has no more variables of its own than it has statements.
-use Rattle.std.proofs.Common.{◌+◌, ◌≤◌, arith}
+use Rattle.std.proofs.Common.{◌≤◌, arith}
 use Rattle.rt_ast.specs.Tree.{Statement, Bind, Assign, Branch, Repeat, Locked, Emit, Pend, Spawns, Block, Empty, Then}
 use Rattle.rt_ast.specs.PrintableBody.{statements_in, statements_of}
 use Rattle.rt_resolve.specs.Resolving.{binders_in, binders}

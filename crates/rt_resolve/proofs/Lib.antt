@@ -1,4 +1,3 @@
-pub mod Positions
 pub mod Blocks
 pub mod Written
 pub mod Marked
@@ -6,4 +5,7 @@ pub mod Tested
 pub mod Few
 pub mod Appended
 pub mod KeptBody
+pub mod KeptNumbers
 pub mod Kept
+pub mod Bound
+pub mod Arguments

@@ -1,14 +1,14 @@
 -- A table of the numbers that are listed so far, and the faults of what is listed twice.
-use Rattle.std.proofs.Common.{◌≡◌, ℕ, ◌+◌, ◌<◌, ◌==◌, ◌||◌, Bool, true, false, ◌++◌, List, [], ◌∷◌, map, reverse, take, drop, get_or, set, length, refl, ap, sym, ◌∙◌, arith, eqb-true, append_assoc, get_or-set_same, get_or-set_other, if◌then◌else◌}
+use Rattle.std.proofs.Common.{◌≡◌, ℕ, ◌+◌, ◌<◌, ◌==◌, ◌||◌, Bool, true, false, ◌++◌, List, [], ◌∷◌, map, reverse, take, drop, get_or, set, length, refl, ap, sym, ◌∙◌, arith, eqb-true, append_assoc, get_or-set_same, get_or-set_other}
 use Rattle.std.specs.List.{list_any}
 use Rattle.std.proofs.lemmas.List.{take_more, drop_more, map-append, reverse-append}
-use Rattle.std.proofs.lemmas.Bool.{eq-eqb, eqb-false}
+use Rattle.std.proofs.lemmas.Bool.{eqb-false}
 use Rattle.rt_ids.specs.declared.rule.Rule.TheVariants as rule
 use Rattle.rt_app.specs.declared.violation.Violation.{Violation}
 use Rattle.rt_app.specs.Violation.{when}
 use Rattle.rt_resolve.specs.declared.listing.Listing.{Listing}
 use Rattle.rt_resolve.specs.NameRules.{listed_twice}
-use Rattle.rt_resolve.specs.NamesView.{use_of}
+use Rattle.rt_resolve.specs.Inside.NamesView.{use_of}
 
 abbrev pub numbers : List Listing → List ℕ
 numbers ls = map (λ l. l.number) ls

@@ -1,8 +1,7 @@
 -- Tests of lists that are given in another way, and the faults of names that are declared twice.
-use Rattle.std.proofs.Common.{◌≡◌, ℕ, ◌+◌, ◌<◌, ◌||◌, Bool, true, false, ◌++◌, List, [], ◌∷◌, map, reverse, take, drop, get_or, length, refl, ap, sym, ◌∙◌, Bor, append_assoc}
+use Rattle.std.proofs.Common.{◌≡◌, ℕ, ◌+◌, ◌<◌, Bool, ◌++◌, List, [], ◌∷◌, map, reverse, take, drop, get_or, length, ap, sym, ◌∙◌, Bor, append_assoc}
 use Rattle.std.specs.List.{list_any}
 use Rattle.std.proofs.lemmas.List.{take_more, drop_more, map-append, reverse-append}
-use Rattle.std.proofs.lemmas.List.Folds.{list_any-append}
 use Rattle.rt_lemmas.proofs.Lists.{list_any-reverse}
 use Rattle.rt_ids.specs.declared.rule.Rule.TheVariants as rule
 use Rattle.rt_ast.specs.declared.ident.Ident.{Ident}

@@ -3,5 +3,4 @@ pub mod Resolving
 pub mod Resolved
 pub mod Misnamed
 pub mod NameRules
-pub mod NamesView
-pub mod Followed
+pub mod Inside

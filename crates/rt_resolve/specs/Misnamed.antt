@@ -3,10 +3,12 @@ use Rattle.std.specs.Prelude.{ℕ, ◌+◌, ◌||◌, Bool, List, [], ◌++◌, 
 use Rattle.std.specs.List.{list_any}
 use Rattle.rt_ids.specs.declared.rule.Rule.TheVariants as rule
 use Rattle.rt_ast.specs.declared.ident.Ident.{Ident}
-use Rattle.rt_ast.specs.Tree.{Expression, Num, Read, Oper, Spawn, Soon, After, Value, Calc, Now, Call, Statement, Bind, Assign, Branch, Repeat, Locked, Emit, Pend, Spawns, Block, Empty, Then}
+use Rattle.rt_ast.specs.Tree.{Expression, Num, Read, Oper, Spawn, Soon, After, Value, Calc, Now, Call, Statement, Bind}
+use Rattle.rt_ast.specs.Tree.{Assign, Branch, Repeat, Locked, Emit, Pend, Spawns, Block, Empty, Then}
 use Rattle.rt_app.specs.declared.violation.Violation.{Violation}
 use Rattle.rt_app.specs.Violation.{when}
-use Rattle.rt_resolve.specs.Scope.{Names, irq_named, task_named, shared_named, local_named, is_variable, inside, meaning}
+use Rattle.rt_resolve.specs.Scope.{Names, irq_named, task_named, shared_named, local_named, is_variable, inside}
+use Rattle.rt_resolve.specs.Scope.{meaning}
 use Rattle.rt_resolve.specs.Resolving.{binders, binders_in, behind, in_loop}
 
 -- a name that is not found
@@ -15,7 +17,9 @@ if_unknown found at = when (is_none found) rule.UnknownName at
 
 -- whether a variable cannot have this name: a shared or local resource or a variable in scope has it
 abbrev pub is_taken : Names → List ℕ → Bool
-is_taken names name = is_some (shared_named names.app name) || (is_some (local_named names.app name) || list_any (is_variable name) names.scope.variables)
+is_taken names name =
+    is_some (shared_named names.app name)
+    || (is_some (local_named names.app name) || list_any (is_variable name) names.scope.variables)
 
 abbrev pub if_taken : Names → Ident → List Violation
 if_taken names x = when (is_taken names x.name) rule.DeclaredTwice x.at
@@ -26,7 +30,8 @@ expression_faults names (Read x) = if_unknown (meaning names x.name) x.at
 expression_faults names (Oper o left right) = expression_faults names left ++ expression_faults names right
 
 abbrev pub call_faults : Names → Ident → List Expression → List Violation
-call_faults names task args = if_unknown (task_named names.app task.name) task.at ++ flat_map (expression_faults names) args
+call_faults names task args =
+    if_unknown (task_named names.app task.name) task.at ++ flat_map (expression_faults names) args
 
 abbrev pub spawn_faults : Names → Spawn → List Violation
 spawn_faults names (Soon task args) = call_faults names task args
@@ -43,13 +48,17 @@ abbrev mutual
   statement_faults names n (Bind x v) = value_faults names v ++ if_taken names x
   statement_faults names n (Assign x e) = if_unknown (meaning names x.name) x.at ++ expression_faults names e
   statement_faults names n (Branch e first second) =
-      expression_faults names e ++ (block_faults (inside names) n first ++ block_faults (inside names) (n + binders first) second)
-  statement_faults names n (Repeat x first last turn) = if_taken names x ++ block_faults (in_loop names x n) (n + 1) turn
-  statement_faults names n (Locked r inner) = if_unknown (shared_named names.app r.name) r.at ++ block_faults (inside names) n inner
+      expression_faults names e
+      ++ (block_faults (inside names) n first ++ block_faults (inside names) (n + binders first) second)
+  statement_faults names n (Repeat x first last turn) =
+      if_taken names x ++ block_faults (in_loop names x n) (n + 1) turn
+  statement_faults names n (Locked r inner) =
+      if_unknown (shared_named names.app r.name) r.at ++ block_faults (inside names) n inner
   statement_faults names n (Emit e) = expression_faults names e
   statement_faults names n (Pend i) = if_unknown (irq_named names.app i.name) i.at
   statement_faults names n (Spawns s) = spawn_faults names s
 
   pub block_faults : Names → ℕ → Block → List Violation
   block_faults names n Empty = []
-  block_faults names n (Then s rest) = statement_faults names n s ++ block_faults (behind names n s) (n + binders_in s) rest
+  block_faults names n (Then s rest) =
+      statement_faults names n s ++ block_faults (behind names n s) (n + binders_in s) rest

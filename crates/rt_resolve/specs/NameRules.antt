@@ -16,12 +16,14 @@ use Rattle.std.specs.Prelude.{length}
 -- the names that stand before in the list, or in these
 abbrev pub declared_twice : List Ident → List Ident → List Violation
 declared_twice before [] = []
-declared_twice before (x ∷ xs) = when (list_any (is_named x.name) before) rule.DeclaredTwice x.at ++ declared_twice (x ∷ before) xs
+declared_twice before (x ∷ xs) =
+    when (list_any (is_named x.name) before) rule.DeclaredTwice x.at ++ declared_twice (x ∷ before) xs
 
 -- the uses of a resource that a use before has
 abbrev pub listed_twice : List ℕ → List Used → List Violation
 listed_twice before [] = []
-listed_twice before (u ∷ us) = when (list_any (λ n. n == u.number) before) rule.DeclaredTwice u.at ++ listed_twice (u.number ∷ before) us
+listed_twice before (u ∷ us) =
+    when (list_any (λ n. n == u.number) before) rule.DeclaredTwice u.at ++ listed_twice (u.number ∷ before) us
 
 -- a listing of what is found
 abbrev pub listing_of : Option ℕ → ℕ → List Used
@@ -40,10 +42,14 @@ abbrev pub argument_faults : Names → ℕ → List Ident → List Violation
 argument_faults names n [] = []
 argument_faults names n (x ∷ xs) = if_taken names x ++ argument_faults (with_variable names x n) (n + 1) xs
 
+-- those of the arguments and the statements of a body
+abbrev pub code_faults : App → List Ident → Body → List Violation
+code_faults app args b =
+    argument_faults (body_names app b) 0 args
+    ++ block_faults (inside (with_arguments (body_names app b) 0 args)) (length args) b.block
+
 abbrev pub body_faults : App → List Ident → Body → List Violation
-body_faults app args b =
-    listing_faults app b
-    ++ (argument_faults (body_names app b) 0 args ++ block_faults (inside (with_arguments (body_names app b) 0 args)) (length args) b.block)
+body_faults app args b = listing_faults app b ++ code_faults app args b
 
 abbrev pub thread_faults : App → Option Body → List Violation
 thread_faults app None = []

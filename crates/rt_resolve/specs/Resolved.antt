@@ -16,7 +16,6 @@ use Rattle.rt_app.specs.declared.app.Mono.{Mono}
 use Rattle.rt_app.specs.declared.app.Shared.{Shared}
 use Rattle.rt_app.specs.declared.app.Local.{Local}
 use Rattle.rt_app.specs.Tree as tree
-use Rattle.rt_app.specs.Variables.{variables}
 use Rattle.rt_resolve.specs.Scope.{Names, irq_named, shared_named, local_named, or_unknown, inside, with_variable}
 use Rattle.rt_resolve.specs.Resolving.{block}
 
@@ -31,7 +30,12 @@ abbrev pub stored : ℕ → ℕ
 stored n = min n 255
 
 abbrev pub mono : App → MonoTree → Mono
-mono app m = record { irq = or_unknown (irq_named app m.binds.name); priority = stored m.priority.value; at = m.binds.at; priority_at = m.priority.at }
+mono app m = record {
+  irq = or_unknown (irq_named app m.binds.name);
+  priority = stored m.priority.value;
+  at = m.binds.at;
+  priority_at = m.priority.at;
+}
 
 abbrev pub shared : SharedTree → Shared
 shared r = record { name = r.name.name; first = r.first; lock_free = r.lock_free }
@@ -61,7 +65,6 @@ abbrev pub body : App → List Ident → Body → tree.Body
 body app args b = record {
   shared = map (listed app) b.shared;
   local = map (owned app) b.local;
-  variables = length args + variables (body_block app args b);
   block = body_block app args b;
   at = b.at;
 }

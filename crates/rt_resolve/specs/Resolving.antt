@@ -1,11 +1,12 @@
--- The statements of a body, with the names in place of numbers: a variable is its place among the arguments, `let` and `for`
--- statements of the body in order of the text.
+-- The statements of a body, with numbers in place of names: a variable is its place among the arguments, `let` and
+-- `for` statements of the body in order of the text.
 use Rattle.std.specs.Prelude.{ℕ, ◌+◌, map}
 use Rattle.rt_ast.specs.declared.ident.Ident.{Ident}
 use Rattle.rt_ast.specs.Tree as written
 use Rattle.rt_ast.specs.Tree.{Statement, Bind, Assign, Branch, Repeat, Locked, Emit, Pend, Spawns, Block, Empty, Then}
 use Rattle.rt_app.specs.Tree as tree
-use Rattle.rt_resolve.specs.Scope.{Names, irq_named, task_named, shared_named, or_unknown, inside, with_variable, atom_named}
+use Rattle.rt_resolve.specs.Scope.{Names, irq_named, task_named, shared_named, or_unknown, inside, with_variable}
+use Rattle.rt_resolve.specs.Scope.{atom_named}
 
 abbrev pub expression : Names → written.Expression → tree.Expression
 expression names (written.Num n) = tree.Num n
@@ -13,9 +14,11 @@ expression names (written.Read x) = tree.Read (atom_named names x.name) x.at
 expression names (written.Oper o left right) = tree.Oper o (expression names left) (expression names right)
 
 abbrev pub spawn : Names → written.Spawn → tree.Spawn
-spawn names (written.Soon task args) = tree.Soon (or_unknown (task_named names.app task.name)) (map (expression names) args) task.at
+spawn names (written.Soon task args) =
+    tree.Soon (or_unknown (task_named names.app task.name)) (map (expression names) args) task.at
 spawn names (written.After word delay task args) =
-    tree.After word (expression names delay) (or_unknown (task_named names.app task.name)) (map (expression names) args) task.at
+    tree.After word (expression names delay) (or_unknown (task_named names.app task.name))
+    (map (expression names) args) task.at
 
 abbrev pub value : Names → written.Value → tree.Value
 value names (written.Calc e) = tree.Calc (expression names e)
@@ -61,7 +64,8 @@ abbrev mutual
   statement names n (Branch e first second) =
       tree.Branch (expression names e) (block (inside names) n first) (block (inside names) (n + binders first) second)
   statement names n (Repeat x first last turn) = tree.Repeat n first last (block (in_loop names x n) (n + 1) turn)
-  statement names n (Locked r inner) = tree.Locked (or_unknown (shared_named names.app r.name)) (block (inside names) n inner) r.at
+  statement names n (Locked r inner) =
+      tree.Locked (or_unknown (shared_named names.app r.name)) (block (inside names) n inner) r.at
   statement names n (Emit e) = tree.Emit (expression names e)
   statement names n (Pend i) = tree.Pend (or_unknown (irq_named names.app i.name))
   statement names n (Spawns s) = tree.Spawns (spawn names s)

@@ -1,5 +1,6 @@
 -- What names mean: declared things by their place in the order of declaration, and variables by their scopes.
-use Rattle.std.specs.Prelude.{ℕ, ◌+◌, Bool, List, ◌∷◌, take, find, position, Option, None, option_map, unwrap_or, if◌then◌else◌}
+use Rattle.std.specs.Prelude.{ℕ, ◌+◌, Bool, List, ◌∷◌, take, find, position, Option, None, option_map, unwrap_or}
+use Rattle.std.specs.Prelude.{if◌then◌else◌}
 use Rattle.std.specs.List.{list_any}
 use Rattle.std.specs.Option.{option_or}
 use Rattle.std.specs.Str.{bytes_eq}
@@ -41,11 +42,13 @@ pub record Scope : Type 0 where
 abbrev pub is_variable : List ℕ → Variable → Bool
 is_variable name v = bytes_eq v.name name
 
+-- one variable more in the innermost block
+abbrev pub one_more : Scope → List ℕ → ℕ → Scope
+one_more s name n = record { variables = record { name = name; number = n } ∷ s.variables; here = s.here + 1 }
+
 -- a second variable of a name in one block, which is refused, changes nothing: the name means the first
 abbrev pub declared : Scope → List ℕ → ℕ → Scope
-declared s name n = if list_any (is_variable name) (take s.here s.variables)
-    then s
-    else record { variables = record { name = name; number = n } ∷ s.variables; here = s.here + 1 }
+declared s name n = if list_any (is_variable name) (take s.here s.variables) then s else one_more s name n
 
 -- inside a block that begins here
 abbrev pub entered : Scope → Scope
@@ -68,11 +71,14 @@ variable_named names name = option_map (λ v. atom.Var v.number) (find (is_varia
 
 -- a local resource, where the body lists it
 abbrev pub owned_named : Names → List ℕ → Option Atom
-owned_named names name = if list_any (is_named name) names.local then option_map atom.Local (local_named names.app name) else None
+owned_named names name =
+    if list_any (is_named name) names.local then option_map atom.Local (local_named names.app name) else None
 
 -- what a name in an expression or an assignment stands for: a variable before a shared resource before a local one
 abbrev pub meaning : Names → List ℕ → Option Atom
-meaning names name = option_or (variable_named names name) (option_or (option_map atom.Shared (shared_named names.app name)) (owned_named names name))
+meaning names name =
+    option_or (variable_named names name)
+    (option_or (option_map atom.Shared (shared_named names.app name)) (owned_named names name))
 
 abbrev pub atom_named : Names → List ℕ → Atom
 atom_named names name = unwrap_or (meaning names name) (atom.Shared UNKNOWN)

@@ -5,7 +5,7 @@ ghost use Rattle.rt_ast.specs.Printable.{IsPrintable, IsPrintableTask};
 ghost use Rattle.rt_app.specs.View as built;
 ghost use Rattle.rt_resolve.specs.Resolved as meant;
 ghost use Rattle.rt_resolve.specs.NameRules as rules_on;
-ghost use Rattle.rt_resolve.specs.NamesView.{IsCounted};
+ghost use Rattle.rt_resolve.specs.Inside.NamesView.{IsCounted};
 
 use crate::body::{resolve_task, resolve_thread};
 use crate::declared::{
@@ -26,8 +26,10 @@ fn resolve_tasks(
 ) -> Result<Vec<Task>, NoMemory>
     requires counted { IsCounted (written.app_of app.now) }
     requires printable { AllByRecursion IsPrintableTask (map written.task_of tasks.now) }
-    ensures trees { IfOk result (λ ts. map built.task_of ts.items ≡ map (meant.task (written.app_of app.now)) (map written.task_of tasks.now)) }
-    ensures faults { OnOk result (faults.new.items ≡ faults.old.items ++ flat_map (rules_on.task_faults (written.app_of app.now)) (map written.task_of tasks.now)) }
+    ensures trees { IfOk result (λ ts. map built.task_of ts.items ≡
+        map (meant.task (written.app_of app.now)) (map written.task_of tasks.now)) }
+    ensures faults { OnOk result (faults.new.items ≡
+        faults.old.items ++ flat_map (rules_on.task_faults (written.app_of app.now)) (map written.task_of tasks.now)) }
 {
     let mut resolved = Vec::new(alloc);
     for task in tasks {
@@ -44,7 +46,8 @@ pub(crate) fn resolve_app(
 ) -> Result<App, NoMemory>
     requires { IsPrintable (written.app_of app.now) }
     ensures tree { IfOk result (λ a. built.app_of a ≡ meant.resolved (written.app_of app.now)) }
-    ensures faults { OnOk result (faults.new.items ≡ faults.old.items ++ rules_on.name_violations (written.app_of app.now)) }
+    ensures faults { OnOk result (faults.new.items ≡
+        faults.old.items ++ rules_on.name_violations (written.app_of app.now)) }
 {
     push_declaration_faults(alloc, faults, app)?;
     let dispatchers = resolve_dispatchers(alloc, faults, app, &app.dispatchers)?;

@@ -10,72 +10,86 @@ ghost use Rattle.rt_resolve.specs.Resolving as resolving;
 ghost use Rattle.rt_resolve.specs.Resolved as meant;
 ghost use Rattle.rt_resolve.specs.Misnamed as wrong;
 ghost use Rattle.rt_resolve.specs.NameRules as rules_on;
-ghost use Rattle.rt_resolve.specs.NamesView.{names_of, IsCounted, IsShort};
+ghost use Rattle.rt_resolve.specs.Inside.NamesView.{names_of, IsCounted, IsShort};
 
 use crate::block::{push_if_taken, resolve_block};
 use crate::faults::known;
 use crate::listing::{push_local_twice, push_shared_twice, resolve_local, resolve_shared};
 use crate::lookup::irq_named;
-use crate::scope::{Names, Variables, inside, with_variable};
+use crate::scope::Names;
+use crate::variables::Variables;
 use rt_app::{Body, Task, Violation};
-use rt_ast::{AppTree, BodyTree, Ident, Number, Stmt, TaskTree};
+use rt_ast::{AppTree, BodyTree, Ident, Number, TaskTree};
 use rt_ids::{Name, NoMemory};
 use std::alloc::Global;
 
-/// The statements of a body behind arguments, the first of which has the number `next`.
-fn resolve_arguments(
+/// Declares the arguments of a body.
+fn declare_arguments<'a>(
+    faults: &mut Vec<Violation>,
+    names: &mut Names<'a>,
+    args: &'a [Ident],
+) -> Result<(), NoMemory>
+    requires counted { IsCounted (names_of names.old).app }
+    requires few { length args.now ≤ ARGUMENTS }
+    ensures names { OnOk result (names_of names.new ≡ meant.with_arguments (names_of names.old) 0 args.now) }
+    ensures faults { OnOk result (faults.new.items ≡
+        faults.old.items ++ rules_on.argument_faults (names_of names.old) 0 args.now) }
+{
+    for (i, x) in args.iter().enumerate() {
+        push_if_taken(faults, names, x)?;
+        names.variables.declare(x.name.bytes(), i as u16)?;
+    }
+    Ok(())
+}
+
+/// The statements of a body that takes these arguments.
+#[tactic(auto, using(crate::proofs::Few::few))]
+fn resolve_statements<'a>(
     alloc: Global,
     faults: &mut Vec<Violation>,
-    names: &Names,
-    next: u16,
-    args: &[Ident],
-    stmts: &[Stmt],
+    app: &'a AppTree,
+    args: &'a [Ident],
+    body: &'a BodyTree,
 ) -> Result<Vec<rt_app::Stmt>, NoMemory>
-    requires counted { IsCounted (names_of names.now).app }
-    requires here { names.now.here ≤ next }
-    requires room { (next + length args.now) + resolving.binders (written.block_of stmts.now) ≤ 65535 }
-    ensures tree { IfOk result (λ b. built.block_of b.items ≡ resolving.block (named.inside (meant.with_arguments (names_of names.now) next args.now)) (next + length args.now) (written.block_of stmts.now)) }
-    ensures faults { OnOk result (faults.new.items ≡ faults.old.items ++ (rules_on.argument_faults (names_of names.now) next args.now ++ wrong.block_faults (named.inside (meant.with_arguments (names_of names.now) next args.now)) (next + length args.now) (written.block_of stmts.now))) }
+    requires counted { IsCounted (written.app_of app.now) }
+    requires few { length args.now ≤ ARGUMENTS }
+    requires short { IsShort (written.body_of body.now) }
+    ensures tree { IfOk result (λ b. built.block_of b.items ≡
+        meant.body_block (written.app_of app.now) args.now (written.body_of body.now)) }
+    ensures faults { OnOk result (faults.new.items ≡
+        faults.old.items ++ rules_on.code_faults (written.app_of app.now) args.now (written.body_of body.now)) }
 {
-    match args {
-        [] => {
-            let mut next = next;
-            resolve_block(alloc, faults, &inside(names), &mut next, stmts)
-        }
-        [x, rest @ ..] => {
-            push_if_taken(faults, names, x)?;
-            let behind = with_variable(&*names, x, next);
-            resolve_arguments(alloc, faults, &behind, next + 1, rest, stmts)
-        }
-    }
+    let mut names = Names {
+        app,
+        local: &body.local,
+        variables: Variables::new(alloc),
+    };
+    declare_arguments(faults, &mut names, args)?;
+    let mut next = args.len() as u16;
+    resolve_block(alloc, faults, &mut names, &mut next, &body.block)
 }
 
 /// A body that takes these arguments.
-#[tactic(auto, using(crate::proofs::Few::few))]
 fn resolve_body<'a>(
     alloc: Global,
     faults: &mut Vec<Violation>,
     app: &'a AppTree,
-    args: &[Ident],
+    args: &'a [Ident],
     body: &'a BodyTree,
 ) -> Result<Body, NoMemory>
     requires counted { IsCounted (written.app_of app.now) }
     requires few { length args.now ≤ ARGUMENTS }
     requires short { IsShort (written.body_of body.now) }
-    ensures tree { IfOk result (λ b. built.body_of (length args.now) b ≡ meant.body (written.app_of app.now) args.now (written.body_of body.now)) }
-    ensures faults { OnOk result (faults.new.items ≡ faults.old.items ++ rules_on.body_faults (written.app_of app.now) args.now (written.body_of body.now)) }
+    ensures tree { IfOk result (λ b. built.body_of b ≡
+        meant.body (written.app_of app.now) args.now (written.body_of body.now)) }
+    ensures faults { OnOk result (faults.new.items ≡
+        faults.old.items ++ rules_on.body_faults (written.app_of app.now) args.now (written.body_of body.now)) }
 {
     let shared = resolve_shared(alloc, faults, app, &body.shared)?;
     let local = resolve_local(alloc, faults, app, &body.local)?;
     push_shared_twice(alloc, faults, app, &body.shared)?;
     push_local_twice(alloc, faults, app, &body.local)?;
-    let names = Names {
-        app,
-        local: &body.local,
-        variables: Variables::Nothing,
-        here: 0,
-    };
-    let block = resolve_arguments(alloc, faults, &names, 0, args, &body.block)?;
+    let block = resolve_statements(alloc, faults, app, args, body)?;
     Ok(Body {
         shared,
         local,
@@ -93,8 +107,10 @@ pub(crate) fn resolve_thread(
 ) -> Result<Option<Body>, NoMemory>
     requires counted { IsCounted (written.app_of app.now) }
     requires short { IfThere IsShort (written.option_map written.body_of body.now) }
-    ensures tree { IfOk result (λ o. option_map (built.body_of 0) o ≡ option_map (meant.body (written.app_of app.now) []) (written.option_map written.body_of body.now)) }
-    ensures faults { OnOk result (faults.new.items ≡ faults.old.items ++ rules_on.thread_faults (written.app_of app.now) (written.option_map written.body_of body.now)) }
+    ensures tree { IfOk result (λ o. option_map built.body_of o ≡
+        option_map (meant.body (written.app_of app.now) []) (written.option_map written.body_of body.now)) }
+    ensures faults { OnOk result (faults.new.items ≡ faults.old.items
+        ++ rules_on.thread_faults (written.app_of app.now) (written.option_map written.body_of body.now)) }
 {
     match body {
         None => Ok(None),
@@ -112,8 +128,10 @@ fn resolve_binds(
     binds: &Option<Ident>,
 ) -> Result<Option<u8>, NoMemory>
     requires { IsCounted (written.app_of app.now) }
-    ensures irq { IfOk result (λ o. o ≡ option_map (λ x. named.or_unknown (named.irq_named (written.app_of app.now) x.name)) binds.now) }
-    ensures faults { OnOk result (faults.new.items ≡ faults.old.items ++ rules_on.binds_fault (written.app_of app.now) binds.now) }
+    ensures irq { IfOk result (λ o. o ≡
+        option_map (λ x. named.or_unknown (named.irq_named (written.app_of app.now) x.name)) binds.now) }
+    ensures faults { OnOk result (faults.new.items ≡
+        faults.old.items ++ rules_on.binds_fault (written.app_of app.now) binds.now) }
 {
     match binds {
         None => Ok(None),
@@ -182,7 +200,8 @@ pub(crate) fn resolve_task(
     requires counted { IsCounted (written.app_of app.now) }
     requires printable { IsPrintableTask (written.task_of task.now) }
     ensures tree { IfOk result (λ t. built.task_of t ≡ meant.task (written.app_of app.now) (written.task_of task.now)) }
-    ensures faults { OnOk result (faults.new.items ≡ faults.old.items ++ rules_on.task_faults (written.app_of app.now) (written.task_of task.now)) }
+    ensures faults { OnOk result (faults.new.items ≡
+        faults.old.items ++ rules_on.task_faults (written.app_of app.now) (written.task_of task.now)) }
 {
     let binds = resolve_binds(faults, app, &task.binds)?;
     let body = resolve_body(alloc, faults, app, &task.args, &task.body)?;

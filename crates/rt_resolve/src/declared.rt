@@ -7,7 +7,7 @@ ghost use Rattle.rt_resolve.specs.Scope as named;
 ghost use Rattle.rt_resolve.specs.Resolved as meant;
 ghost use Rattle.rt_resolve.specs.Misnamed as wrong;
 ghost use Rattle.rt_resolve.specs.NameRules as rules_on;
-ghost use Rattle.rt_resolve.specs.NamesView.{IsCounted};
+ghost use Rattle.rt_resolve.specs.Inside.NamesView.{IsCounted};
 
 use crate::body::stored;
 use crate::faults::known;
@@ -79,8 +79,10 @@ pub(crate) fn resolve_dispatchers(
     dispatchers: &[Ident],
 ) -> Result<Vec<Dispatcher>, NoMemory>
     requires { IsCounted (written.app_of app.now) }
-    ensures dispatchers { IfOk result (λ ds. ds.items ≡ map (meant.dispatcher (written.app_of app.now)) dispatchers.now) }
-    ensures faults { OnOk result (faults.new.items ≡ faults.old.items ++ flat_map (λ x. wrong.if_unknown (named.irq_named (written.app_of app.now) x.name) x.at) dispatchers.now) }
+    ensures dispatchers { IfOk result (λ ds. ds.items ≡
+        map (meant.dispatcher (written.app_of app.now)) dispatchers.now) }
+    ensures faults { OnOk result (faults.new.items ≡ faults.old.items
+        ++ flat_map (λ x. wrong.if_unknown (named.irq_named (written.app_of app.now) x.name) x.at) dispatchers.now) }
 {
     let mut resolved = Vec::new(alloc);
     for x in dispatchers {
@@ -98,7 +100,8 @@ pub(crate) fn resolve_mono(
 ) -> Result<Option<Mono>, NoMemory>
     requires { IsCounted (written.app_of app.now) }
     ensures mono { IfOk result (λ o. o ≡ option_map (meant.mono (written.app_of app.now)) mono.now) }
-    ensures faults { OnOk result (faults.new.items ≡ faults.old.items ++ rules_on.mono_fault (written.app_of app.now) mono.now) }
+    ensures faults { OnOk result (faults.new.items ≡
+        faults.old.items ++ rules_on.mono_fault (written.app_of app.now) mono.now) }
 {
     match mono {
         None => Ok(None),

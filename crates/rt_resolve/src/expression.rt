@@ -4,7 +4,7 @@ ghost use Rattle.rt_app.specs.View as built;
 ghost use Rattle.rt_resolve.specs.Scope as named;
 ghost use Rattle.rt_resolve.specs.Resolving as meant;
 ghost use Rattle.rt_resolve.specs.Misnamed as wrong;
-ghost use Rattle.rt_resolve.specs.NamesView.{names_of, IsCounted};
+ghost use Rattle.rt_resolve.specs.Inside.NamesView.{names_of, IsCounted};
 
 use crate::faults::{known, push_when};
 use crate::lookup::{meaning, or_unknown_atom, task_named};
@@ -22,7 +22,8 @@ pub(crate) fn resolve_atom(
 ) -> Result<Atom, NoMemory>
     requires { IsCounted (names_of names.now).app }
     ensures atom { IfOk result (λ a. a ≡ named.atom_named (names_of names.now) x.now.name) }
-    ensures faults { OnOk result (faults.new.items ≡ faults.old.items ++ wrong.if_unknown (named.meaning (names_of names.now) x.now.name) x.now.at) }
+    ensures faults { OnOk result (faults.new.items ≡
+        faults.old.items ++ wrong.if_unknown (named.meaning (names_of names.now) x.now.name) x.now.at) }
 {
     let found = meaning(names, x.name.bytes());
     push_when(faults, found.is_none(), Rule::UnknownName, x.at)?;
@@ -37,8 +38,10 @@ pub(crate) fn resolve_expression(
     expr: &Expr,
 ) -> Result<rt_app::Expr, NoMemory>
     requires { IsCounted (names_of names.now).app }
-    ensures tree { IfOk result (λ e. built.expression_of e ≡ meant.expression (names_of names.now) (written.expression_of expr.now)) }
-    ensures faults { OnOk result (faults.new.items ≡ faults.old.items ++ wrong.expression_faults (names_of names.now) (written.expression_of expr.now)) }
+    ensures tree { IfOk result (λ e. built.expression_of e ≡
+        meant.expression (names_of names.now) (written.expression_of expr.now)) }
+    ensures faults { OnOk result (faults.new.items ≡
+        faults.old.items ++ wrong.expression_faults (names_of names.now) (written.expression_of expr.now)) }
 {
     match expr {
         Expr::Num(number) => Ok(rt_app::Expr::Num(*number)),
@@ -64,8 +67,10 @@ fn resolve_expressions(
     exprs: &[Expr],
 ) -> Result<Vec<rt_app::Expr>, NoMemory>
     requires { IsCounted (names_of names.now).app }
-    ensures trees { IfOk result (λ es. map built.expression_of es.items ≡ map (meant.expression (names_of names.now)) (map written.expression_of exprs.now)) }
-    ensures faults { OnOk result (faults.new.items ≡ faults.old.items ++ flat_map (wrong.expression_faults (names_of names.now)) (map written.expression_of exprs.now)) }
+    ensures trees { IfOk result (λ es. map built.expression_of es.items ≡
+        map (meant.expression (names_of names.now)) (map written.expression_of exprs.now)) }
+    ensures faults { OnOk result (faults.new.items ≡ faults.old.items
+        ++ flat_map (wrong.expression_faults (names_of names.now)) (map written.expression_of exprs.now)) }
 {
     let mut resolved = Vec::new(alloc);
     for expr in exprs {
@@ -78,7 +83,8 @@ fn resolve_expressions(
 fn resolve_task(faults: &mut Vec<Violation>, names: &Names, x: &Ident) -> Result<TaskId, NoMemory>
     requires { IsCounted (names_of names.now).app }
     ensures task { IfOk result (λ t. t ≡ named.or_unknown (named.task_named (names_of names.now).app x.now.name)) }
-    ensures faults { OnOk result (faults.new.items ≡ faults.old.items ++ wrong.if_unknown (named.task_named (names_of names.now).app x.now.name) x.now.at) }
+    ensures faults { OnOk result (faults.new.items ≡
+        faults.old.items ++ wrong.if_unknown (named.task_named (names_of names.now).app x.now.name) x.now.at) }
 {
     let number = known(faults, task_named(names.app, x.name.bytes()), x.at)?;
     Ok(TaskId(number))
@@ -93,7 +99,8 @@ pub(crate) fn resolve_spawn(
 ) -> Result<rt_app::Spawn, NoMemory>
     requires { IsCounted (names_of names.now).app }
     ensures tree { IfOk result (λ s. built.spawn_of s ≡ meant.spawn (names_of names.now) (written.spawn_of spawn.now)) }
-    ensures faults { OnOk result (faults.new.items ≡ faults.old.items ++ wrong.spawn_faults (names_of names.now) (written.spawn_of spawn.now)) }
+    ensures faults { OnOk result (faults.new.items ≡
+        faults.old.items ++ wrong.spawn_faults (names_of names.now) (written.spawn_of spawn.now)) }
 {
     match spawn {
         Spawn::Soon(x, args) => {
@@ -119,7 +126,8 @@ pub(crate) fn resolve_value(
 ) -> Result<rt_app::Value, NoMemory>
     requires { IsCounted (names_of names.now).app }
     ensures tree { IfOk result (λ v. built.value_of v ≡ meant.value (names_of names.now) (written.value_of value.now)) }
-    ensures faults { OnOk result (faults.new.items ≡ faults.old.items ++ wrong.value_faults (names_of names.now) (written.value_of value.now)) }
+    ensures faults { OnOk result (faults.new.items ≡
+        faults.old.items ++ wrong.value_faults (names_of names.now) (written.value_of value.now)) }
 {
     match value {
         Value::Calc(expr) => {

@@ -20,6 +20,7 @@ mod lookup;
 pub mod resolved;
 mod scope;
 mod twice;
+mod variables;
 
 pub use resolved::Resolved;
 use rt_ast::AppTree;

@@ -4,7 +4,7 @@ ghost use Rattle.rt_resolve.specs.Scope as named;
 ghost use Rattle.rt_resolve.specs.Resolved as meant;
 ghost use Rattle.rt_resolve.specs.Misnamed as wrong;
 ghost use Rattle.rt_resolve.specs.NameRules as rules_on;
-ghost use Rattle.rt_resolve.specs.NamesView.{IsCounted, use_of};
+ghost use Rattle.rt_resolve.specs.Inside.NamesView.{IsCounted, use_of};
 
 use crate::faults::{known, push_when};
 use crate::lookup::{local_named, shared_named};
@@ -31,7 +31,9 @@ pub(crate) fn resolve_shared(
 ) -> Result<Vec<Listed>, NoMemory>
     requires { IsCounted (written.app_of app.now) }
     ensures listed { IfOk result (λ ls. ls.items ≡ map (meant.listed (written.app_of app.now)) listed.now) }
-    ensures faults { OnOk result (faults.new.items ≡ faults.old.items ++ flat_map (λ l. wrong.if_unknown (named.shared_named (written.app_of app.now) l.name.name) l.name.at) listed.now) }
+    ensures faults { OnOk result (faults.new.items ≡
+        faults.old.items ++ flat_map
+        (λ l. wrong.if_unknown (named.shared_named (written.app_of app.now) l.name.name) l.name.at) listed.now) }
 {
     let mut resolved = Vec::new(alloc);
     for l in listed {
@@ -54,7 +56,8 @@ pub(crate) fn resolve_local(
 ) -> Result<Vec<Owned>, NoMemory>
     requires { IsCounted (written.app_of app.now) }
     ensures owned { IfOk result (λ xs. xs.items ≡ map (meant.owned (written.app_of app.now)) listed.now) }
-    ensures faults { OnOk result (faults.new.items ≡ faults.old.items ++ flat_map (λ x. wrong.if_unknown (named.local_named (written.app_of app.now) x.name) x.at) listed.now) }
+    ensures faults { OnOk result (faults.new.items ≡ faults.old.items
+        ++ flat_map (λ x. wrong.if_unknown (named.local_named (written.app_of app.now) x.name) x.at) listed.now) }
 {
     let mut resolved = Vec::new(alloc);
     for x in listed {
@@ -69,7 +72,8 @@ pub(crate) fn resolve_local(
 
 /// Appends the listing of what is found.
 fn push_listing(listings: &mut Vec<Listing>, found: Option<u8>, at: u32) -> Result<(), NoMemory>
-    ensures { OnOk result (map use_of listings.new.items ≡ map use_of listings.old.items ++ rules_on.listing_of found at) }
+    ensures { OnOk result (map use_of listings.new.items ≡
+        map use_of listings.old.items ++ rules_on.listing_of found at) }
 {
     if let Some(number) = found {
         listings.push(Listing { number, at })?;
@@ -84,7 +88,9 @@ fn shared_listings(
     listed: &[ListedTree],
 ) -> Result<Vec<Listing>, NoMemory>
     requires { IsCounted (written.app_of app.now) }
-    ensures { IfOk result (λ ls. map use_of ls.items ≡ flat_map (λ l. rules_on.listing_of (named.shared_named (written.app_of app.now) l.name.name) l.name.at) listed.now) }
+    ensures { IfOk result (λ ls. map use_of ls.items ≡
+        flat_map
+        (λ l. rules_on.listing_of (named.shared_named (written.app_of app.now) l.name.name) l.name.at) listed.now) }
 {
     let mut listings = Vec::new(alloc);
     for l in listed {
@@ -97,7 +103,8 @@ fn shared_listings(
 /// The listings of declared local resources.
 fn local_listings(alloc: Global, app: &AppTree, listed: &[Ident]) -> Result<Vec<Listing>, NoMemory>
     requires { IsCounted (written.app_of app.now) }
-    ensures { IfOk result (λ ls. map use_of ls.items ≡ flat_map (λ x. rules_on.listing_of (named.local_named (written.app_of app.now) x.name) x.at) listed.now) }
+    ensures { IfOk result (λ ls. map use_of ls.items ≡
+        flat_map (λ x. rules_on.listing_of (named.local_named (written.app_of app.now) x.name) x.at) listed.now) }
 {
     let mut listings = Vec::new(alloc);
     for x in listed {
@@ -128,7 +135,10 @@ pub(crate) fn push_shared_twice(
     listed: &[ListedTree],
 ) -> Result<(), NoMemory>
     requires { IsCounted (written.app_of app.now) }
-    ensures { OnOk result (faults.new.items ≡ faults.old.items ++ rules_on.listed_twice [] (flat_map (λ l. rules_on.listing_of (named.shared_named (written.app_of app.now) l.name.name) l.name.at) listed.now)) }
+    ensures { OnOk result (faults.new.items ≡
+        faults.old.items
+        ++ rules_on.listed_twice [] (flat_map
+        (λ l. rules_on.listing_of (named.shared_named (written.app_of app.now) l.name.name) l.name.at) listed.now)) }
 {
     let listings = shared_listings(alloc, app, listed)?;
     push_listed_twice(faults, &listings)
@@ -142,7 +152,9 @@ pub(crate) fn push_local_twice(
     listed: &[Ident],
 ) -> Result<(), NoMemory>
     requires { IsCounted (written.app_of app.now) }
-    ensures { OnOk result (faults.new.items ≡ faults.old.items ++ rules_on.listed_twice [] (flat_map (λ x. rules_on.listing_of (named.local_named (written.app_of app.now) x.name) x.at) listed.now)) }
+    ensures { OnOk result (faults.new.items ≡
+        faults.old.items ++ rules_on.listed_twice []
+        (flat_map (λ x. rules_on.listing_of (named.local_named (written.app_of app.now) x.name) x.at) listed.now)) }
 {
     let listings = local_listings(alloc, app, listed)?;
     push_listed_twice(faults, &listings)

@@ -1,13 +1,14 @@
-ghost use Rattle.std.specs.Prelude.{◌≡◌, ◌≤◌, ◌<◌, IfSome, length, position, find, unwrap_or, None, option_map, if◌then◌else◌};
+ghost use Rattle.std.specs.Prelude.{◌≡◌, ◌≤◌, ◌<◌, IfSome, length, position, unwrap_or, None, option_map};
+ghost use Rattle.std.specs.Prelude.{if◌then◌else◌};
 ghost use Rattle.std.specs.Option.{option_or};
 ghost use Rattle.std.specs.List.{list_any};
 ghost use Rattle.rt_app.specs.declared.expr.Atom.TheVariants as atom;
 ghost use Rattle.rt_ast.specs.View.{app_of};
 ghost use Rattle.rt_resolve.specs.Scope as named;
 ghost use Rattle.rt_resolve.specs.Misnamed as wrong;
-ghost use Rattle.rt_resolve.specs.NamesView.{variables_of, names_of, IsCounted};
+ghost use Rattle.rt_resolve.specs.Inside.NamesView.{names_of, IsCounted};
 
-use crate::scope::{Names, Variables, is_named};
+use crate::scope::{Names, is_named};
 use rt_app::{Atom, UNKNOWN};
 use rt_ast::{AppTree, Ident, IrqTree, LocalTree, SharedTree, TaskTree};
 use rt_ids::ResId;
@@ -94,22 +95,6 @@ pub(crate) fn or_unknown(found: Option<u8>) -> u8
     found.unwrap_or(UNKNOWN)
 }
 
-/// The number of the variable of this name that is declared last.
-fn variable_named(variables: &Variables, name: &[u8]) -> Option<u16>
-    ensures { result ≡ option_map (λ v. v.number) (find (named.is_variable name.now) (variables_of variables.now)) }
-{
-    match variables {
-        Variables::Nothing => None,
-        Variables::Declared(x, number, before) => {
-            if is_named(x, name) {
-                Some(*number)
-            } else {
-                variable_named(before, name)
-            }
-        }
-    }
-}
-
 /// Whether this name is among these.
 fn is_listed(listed: &[Ident], name: &[u8]) -> bool
     ensures { result ≡ list_any (named.is_named name.now) listed.now }
@@ -120,7 +105,9 @@ fn is_listed(listed: &[Ident], name: &[u8]) -> bool
 /// The place of a local resource of this name, where the body lists it.
 fn owned_named(names: &Names, name: &[u8]) -> Option<u8>
     requires { IsCounted (names_of names.now).app }
-    ensures { result ≡ (if list_any (named.is_named name.now) names.now.local.now then named.local_named (names_of names.now).app name.now else None) }
+    ensures { result ≡
+        (if list_any (named.is_named name.now) names.now.local.now
+        then named.local_named (names_of names.now).app name.now else None) }
 {
     if is_listed(names.local, name) {
         local_named(names.app, name)
@@ -132,7 +119,8 @@ fn owned_named(names: &Names, name: &[u8]) -> Option<u8>
 /// The resource that this name stands for where no variable has it: a shared one before a local one.
 fn resource_named(names: &Names, name: &[u8]) -> Option<Atom>
     requires { IsCounted (names_of names.now).app }
-    ensures { let n = names_of names.now in result ≡ option_or (option_map atom.Shared (named.shared_named n.app name.now)) (named.owned_named n name.now) }
+    ensures { let n = names_of names.now in result ≡
+        option_or (option_map atom.Shared (named.shared_named n.app name.now)) (named.owned_named n name.now) }
 {
     match shared_named(names.app, name) {
         Some(shared) => Some(Atom::Shared(ResId(shared))),
@@ -148,7 +136,7 @@ pub(crate) fn meaning(names: &Names, name: &[u8]) -> Option<Atom>
     requires { IsCounted (names_of names.now).app }
     ensures { result ≡ named.meaning (names_of names.now) name.now }
 {
-    match variable_named(&names.variables, name) {
+    match names.variables.number_of(name) {
         Some(number) => Some(Atom::Var(number)),
         None => resource_named(names, name),
     }
@@ -161,16 +149,6 @@ pub(crate) fn or_unknown_atom(found: Option<Atom>) -> Atom
     found.unwrap_or(Atom::Shared(ResId(UNKNOWN)))
 }
 
-/// Whether a variable has this name.
-fn is_variable(variables: &Variables, name: &[u8]) -> bool
-    ensures { result ≡ list_any (named.is_variable name.now) (variables_of variables.now) }
-{
-    match variables {
-        Variables::Nothing => false,
-        Variables::Declared(x, _number, before) => is_named(x, name) || is_variable(before, name),
-    }
-}
-
 /// Whether a variable cannot have this name.
 pub(crate) fn is_taken(names: &Names, name: &[u8]) -> bool
     requires { IsCounted (names_of names.now).app }
@@ -178,5 +156,5 @@ pub(crate) fn is_taken(names: &Names, name: &[u8]) -> bool
 {
     shared_named(names.app, name).is_some()
         || local_named(names.app, name).is_some()
-        || is_variable(&names.variables, name)
+        || names.variables.has(name)
 }

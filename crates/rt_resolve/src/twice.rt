@@ -31,7 +31,8 @@ fn push_declared_twice(faults: &mut Vec<Violation>, idents: &[&Ident]) -> Result
 
 /// Appends the names of interrupts.
 fn push_irqs<'a>(idents: &mut Vec<&'a Ident>, irqs: &'a [IrqTree]) -> Result<(), NoMemory>
-    ensures { OnOk result (map (λ x. x.now) idents.new.items ≡ map (λ x. x.now) idents.old.items ++ map (λ d. d.name) irqs.now) }
+    ensures { OnOk result (map (λ x. x.now) idents.new.items ≡
+        map (λ x. x.now) idents.old.items ++ map (λ d. d.name) irqs.now) }
 {
     for d in irqs {
         idents.push(&d.name)?;
@@ -41,7 +42,8 @@ fn push_irqs<'a>(idents: &mut Vec<&'a Ident>, irqs: &'a [IrqTree]) -> Result<(),
 
 /// Appends the names of shared resources.
 fn push_shared<'a>(idents: &mut Vec<&'a Ident>, shared: &'a [SharedTree]) -> Result<(), NoMemory>
-    ensures { OnOk result (map (λ x. x.now) idents.new.items ≡ map (λ x. x.now) idents.old.items ++ map (λ r. r.name) shared.now) }
+    ensures { OnOk result (map (λ x. x.now) idents.new.items ≡
+        map (λ x. x.now) idents.old.items ++ map (λ r. r.name) shared.now) }
 {
     for r in shared {
         idents.push(&r.name)?;
@@ -51,7 +53,8 @@ fn push_shared<'a>(idents: &mut Vec<&'a Ident>, shared: &'a [SharedTree]) -> Res
 
 /// Appends the names of local resources.
 fn push_locals<'a>(idents: &mut Vec<&'a Ident>, locals: &'a [LocalTree]) -> Result<(), NoMemory>
-    ensures { OnOk result (map (λ x. x.now) idents.new.items ≡ map (λ x. x.now) idents.old.items ++ map (λ r. r.name) locals.now) }
+    ensures { OnOk result (map (λ x. x.now) idents.new.items ≡
+        map (λ x. x.now) idents.old.items ++ map (λ r. r.name) locals.now) }
 {
     for r in locals {
         idents.push(&r.name)?;
@@ -61,7 +64,8 @@ fn push_locals<'a>(idents: &mut Vec<&'a Ident>, locals: &'a [LocalTree]) -> Resu
 
 /// Appends the names of tasks.
 fn push_tasks<'a>(idents: &mut Vec<&'a Ident>, tasks: &'a [TaskTree]) -> Result<(), NoMemory>
-    ensures { OnOk result (map (λ x. x.now) idents.new.items ≡ map (λ x. x.now) idents.old.items ++ map (λ t. t.name) (map written.task_of tasks.now)) }
+    ensures { OnOk result (map (λ x. x.now) idents.new.items ≡
+        map (λ x. x.now) idents.old.items ++ map (λ t. t.name) (map written.task_of tasks.now)) }
 {
     for t in tasks {
         idents.push(&t.name)?;
@@ -69,8 +73,8 @@ fn push_tasks<'a>(idents: &mut Vec<&'a Ident>, tasks: &'a [TaskTree]) -> Result<
     Ok(())
 }
 
-/// Appends the faults of the names that are declared twice: interrupts, resources of both kinds together, and tasks have
-/// names of their own.
+/// Appends the faults of the names that are declared twice: interrupts, resources of both kinds together, and tasks
+/// have names of their own.
 pub(crate) fn push_declaration_faults(
     alloc: Global,
     faults: &mut Vec<Violation>,

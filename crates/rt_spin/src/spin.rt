@@ -28,7 +28,7 @@ impl Shown {
 
 /// Runs a core for so many steps.
 pub fn spin(core: &mut Core, steps: u32) -> Shown
-    requires fresh { core.old.steps ≡ 0 }
+    requires start { core.old.steps ≡ 0 }
     requires few { steps < 2 ^ 31 }
     ensures steps { core.new.steps ≡ steps }
 {

@@ -1,21 +1,22 @@
 -- The end: the words that are left, and the account.
-use Rattle.std.proofs.Common.{◌≡◌, ◌≢◌, ℕ, zero, suc, ◌+◌, ◌-◌, ◌<◌, ◌≤◌, List, [], ◌∷◌, length, get_or, set, sum_by, Contains, sym, ap, ◌∙◌, subst, arith, length-append, length-set, get_or-set_same, get_or-set_other, drop}
+use Rattle.std.proofs.Common.{◌≡◌, ◌≢◌, ℕ, zero, suc, ◌+◌, ◌-◌, ◌<◌, ◌≤◌, List, [], ◌∷◌, length, get_or, set, sum_by, count_by, Bool, Contains, sym, ap, ◌∙◌, subst, arith, length-append, length-set, get_or-set_same, get_or-set_other, drop}
 use Rattle.std.proofs.lemmas.List.{get_or_past, ext_get_or}
 use mathlib.Core.Option.{some, some-injective, some-ne-none}
 use mathlib.Core.Logic.{dite}
 use native.Mathlib.Decide.{ℕ_discrete, dec_lt}
 use lib.ListN.{get_elem?}
 use Rattle.atomic_table.specs.Table.{Seen, Final}
+use Rattle.rt_words.specs.declared.call.Call.{Call}
 use Rattle.rt_words.specs.declared.view.Part.{Part}
 use Rattle.rt_words.specs.declared.view.View.{View}
 use Rattle.rt_words.specs.Object.{pending}
 use Rattle.rt_words.specs.History.{Entry, part}
-use Rattle.rt_words.specs.Account.{raises, latches, raised}
+use Rattle.rt_words.specs.Account.{raises, merges, latches, raised}
 use Rattle.rt_words.specs.Lines.{Row, numbers}
-use Rattle.rt_words.specs.Rule.{padded, Standing, Kept}
-use Rattle.rt_words.specs.Ending.{AllGathered, LatchedAreZero, OneHistory}
-use Rattle.rt_words.specs.Seats.{Seat}
-use Rattle.rt_words.specs.Fields.{IsCoreSeat}
+use Rattle.rt_words.specs.Inside.Rule.{padded, Standing, Kept}
+use Rattle.rt_words.specs.Ending.{AllGathered, LatchedAreZero, OneHistory, calls_in}
+use Rattle.rt_words.specs.Inside.Seats.{Seat}
+use Rattle.rt_words.specs.Inside.Fields.{IsCoreSeat}
 use Rattle.rt_words.proofs.Lists.{of_map}
 use Rattle.rt_words.proofs.Bits.{blank, blank_long, get_or_padding}
 use Rattle.rt_words.proofs.Latching.{core_is}
@@ -52,26 +53,35 @@ copied_all words bits k is whole few =
 
 -- what the core's line knows at the end
 module _ (may words : List ℕ) (views : List View) (history : List Entry) (v : View) (st : Standing may words views history v) where
-  one_history : (row : Row) → OneHistory (record { words = row; calls = v.calls; made = v.made; gathered = v.gathered; since = v.since }) (padded words)
-  one_history row = record {
+  no_core : ¬ Contains (numbers v.gathered) 255
+  no_core h = let p = of_map (λ (q : Part). q.line) 255 v.gathered h in (st.seated.parts p.0 p.1.0).other p.1.1
+
+  -- the sums over the history, for any test of calls
+  sums : AllGathered v.made v.gathered → (test : Call → Bool) → count_by test (calls_in history) ≡ count_by test v.calls + sum_by (λ (p : Part). count_by test p.calls) v.gathered
+  sums whole test =
+      let out : (n : ℕ) → n ≢ 255 → ¬ Contains (numbers v.gathered) n → part history n ≡ [] = λ n ne no_. st.seated.unmade n ne (λ m. no_ (whole n m)) in
+      let told : (q : Part) → Contains v.gathered q → part history q.line ≡ q.calls = λ q h. (st.seated.parts q h).same_calls in
+      by_parts test history v.calls v.gathered st.seated.own told no_core st.seated.once out
+
+  one_history : (row : Row) (id : ℕ) (held : List (ℕ × Unit {0})) (counts : List ℕ) → IsCoreSeat id (v, held) counts → AllGathered v.made v.gathered
+      → OneHistory (record { words = row; calls = v.calls; made = v.made; gathered = v.gathered; since = v.since }) (padded words)
+  one_history row id held counts is whole = record {
     history = history;
     legal = st.legal;
     core = st.seated.own;
     gathered = λ p h. (st.seated.parts p h).same_calls;
     unmade = st.seated.unmade;
     account = λ irq l. accounts (padded words) history irq st.legal l;
+    raised = λ irq. let r = sums whole (raises irq) in let z = is.raises irq in omega arith;
+    merged = λ irq. let r = sums whole (merges irq) in let z = is.merges irq in omega arith;
+    latched = λ irq. let r = sums whole (latches irq) in let z = is.others irq in omega arith;
   }
-
-  no_core : ¬ Contains (numbers v.gathered) 255
-  no_core h = let p = of_map (λ (q : Part). q.line) 255 v.gathered h in (st.seated.parts p.0 p.1.0).other p.1.1
 
   balanced : (id : ℕ) (held : List (ℕ × Unit {0})) (counts : List ℕ) → IsCoreSeat id (v, held) counts → AllGathered v.made v.gathered
       → (irq : ℕ) → irq < 512 → sum_by (λ (p : Part). raised irq p.calls) v.gathered ≡ get_or counts irq 0 + pending (padded words) irq
   balanced id held counts is whole irq l =
-      let out : (n : ℕ) → n ≢ 255 → ¬ Contains (numbers v.gathered) n → part history n ≡ [] = λ n ne no_. st.seated.unmade n ne (λ m. no_ (whole n m)) in
-      let told : (q : Part) → Contains v.gathered q → part history q.line ≡ q.calls = λ q h. (st.seated.parts q h).same_calls in
-      let r = by_parts (raises irq) history v.calls v.gathered st.seated.own told no_core st.seated.once out in
-      let s = by_parts (latches irq) history v.calls v.gathered st.seated.own told no_core st.seated.once out in
+      let r = sums whole (raises irq) in
+      let s = sums whole (latches irq) in
       omega (arith, r, s, is.raises irq, is.others irq, is.counted irq l, accounts (padded words) history irq st.legal l)
 
   silent : AllGathered v.made v.gathered
@@ -89,11 +99,16 @@ ended may words slots id v first f =
       subst (λ (ws : List ℕ). Standing may ws s.views kept.0 v) f.2 (core_is may s.words s.views kept.0 kept.1 v kept.2 at),
     )
 
-pub ends_history : (may words bits : List ℕ) (slots : List (Unit {0})) (id : ℕ) (v : View) (row : Row) → id ≡ 0 → Final (Seen (Kept may) id v) words slots → bits ≡ padded words
-    → OneHistory (record { words = row; calls = v.calls; made = v.made; gathered = v.gathered; since = v.since }) bits
-ends_history may words bits slots id v row first f is =
-    let e = ended may words slots id v first f in
-    subst (λ (b : List ℕ). OneHistory (record { words = row; calls = v.calls; made = v.made; gathered = v.gathered; since = v.since }) b) (sym is) (one_history may words e.0 e.1 v e.2 row)
+pub ends_history : (may words bits : List ℕ) (slots : List (Unit {0})) (id : ℕ) (me : Seat) (counts : List ℕ) (row : Row) → IsCoreSeat id me counts → Final (Seen (Kept may) id me.0) words slots → bits ≡ padded words
+    → AllGathered me.0.made me.0.gathered → OneHistory (record { words = row; calls = me.0.calls; made = me.0.made; gathered = me.0.gathered; since = me.0.since }) bits
+ends_history may words bits slots id me counts row sits f is whole =
+    let e = ended may words slots id me.0 sits.first f in
+    subst (λ (b : List ℕ). OneHistory (record { words = row; calls = me.0.calls; made = me.0.made; gathered = me.0.gathered; since = me.0.since }) b) (sym is)
+    (one_history may words e.0 e.1 me.0 e.2 row id me.1 counts sits whole)
+
+-- behind the words the bits are 0
+pub ends_behind : (words bits : List ℕ) (k : ℕ) → bits ≡ padded words → length words ≤ k → get_or bits k 0 ≡ 0
+ends_behind words bits k is l = ap (λ (b : List ℕ). get_or b k 0) is ∙ get_or_padding words (16 - length words) k ∙ get_or_past words k 0 l
 
 pub ends_silent : (may words bits : List ℕ) (slots : List (Unit {0})) (id : ℕ) (v : View) → id ≡ 0 → Final (Seen (Kept may) id v) words slots → bits ≡ padded words
     → AllGathered v.made v.gathered

@@ -9,10 +9,10 @@ use Rattle.rt_words.specs.declared.call.Call.TheVariants.{Latch, Pend}
 use Rattle.rt_words.specs.declared.view.View.{View}
 use Rattle.rt_words.specs.Object.{IsPending}
 use Rattle.rt_words.specs.History.{Entry, IsLegal}
-use Rattle.rt_words.specs.Rule.{IsRow, padded, Standing, Kept}
+use Rattle.rt_words.specs.Inside.Rule.{IsRow, padded, Standing, Kept}
 use Rattle.rt_words.specs.Ending.{LatchedAreZero}
-use Rattle.rt_words.specs.Seats.{Seat}
-use Rattle.rt_words.specs.Steps.{called, latched}
+use Rattle.rt_words.specs.Inside.Seats.{Seat}
+use Rattle.rt_words.specs.Inside.Steps.{called, latched}
 use Rattle.rt_words.proofs.Lists.{in_push, drop_push}
 use Rattle.rt_words.proofs.Bits.{blank, zero_padding, zero_here, zero_below, zero_pending, get_or_padding, place_of}
 use Rattle.rt_words.proofs.Histories.{entry, Leads-push}

@@ -10,10 +10,10 @@ use Rattle.rt_words.specs.declared.view.Stage.TheVariants.{Copied, Device, Spent
 use Rattle.rt_words.specs.declared.view.View.{View}
 use Rattle.rt_words.specs.History.{Entry}
 use Rattle.rt_words.specs.Lines.{numbers}
-use Rattle.rt_words.specs.Rule.{Standing, Kept}
+use Rattle.rt_words.specs.Inside.Rule.{Standing, Kept}
 use Rattle.rt_words.specs.Ending.{LatchedAreZero}
-use Rattle.rt_words.specs.Seats.{Seat, Seated}
-use Rattle.rt_words.specs.Steps.{device, reserving, reserved, without_reserved, copied, took, joined, spent, looked}
+use Rattle.rt_words.specs.Inside.Seats.{Seat, Seated}
+use Rattle.rt_words.specs.Inside.Steps.{device, reserving, reserved, without_reserved, copied, took, joined, spent, looked}
 use Rattle.rt_words.proofs.Lists.{in_head, in_none, of_map, drop_whole}
 use Rattle.rt_words.proofs.Seats.{know_set, know_push, core_knows, seated_reserve, seated_split, seated_take, seated_join, seated_look}
 use Rattle.rt_words.proofs.Latching.{core_is}

@@ -7,9 +7,9 @@ use mathlib.Core.Option.{some, some-injective, some-ne-none}
 use lib.ListN.{get_elem?}
 use Rattle.rt_words.specs.declared.view.View.{View}
 use Rattle.rt_words.specs.Object.{IsPending, pending}
-use Rattle.rt_words.specs.Rule.{IsRow, padded, Standing}
-use Rattle.rt_words.specs.Seats.{number_of, Seated}
-use Rattle.rt_words.specs.Steps.{newcomer}
+use Rattle.rt_words.specs.Inside.Rule.{IsRow, padded, Standing}
+use Rattle.rt_words.specs.Inside.Seats.{number_of, Seated}
+use Rattle.rt_words.specs.Inside.Steps.{newcomer}
 use Rattle.rt_words.proofs.Bits.{blank, blank_long, zeros}
 use Rattle.rt_words.proofs.Lists.{in_none}
 

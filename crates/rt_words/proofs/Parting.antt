@@ -7,7 +7,7 @@ use Rattle.rt_words.specs.declared.call.Call.{Call}
 use Rattle.rt_words.specs.declared.view.Part.{Part}
 use Rattle.rt_words.specs.History.{Entry, part}
 use Rattle.rt_words.specs.Lines.{numbers}
-use Rattle.rt_words.specs.Seats.{Distinct}
+use Rattle.rt_words.specs.Inside.Seats.{Distinct}
 use Rattle.rt_words.specs.Ending.{calls_in}
 use Rattle.rt_words.proofs.Lists.{in_head, in_tail, in_cases, in_none}
 use Rattle.rt_words.proofs.Accounting.{count_first}

@@ -16,9 +16,9 @@ use Rattle.rt_words.specs.declared.view.Stage.TheVariants.{Device}
 use Rattle.rt_words.specs.declared.view.View.{View}
 use Rattle.rt_words.specs.Object.{IsPending, IsAnswered, after}
 use Rattle.rt_words.specs.History.{Entry, IsLegal}
-use Rattle.rt_words.specs.Rule.{IsRow, padded, Standing, Kept}
-use Rattle.rt_words.specs.Seats.{Seat}
-use Rattle.rt_words.specs.Steps.{called, answer_at, pended}
+use Rattle.rt_words.specs.Inside.Rule.{IsRow, padded, Standing, Kept}
+use Rattle.rt_words.specs.Inside.Seats.{Seat}
+use Rattle.rt_words.specs.Inside.Steps.{called, answer_at, pended}
 use Rattle.rt_words.proofs.Bits.{blank, set_padding, get_or_padding, with_bit, pend_other}
 use Rattle.rt_words.proofs.Histories.{entry, Leads-push}
 use Rattle.rt_words.proofs.Seats.{know_set, numbered, seated_pend}

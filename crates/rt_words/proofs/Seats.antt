@@ -10,8 +10,8 @@ use Rattle.rt_words.specs.declared.view.Stage.TheVariants.{First, Copied, Device
 use Rattle.rt_words.specs.declared.view.View.{View}
 use Rattle.rt_words.specs.History.{Entry}
 use Rattle.rt_words.specs.Lines.{numbers}
-use Rattle.rt_words.specs.Seats.{number_at, calls_at, number_of, calls_of, InUse, Gathered, Seated, AllKnow}
-use Rattle.rt_words.specs.Steps.{called, device, reserving, without_reserved, copied, joined, spent}
+use Rattle.rt_words.specs.Inside.Seats.{number_at, calls_at, number_of, calls_of, InUse, Gathered, Seated, AllKnow}
+use Rattle.rt_words.specs.Inside.Steps.{called, device, reserving, without_reserved, copied, joined, spent}
 use Rattle.rt_words.proofs.Lists.{in_head, in_tail, in_cases, in_map, of_map, at_push, at_below}
 use Rattle.rt_words.proofs.Histories.{entry, part-push_same, part-push_other}
 

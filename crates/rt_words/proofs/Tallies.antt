@@ -9,9 +9,9 @@ use Rattle.rt_words.specs.declared.call.Pended.TheVariants.{Raised, Merged}
 use Rattle.rt_words.specs.declared.call.Call.{Call}
 use Rattle.rt_words.specs.declared.call.Call.TheVariants.{Latch, Pend}
 use Rattle.rt_words.specs.Account.{raises, merges, latches, latched}
-use Rattle.rt_words.specs.Fields.{Counts, IsCoreSeat, IsDeviceSeat}
-use Rattle.rt_words.specs.Seats.{Seat}
-use Rattle.rt_words.specs.Steps.{called, device, newcomer, reserving, without_reserved, joined}
+use Rattle.rt_words.specs.Inside.Fields.{Counts, IsCoreSeat, IsDeviceSeat}
+use Rattle.rt_words.specs.Inside.Seats.{Seat}
+use Rattle.rt_words.specs.Inside.Steps.{called, device, newcomer, reserving, without_reserved, joined}
 use Rattle.rt_words.specs.declared.view.Part.{Part}
 use Rattle.rt_words.proofs.Bits.{blank, blank_long, zeros}
 
@@ -91,6 +91,7 @@ after_latched_at id me old new k word is room grown = record {
       let g = grown irq in
       omega arith;
   raises = none_more raises me.0.calls (Latch k word) is.raises (λ irq. refl);
+  merges = none_more merges me.0.calls (Latch k word) is.merges (λ irq. refl);
   others = is.others;
 }
 
@@ -113,6 +114,7 @@ after_made id id' number me me' counts is same e = subst (λ (x : ℕ × Seat). 
   room = is.room;
   counted = is.counted;
   raises = is.raises;
+  merges = is.merges;
   others = is.others;
 }
 
@@ -139,6 +141,7 @@ after_gathered id id' me me' dev counts rs ms since is taken same e = subst (λ 
   room = is.room;
   counted = is.counted;
   raises = is.raises;
+  merges = is.merges;
   others = λ irq.
       let all = sum_by-cons (λ (p : Part). latched irq p.calls) (record { line = dev.0.line; calls = dev.0.calls }) me.0.gathered in
       let one = taken.latches irq in
@@ -156,5 +159,6 @@ new_core id may me counts first e c = subst (λ (x : Seat × List ℕ). IsCoreSe
   room = blank_long 512;
   counted = λ irq small. zeros 512 irq;
   raises = λ irq. refl;
+  merges = λ irq. refl;
   others = λ irq. refl;
 }

@@ -1,11 +1,11 @@
 -- What is known when the words are closed.
-use Rattle.std.specs.Prelude.{◌≡◌, ◌≢◌, ℕ, ◌+◌, ◌<◌, List, [], map, slice_index, Contains}
+use Rattle.std.specs.Prelude.{◌≡◌, ◌≢◌, ℕ, ◌+◌, ◌<◌, List, [], map, slice_index, sum_by, Contains}
 use Rattle.rt_words.specs.declared.call.Call.{Call}
 use Rattle.rt_words.specs.declared.call.Call.TheVariants.{Latch}
 use Rattle.rt_words.specs.declared.view.Part.{Part}
 use Rattle.rt_words.specs.Object.{pending}
 use Rattle.rt_words.specs.History.{Entry, IsLegal, part}
-use Rattle.rt_words.specs.Account.{raised, latched}
+use Rattle.rt_words.specs.Account.{raised, merged, latched}
 use Rattle.rt_words.specs.Lines.{Core, numbers}
 
 -- every line that was made has been gathered
@@ -20,12 +20,21 @@ LatchedAreZero calls words = (k word : ℕ) → Contains calls (Latch k word) �
 abbrev pub calls_in : List Entry → List Call
 calls_in history = map (λ e. e.call) history
 
+-- how often the calls of the gathered lines did it
+abbrev pub times_gathered : (List Call → ℕ) → Core → ℕ
+times_gathered times line = sum_by (λ p. times p.calls) line.gathered
+
 -- One legal history leaves these bits, in a row of 16 words. Its calls of the number 255 are the core's, its calls of
--- each other number are those that were gathered under it, and a number that was not made has none.
+-- each other number are those that were gathered under it, and a number that was not made has none. Each interrupt was
+-- raised and merged in it as often as by the gathered lines, and latched as often as by the core's.
 pub record OneHistory (line : Core) (bits : List ℕ) : Type 0 where
   pub history : List Entry
   pub legal : IsLegal history bits
   pub core : part history 255 ≡ line.calls
   pub gathered : (p : Part) → Contains line.gathered p → part history p.line ≡ p.calls
   pub unmade : (number : ℕ) → number ≢ 255 → ¬ Contains line.made number → part history number ≡ []
-  pub account : (irq : ℕ) → irq < 512 → raised irq (calls_in history) ≡ latched irq (calls_in history) + pending bits irq
+  pub account : (irq : ℕ) → irq < 512
+      → raised irq (calls_in history) ≡ latched irq (calls_in history) + pending bits irq
+  pub raised : (irq : ℕ) → raised irq (calls_in history) ≡ times_gathered (raised irq) line
+  pub merged : (irq : ℕ) → merged irq (calls_in history) ≡ times_gathered (merged irq) line
+  pub latched : (irq : ℕ) → latched irq (calls_in history) ≡ latched irq line.calls

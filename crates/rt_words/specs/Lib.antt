@@ -3,7 +3,4 @@ pub mod History
 pub mod Account
 pub mod Lines
 pub mod Ending
-pub mod Seats
-pub mod Rule
-pub mod Steps
-pub mod Fields
+pub mod Inside

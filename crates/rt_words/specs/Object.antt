@@ -1,13 +1,13 @@
 -- The pending words, as one thread sees them: what a call answers, and what it leaves.
 use Rattle.std.specs.Prelude.{◌≡◌, ℕ, ◌/◌, ◌%◌, ◌^◌, List, slice_index, slice_set, bit_or}
-use Rattle.std.specs.Int.{bit_at}
+use Rattle.rt_ids.specs.Arrivals.{bit_of}
 use Rattle.rt_words.specs.declared.call.Pended.TheVariants.{Raised, Merged}
 use Rattle.rt_words.specs.declared.call.Call.{Call}
 use Rattle.rt_words.specs.declared.call.Call.TheVariants.{Pend, Latch}
 
 -- the bit of an interrupt: 1 where it is pending, else 0
 abbrev pub pending : List ℕ → ℕ → ℕ
-pending words irq = bit_at (slice_index words (irq / 32)) (irq % 32)
+pending words irq = bit_of words irq
 
 -- the interrupt is pending
 abbrev pub IsPending : List ℕ → ℕ → Type 0

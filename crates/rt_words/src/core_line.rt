@@ -3,7 +3,7 @@ ghost use Rattle.std.specs.Int.{bit_at};
 ghost use Rattle.rt_words.specs.Object.{IsPending};
 ghost use Rattle.rt_words.specs.Account.{raised, merged};
 ghost use Rattle.rt_words.specs.Lines.{count, numbers};
-ghost use Rattle.rt_words.specs.Steps.{reserving};
+ghost use Rattle.rt_words.specs.Inside.Steps.{reserving};
 ghost use Rattle.rt_words.specs.declared.call.Call.{Call};
 
 use crate::counts::count_bits;
@@ -24,11 +24,17 @@ pub struct CoreLine {
 
 impl Model for CoreLine {
     ghost use Rattle.rt_words.specs.Lines.{Core};
-    ghost use Rattle.rt_words.specs.Fields.{IsCoreSeat};
+    ghost use Rattle.rt_words.specs.Inside.Fields.{IsCoreSeat};
 
     ghost Value = { Core };
 
-    ghost view = { λ l. record { words = record { table = l.seat.table_id; may = l.seat.me.0.may }; calls = l.seat.me.0.calls; made = l.seat.me.0.made; gathered = l.seat.me.0.gathered; since = l.seat.me.0.since } };
+    ghost view = { λ l. record {
+      words = record { table = l.seat.table_id; may = l.seat.me.0.may };
+      calls = l.seat.me.0.calls;
+      made = l.seat.me.0.made;
+      gathered = l.seat.me.0.gathered;
+      since = l.seat.me.0.since;
+    } };
 
     ghost invariant = { λ l. IsCoreSeat l.seat.id l.seat.me l.latched };
 }
@@ -85,7 +91,10 @@ impl CoreLine {
     pub fn gather(&mut self, words: &Words, line: DeviceLine) -> Tally
         requires words { self.old.words ≡ words.now }
         requires line { line.words ≡ words.now }
-        ensures core { self.new ≡ record self.old { gathered = record { line = line.number; calls = line.calls } ∷ self.old.gathered; since = length self.old.calls } }
+        ensures core { self.new ≡ record self.old {
+          gathered = record { line = line.number; calls = line.calls } ∷ self.old.gathered;
+          since = length self.old.calls;
+        } }
         ensures raised { (irq : ℕ) → irq < 512 → slice_index result.raised irq ≡ raised irq line.calls }
         ensures merged { (irq : ℕ) → irq < 512 → slice_index result.merged irq ≡ merged irq line.calls }
         ensures made { Contains self.old.made line.number }

@@ -20,7 +20,8 @@ pub(crate) fn no_counts() -> [u32; COUNTS]
 pub(crate) fn count_bits(counts: &mut [u32; COUNTS], word: u8, bits: u32)
     requires word { word < 16 }
     requires room { (irq : ℕ) → slice_index counts.old irq < 2 ^ 32 - 1 }
-    ensures { (irq : ℕ) → slice_index counts.new irq ≡ slice_index counts.old irq + cond (latches irq (Latch word bits)) 1 0 }
+    ensures { (irq : ℕ)
+        → slice_index counts.new irq ≡ slice_index counts.old irq + cond (latches irq (Latch word bits)) 1 0 }
 {
     let first = usize::from(word) * BITS;
     for bit in 0..BITS {

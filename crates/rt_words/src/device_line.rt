@@ -41,11 +41,15 @@ pub struct DeviceLine {
 
 impl Model for DeviceLine {
     ghost use Rattle.rt_words.specs.Lines.{Line};
-    ghost use Rattle.rt_words.specs.Fields.{IsDeviceSeat};
+    ghost use Rattle.rt_words.specs.Inside.Fields.{IsDeviceSeat};
 
     ghost Value = { Line };
 
-    ghost view = { λ l. record { words = record { table = l.seat.table_id; may = l.seat.me.0.may }; number = l.seat.me.0.line; calls = l.seat.me.0.calls } };
+    ghost view = { λ l. record {
+      words = record { table = l.seat.table_id; may = l.seat.me.0.may };
+      number = l.seat.me.0.line;
+      calls = l.seat.me.0.calls;
+    } };
 
     ghost invariant = { λ l. IsDeviceSeat l.seat.me l.tally.raised l.tally.merged };
 }

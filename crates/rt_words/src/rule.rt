@@ -6,8 +6,8 @@ use std::marker::{Brand, PhantomData};
 pub(crate) struct Law;
 
 impl TableRule<(), View, [u32; 16]> for Law {
-    ghost use Rattle.rt_words.specs.Rule.{Kept};
-    ghost use Rattle.rt_words.specs.Steps.{newcomer};
+    ghost use Rattle.rt_words.specs.Inside.Rule.{Kept};
+    ghost use Rattle.rt_words.specs.Inside.Steps.{newcomer};
 
     ghost holds = { Kept };
 
@@ -18,7 +18,7 @@ impl TableRule<(), View, [u32; 16]> for Law {
 pub(crate) struct Pend;
 
 impl Play<(), View> for Pend {
-    ghost use Rattle.rt_words.specs.Steps.{pended};
+    ghost use Rattle.rt_words.specs.Inside.Steps.{pended};
 
     ghost then = { pended };
 }
@@ -27,7 +27,7 @@ impl Play<(), View> for Pend {
 pub(crate) struct Latch;
 
 impl Play<(), View> for Latch {
-    ghost use Rattle.rt_words.specs.Steps.{latched};
+    ghost use Rattle.rt_words.specs.Inside.Steps.{latched};
 
     ghost then = { latched };
 }
@@ -49,7 +49,7 @@ pub(crate) struct Reserve<N> {
 }
 
 impl<N: Numbered> Play<(), View> for Reserve<N> {
-    ghost use Rattle.rt_words.specs.Steps.{reserved};
+    ghost use Rattle.rt_words.specs.Inside.Steps.{reserved};
 
     ghost then = { reserved N.number };
 }
@@ -58,7 +58,7 @@ impl<N: Numbered> Play<(), View> for Reserve<N> {
 pub(crate) struct SplitOff;
 
 impl Split<View> for SplitOff {
-    ghost use Rattle.rt_words.specs.Steps.{without_reserved, copied};
+    ghost use Rattle.rt_words.specs.Inside.Steps.{without_reserved, copied};
 
     ghost left = { without_reserved };
 
@@ -69,7 +69,7 @@ impl Split<View> for SplitOff {
 pub(crate) struct Take;
 
 impl Play<(), View> for Take {
-    ghost use Rattle.rt_words.specs.Steps.{took};
+    ghost use Rattle.rt_words.specs.Inside.Steps.{took};
 
     ghost then = { took };
 }
@@ -78,7 +78,7 @@ impl Play<(), View> for Take {
 pub(crate) struct Gather;
 
 impl Join<View> for Gather {
-    ghost use Rattle.rt_words.specs.Steps.{joined, spent};
+    ghost use Rattle.rt_words.specs.Inside.Steps.{joined, spent};
 
     ghost both = { joined };
 
@@ -89,7 +89,7 @@ impl Join<View> for Gather {
 pub(crate) struct Look;
 
 impl Play<(), View> for Look {
-    ghost use Rattle.rt_words.specs.Steps.{looked};
+    ghost use Rattle.rt_words.specs.Inside.Steps.{looked};
 
     ghost then = { looked };
 }

@@ -3,7 +3,7 @@ ghost use Rattle.std.specs.Mem.Slots.{slots_items, slots_len, IsFull};
 ghost use Rattle.rt_ids.specs.declared.limits.TheConstants.{IRQ_NUMBERS};
 ghost use Rattle.rt_words.specs.Object.{IsPending, pending};
 ghost use Rattle.rt_words.specs.Account.{raised, latched};
-ghost use Rattle.rt_words.specs.Rule.{padded};
+ghost use Rattle.rt_words.specs.Inside.Rule.{padded};
 ghost use Rattle.rt_words.specs.Ending.{AllGathered, LatchedAreZero, OneHistory};
 ghost use Rattle.rt_words.specs.Lines.{count, IsUnused};
 
@@ -34,7 +34,7 @@ pub struct Words {
 
 impl Model for Words {
     ghost use Rattle.rt_words.specs.Lines.{Row};
-    ghost use Rattle.rt_words.specs.Fields.{IsSound};
+    ghost use Rattle.rt_words.specs.Inside.Fields.{IsSound};
 
     ghost Value = { Row };
 
@@ -63,14 +63,16 @@ impl Words {
         Ok((Words { table }, line))
     }
 
-    /// Ends the words, once the core's line has gathered every line that it made: answers the bits that are left, and how
-    /// often the core latched each interrupt.
+    /// Ends the words, once the core's line has gathered every line that it made: answers the bits that are left, and
+    /// how often the core latched each interrupt.
     pub fn close(self, line: CoreLine) -> Left
         requires words { line.words ≡ self }
         requires gathered { AllGathered line.made line.gathered }
         ensures history { OneHistory line result.bits }
         ensures latched { (irq : ℕ) → irq < 512 → slice_index result.latched irq ≡ latched irq line.calls }
-        ensures account { (irq : ℕ) → irq < 512 → sum_by (λ p. raised irq p.calls) line.gathered ≡ slice_index result.latched irq + pending result.bits irq }
+        ensures account { (irq : ℕ) → irq < 512
+            → sum_by (λ p. raised irq p.calls) line.gathered ≡ slice_index result.latched irq + pending result.bits irq }
+        ensures behind { (k : ℕ) → count self ≤ k → slice_index result.bits k ≡ 0 }
         ensures silent { LatchedAreZero (drop line.since line.calls) result.bits }
     {
         let Words { table } = self;

@@ -1,7 +1,7 @@
 -- The interrupts so far are enabled as the image says.
 use Rattle.std.proofs.Common.{◌≡◌, [], replicate, false}
 use Rattle.rt_ids.specs.declared.limits.TheConstants.{IRQ_NUMBERS}
-use Rattle.rt_core.specs.Enabling.{HasPrioritiesBelow}
+use Rattle.rt_core.specs.Inside.Enabling.{HasPrioritiesBelow}
 use Rattle.rt_core.proofs.machine.controller.Given as goal
 
 abbrev pub invariant-loop-number : goal.invariant-loop-number

@@ -1,13 +1,13 @@
 use Rattle.rt_app.specs.View.{app_of}
 use Rattle.rt_app.specs.Stack.{has_handler}
-use Rattle.rt_frames.specs.Bounded.{wait_of}
+use Rattle.rt_frames.specs.Inside.Bounded.{wait_of}
 use Rattle.rt_frames.proofs.Below.{map_below_none, map_below_more}
 use Rattle.rt_frames.proofs.bound.waits_of.Goals as goal
 
 pub loop-level-init : goal.loop-level-init
-loop-level-init c = map_below_none (wait_of (app_of c.args.app.now) c.args.ceilings.now) (has_handler (app_of c.args.app.now)) c.new-waits.result.items c.new-waits.ensures.items
+loop-level-init c = map_below_none (wait_of (app_of c.args.app.now) c.args.measure.now c.args.ceilings.now) (has_handler (app_of c.args.app.now)) c.new-waits.result.items c.new-waits.ensures.items
 
 pub loop-level-preserved : goal.loop-level-preserved
 loop-level-preserved c =
-    map_below_more (wait_of (app_of c.args.app.now) c.args.ceilings.now) (has_handler (app_of c.args.app.now)) c.args.handlers.now c.requires.handled c.loop-level.level c.from.result c.loop-level.waits.items
+    map_below_more (wait_of (app_of c.args.app.now) c.args.measure.now c.args.ceilings.now) (has_handler (app_of c.args.app.now)) c.args.handlers.now c.requires.handled c.loop-level.level c.from.result c.loop-level.waits.items
     c.push_wait.new.waits.items c.from.ensures c.loop-level.invariant c.in_ok-push_wait.ensures

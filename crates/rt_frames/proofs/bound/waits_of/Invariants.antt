@@ -3,8 +3,8 @@ use Rattle.std.proofs.Common.{◌≡◌, map}
 use Rattle.rt_app.specs.View.{app_of}
 use Rattle.rt_ids.specs.Lists.{those_below}
 use Rattle.rt_app.specs.Stack.{has_handler}
-use Rattle.rt_frames.specs.Bounded.{wait_of}
+use Rattle.rt_frames.specs.Inside.Bounded.{wait_of}
 use Rattle.rt_frames.proofs.bound.waits_of.Given as goal
 
 abbrev pub invariant-loop-level : goal.invariant-loop-level
-invariant-loop-level l = l.waits.items ≡ map (wait_of (app_of l.app) l.ceilings) (those_below (has_handler (app_of l.app)) l.level)
+invariant-loop-level l = l.waits.items ≡ map (wait_of (app_of l.app) l.measure l.ceilings) (those_below (has_handler (app_of l.app)) l.level)

@@ -6,7 +6,7 @@ use Rattle.rt_frames.proofs.waiting.+block.Goals as goal
 
 pub block_wait-loop-stmt-preserved : goal.block_wait-loop-stmt-preserved
 block_wait-loop-stmt-preserved t c =
-    omega (arith, block_wait_more (app_of c.args.app.now) c.args.ceilings.now c.args.priority c.args.stmts.now c.loop-stmt.stmt-index c.stmt-item.result c.loop-stmt-test.true c.stmt-item.is)
+    omega (arith, block_wait_more (app_of c.args.app.now) c.args.measure.now c.args.ceilings.now c.args.priority c.args.stmts.now c.loop-stmt.stmt-index c.stmt-item.result c.loop-stmt-test.true c.stmt-item.is)
 
 pub statement_wait-returns-in-Branch : goal.statement_wait-returns-in-Branch
 statement_wait-returns-in-Branch t c =
@@ -23,5 +23,5 @@ pub statement_wait-returns-else-priority-shared_at :
 statement_wait-returns-else-priority-shared_at t c =
     let is = locked_at c.args.stmt.now c.in-Locked.resource c.in-Locked.inner c.in-Locked._at c.deref-else-priority-shared_at.result.now c.in-Locked.is c.deref-else-priority-shared_at.ensures.value in
     c.block_wait-else-priority-shared_at.ensures
-    ∙ sym (locked_below (app_of c.args.app.now) c.args.ceilings.now c.args.priority (statement_of c.args.stmt.now) c.in-Locked.resource (block_of c.deref-else-priority-shared_at.result.now) c.in-Locked._at c.shared_at.result is
+    ∙ sym (locked_below (app_of c.args.app.now) c.args.measure.now c.args.ceilings.now c.args.priority (statement_of c.args.stmt.now) c.in-Locked.resource (block_of c.deref-else-priority-shared_at.result.now) c.in-Locked._at c.shared_at.result is
     c.shared_at.ensures c.if-priority-shared_at.false)

@@ -28,14 +28,17 @@ decreases-repeat l = l.left * 10 + 3
 abbrev pub decreases-lock : goal.decreases-lock
 decreases-lock l = l.left * 10 + 3
 
+abbrev pub decreases-compound : goal.decreases-compound
+decreases-compound l = l.left * 10 + 4
+
 abbrev pub decreases-statement : goal.decreases-statement
-decreases-statement l = l.left * 10 + 4
+decreases-statement l = l.left * 10 + 5
 
 abbrev pub decreases-statements : goal.decreases-statements
-decreases-statements l = l.left * 10 + 5
+decreases-statements l = l.left * 10 + 6
 
 abbrev pub decreases-braced : goal.decreases-braced
-decreases-braced l = l.left * 10 + 6
+decreases-braced l = l.left * 10 + 7
 
 abbrev pub invariant-statements-loop-alloc : goal.invariant-statements-loop-alloc
 invariant-statements-loop-alloc l =

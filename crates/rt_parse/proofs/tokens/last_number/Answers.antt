@@ -17,7 +17,7 @@ returns-in_err-number c =
 pub returns : goal.returns
 returns c =
     let n = c.in_ok-number.number in
-    let judged : c.limit_if.result ≡ turned c.args.first n.value = c.limit_if.ensures ∙ ap (λ m. limit_if (nat_lt TURNS m) limit.Turns) c.saturating_sub-turns.ensures in
+    let judged : c.limit_if-limit.result ≡ turned c.args.first n.value = c.limit_if-limit.ensures ∙ ap (λ m. limit_if (nat_lt TURNS m) limit.Turns) c.saturating_sub-turns.ensures in
     subst (Gives (λ x. x) c.unless_limited.result)
     (ap (λ l. unless_limited n.at l n c.in_ok-number.tokens) judged ∙ sym (number_then (turned c.args.first) c.args.tokens ∙ rw c.in_ok-number.ensures refl))
     c.unless_limited.ensures

@@ -14,7 +14,7 @@ returns-in_err-number c =
 pub returns : goal.returns
 returns c =
     let n = c.in_ok-number.number in
-    let judged : c.limit_if.result ≡ within c.args.least c.args.greatest c.args.limit n.value = c.limit_if.ensures ∙ ap (λ b. limit_if (not b) c.args.limit) c.is_within-passes.ensures in
+    let judged : c.limit_if-limit.result ≡ within c.args.least c.args.greatest c.args.limit n.value = c.limit_if-limit.ensures ∙ ap (λ b. limit_if (not b) c.args.limit) c.is_within-passes.ensures in
     subst (Gives (λ x. x) c.unless_limited.result)
     (ap (λ l. unless_limited n.at l n c.in_ok-number.tokens) judged ∙ sym (number_then (within c.args.least c.args.greatest c.args.limit) c.args.tokens ∙ rw c.in_ok-number.ensures refl))
     c.unless_limited.ensures

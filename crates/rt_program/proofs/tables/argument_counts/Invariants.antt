@@ -1,5 +1,6 @@
 use Rattle.std.proofs.Common.{◌≡◌, length}
-use Rattle.rt_program.specs.Found.{IsTable, arguments_in}
+use Rattle.rt_program.specs.Tables.{arguments_in}
+use Rattle.rt_program.specs.Inside.Found.{IsTable}
 use Rattle.rt_program.proofs.tables.argument_counts.Given as goal
 
 abbrev pub invariant-loop-task : goal.invariant-loop-task

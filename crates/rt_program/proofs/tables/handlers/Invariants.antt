@@ -1,5 +1,6 @@
 use Rattle.std.proofs.Common.{◌≡◌, length}
-use Rattle.rt_program.specs.Found.{IsTable, handler_in}
+use Rattle.rt_program.specs.Tables.{handler_in}
+use Rattle.rt_program.specs.Inside.Found.{IsTable}
 use Rattle.rt_program.proofs.tables.handlers.Given as goal
 
 abbrev pub invariant-loop-number : goal.invariant-loop-number

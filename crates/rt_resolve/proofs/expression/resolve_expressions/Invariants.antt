@@ -4,7 +4,7 @@ use Rattle.rt_ast.specs.View as written
 use Rattle.rt_app.specs.View as built
 use Rattle.rt_resolve.specs.Resolving as meant
 use Rattle.rt_resolve.specs.Misnamed as wrong
-use Rattle.rt_resolve.specs.NamesView.{names_of}
+use Rattle.rt_resolve.specs.Inside.NamesView.{names_of}
 use Rattle.rt_resolve.proofs.expression.resolve_expressions.Given as goal
 
 abbrev pub invariant-loop-expr : goal.invariant-loop-expr

@@ -1,9 +1,7 @@
 -- A listing more is marked, and its faults are those of the definition.
-use Rattle.std.proofs.Common.{◌≡◌, ◌+◌, ◌<◌, false, reverse, take, get_or, length, arith, rules, refl, ap, ◌∙◌}
+use Rattle.std.proofs.Common.{◌≡◌, ◌+◌, ◌<◌, false, reverse, take, get_or, length, rules, refl}
 use Rattle.std.proofs.lemmas.List.{get_or-replicate, length-set}
 use Rattle.rt_resolve.specs.declared.listing.Listing.{Listing}
-use Rattle.rt_resolve.specs.NameRules.{listed_twice}
-use Rattle.rt_resolve.specs.NamesView.{use_of}
 use Rattle.rt_resolve.proofs.Marked.{numbers, numbers_more, marks_more, listed_more}
 use Rattle.rt_resolve.proofs.listing.push_listed_twice.Goals as goal
 

@@ -2,7 +2,7 @@
 use Rattle.std.proofs.Common.{◌≡◌, ℕ, ◌==◌, ◌<◌, ◌++◌, [], false, map, reverse, take, drop, get_or, length}
 use Rattle.std.specs.List.{list_any}
 use Rattle.rt_resolve.specs.NameRules.{listed_twice}
-use Rattle.rt_resolve.specs.NamesView.{use_of}
+use Rattle.rt_resolve.specs.Inside.NamesView.{use_of}
 use Rattle.rt_resolve.proofs.listing.push_listed_twice.Given as goal
 
 abbrev pub invariant-loop-listing : goal.invariant-loop-listing

@@ -1,9 +1,9 @@
 -- The listings so far are of what is listed so far.
-use Rattle.std.proofs.Common.{◌≡◌, ◌++◌, map, flat_map, take}
+use Rattle.std.proofs.Common.{◌≡◌, map, flat_map, take}
 use Rattle.rt_ast.specs.View as written
 use Rattle.rt_resolve.specs.Scope as named
 use Rattle.rt_resolve.specs.NameRules.{listing_of}
-use Rattle.rt_resolve.specs.NamesView.{use_of}
+use Rattle.rt_resolve.specs.Inside.NamesView.{use_of}
 use Rattle.rt_resolve.proofs.listing.shared_listings.Given as goal
 
 abbrev pub invariant-loop-l : goal.invariant-loop-l

@@ -1,24 +1,33 @@
-use Rattle.std.proofs.Common.{None, sym, ◌∙◌, refl}
+use Rattle.std.proofs.Common.{None, sym, ap, ◌∙◌, refl, arith}
+use Rattle.rt_stack.specs.Region.{top, pushed}
 use Rattle.rt_context.specs.Moves.{entered}
-use Rattle.rt_context.specs.Parts.{Spells}
+use Rattle.rt_context.specs.Inside.Parts.{Spells}
 use Rattle.rt_context.proofs.Spelling.{spelled, kept}
 use Rattle.rt_context.proofs.Running.{seen}
-use Rattle.rt_context.proofs.Entering.{entry_fits, spells_entered}
+use Rattle.rt_context.proofs.Entering.{entry_fits, frame_fits, spells_entered}
 use Rattle.rt_context.proofs.frames.Frames.enter.Goals as goal
-use Rattle.rt_context.proofs.frames.Frames.enter.Goals.{After-push}
+use Rattle.rt_context.proofs.frames.Frames.enter.Goals.{After-push-3}
 
-pub enter-requires-clause-fits : goal.enter-requires-clause-fits
-enter-requires-clause-fits c =
+pub push-requires-clause-fits : goal.push-requires-clause-fits
+push-requires-clause-fits c =
     let s = seen c.args.self.now c.self.inside c.self.invariant c.self.view_is in
-    entry_fits c.args.self.now c.self.inside c.args.words c.saturating_add.result s c.saturating_add.ensures (sym c.has_room.ensures.fits ∙ c.if-not-has_room.false)
+    let fits = entry_fits c.args.self.now c.self.inside c.args.words c.saturating_add.result s c.saturating_add.ensures (sym c.has_room.ensures.fits ∙ c.if-not-has_room.false) in
+    omega (arith, fits)
 
-spells : (c : After-push) → Spells (entered c.args.self.now c.args.number c.args.address c.args.words) (record { region = c.enter.new.region; frame = c.args.words; caller = None; callers = c.push.new.self })
+pub push-requires-2 : goal.push-requires-2
+push-requires-2 c =
+    let s = seen c.args.self.now c.self.inside c.self.invariant c.self.view_is in
+    let fits = entry_fits c.args.self.now c.self.inside c.args.words c.saturating_add.result s c.saturating_add.ensures (sym c.has_room.ensures.fits ∙ c.if-not-has_room.false) in
+    frame_fits c.args.self.now c.self.inside c.push.new.region (record { number = c.args.number; address = c.args.address; slots = top c.self.inside.region c.self.inside.frame; caller = None }) c.args.words s c.push.ensures fits
+
+spells : (c : After-push-3) → Spells (entered c.args.self.now c.args.number c.args.address c.args.words) (record { region = c.push-2.new.self; entry = c.self.inside.entry; frame = c.args.words; caller = None; callers = c.push-3.new.self })
 spells c =
     let s = seen c.args.self.now c.self.inside c.self.invariant c.self.view_is in
-    spells_entered c.args.self.now c.self.inside _ c.args.number c.args.address c.args.words s c.enter.ensures refl refl c.push.ensures.items
+    let region = c.push-2.ensures ∙ ap (λ r. pushed r c.args.words) c.push.ensures in
+    spells_entered c.args.self.now c.self.inside _ c.args.number c.args.address c.args.words s region refl refl refl c.push-3.ensures.items
 
 pub invariant_of-self : goal.invariant_of-self
-invariant_of-self c = kept _ _ (spells (goal.at.invariant_of-self c).After-push)
+invariant_of-self c = kept _ _ (spells (goal.at.invariant_of-self c).After-push-3)
 
 pub returns-clause-entered : goal.returns-clause-entered
-returns-clause-entered c = λ _. spelled _ _ (spells (goal.at.returns-clause-entered c).After-push)
+returns-clause-entered c = λ _. spelled _ _ (spells (goal.at.returns-clause-entered c).After-push-3)

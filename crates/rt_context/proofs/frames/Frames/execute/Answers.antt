@@ -4,7 +4,7 @@ use Rattle.rt_code.specs.Processor.{processor, Gives}
 use Rattle.rt_code.specs.Effect.{effect}
 use Rattle.rt_context.specs.declared.frames.Frames.TheInside.{Inside}
 use Rattle.rt_context.specs.Frames.{Frames}
-use Rattle.rt_context.specs.Parts.{frames, Spells}
+use Rattle.rt_context.specs.Inside.Parts.{frames, Spells}
 use Rattle.rt_context.proofs.Spelling.{spelled, kept}
 use Rattle.rt_context.proofs.Running.{seen, top_is}
 use Rattle.rt_context.proofs.Writing.{written, spells_written, rest_is}
@@ -12,13 +12,13 @@ use Rattle.rt_context.proofs.frames.Frames.execute.Goals as goal
 use Rattle.rt_context.proofs.frames.Frames.execute.Goals.{After-execute}
 
 abbrev after : After-execute → Inside
-after c = record { region = with_top c.self.inside.region c.self.inside.frame c.execute.new.slots; frame = c.self.inside.frame; caller = c.self.inside.caller; callers = c.self.inside.callers }
+after c = record { region = with_top c.self.inside.region c.self.inside.frame c.execute.new.slots; entry = c.self.inside.entry; frame = c.self.inside.frame; caller = c.self.inside.caller; callers = c.self.inside.callers }
 
 spells : (c : After-execute) → Spells (written c.args.self.now c.execute.new.slots) (after c)
 spells c =
     let s = seen c.args.self.now c.self.inside c.self.invariant c.self.view_is in
     let long : length c.execute.new.slots ≡ c.self.inside.frame = c.execute.auto.slots ∙ c.top-slots.ensures.len in
-    spells_written c.args.self.now c.self.inside (after c) c.execute.new.slots s long (c.top-slots.ensures.below_stays c.execute.new.slots long) refl refl refl
+    spells_written c.args.self.now c.self.inside (after c) c.execute.new.slots s long (c.top-slots.ensures.below_stays c.execute.new.slots long) refl refl refl refl
 
 pub invariant_of-self : goal.invariant_of-self
 invariant_of-self c = kept _ _ (spells (goal.at.invariant_of-self c).After-execute)

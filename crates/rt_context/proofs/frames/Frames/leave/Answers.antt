@@ -1,4 +1,4 @@
-use Rattle.std.proofs.Common.{◌≡◌, None, reverse, refl, arith}
+use Rattle.std.proofs.Common.{◌≡◌, ◌≤◌, None, reverse, refl, sym, subst, arith}
 use Rattle.std.proofs.lemmas.Grind.{common_steps}
 use Rattle.rt_context.specs.Moves.{left}
 use Rattle.rt_context.proofs.Running.{seen}
@@ -15,13 +15,16 @@ found c =
 pub leave-interrupted-requires : goal.leave-interrupted-requires
 leave-interrupted-requires c =
     let s = seen c.args.self.now c.self.inside c.self.invariant c.self.view_is in
-    entry_is_there c.args.self.now c.self.inside c.in_ok-caller.caller (reverse c.pop.new.self.items) s (found (goal.at.leave-interrupted-requires c).In_ok-caller)
+    record {
+      eight = subst (λ n. 8 ≤ n) (sym s.entry) s.eight;
+      there = entry_is_there c.args.self.now c.self.inside c.in_ok-caller.caller (reverse c.pop.new.self.items) s (found (goal.at.leave-interrupted-requires c).In_ok-caller);
+    }
 
 leads : (c : After-leave-interrupted) → Finds c.args.self.now c.in_ok-caller.caller (reverse c.pop.new.self.items)
-    → Leads (left c.args.self.now) (record { region = c.leave-interrupted.new.region; frame = c.leave-interrupted.result.frame; caller = c.in_ok-caller.caller; callers = c.pop.new.self }) c.leave-interrupted.result.address
+    → Leads (left c.args.self.now) (record { region = c.leave-interrupted.new.region; entry = c.self.inside.entry; frame = c.leave-interrupted.result.frame; caller = c.in_ok-caller.caller; callers = c.pop.new.self }) c.leave-interrupted.result.address
 leads c finds =
     let s = seen c.args.self.now c.self.inside c.self.invariant c.self.view_is in
-    left_leads c.args.self.now c.self.inside c.in_ok-caller.caller (reverse c.pop.new.self.items) s finds _ c.leave-interrupted.result.address c.leave-interrupted.ensures.popped c.leave-interrupted.ensures.frame refl refl c.leave-interrupted.ensures.address
+    left_leads c.args.self.now c.self.inside c.in_ok-caller.caller (reverse c.pop.new.self.items) s finds _ c.leave-interrupted.result.address c.leave-interrupted.ensures.popped refl c.leave-interrupted.ensures.frame refl refl c.leave-interrupted.ensures.address
 
 pub invariant_of-self-2 : goal.invariant_of-self-2
 invariant_of-self-2 c =

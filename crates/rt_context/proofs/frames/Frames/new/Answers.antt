@@ -1,15 +1,15 @@
 use Rattle.std.proofs.Common.{◌/◌, None, ap, ◌∙◌, refl, arith}
 use Rattle.rt_stack.specs.Region.{Region, pushed}
 use Rattle.rt_context.specs.Moves.{thread}
-use Rattle.rt_context.specs.Parts.{Spells}
+use Rattle.rt_context.specs.Inside.Parts.{Spells}
 use Rattle.rt_context.proofs.Spelling.{spelled, kept}
 use Rattle.rt_context.proofs.Entering.{spells_thread}
 use Rattle.rt_context.proofs.frames.Frames.new.Goals as goal
 use Rattle.rt_context.proofs.frames.Frames.new.Goals.{After-new-2}
 
-spells : (c : After-new-2) → Spells (thread (c.args.stack_bytes / 4) c.args.thread_words) (record { region = c.push.new.self; frame = c.args.thread_words; caller = None; callers = c.new-2.result })
+spells : (c : After-new-2) → Spells (thread (c.args.stack_bytes / 4) c.args.entry c.args.thread_words) (record { region = c.push.new.self; entry = c.args.entry; frame = c.args.thread_words; caller = None; callers = c.new-2.result })
 spells c =
-    spells_thread (c.args.stack_bytes / 4) c.args.thread_words _ (omega arith) (c.push.ensures ∙ ap (λ (r : Region). pushed r c.args.thread_words) c.in_ok-region.ensures.empty) refl refl c.new-2.ensures
+    spells_thread (c.args.stack_bytes / 4) c.args.entry c.args.thread_words _ (omega arith) c.requires.eight (c.push.ensures ∙ ap (λ (r : Region). pushed r c.args.thread_words) c.in_ok-region.ensures.empty) refl refl refl c.new-2.ensures
 
 pub invariant_of-result : goal.invariant_of-result
 invariant_of-result c = kept _ _ (spells c)

@@ -1,6 +1,6 @@
 use Rattle.std.proofs.Common.{ap}
 use Rattle.rt_ids.specs.Arrivals.{arrivals}
-use Rattle.rt_core.specs.Parts.{core}
+use Rattle.rt_core.specs.Inside.Parts.{core}
 use Rattle.rt_core.proofs.Arriving.{arrivals_pend}
 use Rattle.rt_core.proofs.machine.Core.arrive.Goals as goal
 

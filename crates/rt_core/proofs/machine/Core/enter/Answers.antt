@@ -1,7 +1,6 @@
 use Rattle.std.proofs.Common.{◌≡◌, ◌+◌, ◌<◌, true, false, Some, None, refl, sym, ap, ap₂, subst, ◌∙◌, rules, arith}
 use Rattle.rt_ids.specs.declared.limits.TheConstants.{IRQ_NUMBERS}
 use Rattle.rt_code.specs.declared.processor.Trap.TheVariants as trap
-use Rattle.rt_context.specs.declared.sizes.TheConstants.{EXCEPTION_WORDS}
 use Rattle.rt_context.specs.Frames.{Frames}
 use Rattle.rt_context.specs.Moves as moves
 use Rattle.rt_program.specs.Tables.{handler_of}
@@ -13,7 +12,7 @@ use Rattle.rt_core.specs.Machine.{Machine}
 use Rattle.rt_core.specs.Outcome.{Trapped, Done}
 use Rattle.rt_core.specs.Stepping as stepping
 use Rattle.rt_core.specs.Transfer as transfer
-use Rattle.rt_core.specs.Parts.{core, IsSound}
+use Rattle.rt_core.specs.Inside.Parts.{core, IsSound}
 use Rattle.rt_core.proofs.Entry.{next_of, few_active, attempt_is, enter_is, entry_outcome, is_pending_still, sound_after, entered_parts}
 use Rattle.rt_core.proofs.machine.Core.enter.Goals as goal
 
@@ -37,11 +36,11 @@ pub returns-then-not-enter-clause-outcome : goal.returns-then-not-enter-clause-o
 returns-then-not-enter-clause-outcome c =
     let next = next_of c.self.inside c.self.invariant c.args.self.now c.self.view_is c.args.irq c.requires in
     let handler : handler_of c.self.inside.program c.args.irq ≡ Some c.in-Some.handler = sym c.handler.ensures ∙ c.in-Some.is in
-    let room : moves.has_room c.self.inside.frames (EXCEPTION_WORDS + c.in-Some.handler.frame) ≡ false = search rules in
+    let room : moves.has_room c.self.inside.frames (c.self.inside.frames.entry + c.in-Some.handler.frame) ≡ false = search rules in
     ap (λ (m : Machine). stepping.attempt m.image m.core (pick m.image m.core)) (sym c.self.view_is)
     ∙ attempt_is c.self.inside c.self.invariant c.args.irq c.in-Some.handler handler next
     ∙ enter_is c.self.inside c.self.invariant c.args.irq c.in-Some.handler
-    ∙ ap (entry_outcome (core c.self.inside) c.args.irq c.in-Some.handler) room
+    ∙ ap (entry_outcome c.self.inside.program (core c.self.inside) c.args.irq c.in-Some.handler) room
     ∙ ap (λ (f : Frames). Trapped (core (record c.self.inside { frames = f })) trap.Stack) (sym (c.if-not-enter.ensures.unchanged refl))
 
 pub enter-requires-2-clause-pending : goal.enter-requires-2-clause-pending
@@ -75,11 +74,11 @@ returns-clause-outcome c =
     let frames = c.if-not-enter.ensures.entered refl ∙ ap (λ k. moves.entered c.self.inside.frames k c.self.inside.registers.address c.in-Some.handler.frame) number in
     let within : c.args.irq < IRQ_NUMBERS = search rules in
     let e = c.enter-2.ensures in
-    let room : moves.has_room c.self.inside.frames (EXCEPTION_WORDS + c.in-Some.handler.frame) ≡ true = search rules in
+    let room : moves.has_room c.self.inside.frames (c.self.inside.frames.entry + c.in-Some.handler.frame) ≡ true = search rules in
     let parts : Frames → Inside = λ f. record c.self.inside { nvic = c.enter-2.new.self; frames = f; registers = record c.self.inside.registers { address = c.in-Some.handler.entry } } in
     let new = entered_parts c.self.inside c.self.invariant c.args.irq c.in-Some.handler handler next c.enter-2.new.self e.pending e.active e.priorities within c.enter.new.self frames in
     ap (λ (m : Machine). stepping.attempt m.image m.core (pick m.image m.core)) (sym c.self.view_is)
     ∙ attempt_is c.self.inside c.self.invariant c.args.irq c.in-Some.handler handler next
     ∙ enter_is c.self.inside c.self.invariant c.args.irq c.in-Some.handler
-    ∙ ap (entry_outcome (core c.self.inside) c.args.irq c.in-Some.handler) room
+    ∙ ap (entry_outcome c.self.inside.program (core c.self.inside) c.args.irq c.in-Some.handler) room
     ∙ ap₂ (λ (k : Core) n. Done k (Some (what.Take c.args.irq n))) (sym new.0) (sym (c.depth.ensures.bytes ∙ new.1))

@@ -1,7 +1,7 @@
 use Rattle.std.proofs.Common.{refl, ap, ◌∙◌, subst, sym, option_map}
 use Rattle.rt_core.specs.Priority as priority
 use Rattle.rt_core.specs.Machine.{Machine}
-use Rattle.rt_core.specs.Parts.{core}
+use Rattle.rt_core.specs.Inside.Parts.{core}
 use Rattle.rt_core.proofs.Numbers.{picked_is, IsPicked}
 use Rattle.rt_core.proofs.machine.Core.picked.Goals as goal
 

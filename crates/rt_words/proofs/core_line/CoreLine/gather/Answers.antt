@@ -1,5 +1,5 @@
 use Rattle.std.proofs.Common.{ℕ, Contains, length, sym, ap, ◌∙◌, subst, arith}
-use Rattle.rt_words.specs.Seats.{Seat}
+use Rattle.rt_words.specs.Inside.Seats.{Seat}
 use Rattle.rt_words.specs.Lines.{Row, Core, Line, numbers}
 use Rattle.rt_words.proofs.Lists.{in_head}
 use Rattle.rt_words.proofs.Making.{joins, looks}

@@ -1,7 +1,7 @@
 use Rattle.std.proofs.Common.{◌≡◌, ℕ, sym, ap, ◌∙◌, arith}
 use Rattle.rt_words.specs.declared.call.Call.TheVariants.{Latch}
 use Rattle.rt_words.specs.Lines.{Row, Core}
-use Rattle.rt_words.specs.Steps.{called}
+use Rattle.rt_words.specs.Inside.Steps.{called}
 use Rattle.rt_words.proofs.Latching.{latches}
 use Rattle.rt_words.proofs.Tallies.{after_latched}
 use Rattle.rt_words.proofs.core_line.CoreLine.latch.Goals as goal

@@ -1,7 +1,7 @@
 use Rattle.std.proofs.Common.{[], unwrap_or, sym, ap, ◌∙◌, arith}
 use Rattle.rt_words.specs.Lines.{Row, Core}
-use Rattle.rt_words.specs.Seats.{Seat}
-use Rattle.rt_words.specs.Steps.{device, without_reserved}
+use Rattle.rt_words.specs.Inside.Seats.{Seat}
+use Rattle.rt_words.specs.Inside.Steps.{device, without_reserved}
 use Rattle.rt_words.proofs.Making.{splits, takes}
 use Rattle.rt_words.proofs.Tallies.{after_made, new_device}
 use Rattle.rt_words.proofs.core_line.CoreLine.split.Goals as goal

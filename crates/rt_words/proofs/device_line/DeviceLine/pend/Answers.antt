@@ -7,7 +7,7 @@ use Rattle.rt_words.specs.declared.call.Call.TheVariants.{Pend}
 use Rattle.rt_words.specs.declared.view.View.{View}
 use Rattle.rt_words.specs.Object.{IsPending}
 use Rattle.rt_words.specs.Lines.{Row, Line}
-use Rattle.rt_words.specs.Steps.{called, answer_at}
+use Rattle.rt_words.specs.Inside.Steps.{called, answer_at}
 use Rattle.rt_words.proofs.Pending.{pends_as, answer_merged, answer_raised}
 use Rattle.rt_words.proofs.Tallies.{after_merged, after_raised}
 use Rattle.rt_words.proofs.device_line.DeviceLine.pend.Goals as goal

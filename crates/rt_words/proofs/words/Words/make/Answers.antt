@@ -1,6 +1,6 @@
 use Rattle.std.proofs.Common.{ℕ, ◌≤◌, [], arith}
 use Rattle.std.proofs.lemmas.List.{take-replicate}
-use Rattle.rt_words.specs.Steps.{newcomer}
+use Rattle.rt_words.specs.Inside.Steps.{newcomer}
 use Rattle.rt_words.proofs.Opening.{opens}
 use Rattle.rt_words.proofs.Tallies.{new_core}
 use Rattle.rt_words.proofs.words.Words.make.Goals as goal

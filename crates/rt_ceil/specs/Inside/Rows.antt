@@ -1,0 +1,38 @@
+-- The ceilings as they are read off the filled tables.
+use Rattle.std.specs.Prelude.{ℕ, ◌+◌, max, Bool, true, false, List, [], ◌∷◌, length}
+use Rattle.std.specs.Prelude.{map, nat_lt, slice_index, slice_index_or, slice_set, replicate, Option, Some, None}
+use Rattle.std.specs.Prelude.{option_map, if◌then◌else◌}
+use Rattle.std.specs.List.{fold}
+use Rattle.rt_app.specs.declared.app.Mono.{Mono}
+use Rattle.rt_app.specs.declared.ceilings.ReadyCeiling.{ReadyCeiling}
+use Rattle.rt_app.specs.declared.costs.TheConstants.{PRIORITIES}
+use Rattle.rt_app.specs.Tree.{Task}
+use Rattle.rt_app.specs.Level.{is_software}
+use Rattle.rt_ids.specs.Lists.{those_below}
+use Rattle.rt_ceil.specs.Inside.Tables.{level_of}
+
+abbrev pub free_row : Task → ℕ → Option ℕ
+free_row t priority = if is_software t then Some (max t.priority priority) else None
+
+-- of the tasks from this number on
+abbrev pub free_rows : List ℕ → ℕ → List Task → List (Option ℕ)
+free_rows table n [] = []
+free_rows table n (t ∷ ts) = free_row t (slice_index table n) ∷ free_rows table (n + 1) ts
+
+abbrev pub marked : List Bool → Option ℕ → List Bool
+marked served None = served
+marked served (Some level) = if nat_lt level (length served) then slice_set served level true else served
+
+-- for each level, whether there is a software task of it
+abbrev pub served_levels : List Task → List Bool
+served_levels ts = fold (λ served t. marked served (level_of t)) (replicate PRIORITIES false) ts
+
+abbrev pub ready_row : List ℕ → ℕ → ReadyCeiling
+ready_row table level = record { level = level; ceiling = max level (slice_index table level) }
+
+-- of the levels below this one
+abbrev pub ready_rows : List Bool → List ℕ → ℕ → List ReadyCeiling
+ready_rows served table n = map (ready_row table) (those_below (λ level. slice_index_or served level false) n)
+
+abbrev pub timer_row : Option Mono → ℕ → Option ℕ
+timer_row mono priority = option_map (λ m. max m.priority priority) mono

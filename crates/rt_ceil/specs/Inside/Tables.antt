@@ -1,0 +1,94 @@
+-- What one pass over the bodies fills: for each thing that a section guards, the greatest priority of the bodies that
+-- use it.
+use Rattle.std.specs.Prelude.{ℕ, max, nat_lt, List, length, slice_get, slice_index, slice_set, replicate}
+use Rattle.std.specs.Prelude.{Option, Some, None, if◌then◌else◌}
+use Rattle.std.specs.List.{fold}
+use Rattle.rt_app.specs.declared.app.Mono.{Mono}
+use Rattle.rt_app.specs.declared.body.Listed.{Listed}
+use Rattle.rt_app.specs.declared.costs.TheConstants.{PRIORITIES}
+use Rattle.rt_app.specs.Tree.{Block, Body, Task, App, Spawn, Soon, After}
+use Rattle.rt_app.specs.Spawned.{spawns}
+use Rattle.rt_app.specs.Level.{is_software}
+
+pub record Tables : Type 0 where
+  -- by resource
+  pub shared : List ℕ
+  -- by task
+  pub free : List ℕ
+  -- by level
+  pub ready : List ℕ
+  pub timer : ℕ
+
+abbrev pub tables : List ℕ → List ℕ → List ℕ → ℕ → Tables
+tables shared free ready timer = record { shared = shared; free = free; ready = ready; timer = timer }
+
+abbrev pub untouched : App → Tables
+untouched app = record {
+  shared = replicate (length app.shared) 0;
+  free = replicate (length app.tasks) 0;
+  ready = replicate PRIORITIES 0;
+  timer = 0;
+}
+
+-- with the entry at this place at least this, where there is such a place
+abbrev pub raised : List ℕ → ℕ → ℕ → List ℕ
+raised table place priority =
+    if nat_lt place (length table) then slice_set table place (max (slice_index table place) priority) else table
+
+abbrev pub raised_level : List ℕ → Option ℕ → ℕ → List ℕ
+raised_level table None priority = table
+raised_level table (Some level) priority = raised table level priority
+
+-- the level of a software task
+abbrev pub level_of : Task → Option ℕ
+level_of t = if is_software t then Some t.priority else None
+
+abbrev pub level_in : Option Task → Option ℕ
+level_in None = None
+level_in (Some t) = level_of t
+
+-- the priority of the monotonic, and 0 where there is none
+abbrev pub mover : Option Mono → ℕ
+mover None = 0
+mover (Some mono) = mono.priority
+
+-- after a spawn by a body of this priority
+abbrev pub spawned : App → ℕ → Tables → Spawn → Tables
+spawned app priority t (Soon task args at) = record {
+  shared = t.shared;
+  free = raised t.free task priority;
+  ready = raised_level t.ready (level_in (slice_get app.tasks task)) priority;
+  timer = t.timer;
+}
+spawned app priority t (After word delay task args at) = record {
+  shared = t.shared;
+  free = raised t.free task priority;
+  ready = raised_level t.ready (level_in (slice_get app.tasks task)) (mover app.mono);
+  timer = max t.timer priority;
+}
+
+-- after a listing by a body of this priority
+abbrev pub listed : ℕ → Tables → Listed → Tables
+listed priority t l = record {
+  shared = raised t.shared l.resource priority;
+  free = t.free;
+  ready = t.ready;
+  timer = t.timer;
+}
+
+-- after a body of this priority that lists these and does this
+abbrev pub used : App → ℕ → List Listed → Block → Tables → Tables
+used app priority shared block t = fold (spawned app priority) (fold (listed priority) t shared) (spawns block)
+
+-- after `init` or `idle`, where it is declared
+abbrev pub used_by_thread : App → Tables → Option Body → Tables
+used_by_thread app t None = t
+used_by_thread app t (Some b) = used app 0 b.shared b.block t
+
+abbrev pub used_by_task : App → Tables → Task → Tables
+used_by_task app t task = used app task.priority task.body.shared task.body.block t
+
+-- after all bodies
+abbrev pub filled : App → Tables
+filled app =
+    fold (used_by_task app) (used_by_thread app (used_by_thread app (untouched app) app.init) app.idle) app.tasks

@@ -1,0 +1,2 @@
+-- What serves the fields of the frames, which no caller sees.
+pub mod Parts

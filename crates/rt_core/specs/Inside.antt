@@ -1,0 +1,4 @@
+-- What serves the fields of the core, which no caller sees, and the contracts of private functions.
+pub mod Parts
+pub mod Came
+pub mod Enabling

@@ -1,0 +1,38 @@
+-- Tables of flags, one for each number that a byte can tell.
+use Rattle.std.specs.Prelude.{◌≡◌, ℕ, Bool, true, false, not, nat_lt, List, [], ◌∷◌, map, filter, length, get_or}
+use Rattle.std.specs.Prelude.{slice_set, Option, Some, None, if◌then◌else◌}
+use Rattle.rt_app.specs.declared.app.Mono.{Mono}
+use Rattle.rt_app.specs.Tree.{Spawn, Body, Task}
+use Rattle.rt_app.specs.Level.{is_software}
+use Rattle.rt_frames.specs.declared.flags.TheConstants.{NUMBERS}
+use Rattle.rt_app.specs.Spawned.{spawns, is_soon, target}
+
+-- with the flags of these numbers set; there is no table where one of them has no place in it
+abbrev pub flagged : List ℕ → List Bool → List Bool
+flagged [] flags = flags
+flagged (n ∷ ns) flags = if nat_lt n (length flags) then flagged ns (slice_set flags n true) else []
+
+-- the numbers that pass are flagged, and no others
+pub record HasFlags (flags : List Bool) (test : ℕ → Bool) : Type 0 where
+  pub long : length flags ≡ NUMBERS
+  pub flag : (n : ℕ) → get_or flags n false ≡ test n
+
+-- the tasks of the spawns after a delay
+abbrev pub armed_by : List Spawn → List ℕ
+armed_by ss = map target (filter (λ s. not (is_soon s)) ss)
+
+abbrev pub thread_spawns : Option Body → List Spawn
+thread_spawns None = []
+thread_spawns (Some b) = spawns b.block
+
+abbrev pub task_spawns : Task → List Spawn
+task_spawns t = spawns t.body.block
+
+-- the priorities of software tasks
+abbrev pub level_numbers : List Task → List ℕ
+level_numbers ts = map (λ t. t.priority) (filter is_software ts)
+
+-- the priority of the monotonic
+abbrev pub timer_numbers : Option Mono → List ℕ
+timer_numbers None = []
+timer_numbers (Some mono) = mono.priority ∷ []

@@ -1,0 +1,5 @@
+-- What private contracts and the invariant of the controller speak of.
+pub mod First
+pub mod Bits
+pub mod Best
+pub mod Fields

@@ -1,0 +1,27 @@
+// One bit of a row of words: that of a number n is bit n mod 32 of word n / 32.
+ghost use Rattle.std.specs.Prelude.{◌≡◌, ◌≢◌, ℕ, ◌/◌, ◌<◌, length, if◌then◌else◌};
+ghost use Rattle.rt_ids.specs.Arrivals.{bit_of};
+
+/// Sets the bit of a number, where this holds.
+#[inline]
+pub(crate) fn set_bit(words: &mut [u32], number: u16, holds: bool)
+    requires { number / 32 < length words.old }
+    ensures same { bit_of words.new number ≡ (if holds then 1 else bit_of words.old number) }
+    ensures long { length words.new ≡ length words.old }
+    ensures others { (other : ℕ) → other ≢ number → bit_of words.new other ≡ bit_of words.old other }
+{
+    if holds {
+        words[usize::from(number / 32)] |= 1 << (number % 32);
+    }
+}
+
+/// Clears the bit of a number.
+#[inline]
+pub(crate) fn clear_bit(words: &mut [u32], number: u16)
+    requires { number / 32 < length words.old }
+    ensures same { bit_of words.new number ≡ 0 }
+    ensures long { length words.new ≡ length words.old }
+    ensures others { (other : ℕ) → other ≢ number → bit_of words.new other ≡ bit_of words.old other }
+{
+    words[usize::from(number / 32)] &= !(1 << (number % 32));
+}

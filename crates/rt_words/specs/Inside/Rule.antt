@@ -1,0 +1,32 @@
+-- What holds of the words and of all views between any two steps.
+use Rattle.std.specs.Prelude.{ℕ, ◌-◌, ◌/◌, ◌^◌, ◌<◌, ◌≤◌, List, ◌++◌, length, drop, slice_index, replicate}
+use Rattle.atomic_table.specs.Table.{State}
+use Rattle.rt_words.specs.declared.view.View.{View}
+use Rattle.rt_words.specs.Object.{IsPending}
+use Rattle.rt_words.specs.History.{Entry, IsLegal}
+use Rattle.rt_words.specs.Ending.{AllGathered, LatchedAreZero}
+use Rattle.rt_words.specs.Inside.Seats.{Seated, AllKnow}
+
+-- at most 16 words of 32 bits, with bits of interrupts that may be pended alone, and a place for each of these
+pub record IsRow (may words : List ℕ) : Type 0 where
+  pub short : length words ≤ 16
+  pub low : (k : ℕ) → slice_index words k < 2 ^ 32
+  pub within : (irq : ℕ) → IsPending words irq → IsPending may irq
+  pub covers : (irq : ℕ) → IsPending may irq → irq / 32 < length words
+
+-- the words with words of 0 behind them, 16 in all
+abbrev pub padded : List ℕ → List ℕ
+padded words = words ++ replicate (16 - length words) 0
+
+-- a legal history leaves the words as they stand, and its parts are the seats' calls
+pub record Standing (may words : List ℕ) (views : List View) (history : List Entry) (core : View) : Type 0 where
+  pub row : IsRow may words
+  pub legal : IsLegal history (padded words)
+  pub seated : Seated history views core
+  pub same_may : AllKnow may views
+  pub behind : core.since ≤ length core.calls
+  pub quiet : AllGathered core.made core.gathered → LatchedAreZero (drop core.since core.calls) words
+
+-- there is one such history
+abbrev pub Kept : List ℕ → State (Unit {0}) View → Type 0
+Kept may s = (history : List Entry) × (core : View) × Standing may s.words s.views history core

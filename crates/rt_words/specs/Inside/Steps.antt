@@ -1,0 +1,71 @@
+-- What each step does to the view of the seat that takes it.
+use Rattle.std.specs.Prelude.{◌≡◌, ℕ, ◌*◌, ◌+◌, ◌^◌, ◌<◌, ◌==◌, if◌then◌else◌, List, [], ◌∷◌, ◌++◌, length, Some, None, unwrap_or, Contains}
+use Rattle.std.specs.Int.{bit_at}
+use Rattle.atomic_table.specs.Table.{Step}
+use Rattle.rt_words.specs.declared.call.Pended.{Pended}
+use Rattle.rt_words.specs.declared.call.Pended.TheVariants.{Raised, Merged}
+use Rattle.rt_words.specs.declared.call.Call.{Call}
+use Rattle.rt_words.specs.declared.call.Call.TheVariants.{Pend, Latch}
+use Rattle.rt_words.specs.declared.view.Stage.TheVariants.{First, Copied, Device, Spent}
+use Rattle.rt_words.specs.declared.view.View.{View}
+use Rattle.rt_words.specs.Object.{IsPending}
+use Rattle.rt_words.specs.Lines.{numbers}
+use Rattle.rt_words.specs.Inside.Seats.{Seat, Distinct}
+
+-- the first seat at the beginning
+abbrev pub newcomer : List ℕ → View
+newcomer may =
+    record { stage = First; line = 255; calls = []; made = []; reserved = None; gathered = []; since = 0; may = may }
+
+-- a device's seat that has made these calls
+abbrev pub device : ℕ → List Call → List ℕ → View
+device number calls may =
+    record { stage = Device; line = number; calls = calls; made = []; reserved = None; gathered = []; since = 0; may = may }
+
+-- one call more
+abbrev pub called : View → Call → View
+called v call = record v { calls = v.calls ++ call ∷ [] }
+
+-- Merged where the bit stood in the word that was found
+abbrev pub answer_at : ℕ → ℕ → Pended
+answer_at found bit = if bit_at found bit == 1 then Merged else Raised
+
+-- a pend of the interrupt whose bit it was
+abbrev pub pended : Step (Unit {0}) → Seat → ℕ → Seat → Type 0
+pended s me found after = (bit : ℕ) → bit < 32 → s.first ≡ 2 ^ bit
+    → after ≡ (called me.0 (Pend (32 * s.word + bit) (answer_at found bit)), me.1)
+
+-- a latch, in which bits of interrupts that may be pended were found alone
+abbrev pub latched : Step (Unit {0}) → Seat → ℕ → Seat → Type 0
+latched s me found after = (after ≡ (called me.0 (Latch s.word found), me.1)) × (found < 2 ^ 32)
+    × ((bit : ℕ) → bit < 32 → bit_at found bit ≡ 1 → IsPending me.0.may (32 * s.word + bit))
+
+-- the first seat makes the number, and reserves it for a new seat
+abbrev pub reserving : ℕ → View → View
+reserving number v = record v { made = number ∷ v.made; reserved = Some number; since = length v.calls }
+
+abbrev pub reserved : ℕ → Step (Unit {0}) → Seat → ℕ → Seat → Type 0
+reserved number s me found after = after ≡ (reserving number me.0, me.1)
+
+-- a split gives the reserved number away, with a copy of all that is known
+abbrev pub without_reserved : View → View
+without_reserved v = record v { reserved = None }
+
+abbrev pub copied : View → View
+copied v = record v { stage = Copied }
+
+-- the new seat takes the number, and has no calls
+abbrev pub took : Step (Unit {0}) → Seat → ℕ → Seat → Type 0
+took s me found after = after ≡ (device (unwrap_or me.0.reserved 255) [] me.0.may, me.1)
+
+-- the first seat takes in a line
+abbrev pub joined : View → View → View
+joined v w = record v { gathered = record { line = w.line; calls = w.calls } ∷ v.gathered; since = length v.calls }
+
+abbrev pub spent : View
+spent = record { stage = Spent; line = 0; calls = []; made = []; reserved = None; gathered = []; since = 0; may = [] }
+
+-- the first seat looks, and finds that it made each line that it gathered, and gathered none twice
+abbrev pub looked : Step (Unit {0}) → Seat → ℕ → Seat → Type 0
+looked s me found after = (after ≡ (record me.0 { since = length me.0.calls }, me.1)) × Distinct (numbers me.0.gathered)
+    × ((number : ℕ) → Contains (numbers me.0.gathered) number → Contains me.0.made number)
