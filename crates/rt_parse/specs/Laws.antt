@@ -1,4 +1,4 @@
--- What is claimed of the definitions of texts and refusals: each list of bytes is an application's text or is refused, never both.
+-- What is claimed of texts and refusals: each list of bytes is an application's text or is refused, never both.
 use Rattle.std.specs.Prelude.{◌⊎◌, ℕ, List}
 use Rattle.rt_ids.specs.declared.refusal.Fault.{Fault}
 use Rattle.rt_ast.specs.Tree.{App}
