@@ -1,3 +1,10 @@
 pub mod Statements
 pub mod Named
 pub mod Capping
+pub mod Unbroken
+pub mod SoundExpressions
+pub mod Listing
+pub mod SoundStatements
+pub mod Parts
+pub mod Members
+pub mod SoundBodies
