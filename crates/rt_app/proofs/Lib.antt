@@ -8,3 +8,6 @@ pub mod SoundStatements
 pub mod Parts
 pub mod Members
 pub mod SoundBodies
+pub mod SoundSizes
+pub mod Different
+pub mod SoundNames
