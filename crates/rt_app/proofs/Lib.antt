@@ -9,5 +9,7 @@ pub mod Parts
 pub mod Members
 pub mod SoundBodies
 pub mod SoundSizes
+pub mod SoundCeilings
+pub mod SoundListings
 pub mod Different
 pub mod SoundNames

@@ -2,7 +2,7 @@
 use Rattle.std.proofs.Common.{◌≡◌, ℕ, zero, suc, ◌+◌, ◌≤◌, max, Bool, true, false, List, [], ◌∷◌, ◌++◌, length, map, Option, Some, None, option_map, slice_get, if◌then◌else◌, refl, sym, ap, subst, ◌∙◌, arith, filter}
 use Rattle.std.specs.List.{AllByRecursion}
 use Rattle.std.proofs.lemmas.Option.{same_Some, none-some}
-use Rattle.rt_lemmas.proofs.Membership.{all_at, any_passes, none_of_each}
+use Rattle.rt_lemmas.proofs.Membership.{all_append, all_at, any_passes, none_of_each}
 use Rattle.rt_ids.specs.Choice.{IsIn}
 use Rattle.rt_ids.specs.Lists.{greatest}
 use Rattle.rt_ids.specs.declared.ids.BodyId.{BodyId}
@@ -95,6 +95,26 @@ module _ (app : App) (accepted : IsAccepted app) where
         limits = (all_at KeepsTaskLimits app.tasks n t.0 accepted.limits.tasks t.1).body;
       })
 
+  pub members_all : (P : Member → Type 0) → ((id : BodyId) (m : Member) → member_at app id ≡ Some m → P m) → AllByRecursion P (members app)
+  members_all P each =
+      all_append P on_init (on_idle ++ on_tasks) (thread_all body.Init app.init (λ b is. each body.Init _ (ap (option_map (thread_member body.Init)) is)))
+      (all_append P on_idle on_tasks (thread_all body.Idle app.idle (λ b is. each body.Idle _ (ap (option_map (thread_member body.Idle)) is))) (tasks_all 0 app.tasks (λ k t at. each (body.Task (0 + k)) _ (task_at k t at))))
+    where
+      thread_all : (id : BodyId) (o : Option Body) → ((b : Body) → o ≡ Some b → P (thread_member id b)) → AllByRecursion P (thread_members id o)
+      thread_all id None has = tt
+      thread_all id (Some b) has = (has b refl, tt)
+
+      tasks_all : (n : ℕ) (ts : List Task) → ((k : ℕ) (t : Task) → slice_get ts k ≡ Some t → P (task_member (n + k) t)) → AllByRecursion P (task_members n ts)
+      tasks_all n [] has = tt
+      tasks_all n (t ∷ ts) has =
+          let here : n + 0 ≡ n = omega arith in (
+            subst (λ k. P (task_member k t)) here (has 0 t refl),
+            tasks_all (n + 1) ts (λ k u at. (let e : n + suc k ≡ n + 1 + k = omega arith in subst (λ k. P (task_member k u)) e (has (suc k) u at))),
+          )
+
+      task_at : (k : ℕ) (t : Task) → slice_get app.tasks k ≡ Some t → member_at app (body.Task (0 + k)) ≡ Some (task_member (0 + k) t)
+      task_at k t at = let e : 0 + k ≡ k = omega arith in rw e (ap (option_map (task_member k)) at)
+
 greatest_has : {X : Type 0} (f : X → ℕ) (test : X → Bool) (xs : List X) (i : ℕ) (x : X) → slice_get xs i ≡ Some x → test x ≡ true → f x ≤ greatest (map f (filter test xs))
 greatest_has f test [] i x at is = absurd (none-some x at)
 greatest_has f test (y ∷ xs) zero x at is =
@@ -106,6 +126,14 @@ greatest_has f test (y ∷ xs) (suc i) x at is = go (test y) (greatest_has f tes
     go : (b : Bool) → f x ≤ greatest (map f (filter test xs)) → f x ≤ greatest (map f (if b then y ∷ filter test xs else filter test xs))
     go true less = omega arith
     go false less = less
+
+pub greatest_within : {X : Type 0} (f : X → ℕ) (test : X → Bool) (most : ℕ) (xs : List X) → AllByRecursion (λ x. f x ≤ most) xs → greatest (map f (filter test xs)) ≤ most
+greatest_within f test most [] all = omega arith
+greatest_within f test most (x ∷ xs) all = go (test x) all.0 (greatest_within f test most xs all.1)
+  where
+    go : (b : Bool) → f x ≤ most → greatest (map f (filter test xs)) ≤ most → greatest (map f (if b then x ∷ filter test xs else filter test xs)) ≤ most
+    go true here there = omega arith
+    go false here there = there
 
 pub is_declared : (app : App) → IsAccepted app → (m : Member) → IsIn (members app) m → IsDeclared app m
 is_declared app accepted m at =

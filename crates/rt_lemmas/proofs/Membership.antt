@@ -38,6 +38,18 @@ pub all_from_members : {X : Type 0} (P : X → Type 0) (xs : List X) → ((x : X
 all_from_members P [] each = tt
 all_from_members P (x ∷ xs) each = (each x (contains_here x xs), all_from_members P xs (λ y is. each y (contains_there x xs y is)))
 
+pub all_append : {X : Type 0} (P : X → Type 0) (xs ys : List X) → AllByRecursion P xs → AllByRecursion P ys → AllByRecursion P (xs ++ ys)
+all_append P [] ys front back = back
+all_append P (x ∷ xs) ys front back = (front.0, all_append P xs ys front.1 back)
+
+pub all_flat_map : {X Y : Type 0} (P : Y → Type 0) (f : X → List Y) (xs : List X) → AllByRecursion (λ x. AllByRecursion P (f x)) xs → AllByRecursion P (flat_map f xs)
+all_flat_map P f [] all = tt
+all_flat_map P f (x ∷ xs) all = all_append P (f x) (flat_map f xs) all.0 (all_flat_map P f xs all.1)
+
+pub all_weaker : {X : Type 0} (P Q : X → Type 0) → ((x : X) → P x → Q x) → (xs : List X) → AllByRecursion P xs → AllByRecursion Q xs
+all_weaker P Q step [] all = tt
+all_weaker P Q step (x ∷ xs) all = (step x all.0, all_weaker P Q step xs all.1)
+
 -- a number that stands there passes the test for it, and the other way round
 pub any_contained : (n : ℕ) (xs : List ℕ) → Contains xs n → list_any (λ y. y == n) xs ≡ true
 any_contained n [] is = absurd (contains_none n is)
@@ -59,6 +71,13 @@ pub any_passes : {X : Type 0} (test : X → Bool) (xs : List X) (i : ℕ) (x : X
 any_passes test [] i x at is = absurd (none-some x at)
 any_passes test (y ∷ xs) zero x at is = or_left (test y) (list_any test xs) (ap test (same_Some y x at) ∙ is)
 any_passes test (y ∷ xs) (suc i) x at is = or_right (test y) (list_any test xs) (any_passes test xs i x at is)
+
+pub any_one : {X : Type 0} (test : X → Bool) (xs : List X) → list_any test xs ≡ true → (i : ℕ) × (x : X) × (slice_get xs i ≡ Some x) × (test x ≡ true)
+any_one test [] is = absurd (cc)
+any_one test (x ∷ xs) is = elim (or_cases (test x) (list_any test xs) is) [
+  | inl here ↦ (0, x, refl, here)
+  | inr there ↦ let one = any_one test xs there in (suc one.0, one.1, one.2, one.3)
+]
 
 pub any_left : {X : Type 0} (test : X → Bool) (xs ys : List X) → list_any test xs ≡ true → list_any test (xs ++ ys) ≡ true
 any_left test xs ys is = list_any-append test xs ys ∙ or_left (list_any test xs) (list_any test ys) is
