@@ -13,3 +13,6 @@ pub mod SoundCeilings
 pub mod SoundListings
 pub mod Different
 pub mod SoundNames
+pub mod Numbered
+pub mod Rising
+pub mod SoundServices
