@@ -16,3 +16,5 @@ pub mod SoundNames
 pub mod Numbered
 pub mod Rising
 pub mod SoundServices
+pub mod SoundStack
+pub mod Sound
