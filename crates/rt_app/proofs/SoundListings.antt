@@ -13,7 +13,8 @@ use Rattle.rt_app.specs.declared.body.Owned.{Owned}
 use Rattle.rt_app.specs.Tree.{App}
 use Rattle.rt_app.specs.Bodies.{Member, members}
 use Rattle.rt_app.specs.Declarations.{is_known, owns, owned_before, owned_twice}
-use Rattle.rt_app.specs.Listing.{Listing, listings_of, listings, is_lock_free, is_shared_and_exclusive, is_at_two_priorities, judged_by, first_listing, judged}
+use Rattle.rt_app.specs.Listing.{Listing, listings_of, listings, is_lock_free, is_same, is_shared_and_exclusive, is_at_two_priorities, judged_by, first_listing, judged}
+use Rattle.rt_app.specs.declared.violation.Violation.{Violation}
 use Rattle.rt_app.specs.Violation.{when}
 use Rattle.rt_app.specs.Accepted.{IsBodyPlaced, IsAccepted}
 use Rattle.rt_app.proofs.Unbroken.{not_broken, known, of_known}
@@ -30,6 +31,12 @@ found {X} test (y ∷ xs) i x at is = go (test y) refl i at (λ i at. found test
     go false e zero at others = absurd (true_and_false (test y) (ap test (same_Some y x at) ∙ is) e)
     go false e (suc i) at others = others i at
 
+same_form : (a b : Bool) → is_same a b ≡ true → a ≡ b
+same_form true true is = refl
+same_form true false is = absurd (cc)
+same_form false true is = absurd (cc)
+same_form false false is = refl
+
 module _ (app : App) (accepted : IsAccepted app) (parts : Parts app) where
   all_placed : AllByRecursion (λ m. IsBodyPlaced app m.args m.body) (members app)
   all_placed = members_all app accepted _ (λ id m is. (has_body app accepted id m is).placed)
@@ -37,15 +44,15 @@ module _ (app : App) (accepted : IsAccepted app) (parts : Parts app) where
   listings_placed : AllByRecursion (λ l. l.listed.resource < length app.shared) (listings app)
   listings_placed = all_flat_map _ listings_of (members app) (all_weaker _ _ (λ m placed. all_map (λ l. record { listed = l; priority = m.priority }) _ _ (λ l is. is) m.body.shared placed.shared) (members app) all_placed)
 
-  abbrev IsOfFirst : Listing → Type 0
-  IsOfFirst l = (f : Listing) × (first_listing app l.listed.resource ≡ Some f) × (l.priority ≡ f.priority)
+  -- a listing agrees with the first one of its resource
+  record AgreesWith (l f : Listing) : Type 0 where
+    pub is_first : first_listing app l.listed.resource ≡ Some f
+    pub alike : is_shared_and_exclusive app f l ≡ false
+    pub level : is_at_two_priorities app f l ≡ false
 
-  of_first : (l : Listing) → IsIn (listings app) l → is_lock_free app l.listed.resource ≡ true → IsOfFirst l
-  of_first l is free = (first.0, first.1, eqb-true l.priority first.0.priority (not_false _ (of_known (is_lock_free app l.listed.resource) (not (l.priority == first.0.priority)) free one)))
+  agrees : (l : Listing) → IsIn (listings app) l → (f : Listing) × AgreesWith l f
+  agrees l is = (first.0, record { is_first = first.1; alike = alike; level = level })
     where
-      r : ℕ
-      r = l.listed.resource
-
       first : (f : Listing) × (first_listing app l.listed.resource ≡ Some f)
       first = found (λ k. k.listed.resource == l.listed.resource) (listings app) is.0 l is.1 (eq-eqb l.listed.resource l.listed.resource refl)
 
@@ -58,15 +65,45 @@ module _ (app : App) (accepted : IsAccepted app) (parts : Parts app) where
       kept : judged_by app l (Some first.0) ≡ []
       kept = subst (λ o. judged_by app l o ≡ []) first.1 (subst (λ b. (if b then judged_by app l (first_listing app l.listed.resource) else []) ≡ []) is_there fine)
 
-      one : is_at_two_priorities app first.0 l ≡ false
-      one = not_broken (is_at_two_priorities app first.0 l) rule.LockFreeAtTwoPriorities l.listed.at (append_none_right (when (is_shared_and_exclusive app first.0 l) rule.SharedAndExclusive l.listed.at) _ kept)
+      on_sharing : List Violation
+      on_sharing = when (is_shared_and_exclusive app first.0 l) rule.SharedAndExclusive l.listed.at
+
+      on_level : List Violation
+      on_level = when (is_at_two_priorities app first.0 l) rule.LockFreeAtTwoPriorities l.listed.at
+
+      alike : is_shared_and_exclusive app first.0 l ≡ false
+      alike = not_broken (is_shared_and_exclusive app first.0 l) rule.SharedAndExclusive l.listed.at (append_none_left on_sharing on_level kept)
+
+      level : is_at_two_priorities app first.0 l ≡ false
+      level = not_broken (is_at_two_priorities app first.0 l) rule.LockFreeAtTwoPriorities l.listed.at (append_none_right on_sharing on_level kept)
+
+  -- two listings of one resource have one first one
+  one_first : (l k f g : Listing) → l.listed.resource ≡ k.listed.resource → AgreesWith l f → AgreesWith k g → f ≡ g
+  one_first l k f g same a b = same_Some f g (sym a.is_first ∙ ap (first_listing app) same ∙ b.is_first)
 
   pub at_one_priority : (l k : Listing) → IsIn (listings app) l → IsIn (listings app) k → l.listed.resource ≡ k.listed.resource → is_lock_free app l.listed.resource ≡ true → l.priority ≡ k.priority
   at_one_priority l k is js same free =
-      let a = of_first l is free in
-      let b = of_first k js (ap (is_lock_free app) (sym same) ∙ free) in
-      let firsts : a.0 ≡ b.0 = same_Some a.0 b.0 (sym a.1 ∙ ap (first_listing app) same ∙ b.1) in
-      a.2 ∙ ap (λ l. l.priority) firsts ∙ sym b.2
+      let a = agrees l is in
+      let b = agrees k js in
+      level_of l a.0 free a.1 ∙ ap (λ l. l.priority) (one_first l k a.0 b.0 same a.1 b.1) ∙ sym (level_of k b.0 (ap (is_lock_free app) (sym same) ∙ free) b.1)
+    where
+      level_of : (l f : Listing) → is_lock_free app l.listed.resource ≡ true → AgreesWith l f → l.priority ≡ f.priority
+      level_of l f free agreed = eqb-true l.priority f.priority (not_false _ (of_known (is_lock_free app l.listed.resource) (not (l.priority == f.priority)) free agreed.level))
+
+  pub listed_alike : (l k : Listing) → IsIn (listings app) l → IsIn (listings app) k → l.listed.resource ≡ k.listed.resource → l.listed.by_ref ≡ k.listed.by_ref
+  listed_alike l k is js same =
+      let a = agrees l is in
+      let b = agrees k js in
+      form_of l a.0 a.1 ∙ ap (λ l. l.listed.by_ref) (one_first l k a.0 b.0 same a.1 b.1) ∙ sym (form_of k b.0 b.1)
+    where
+      form_of : (l f : Listing) → AgreesWith l f → l.listed.by_ref ≡ f.listed.by_ref
+      form_of l f agreed =
+          same_form l.listed.by_ref f.listed.by_ref (not_false (is_same l.listed.by_ref f.listed.by_ref) (left_of_none (not (is_same l.listed.by_ref f.listed.by_ref)) (l.listed.by_ref && is_lock_free app l.listed.resource) agreed.alike))
+
+  pub read_alone_locked : (l : Listing) → IsIn (listings app) l → l.listed.by_ref ≡ true → is_lock_free app l.listed.resource ≡ false
+  read_alone_locked l is ref =
+      let a = agrees l is in
+      of_known l.listed.by_ref (is_lock_free app l.listed.resource) ref (right_of_none (not (is_same l.listed.by_ref a.0.listed.by_ref)) (l.listed.by_ref && is_lock_free app l.listed.resource) a.1.alike)
 
   -- a local resource that a body owns is there
   owned_known : (n i : ℕ) (m : Member) → slice_get (members app) i ≡ Some m → owns n m ≡ true → is_known n ≡ true

@@ -1,5 +1,5 @@
 -- In an accepted application an interrupt serves one thing, and each level of software tasks has a dispatcher.
-use Rattle.std.proofs.Common.{◌≡◌, ◌⊎◌, ℕ, zero, suc, ◌+◌, ◌<◌, ◌≤◌, Bool, true, false, List, [], ◌∷◌, ◌++◌, length, map, flat_map, Option, Some, None, option_map, slice_get, IsSome, Contains, refl, sym, ap, subst, ◌∙◌, inl, inr, arith, if◌then◌else◌}
+use Rattle.std.proofs.Common.{◌≡◌, ◌⊎◌, ℕ, zero, suc, ◌+◌, ◌^◌, ◌<◌, ◌≤◌, Bool, true, false, List, [], ◌∷◌, ◌++◌, length, map, flat_map, Option, Some, None, option_map, slice_get, IsSome, Contains, refl, sym, ap, subst, ◌∙◌, inl, inr, arith, if◌then◌else◌}
 use Rattle.std.specs.Prelude.{nat_lt, is_some}
 use Rattle.std.specs.List.{AllByRecursion, list_any}
 use Rattle.std.proofs.lemmas.Bool.{ltb-false}
@@ -7,7 +7,7 @@ use Rattle.std.proofs.lemmas.List.{map-append}
 use Rattle.std.proofs.lemmas.Option.{same_Some, none-some}
 use Rattle.std.proofs.lemmas.Simd.{map-map}
 use Rattle.rt_lemmas.proofs.Lists.{append_none_left, append_none_right}
-use Rattle.rt_lemmas.proofs.Membership.{all_has, contains_here, contains_there, contains_cases, contains_none}
+use Rattle.rt_lemmas.proofs.Membership.{all_append, all_at, all_flat_map, all_weaker, all_has, contains_here, contains_there, contains_cases, contains_none}
 use Rattle.rt_ids.specs.Lists.{AreDifferent}
 use Rattle.rt_ids.specs.declared.rule.Rule.TheVariants as rule
 use Rattle.rt_app.specs.declared.app.Dispatcher.{Dispatcher}
@@ -22,6 +22,7 @@ use Rattle.rt_app.specs.Violation.{when}
 use Rattle.rt_app.proofs.Unbroken.{not_broken, known}
 use Rattle.rt_app.proofs.Parts.{Parts}
 use Rattle.rt_app.proofs.Members.{made_of}
+use Rattle.rt_app.proofs.SoundCeilings.{tasks_in_range, mono_in_range, levels_in_range}
 use Rattle.rt_app.proofs.Numbered.{numbers_of, numbers_differ}
 use Rattle.rt_app.proofs.Rising.{IsRising, those_rise, above, more_above, not_all_above}
 use Rattle.rt_app.proofs.Different.{different_none, different_cons, different_front, different_back, different_append, different_apart, contained, contains_front, contains_back, contains_either}
@@ -163,3 +164,33 @@ module _ (app : App) (accepted : IsAccepted app) (parts : Parts app) where
       let place = not_all_above p (levels app) is in
       let d = some_at app.dispatchers (above p (levels app)) (omega arith) in
       ap (λ o. is_some (option_map (λ (d : Dispatcher). d.irq) o)) d.1
+
+  -- what is served is declared, and at a priority that there is
+  abbrev IsServed : Service → Type 0
+  IsServed s = (s.irq < length app.irqs) × (1 ≤ s.level) × (s.level ≤ 2 ^ app.bits)
+
+  bound_served : (n : ℕ) (t : Task) (o : Option ℕ) → IsBindingPlaced app o → (1 ≤ t.priority) × (t.priority ≤ 2 ^ app.bits) → AllByRecursion IsServed (bound_service n t o)
+  bound_served n t None placed level = tt
+  bound_served n t (Some irq) placed level = ((placed, level.0, level.1), tt)
+
+  tasks_served : (n : ℕ) (ts : List Task) → AllByRecursion (IsTaskPlaced app) ts → AllByRecursion (λ t. (1 ≤ t.priority) × (t.priority ≤ 2 ^ app.bits)) ts → AllByRecursion IsServed (task_services n ts)
+  tasks_served n [] placed in_range = tt
+  tasks_served n (t ∷ ts) placed in_range =
+      all_append IsServed (bound_service n t t.binds) (task_services (n + 1) ts) (bound_served n t t.binds placed.0.0 in_range.0) (tasks_served (n + 1) ts placed.1 in_range.1)
+
+  level_served : (p : ℕ) (o : Option ℕ) → dispatcher_of app p ≡ o → (1 ≤ p) × (p ≤ 2 ^ app.bits) → AllByRecursion IsServed (dispatcher_service p o)
+  level_served p None is in_range = tt
+  level_served p (Some irq) is in_range =
+      let d = made_of (λ (d : Dispatcher). d.irq) (slice_get app.dispatchers (above p (levels app))) irq is in
+      ((subst (λ i. i < length app.irqs) d.2 (all_at _ app.dispatchers (above p (levels app)) d.0 accepted.dispatchers d.1), in_range.0, in_range.1), tt)
+
+  timer_served : (o : Option Mono) → app.mono ≡ o → IsMonoPlaced app o → AllByRecursion IsServed (timer_service o)
+  timer_served None is placed = tt
+  timer_served (Some mono) is placed = let level = mono_in_range app accepted parts mono is in ((placed, level.0, level.1), tt)
+
+  pub all_served : AllByRecursion IsServed (services app)
+  all_served =
+      all_append IsServed (task_services 0 app.tasks) (serving (levels app) ++ timer_service app.mono) (tasks_served 0 app.tasks accepted.tasks (tasks_in_range app accepted parts))
+      (all_append IsServed (serving (levels app)) (timer_service app.mono)
+      (all_flat_map IsServed (λ p. dispatcher_service p (dispatcher_of app p)) (levels app) (all_weaker _ _ (λ p in_range. level_served p (dispatcher_of app p) refl in_range) (levels app) (levels_in_range app accepted parts)))
+      (timer_served app.mono refl accepted.mono))
