@@ -1,9 +1,10 @@
 -- What is read off the filled tables are the ceilings.
-use Rattle.std.proofs.Common.{◌≡◌, ℕ, zero, suc, ◌+◌, ◌<◌, ◌≤◌, ◌==◌, max, Bool, true, false, ◌||◌, if◌then◌else◌, List, [], ◌∷◌, ◌++◌, map, length, get_or, replicate, Option, Some, None, option_map, refl, sym, ap, ◌∙◌, arith}
+use Rattle.std.proofs.Common.{◌≡◌, ℕ, zero, suc, ◌+◌, ◌<◌, ◌≤◌, ◌==◌, max, Bool, true, false, ◌||◌, if◌then◌else◌, List, [], ◌∷◌, ◌++◌, map, length, get_or, slice_get, replicate, Option, Some, None, option_map, refl, sym, ap, ◌∙◌, arith, add-zero, zero-add}
 use Rattle.std.specs.List.{list_any, range_with_len}
 use Rattle.std.proofs.lemmas.List.{length-map, length-replicate, get_or-replicate, map-append}
 use Rattle.std.proofs.lemmas.List.FromFn.{get_or-map-range_with_len, length-map-range_with_len}
 use Rattle.std.proofs.lemmas.Grind.{same_number_lists}
+use Rattle.std.proofs.lemmas.Option.{slice_get-get_or}
 use Rattle.rt_lemmas.proofs.Lists.{fold_keeps}
 use Rattle.rt_app.specs.View.{task_of, app_of}
 use Rattle.rt_app.specs.declared.app.App as code
@@ -14,11 +15,11 @@ use Rattle.rt_app.specs.declared.costs.TheConstants.{PRIORITIES}
 use Rattle.rt_app.specs.Tree.{App, Task}
 use Rattle.rt_app.specs.Bodies.{members}
 use Rattle.rt_app.specs.Spawned.{target}
-use Rattle.rt_app.specs.Level.{is_of_level, levels, holds}
-use Rattle.rt_ids.specs.Lists.{those_below}
-use Rattle.rt_app.specs.Ceiling.{greatest_priority, resource_ceiling, free_ceilings, readies, arms_level, mover_priority, ready_ceiling, ready_ceilings, timer_ceiling, Ceilings, ceilings}
-use Rattle.rt_ceil.specs.Tables.{Tables, level_of, mover, filled}
-use Rattle.rt_ceil.specs.Rows.{free_row, free_rows, marked, served_levels, ready_row, ready_rows, timer_row}
+use Rattle.rt_app.specs.Level.{is_software, is_of_level, levels, holds}
+use Rattle.rt_ids.specs.Lists.{those_below, or_zero}
+use Rattle.rt_app.specs.Ceiling.{greatest_priority, resource_ceiling, free_ceiling, free_ceilings, readies, arms_level, mover_priority, ready_ceiling, timer_ceiling, Ceilings, ceilings}
+use Rattle.rt_ceil.specs.Inside.Tables.{Tables, level_of, mover, filled}
+use Rattle.rt_ceil.specs.Inside.Rows.{free_row, free_rows, marked, served_levels, ready_row, ready_rows, timer_row}
 use Rattle.rt_ceil.proofs.Greatest.{folded_marks}
 use Rattle.rt_ceil.proofs.Raised.{length-marked, marked_at, level_of_is}
 use Rattle.rt_ceil.proofs.Members.{filled_sized, filled_shared, filled_free, filled_ready, filled_timer}
@@ -31,17 +32,31 @@ shared_is app =
     same_number_lists (filled app).shared rows (sized ∙ sym (length-map-range_with_len (resource_ceiling app) 0 n))
     (λ r h. let b : r < n = omega arith in filled_shared app r b ∙ sym (get_or-map-range_with_len (resource_ceiling app) 0 n r r 0 b (omega arith)))
 
+-- the items from a number on
+abbrev AreFrom : {X : Type 0} → ℕ → List X → List X → Type 0
+AreFrom {X} n xs all = (k : ℕ) (d : X) → k < length xs → get_or xs k d ≡ get_or all (n + k) d
+
+rest_from : {X : Type 0} (n : ℕ) (x : X) (xs all : List X) → AreFrom n (x ∷ xs) all → AreFrom (n + 1) xs all
+rest_from n x xs all from k d h = let e : n + suc k ≡ (n + 1) + k = omega arith in from (suc k) d (omega arith) ∙ ap (λ i. get_or all i d) e
+
+first_from : {X : Type 0} (n : ℕ) (x : X) (xs all : List X) → n < length all → AreFrom n (x ∷ xs) all → slice_get all n ≡ Some x
+first_from n x xs all b from = slice_get-get_or all n x b ∙ ap Some (ap (λ i. get_or all i x) (sym (add-zero n)) ∙ sym (from 0 x (omega arith)))
+
+row_of : (app : App) (n m : ℕ) (t : Task) → slice_get app.tasks n ≡ Some t → m ≡ greatest_priority (holds (λ s. target s == n)) app → free_row t m ≡ (if is_software t then Some (free_ceiling app n) else None)
+row_of app n m t at is =
+    ap (free_row t) is ∙ ap (λ (o : Option Task). if is_software t then Some (max (or_zero (option_map (λ u. u.priority) o)) (greatest_priority (holds (λ s. target s == n)) app)) else None) (sym at)
+
 -- of the tasks from a number on
-free_from : (app : App) (n : ℕ) (ts : List Task) → n + length ts ≤ length app.tasks → free_rows (filled app).free n ts ≡ free_ceilings app n ts
-free_from app n [] h = refl
-free_from app n (t ∷ ts) h =
+free_from : (app : App) (n : ℕ) (ts : List Task) → n + length ts ≤ length app.tasks → AreFrom n ts app.tasks → free_rows (filled app).free n ts ≡ free_ceilings app n ts
+free_from app n [] h from = refl
+free_from app n (t ∷ ts) h from =
     let b : n < length app.tasks = omega (arith, h) in
     let r : (n + 1) + length ts ≤ length app.tasks = omega (arith, h) in
-    ap (λ x. free_row t x ∷ free_rows (filled app).free (n + 1) ts) (filled_free app n b)
-    ∙ ap (λ xs. free_row t (greatest_priority (holds (λ s. target s == n)) app) ∷ xs) (free_from app (n + 1) ts r)
+    ap (λ x. x ∷ free_rows (filled app).free (n + 1) ts) (row_of app n (get_or (filled app).free n 0) t (first_from n t ts app.tasks b from) (filled_free app n b))
+    ∙ ap (λ xs. (if is_software t then Some (free_ceiling app n) else None) ∷ xs) (free_from app (n + 1) ts r (rest_from n t ts app.tasks from))
 
 pub free_is : (app : App) → free_rows (filled app).free 0 app.tasks ≡ free_ceilings app 0 app.tasks
-free_is app = free_from app 0 app.tasks (omega arith)
+free_is app = free_from app 0 app.tasks (omega arith) (λ k d h. ap (λ i. get_or app.tasks i d) (sym (zero-add k)))
 
 -- the served levels
 mark_keeps : (served : List Bool) (t : Task) → length served ≡ PRIORITIES → length (marked served (level_of t)) ≡ PRIORITIES
@@ -83,15 +98,15 @@ row_is : (app : App) (p : ℕ) → p < PRIORITIES → ready_row (filled app).rea
 row_is app p b =
     ap (λ (n : ℕ). let row : ReadyCeiling = record { level = p; ceiling = max p n } in row) (filled_ready app p b ∙ ap (max (greatest_priority (holds (readies app p)) app)) (mover_is app p app.mono))
 
-pub ready_is : (app : App) → ready_rows (served_levels app.tasks) (filled app).ready PRIORITIES ≡ ready_ceilings app (levels app)
+pub ready_is : (app : App) → ready_rows (served_levels app.tasks) (filled app).ready PRIORITIES ≡ map (λ p. record { level = p; ceiling = ready_ceiling app p }) (levels app)
 ready_is app =
     rows_below (λ p. get_or (served_levels app.tasks) p false) (λ p. list_any (is_of_level p) app.tasks) (ready_row (filled app).ready) (λ p. record { level = p; ceiling = ready_ceiling app p }) PRIORITIES (served_is app.tasks) (row_is app)
 
-timer_from : (app : App) (x : ℕ) → (filled app).timer ≡ x → (o : Option Mono) → timer_row o (filled app).timer ≡ option_map (λ mono. max mono.priority x) o
+timer_from : (app : App) (x : ℕ) → (filled app).timer ≡ x → (o : Option Mono) → timer_row o (filled app).timer ≡ option_map (λ mono. max (or_zero (option_map (λ m. m.priority) o)) x) o
 timer_from app x e None = refl
 timer_from app x e (Some mono) = ap (λ n. Some (max mono.priority n)) e
 
-pub timer_is : (app : App) → timer_row app.mono (filled app).timer ≡ option_map (timer_ceiling app) app.mono
+pub timer_is : (app : App) → timer_row app.mono (filled app).timer ≡ option_map (λ mono. timer_ceiling app) app.mono
 timer_is app = timer_from app _ (filled_timer app) app.mono
 
 ceilings_same : (a b : Ceilings) → a.shared ≡ b.shared → a.free ≡ b.free → a.ready ≡ b.ready → a.timer ≡ b.timer → a ≡ b

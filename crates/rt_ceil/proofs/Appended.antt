@@ -5,7 +5,7 @@ use Rattle.rt_app.specs.Tree.{Task}
 use Rattle.rt_app.specs.View.{task_of}
 use Rattle.rt_app.specs.declared.app.Task as code
 use Rattle.rt_ids.specs.Lists.{those_below}
-use Rattle.rt_ceil.specs.Rows.{free_row, free_rows, ready_row, ready_rows}
+use Rattle.rt_ceil.specs.Inside.Rows.{free_row, free_rows, ready_row, ready_rows}
 
 pub free_rows-append : (table : List ℕ) (n : ℕ) (xs ys : List Task) → free_rows table n (xs ++ ys) ≡ free_rows table n xs ++ free_rows table (n + length xs) ys
 free_rows-append table n [] ys = ap (λ k. free_rows table k ys) (sym (add-zero n))

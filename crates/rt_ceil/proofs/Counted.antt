@@ -8,7 +8,7 @@ use Rattle.rt_app.specs.Spawned.{spawns, is_soon, target}
 use Rattle.rt_app.specs.Level.{is_of_level}
 use Rattle.rt_ids.specs.Lists.{is_some_and, greatest}
 use Rattle.rt_app.specs.Ceiling.{readies, arms_level}
-use Rattle.rt_ceil.specs.Tables.{Tables, level_in, mover, spawned, listed, used}
+use Rattle.rt_ceil.specs.Inside.Tables.{Tables, level_in, mover, spawned, listed, used}
 use Rattle.rt_ceil.proofs.Greatest.{folded_raises, greatest_any, greatest_both}
 use Rattle.rt_ceil.proofs.Raised.{length-raised, length-raised_level, raised_at, raised_level_at, level_in_is}
 

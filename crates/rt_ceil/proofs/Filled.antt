@@ -4,7 +4,7 @@ use Rattle.std.proofs.lemmas.List.{length-map}
 use Rattle.rt_app.specs.View.{task_of, app_of}
 use Rattle.rt_app.specs.declared.app.App as code
 use Rattle.rt_app.specs.declared.costs.TheConstants.{PRIORITIES}
-use Rattle.rt_ceil.specs.Tables.{Tables, untouched}
+use Rattle.rt_ceil.specs.Inside.Tables.{Tables, untouched}
 
 pub tables_same : (t u : Tables) → t.shared ≡ u.shared → t.free ≡ u.free → t.ready ≡ u.ready → t.timer ≡ u.timer → t ≡ u
 tables_same t u a b c d =

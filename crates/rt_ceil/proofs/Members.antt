@@ -13,7 +13,7 @@ use Rattle.rt_app.specs.Spawned.{is_soon, target}
 use Rattle.rt_app.specs.Level.{holds}
 use Rattle.rt_app.specs.Ceiling.{greatest_priority, lists, readies, arms_level}
 use Rattle.rt_ids.specs.Lists.{greatest}
-use Rattle.rt_ceil.specs.Tables.{Tables, untouched, mover, used, used_by_thread, used_by_task, filled}
+use Rattle.rt_ceil.specs.Inside.Tables.{Tables, untouched, mover, used, used_by_thread, used_by_task, filled}
 use Rattle.rt_ceil.proofs.Greatest.{folded_raises, greatest_any, greatest_both, greatest_filtered}
 use Rattle.rt_ceil.proofs.Counted.{IsSized, used_keeps, used_shared, used_free, used_ready, used_timer}
 

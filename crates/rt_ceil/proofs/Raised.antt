@@ -6,8 +6,8 @@ use Rattle.std.proofs.lemmas.Bool.Decides.{nat_tests}
 use Rattle.rt_app.specs.Tree.{Task}
 use Rattle.rt_app.specs.Level.{is_software, is_of_level}
 use Rattle.rt_ids.specs.Lists.{is_some_and}
-use Rattle.rt_ceil.specs.Tables.{raised, raised_level, level_of, level_in}
-use Rattle.rt_ceil.specs.Rows.{marked}
+use Rattle.rt_ceil.specs.Inside.Tables.{raised, raised_level, level_of, level_in}
+use Rattle.rt_ceil.specs.Inside.Rows.{marked}
 
 length_if : {A : Type 0} (b : Bool) (xs ys : List A) → length xs ≡ length ys → length (if b then xs else ys) ≡ length ys
 length_if true xs ys h = h

@@ -1,7 +1,7 @@
 ghost use Rattle.std.specs.Prelude.{◌≡◌, map, option_map, IfOk};
 ghost use Rattle.std.specs.List.{fold};
 ghost use Rattle.rt_app.specs.View.{block_of, body_of, task_of, app_of};
-ghost use Rattle.rt_ceil.specs.Tables.{listed, used, used_by_thread, used_by_task, filled};
+ghost use Rattle.rt_ceil.specs.Inside.Tables.{listed, used, used_by_thread, used_by_task, filled};
 
 use crate::spawns::count_block;
 use crate::tables::{Tables, raise};
@@ -27,7 +27,8 @@ fn count_listed(tables: &mut Tables, priority: u8, listings: &[Listed])
 
 /// Counts a body of this priority.
 fn count_body(tables: &mut Tables, app: &App, priority: u8, body: &Body)
-    ensures { tables.new ≡ used (app_of app.now) priority body.now.shared.items (block_of body.now.block.items) tables.old }
+    ensures { let block = block_of body.now.block.items in
+        tables.new ≡ used (app_of app.now) priority body.now.shared.items block tables.old }
 {
     count_listed(tables, priority, &body.shared);
     count_block(tables, app, priority, &body.block);
@@ -35,7 +36,7 @@ fn count_body(tables: &mut Tables, app: &App, priority: u8, body: &Body)
 
 /// Counts `init` or `idle`.
 fn count_thread(tables: &mut Tables, app: &App, body: &Option<Body>)
-    ensures { tables.new ≡ used_by_thread (app_of app.now) tables.old (option_map (body_of 0) body.now) }
+    ensures { tables.new ≡ used_by_thread (app_of app.now) tables.old (option_map body_of body.now) }
 {
     if let Some(body) = body {
         count_body(tables, app, 0, body);

@@ -1,7 +1,7 @@
 ghost use Rattle.std.specs.Prelude.{◌≡◌, length, map, IfOk};
 ghost use Rattle.rt_app.specs.View.{task_of};
 ghost use Rattle.rt_app.specs.declared.costs.TheConstants.{PRIORITIES};
-ghost use Rattle.rt_ceil.specs.Rows as rows;
+ghost use Rattle.rt_ceil.specs.Inside.Rows as rows;
 
 use crate::spawns::level;
 use rt_app::costs::PRIORITIES;

@@ -2,7 +2,7 @@ ghost use Rattle.std.specs.Prelude.{◌≡◌, map, slice_get};
 ghost use Rattle.std.specs.List.{fold};
 ghost use Rattle.rt_app.specs.Spawned.{statement_spawns, spawns, value_spawns};
 ghost use Rattle.rt_app.specs.View.{spawn_of, value_of, statement_of, block_of, task_of, app_of};
-ghost use Rattle.rt_ceil.specs.Tables.{level_of, level_in, mover, spawned};
+ghost use Rattle.rt_ceil.specs.Inside.Tables.{level_of, level_in, mover, spawned};
 
 use crate::tables::{Tables, raise, raise_level};
 use rt_app::{App, Mono, Spawn, Stmt, Task, Value};
@@ -68,7 +68,8 @@ fn count_value(tables: &mut Tables, app: &App, priority: u8, value: &Value)
 /// Counts the spawns of a statement.
 #[cycle(block)]
 fn count_statement(tables: &mut Tables, app: &App, priority: u8, stmt: &Stmt)
-    ensures { tables.new ≡ fold (spawned (app_of app.now) priority) tables.old (statement_spawns (statement_of stmt.now)) }
+    ensures { let made = statement_spawns (statement_of stmt.now) in
+        tables.new ≡ fold (spawned (app_of app.now) priority) tables.old made }
 {
     match stmt {
         Stmt::Bind(_variable, value) => count_value(tables, app, priority, value),

@@ -1,6 +1,6 @@
 ghost use Rattle.std.specs.Prelude.{◌≡◌, replicate, IfOk};
 ghost use Rattle.rt_app.specs.View.{app_of};
-ghost use Rattle.rt_ceil.specs.Tables.{untouched, raised, raised_level};
+ghost use Rattle.rt_ceil.specs.Inside.Tables.{untouched, raised, raised_level};
 
 use rt_app::App;
 use rt_app::costs::PRIORITIES;
@@ -21,7 +21,7 @@ pub(crate) struct Tables {
 }
 
 impl Model for Tables {
-    ghost use Rattle.rt_ceil.specs.Tables.{Tables};
+    ghost use Rattle.rt_ceil.specs.Inside.Tables.{Tables};
 
     ghost Value = { Tables };
 

@@ -10,7 +10,7 @@ use Rattle.rt_app.specs.Tree.{Task, App}
 use Rattle.rt_app.specs.Level.{is_software, is_of_level, tasks_of_level, levels}
 use Rattle.rt_ids.specs.Lists.{those_below}
 use Rattle.rt_app.specs.BodyCost.{dispatcher_size}
-use Rattle.rt_frames.specs.Flags.{HasFlags, level_numbers}
+use Rattle.rt_frames.specs.Inside.Flags.{HasFlags, level_numbers}
 
 pub below_more : (test : ℕ → Bool) (n : ℕ) → those_below test (n + 1) ≡ those_below test n ++ (if test n then n ∷ [] else [])
 unfolding those_below

@@ -9,7 +9,7 @@ use Rattle.std.proofs.lemmas.Bool.Decides.{nat_tests, eqb_tells}
 use Rattle.std.proofs.Math.Bool.{or-false, or-true}
 use Rattle.rt_lemmas.proofs.Bools.{or_assoc}
 use Rattle.rt_app.specs.Tree.{Spawn, Task}
-use Rattle.rt_frames.specs.Flags.{flagged, HasFlags, armed_by, level_numbers}
+use Rattle.rt_frames.specs.Inside.Flags.{flagged, HasFlags, armed_by, level_numbers}
 
 flagged_nothing : (ns : List ℕ) → flagged ns [] ≡ []
 flagged_nothing [] = refl

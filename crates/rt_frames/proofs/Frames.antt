@@ -10,8 +10,8 @@ use Rattle.rt_ids.specs.Lists.{greatest}
 use Rattle.rt_app.specs.Spawned.{statement_spawns, spawns}
 use Rattle.rt_app.specs.Frame.{depth, is_loop, spawn_words}
 use Rattle.rt_frames.specs.declared.frame.Parts.{Parts}
-use Rattle.rt_frames.specs.Saturated.{saturated}
-use Rattle.rt_frames.specs.FrameParts.{both, expression_parts, statement_parts, block_parts}
+use Rattle.rt_frames.specs.Inside.Saturated.{saturated}
+use Rattle.rt_frames.specs.Inside.FrameParts.{both, expression_parts, statement_parts, block_parts}
 use Rattle.rt_frames.proofs.Sums.{block_more, expressions_more}
 
 abbrev parts : ℕ → ℕ → Bool → ℕ → ℕ → Parts

@@ -12,8 +12,8 @@ use Rattle.rt_ids.specs.Lists.{greatest, is_some_and}
 use Rattle.rt_app.specs.Level.{is_software, is_of_level}
 use Rattle.rt_app.specs.Frame.{frame_words}
 use Rattle.rt_app.specs.Stack.{is_bound_at, has_handler, timer_need, need, level_bytes, bytes_below}
-use Rattle.rt_frames.specs.Flags.{flagged, HasFlags, timer_numbers}
-use Rattle.rt_frames.specs.Needs.{need_at}
+use Rattle.rt_frames.specs.Inside.Flags.{flagged, HasFlags, timer_numbers}
+use Rattle.rt_frames.specs.Inside.Needs.{need_at}
 use Rattle.rt_frames.proofs.Flagging.{flagged_at, flagged_both}
 use Rattle.rt_frames.proofs.Frames.{greatest_append}
 
@@ -37,7 +37,7 @@ handlers_are app f0 f1 f2 none e1 e2 long = record {
       ∙ ap (λ b. b || list_any (λ n. n == p) M) (any_priority p app.tasks) ∙ ap (λ b. list_any (λ t. t.priority == p) app.tasks || b) (any_timer p app.mono);
 }
 
-frames_if : (b : Bool) (t : Task) (ts : List Task) → greatest (map (λ u. frame_words u.body) (cond b (t ∷ ts) ts)) ≡ cond b (max (frame_words t.body) (greatest (map (λ u. frame_words u.body) ts))) (greatest (map (λ u. frame_words u.body) ts))
+frames_if : (b : Bool) (t : Task) (ts : List Task) → greatest (map (λ u. frame_words u.args u.body) (cond b (t ∷ ts) ts)) ≡ cond b (max (frame_words t.args t.body) (greatest (map (λ u. frame_words u.args u.body) ts))) (greatest (map (λ u. frame_words u.args u.body) ts))
 frames_if true t ts = refl
 frames_if false t ts = refl
 
@@ -53,22 +53,22 @@ need_step false true false frame bound soft rest none e = omega arith
 need_step false false true frame bound soft rest none e = omega arith
 need_step false false false frame bound soft rest none e = omega arith
 
-none_step : (b any : Bool) (t : Task) (ts us : List Task) → (any ≡ false → greatest (map (λ u. frame_words u.body) us) ≡ 0) → (b || any) ≡ false → greatest (map (λ u. frame_words u.body) (cond b (t ∷ us) us)) ≡ 0
+none_step : (b any : Bool) (t : Task) (ts us : List Task) → (any ≡ false → greatest (map (λ u. frame_words u.args u.body) us) ≡ 0) → (b || any) ≡ false → greatest (map (λ u. frame_words u.args u.body) (cond b (t ∷ us) us)) ≡ 0
 none_step true any t ts us rest h = cc
 none_step false any t ts us rest h = rest h
 
-no_frame : (p : ℕ) (ts : List Task) → list_any (is_of_level p) ts ≡ false → greatest (map (λ u. frame_words u.body) (filter (is_of_level p) ts)) ≡ 0
+no_frame : (p : ℕ) (ts : List Task) → list_any (is_of_level p) ts ≡ false → greatest (map (λ u. frame_words u.args u.body) (filter (is_of_level p) ts)) ≡ 0
 no_frame p [] h = refl
 no_frame p (t ∷ ts) h = none_step (is_of_level p t) (list_any (is_of_level p) ts) t ts (filter (is_of_level p) ts) (no_frame p ts) h
 
 tasks_need_is : (p : ℕ) (ts : List Task)
-    → max (greatest (map (λ u. frame_words u.body) (filter (is_bound_at p) ts))) (cond (list_any (is_of_level p) ts) (16 + greatest (map (λ u. frame_words u.body) (filter (is_of_level p) ts))) 0) ≡ greatest (map (need_at p) ts)
+    → max (greatest (map (λ u. frame_words u.args u.body) (filter (is_bound_at p) ts))) (cond (list_any (is_of_level p) ts) (16 + greatest (map (λ u. frame_words u.args u.body) (filter (is_of_level p) ts))) 0) ≡ greatest (map (need_at p) ts)
 tasks_need_is p [] = refl
 tasks_need_is p (t ∷ ts) =
     let B = filter (is_bound_at p) ts in
     let S = filter (is_of_level p) ts in
     rw (frames_if (is_bound_at p t) t B, frames_if (is_of_level p t) t S)
-    (need_step (is_software t) (t.priority == p) (list_any (is_of_level p) ts) (frame_words t.body) (greatest (map (λ u. frame_words u.body) B)) (greatest (map (λ u. frame_words u.body) S)) (greatest (map (need_at p) ts)) (no_frame p ts)
+    (need_step (is_software t) (t.priority == p) (list_any (is_of_level p) ts) (frame_words t.args t.body) (greatest (map (λ u. frame_words u.args u.body) B)) (greatest (map (λ u. frame_words u.args u.body) S)) (greatest (map (need_at p) ts)) (no_frame p ts)
     (tasks_need_is p ts))
 
 pub need_is : (app : App) (p : ℕ) → need app p ≡ max (greatest (map (need_at p) app.tasks)) (timer_need app p)

@@ -6,5 +6,6 @@ pub mod Below
 pub mod Frames
 pub mod Handlers
 pub mod Waits
+pub mod Tables
+pub mod Sections
 pub mod Within
-pub mod Unguarded

@@ -15,7 +15,7 @@ use Rattle.rt_app.specs.Bodies.{members, thread_members, task_members}
 use Rattle.rt_app.specs.Level.{arms, holds, is_armed, armed_capacities, armed_count, is_software, is_of_level}
 use Rattle.rt_app.specs.View.{task_of}
 use Rattle.rt_app.specs.declared.app.Task as code
-use Rattle.rt_frames.specs.Flags.{flagged, HasFlags, armed_by, level_numbers, thread_spawns, task_spawns}
+use Rattle.rt_frames.specs.Inside.Flags.{flagged, HasFlags, armed_by, level_numbers, thread_spawns, task_spawns}
 use Rattle.rt_frames.proofs.Flagging.{flagged_at, armed_both}
 
 any_armed_step : (soon : Bool) (n k : ℕ) (ns : List ℕ) (rest : Bool) → list_any (λ m. m == k) ns ≡ rest → list_any (λ m. m == k) (cond (not soon) (n ∷ ns) ns) ≡ ((not soon && (n == k)) || rest)

@@ -1,6 +1,7 @@
 -- What is put together over lists from the right, with one more item.
-use Rattle.std.proofs.Common.{◌≡◌, ℕ, ◌+◌, ◌*◌, ◌^◌, ◌-◌, ◌<◌, ◌≤◌, List, [], ◌∷◌, ◌++◌, take, get_or, length, map, min, Bool, true, false, cond, append_assoc, append-nil, refl, sym, ap, ◌∙◌, arith}
+use Rattle.std.proofs.Common.{◌≡◌, ℕ, zero, suc, ◌⊎◌, inl, inr, zero-mul, ◌+◌, ◌*◌, ◌^◌, ◌-◌, ◌<◌, ◌≤◌, List, [], ◌∷◌, ◌++◌, take, get_or, length, map, min, Bool, true, false, cond, append_assoc, append-nil, refl, sym, ap, ◌∙◌, arith}
 use Rattle.std.specs.Prelude.{count_by}
+use Rattle.std.proofs.lemmas.Bool.{cases_order}
 use Rattle.std.specs.Int.{from_bool}
 use Rattle.std.proofs.lemmas.List.{take_more, map_more, length-map, length-take}
 use Rattle.std.proofs.lemmas.List.Sums.{sum_by_push, count_by-le-length}
@@ -39,17 +40,24 @@ pub block_cost_more : (m : Measure) (xs : List Stmt) (i : ℕ) (x : Stmt) → i 
     → block_cost m (block_of (take (i + 1) xs)) ≡ capped (block_cost m (block_of (take i xs)) + statement_cost m (statement_of x))
 block_cost_more m = block_more (block_cost m) (statement_cost m) (λ a b. capped (a + b)) (λ s rest. refl) capped_assoc (λ s. capped_alone (statement_cost m s))
 
-pub block_cost_most : (m : Measure) (b : Block) → block_cost m b ≤ 1000001
-block_cost_most m Empty = omega arith
-block_cost_most m (Then s rest) = omega arith
-
 -- the turns of a loop, where each sum on the way stops at the greatest number of 32 bits
-pub turns_sum : (turns block one all sum : ℕ) → block ≤ 1000001 → one ≡ min (block + 6) (2 ^ 32 - 1) → all ≡ min (turns * one) (2 ^ 32 - 1) → sum ≡ min (4 + all) (2 ^ 32 - 1)
-    → capped sum ≡ capped (4 + turns * (block + 6))
-turns_sum turns block one all sum few o a s =
-    let whole : one ≡ block + 6 = omega arith in
-    let product : turns * one ≡ turns * (block + 6) = ap (λ n. turns * n) whole in
-    omega arith
+pub turns_sum : (turns block one all sum : ℕ) → one ≡ min (block + 6) (2 ^ 32 - 1) → all ≡ min (turns * one) (2 ^ 32 - 1) → sum ≡ min (4 + all) (2 ^ 32 - 1) → capped sum ≡ capped (4 + turns * (block + 6))
+turns_sum zero block one all sum o a s = omega (arith, zero-mul one, zero-mul (block + 6))
+turns_sum (suc k) block one all sum o a s = either (cases_order (block + 6) (2 ^ 32))
+  where
+    grows : (n : ℕ) → n ≤ suc k * n
+    grows n = omega arith
+    whole : block + 6 < 2 ^ 32 → capped sum ≡ capped (4 + suc k * (block + 6))
+    whole few =
+        let same : one ≡ block + 6 = omega arith in
+        let product : suc k * one ≡ suc k * (block + 6) = ap (λ n. suc k * n) same in
+        omega arith
+    stopped : 2 ^ 32 ≤ block + 6 → capped sum ≡ capped (4 + suc k * (block + 6))
+    stopped many = omega (arith, grows one, grows (block + 6))
+    either : (block + 6 ≡ 2 ^ 32) ⊎ ((block + 6 < 2 ^ 32) ⊎ (2 ^ 32 < block + 6)) → capped sum ≡ capped (4 + suc k * (block + 6))
+    either (inl same) = stopped (omega arith)
+    either (inr (inl less)) = whole less
+    either (inr (inr more)) = stopped (omega arith)
 
 -- over expressions
 module _ {V : Type 0} (of_all : List Expression → V) (of_one : Expression → V) (put : V → V → V)

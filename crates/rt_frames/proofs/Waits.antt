@@ -5,8 +5,8 @@ use Rattle.rt_app.specs.View.{statement_of, block_of, task_of}
 use Rattle.rt_app.specs.declared.stmt.Stmt.{Stmt}
 use Rattle.rt_app.specs.declared.app.Task as code
 use Rattle.rt_app.specs.Ceiling.{Ceilings}
-use Rattle.rt_app.specs.Waiting.{statement_wait, block_wait, tasks_wait, task_wait, shared_at}
-use Rattle.rt_app.specs.Cost.{statement_cost}
+use Rattle.rt_frames.specs.Inside.Waits.{shared_at, if_reaches, statement_wait, block_wait, tasks_wait, task_wait}
+use Rattle.rt_app.specs.Cost.{Measure, statement_cost}
 use Rattle.rt_app.specs.BodyCost.{cost_measure}
 use Rattle.std.proofs.Math.Seq.{drop-cons}
 use Rattle.std.proofs.lemmas.Bool.Decides.{nat_tests}
@@ -21,11 +21,13 @@ pub block_wait_more : (app : App) (c : Ceilings) (p : ℕ) (xs : List Stmt) (i :
     → block_wait app c p (block_of (take (i + 1) xs)) ≡ max (block_wait app c p (block_of (take i xs))) (statement_wait app c p (statement_of x))
 block_wait_more app c p = block_more (block_wait app c p) (statement_wait app c p) max (λ s rest. refl) max_regrouped (λ s. max_zero (statement_wait app c p s))
 
--- a section of a resource whose ceiling is below the priority
-pub locked_below : (app : App) (c : Ceilings) (p : ℕ) (s : Statement) (r : ℕ) (inner : Block) (at k : ℕ) → s ≡ Locked r inner at → k ≡ shared_at c r → k < p → statement_wait app c p s ≡ block_wait app c p inner
-locked_below app c p s r inner at k is e h =
-    let below : nat_le p (shared_at c r) ≡ false = grind (arith, nat_tests) in
-    ap (statement_wait app c p) is ∙ ap (λ b. cond b (statement_cost (cost_measure app) (Locked r inner at)) (block_wait app c p inner)) below
+-- a section of a resource, with those inside it
+pub locked_wait : (app : App) (c : Ceilings) (p : ℕ) (m : Measure) (s : Statement) (r : ℕ) (inner : Block) (at ceiling cost own within all : ℕ) → m ≡ cost_measure app → s ≡ Locked r inner at → ceiling ≡ shared_at c r
+    → cost ≡ statement_cost m s → own ≡ if_reaches p ceiling cost → within ≡ block_wait app c p inner → all ≡ max own within → all ≡ statement_wait app c p s
+locked_wait app c p m s r inner at ceiling cost own within all measure is table spent reached inside e =
+    e ∙ ap (λ x. max x within) (reached ∙ ap (if_reaches p ceiling) (spent ∙ ap (λ n. statement_cost n s) measure ∙ ap (statement_cost (cost_measure app)) is)
+    ∙ ap (λ x. if_reaches p x (statement_cost (cost_measure app) (Locked r inner at))) table)
+    ∙ ap (max (if_reaches p (shared_at c r) (statement_cost (cost_measure app) (Locked r inner at)))) inside ∙ ap (statement_wait app c p) (sym is)
 
 pub tasks_wait_more : (app : App) (c : Ceilings) (p : ℕ) (ts : List code.Task) (n : ℕ) (x : code.Task) → n < length ts → x ≡ get_or ts n x
     → tasks_wait app c p n (map task_of (drop n ts)) ≡ max (task_wait app c p n (task_of x)) (tasks_wait app c p (n + 1) (map task_of (drop (n + 1) ts)))

@@ -12,14 +12,15 @@ use Rattle.rt_app.specs.declared.bounds.Wait.{Wait}
 use Rattle.rt_app.specs.Cost.{Measure}
 use Rattle.rt_app.specs.BodyCost.{cost_measure}
 use Rattle.rt_app.specs.Bounds.{Bounds, body_bound, bounds}
-use Rattle.rt_app.specs.Ceiling.{Ceilings, ceilings}
+use Rattle.rt_app.specs.Waiting.{waiting_bound}
 use Rattle.rt_ids.specs.Lists.{greatest}
 use Rattle.rt_app.specs.Level.{is_of_level}
 use Rattle.rt_app.specs.Frame.{block_depth, has_loop, statement_locks, locks, spawn_words, frame_words}
-use Rattle.rt_app.specs.Limits.{inner_blocks, blocks_of, KeepsBodyLimits, KeepsThreadLimits, KeepsTaskLimits, KeepsLimits}
+use Rattle.rt_app.specs.Variables.{variables_in, variables}
+use Rattle.rt_app.specs.Limits.{statements_in, statements_of, inner_blocks, blocks_of, KeepsBodyLimits, KeepsThreadLimits, KeepsTaskLimits, KeepsLimits}
 use Rattle.rt_app.specs.Stack.{is_bound_at, frames_of, is_timed_at, has_handler, need, level_bytes, bytes_below, thread_frame, thread_words, stack_bytes, handler_levels}
-use Rattle.rt_frames.specs.Saturated.{saturated}
-use Rattle.rt_frames.specs.Bounded.{saturated_bound, wait_of}
+use Rattle.rt_frames.specs.Inside.Saturated.{saturated}
+use Rattle.rt_frames.specs.Inside.Bounded.{member_bound}
 
 -- each lock is a block inside another
 mutual
@@ -45,20 +46,35 @@ words_few : (ss : List Spawn) → greatest (map spawn_words ss) ≤ 24
 words_few [] = omega arith
 words_few (s ∷ ss) = omega (arith, word_few s, words_few ss)
 
-choice_few : (none loops : Bool) (d : ℕ) → cond none (cond loops 1 0) d ≤ d + 1
-choice_few true true d = omega arith
-choice_few true false d = omega arith
-choice_few false loops d = omega arith
+choice_few : (loops : Bool) (d : ℕ) → max d (cond loops 1 0) ≤ d + 1
+choice_few true d = omega arith
+choice_few false d = omega arith
 
-frame_few : (args : ℕ) (b : Body) → KeepsBodyLimits args b → args ≤ 4 → frame_words b ≤ 1100
+-- a body has no more variables of its own than it has statements
+mutual
+  variables_in_few : (s : Statement) → variables_in s ≤ statements_in s
+  variables_in_few (Bind x v) = omega arith
+  variables_in_few (Assign x e at) = omega arith
+  variables_in_few (Branch e a b) = omega (arith, variables_few a, variables_few b)
+  variables_in_few (Repeat x first last turn) = omega (arith, variables_few turn)
+  variables_in_few (Locked r inner at) = omega (arith, variables_few inner)
+  variables_in_few (Emit e) = omega arith
+  variables_in_few (Pend i) = omega arith
+  variables_in_few (Spawns s) = omega arith
+
+  variables_few : (b : Block) → variables b ≤ statements_of b
+  variables_few Empty = omega arith
+  variables_few (Then s rest) = omega (arith, variables_in_few s, variables_few rest)
+
+frame_few : (args : ℕ) (b : Body) → KeepsBodyLimits b → args ≤ 4 → frame_words args b ≤ 1100
 frame_few args b h few =
-    omega (arith, h.variables, h.nesting, h.depth, locks_few b.block, words_few (spawns b.block), choice_few (block_depth b.block == 0) (has_loop b.block) (block_depth b.block))
+    omega (arith, variables_few b.block, h.statements, h.nesting, h.depth, locks_few b.block, words_few (spawns b.block), choice_few (has_loop b.block) (block_depth b.block))
 
 thread_few : (o : Option Body) → KeepsThreadLimits o → thread_frame o ≤ 1100
 thread_few None h = omega arith
 thread_few (Some b) h = frame_few 0 b h (omega arith)
 
-task_few : (t : Task) → KeepsTaskLimits t → frame_words t.body ≤ 1100
+task_few : (t : Task) → KeepsTaskLimits t → frame_words t.args t.body ≤ 1100
 task_few t h = frame_few t.args t.body h.body h.args
 
 thread_words_few : (app : App) → KeepsLimits app → thread_words app ≤ 1100
@@ -67,11 +83,11 @@ thread_words_few app h = omega (arith, thread_few app.init h.init, thread_few ap
 most_of : (m n : ℕ) → m ≤ 1100 → n ≤ 1100 → max m n ≤ 1100
 most_of m n h g = omega arith
 
-kept_few : (b : Bool) (t : Task) (ts : List Task) → frame_words t.body ≤ 1100 → greatest (map (λ u. frame_words u.body) ts) ≤ 1100 → greatest (map (λ u. frame_words u.body) (cond b (t ∷ ts) ts)) ≤ 1100
-kept_few true t ts h g = most_of (frame_words t.body) (greatest (map (λ u. frame_words u.body) ts)) h g
+kept_few : (b : Bool) (t : Task) (ts : List Task) → frame_words t.args t.body ≤ 1100 → greatest (map (λ u. frame_words u.args u.body) ts) ≤ 1100 → greatest (map (λ u. frame_words u.args u.body) (cond b (t ∷ ts) ts)) ≤ 1100
+kept_few true t ts h g = most_of (frame_words t.args t.body) (greatest (map (λ u. frame_words u.args u.body) ts)) h g
 kept_few false t ts h g = g
 
-frames_few : (test : Task → Bool) (ts : List Task) → AllByRecursion KeepsTaskLimits ts → greatest (map (λ u. frame_words u.body) (filter test ts)) ≤ 1100
+frames_few : (test : Task → Bool) (ts : List Task) → AllByRecursion KeepsTaskLimits ts → greatest (map (λ u. frame_words u.args u.body) (filter test ts)) ≤ 1100
 frames_few test [] h = omega arith
 frames_few test (t ∷ ts) h = kept_few (test t) t (filter test ts) (task_few t h.0) (frames_few test ts h.1)
 
@@ -105,22 +121,22 @@ whole n h = omega arith
 abbrev bound_with : BodyBound → ℕ → BodyBound
 bound_with b n = record { body = b.body; frame = n; cost = b.cost }
 
-same_bound : (app : App) (id : BodyId) (p : ℕ) (b : Body) → frame_words b ≤ 1100 → saturated_bound (cost_measure app) id b ≡ body_bound app (record { id = id; priority = p; body = b })
-same_bound app id p b few = ap (bound_with (body_bound app (record { id = id; priority = p; body = b }))) (whole (frame_words b) few)
+same_bound : (app : App) (m : Member) → frame_words m.args m.body ≤ 1100 → member_bound (cost_measure app) m ≡ body_bound app m
+same_bound app m few = ap (bound_with (body_bound app m)) (whole (frame_words m.args m.body) few)
 
-same_thread : (app : App) (id : BodyId) (o : Option Body) → KeepsThreadLimits o → map (λ m. saturated_bound (cost_measure app) m.id m.body) (thread_members id o) ≡ map (body_bound app) (thread_members id o)
+same_thread : (app : App) (id : BodyId) (o : Option Body) → KeepsThreadLimits o → map (member_bound (cost_measure app)) (thread_members id o) ≡ map (body_bound app) (thread_members id o)
 same_thread app id None h = refl
-same_thread app id (Some b) h = ap (λ x. x ∷ []) (same_bound app id 0 b (thread_few (Some b) h))
+same_thread app id (Some b) h = ap (λ x. x ∷ []) (same_bound app (record { id = id; priority = 0; args = 0; body = b }) (thread_few (Some b) h))
 
-same_tasks : (app : App) (n : ℕ) (ts : List Task) → AllByRecursion KeepsTaskLimits ts → map (λ m. saturated_bound (cost_measure app) m.id m.body) (task_members n ts) ≡ map (body_bound app) (task_members n ts)
+same_tasks : (app : App) (n : ℕ) (ts : List Task) → AllByRecursion KeepsTaskLimits ts → map (member_bound (cost_measure app)) (task_members n ts) ≡ map (body_bound app) (task_members n ts)
 same_tasks app n [] h = refl
 same_tasks app n (t ∷ ts) h =
-    ap (λ x. x ∷ map (λ m. saturated_bound (cost_measure app) m.id m.body) (task_members (n + 1) ts)) (same_bound app (body.Task n) t.priority t.body (task_few t h.0))
-    ∙ ap (λ xs. body_bound app (record { id = body.Task n; priority = t.priority; body = t.body }) ∷ xs) (same_tasks app (n + 1) ts h.1)
+    ap (λ x. x ∷ map (member_bound (cost_measure app)) (task_members (n + 1) ts)) (same_bound app (record { id = body.Task n; priority = t.priority; args = t.args; body = t.body }) (task_few t h.0))
+    ∙ ap (λ xs. body_bound app (record { id = body.Task n; priority = t.priority; args = t.args; body = t.body }) ∷ xs) (same_tasks app (n + 1) ts h.1)
 
-bodies_are : (app : App) → KeepsLimits app → map (λ m. saturated_bound (cost_measure app) m.id m.body) (members app) ≡ map (body_bound app) (members app)
+bodies_are : (app : App) → KeepsLimits app → map (member_bound (cost_measure app)) (members app) ≡ map (body_bound app) (members app)
 bodies_are app h =
-    let f : Member → BodyBound = λ m. saturated_bound (cost_measure app) m.id m.body in
+    let f : Member → BodyBound = member_bound (cost_measure app) in
     rw (
       map-append f (thread_members body.Init app.init) (thread_members body.Idle app.idle ++ task_members 0 app.tasks),
       map-append f (thread_members body.Idle app.idle) (task_members 0 app.tasks),
@@ -139,10 +155,10 @@ same_bounds : (bodies bodies' : List BodyBound) (waits waits' : List Wait) (word
     → ◌≡◌ {A = Bounds} (record { bodies = bodies; waits = waits; thread_words = words; stack_bytes = bytes }) (record { bodies = bodies'; waits = waits'; thread_words = words'; stack_bytes = bytes' })
 same_bounds bodies bodies' waits waits' words words' bytes bytes' e f g h = rw (e, f, g, h) refl
 
-pub bounds_are : (app : App) (c : Ceilings) (m : Measure) (bodies : List BodyBound) (waits : List Wait) (words bytes : ℕ) → KeepsLimits app → c ≡ ceilings app → m ≡ cost_measure app
-    → bodies ≡ map (λ b. saturated_bound m b.id b.body) (members app) → waits ≡ map (wait_of app c) (handler_levels app) → words ≡ saturated (thread_words app) → bytes ≡ saturated (stack_bytes app)
+pub bounds_are : (app : App) (m : Measure) (bodies : List BodyBound) (waits : List Wait) (words bytes : ℕ) → KeepsLimits app → m ≡ cost_measure app
+    → bodies ≡ map (member_bound m) (members app) → waits ≡ map (λ p. record { level = p; steps = waiting_bound app p }) (handler_levels app) → words ≡ saturated (thread_words app) → bytes ≡ saturated (stack_bytes app)
     → ◌≡◌ {A = Bounds} (record { bodies = bodies; waits = waits; thread_words = words; stack_bytes = bytes }) (bounds app)
-bounds_are app c m bodies waits words bytes limits ceil measure e f g h =
+bounds_are app m bodies waits words bytes limits measure e f g h =
     same_bounds bodies (bounds app).bodies waits (bounds app).waits words (thread_words app) bytes (stack_bytes app)
-    (e ∙ ap (λ n. map (λ b. saturated_bound n b.id b.body) (members app)) measure ∙ bodies_are app limits) (f ∙ ap (λ d. map (wait_of app d) (handler_levels app)) ceil)
+    (e ∙ ap (λ n. map (member_bound n) (members app)) measure ∙ bodies_are app limits) f
     (g ∙ whole (thread_words app) (thread_words_few app limits)) (h ∙ small (stack_bytes app) (stack_few app limits))

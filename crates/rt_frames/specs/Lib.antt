@@ -1,5 +1,1 @@
-pub mod Flags
-pub mod Saturated
-pub mod FrameParts
-pub mod Needs
-pub mod Bounded
+pub mod Inside

@@ -2,7 +2,7 @@ ghost use Rattle.std.specs.Prelude.{◌≡◌, ◌≤◌, ◌∷◌, [], map, op
 ghost use Rattle.rt_app.specs.View.{spawn_of, value_of, statement_of, block_of, body_of, task_of, app_of};
 ghost use Rattle.rt_app.specs.Spawned.{value_spawns, statement_spawns, spawns};
 ghost use Rattle.rt_app.specs.Level as level;
-ghost use Rattle.rt_frames.specs.Flags.{flagged, HasFlags, armed_by, thread_spawns, task_spawns};
+ghost use Rattle.rt_frames.specs.Inside.Flags.{flagged, HasFlags, armed_by, thread_spawns, task_spawns};
 
 use crate::flags::{self, Flags, NUMBERS};
 use rt_app::{App, Body, Spawn, Stmt, Task, Value};
@@ -63,7 +63,7 @@ fn flag_block(armed: &mut Flags, stmts: &[Stmt])
 
 /// Flags the tasks that are armed by `init` or `idle`, where it is declared.
 fn flag_thread(armed: &mut Flags, body: &Option<Body>)
-    ensures { armed.new ≡ flagged (armed_by (thread_spawns (option_map (body_of 0) body.now))) armed.old }
+    ensures { armed.new ≡ flagged (armed_by (thread_spawns (option_map body_of body.now))) armed.old }
 {
     match body {
         None => {}

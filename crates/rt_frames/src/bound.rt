@@ -8,8 +8,9 @@ ghost use Rattle.rt_app.specs.Level.{is_armed};
 ghost use Rattle.rt_app.specs.Stack as stack;
 ghost use Rattle.rt_app.specs.Bounds as bounds;
 ghost use Rattle.rt_app.specs.Limits.{KeepsLimits};
-ghost use Rattle.rt_frames.specs.Flags.{HasFlags};
-ghost use Rattle.rt_frames.specs.Bounded.{saturated_bound, wait_of};
+ghost use Rattle.rt_app.specs.Acceptance.{IsSound};
+ghost use Rattle.rt_frames.specs.Inside.Flags.{HasFlags};
+ghost use Rattle.rt_frames.specs.Inside.Bounded.{saturated_bound, member_bound, wait_of};
 
 use crate::armed::armed_flags;
 use crate::flags::Flags;
@@ -24,7 +25,7 @@ use std::alloc::Global;
 
 /// What a body takes that has so many arguments.
 fn body_bound(measure: &Measure, id: BodyId, args: u8, body: &Body) -> BodyBound
-    ensures { result ≡ saturated_bound measure.now id (body_of args body.now) }
+    ensures { result ≡ saturated_bound measure.now id args (body_of body.now) }
 {
     BodyBound {
         body: id,
@@ -40,7 +41,7 @@ fn push_thread(
     id: BodyId,
     body: &Option<Body>,
 ) -> Result<(), NoMemory>
-    ensures { OnOk result (bodies.new.items ≡ bodies.old.items ++ map (λ m. saturated_bound measure.now m.id m.body) (thread_members id (option_map (body_of 0) body.now))) }
+    ensures { OnOk result (bodies.new.items ≡ bodies.old.items ++ map (member_bound measure.now) (thread_members id (option_map body_of body.now))) }
 {
     match body {
         None => Ok(()),
@@ -58,7 +59,7 @@ fn push_tasks(
     tasks: &[Task],
 ) -> Result<(), NoMemory>
     requires { length tasks.now ≤ TASKS }
-    ensures { OnOk result (bodies.new.items ≡ bodies.old.items ++ map (λ m. saturated_bound measure.now m.id m.body) (task_members 0 (map task_of tasks.now))) }
+    ensures { OnOk result (bodies.new.items ≡ bodies.old.items ++ map (member_bound measure.now) (task_members 0 (map task_of tasks.now))) }
 {
     for number in 0..tasks.len() {
         let task = &tasks[number];
@@ -71,7 +72,7 @@ fn push_tasks(
 /// What each declared body takes.
 fn body_bounds(alloc: Global, app: &App, measure: &Measure) -> Result<Vec<BodyBound>, NoMemory>
     requires { length (app_of app.now).tasks ≤ TASKS }
-    ensures { IfOk result (λ bodies. bodies.items ≡ map (λ m. saturated_bound measure.now m.id m.body) (members (app_of app.now))) }
+    ensures { IfOk result (λ bodies. bodies.items ≡ map (member_bound measure.now) (members (app_of app.now))) }
 {
     let mut bodies = Vec::new(alloc);
     push_thread(&mut bodies, measure, BodyId::Init, &app.init)?;
@@ -135,9 +136,10 @@ fn waits_of(
     Ok(waits)
 }
 
-/// The numbers that hold of every run of an application within its limits.
+/// The numbers that hold of every run of an application that can be run, from its ceilings.
 pub fn bounds(alloc: Global, app: &App, ceil: &Ceilings) -> Result<Bounds, NoMemory>
     requires limits { KeepsLimits (app_of app.now) }
+    requires sound { IsSound (app_of app.now) }
     requires ceilings { ceil.now ≡ ceilings (app_of app.now) }
     ensures { IfOk result (λ b. b ≡ bounds.bounds (app_of app.now)) }
 {

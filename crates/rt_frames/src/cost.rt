@@ -17,7 +17,7 @@ use rt_ids::BodyId;
 
 /// Of `init` or `idle`, where it is declared, else of an end alone.
 fn thread_cost(measure: &Measure, body: &Option<Body>) -> u32
-    ensures { result ≡ cost.cost_of measure.now (option_map (body_of 0) body.now) }
+    ensures { result ≡ cost.cost_of measure.now (option_map body_of body.now) }
 {
     match body {
         None => 1,

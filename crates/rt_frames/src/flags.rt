@@ -1,5 +1,5 @@
 ghost use Rattle.std.specs.Prelude.{◌≡◌, ◌∷◌, [], count_by, false};
-ghost use Rattle.rt_frames.specs.Flags.{flagged, HasFlags};
+ghost use Rattle.rt_frames.specs.Inside.Flags.{flagged, HasFlags};
 
 /// Numbers that a byte can tell.
 pub(crate) const NUMBERS: usize = 256;

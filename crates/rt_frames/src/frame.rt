@@ -1,10 +1,10 @@
-ghost use Rattle.std.specs.Prelude.{◌≡◌, ◌+◌, ◌==◌, map, option_map, true, if◌then◌else◌};
+ghost use Rattle.std.specs.Prelude.{◌≡◌, ◌+◌, map, max, option_map, true, if◌then◌else◌};
 ghost use Rattle.rt_app.specs.View.{expression_of, spawn_of, value_of, statement_of, block_of, body_of, app_of};
 ghost use Rattle.rt_ids.specs.Lists.{greatest};
 ghost use Rattle.rt_app.specs.Frame as frame;
 ghost use Rattle.rt_app.specs.Stack as stack;
-ghost use Rattle.rt_frames.specs.Saturated.{saturated};
-ghost use Rattle.rt_frames.specs.FrameParts.{both, expression_parts, spawn_parts, value_parts, statement_parts, block_parts};
+ghost use Rattle.rt_frames.specs.Inside.Saturated.{saturated};
+ghost use Rattle.rt_frames.specs.Inside.FrameParts.{both, expression_parts, spawn_parts, value_parts, statement_parts, block_parts};
 
 use rt_app::costs::{SPAWN_AFTER_WORDS, SPAWN_WORDS};
 use rt_app::{App, Body, Expr, Spawn, Stmt, Value};
@@ -170,18 +170,14 @@ fn block(stmts: &[Stmt]) -> Parts
 
 /// The words where expressions are evaluated; a loop alone needs one for its test.
 fn expression_words(parts: &Parts) -> u32
-    ensures { result ≡ (if parts.now.depth == 0 then (if parts.now.has_loop then 1 else 0) else parts.now.depth) }
+    ensures { result ≡ max parts.now.depth (if parts.now.has_loop then 1 else 0) }
 {
-    if parts.depth == 0 {
-        u32::from(parts.has_loop)
-    } else {
-        parts.depth
-    }
+    parts.depth.max(u32::from(parts.has_loop))
 }
 
 /// The words of a body's frame, with so many arguments, up to the greatest number of 32 bits.
 pub(crate) fn frame_words(args: u8, body: &Body) -> u32
-    ensures { result ≡ saturated (frame.frame_words (body_of args body.now)) }
+    ensures { result ≡ saturated (frame.frame_words args (body_of body.now)) }
 {
     let parts = block(&body.block);
     let variables = u32::from(args).saturating_add(parts.variables);
@@ -193,7 +189,7 @@ pub(crate) fn frame_words(args: u8, body: &Body) -> u32
 
 /// The words of the frame of `init` or `idle`, and none where it is not declared.
 fn thread_frame(body: &Option<Body>) -> u32
-    ensures { result ≡ saturated (stack.thread_frame (option_map (body_of 0) body.now)) }
+    ensures { result ≡ saturated (stack.thread_frame (option_map body_of body.now)) }
 {
     match body {
         None => 0,

@@ -2,7 +2,7 @@ ghost use Rattle.std.specs.Prelude.{◌≡◌, ◌<◌, ◌∷◌, [], map, leng
 ghost use Rattle.std.specs.List.{list_any, AllByRecursion};
 ghost use Rattle.rt_app.specs.View.{task_of, app_of};
 ghost use Rattle.rt_app.specs.Level as level;
-ghost use Rattle.rt_frames.specs.Flags.{flagged, HasFlags, level_numbers};
+ghost use Rattle.rt_frames.specs.Inside.Flags.{flagged, HasFlags, level_numbers};
 
 use crate::flags::{self, Flags, NUMBERS};
 use rt_app::{App, Task};

@@ -1,9 +1,9 @@
-ghost use Rattle.std.specs.Prelude.{◌≡◌, ◌≤◌, map};
+ghost use Rattle.std.specs.Prelude.{◌≡◌, ◌+◌, ◌*◌, ◌≤◌, map};
 ghost use Rattle.rt_app.specs.View.{expression_of, spawn_of, value_of, statement_of, block_of, body_of, app_of};
 ghost use Rattle.rt_app.specs.Level.{is_armed};
 ghost use Rattle.rt_app.specs.Cost as cost;
 ghost use Rattle.rt_app.specs.BodyCost as whole;
-ghost use Rattle.rt_frames.specs.Flags.{HasFlags};
+ghost use Rattle.rt_frames.specs.Inside.Flags.{HasFlags};
 
 use crate::armed::{MOST_ARMED, armed_flags, armed_messages};
 use crate::flags::Flags;
@@ -42,6 +42,13 @@ fn capped(sum: u32) -> u32
     ensures { result ≡ cost.capped sum }
 {
     sum.min(BODY_COST + 1)
+}
+
+/// Of a lock, and of its section, round a block of this sum.
+pub(crate) fn lock_cost(inner: u32) -> u32
+    ensures { result ≡ cost.lock_cost inner }
+{
+    capped(inner.saturating_add(2))
 }
 
 /// The core steps of an expression, which are its instructions too.
@@ -135,7 +142,7 @@ impl Measure {
     }
 
     /// Of the blocks of a branch: of both where code is counted, else of the longer one.
-    fn branch(&self, first: u32, second: u32) -> u32
+    fn blocks(&self, first: u32, second: u32) -> u32
         ensures { result ≡ cost.capped (cost.branch_cost self.now first second) }
     {
         if self.is_size {
@@ -143,6 +150,15 @@ impl Measure {
         } else {
             capped(first.max(second))
         }
+    }
+
+    /// Of a branch by this condition, to blocks of these sums.
+    pub(crate) fn branch(&self, condition: &Expr, first: u32, second: u32) -> u32
+        ensures { let test = cost.expression_cost (expression_of condition.now) in
+            result ≡ cost.capped (test + 2 + cost.branch_cost self.now first second) }
+    {
+        let test = expression_cost(condition).saturating_add(2);
+        capped(test.saturating_add(self.blocks(first, second)))
     }
 
     /// The turns of a loop from a number up to another, as they are counted.
@@ -156,6 +172,15 @@ impl Measure {
         }
     }
 
+    /// Of a loop from a number up to another, whose turn has a block of this sum.
+    pub(crate) fn repeat(&self, first: u32, last: u32, turn: u32) -> u32
+        ensures { result ≡ cost.capped (LOOP_COST + cost.turns self.now first last * (turn + TURN_COST)) }
+    {
+        let one = turn.saturating_add(TURN_COST);
+        let all = self.turns(first, last).saturating_mul(one);
+        capped(LOOP_COST.saturating_add(all))
+    }
+
     /// Of a statement.
     #[cycle(block)]
     pub(crate) fn statement(&self, stmt: &Stmt) -> u32
@@ -165,16 +190,12 @@ impl Measure {
             Stmt::Bind(_variable, value) => self.bind(value),
             Stmt::Assign(_atom, expr, _at) => capped(expression_cost(expr).saturating_add(1)),
             Stmt::Branch(condition, first, second) => {
-                let test = expression_cost(condition).saturating_add(2);
-                let blocks = self.branch(self.block(first), self.block(second));
-                capped(test.saturating_add(blocks))
+                self.branch(condition, self.block(first), self.block(second))
             }
             Stmt::Repeat(_variable, first, last, turn) => {
-                let one = self.block(turn).saturating_add(TURN_COST);
-                let all = self.turns(*first, *last).saturating_mul(one);
-                capped(LOOP_COST.saturating_add(all))
+                self.repeat(*first, *last, self.block(turn))
             }
-            Stmt::Locked(_resource, inner, _at) => capped(self.block(inner).saturating_add(2)),
+            Stmt::Locked(_resource, inner, _at) => lock_cost(self.block(inner)),
             Stmt::Emit(expr) => capped(expression_cost(expr).saturating_add(1)),
             Stmt::Pend(_irq) => 1,
             Stmt::Call(spawn) => self.spawn(spawn),
@@ -195,7 +216,7 @@ impl Measure {
 
     /// Of a body, with its end.
     pub fn body(&self, body: &Body) -> u32
-        ensures { result ≡ whole.body_cost self.now (body_of 0 body.now) }
+        ensures { result ≡ whole.body_cost self.now (body_of body.now) }
     {
         capped(self.block(&body.block).saturating_add(1))
     }

@@ -2,9 +2,9 @@ ghost use Rattle.std.specs.Prelude.{◌≡◌, ◌+◌, ◌*◌, ◌==◌, map, 
 ghost use Rattle.rt_app.specs.View.{task_of, app_of};
 ghost use Rattle.rt_ids.specs.Lists.{greatest, is_some_and};
 ghost use Rattle.rt_app.specs.Stack as stack;
-ghost use Rattle.rt_frames.specs.Flags.{flagged, HasFlags, timer_numbers};
-ghost use Rattle.rt_frames.specs.Saturated.{saturated};
-ghost use Rattle.rt_frames.specs.Needs.{task_need, need_at};
+ghost use Rattle.rt_frames.specs.Inside.Flags.{flagged, HasFlags, timer_numbers};
+ghost use Rattle.rt_frames.specs.Inside.Saturated.{saturated};
+ghost use Rattle.rt_frames.specs.Inside.Needs.{task_need, need_at};
 
 use crate::flags::{self, Flags};
 use crate::frame::{frame_words, thread_words};

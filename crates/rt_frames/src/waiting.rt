@@ -3,9 +3,10 @@ ghost use Rattle.rt_ids.specs.Lists.{or_zero};
 ghost use Rattle.rt_app.specs.View.{spawn_of, value_of, statement_of, block_of, body_of, task_of, app_of};
 ghost use Rattle.rt_app.specs.Level as level;
 ghost use Rattle.rt_app.specs.BodyCost as cost;
-ghost use Rattle.rt_app.specs.Waiting as waiting;
+ghost use Rattle.rt_app.specs.Bodies.{task_priority};
+ghost use Rattle.rt_frames.specs.Inside.Waits as waiting;
 ghost use Rattle.rt_ids.specs.declared.limits.TheConstants.{TASKS};
-ghost use Rattle.rt_frames.specs.Flags.{HasFlags};
+ghost use Rattle.rt_frames.specs.Inside.Flags.{HasFlags};
 
 use crate::flags::Flags;
 use crate::level::{is_software, tasks_of_level};
@@ -60,7 +61,7 @@ fn timer_at(ceilings: &Ceilings) -> u8
 
 /// The level of a task, and 0 where there is none.
 fn level_of(app: &App, task: TaskId) -> u8
-    ensures { result ≡ waiting.level_of (app_of app.now) task }
+    ensures { result ≡ task_priority (app_of app.now) task }
 {
     match app.tasks.get(usize::from(task.0)) {
         None => 0,
@@ -136,11 +137,9 @@ fn statement_wait(
             block_wait(app, ceilings, measure, priority, turn)
         }
         Stmt::Locked(resource, inner, _at) => {
-            if priority <= shared_at(ceilings, *resource) {
-                measure.statement(stmt)
-            } else {
-                block_wait(app, ceilings, measure, priority, inner)
-            }
+            let ceiling = shared_at(ceilings, *resource);
+            let own = if_reaches(priority, ceiling, measure.statement(stmt));
+            own.max(block_wait(app, ceilings, measure, priority, inner))
         }
         Stmt::Emit(_expr) => 0,
         Stmt::Pend(_irq) => 0,
@@ -170,7 +169,7 @@ fn block_wait(
 /// The greatest cost of a section of `idle` that counts.
 fn idle_wait(app: &App, ceilings: &Ceilings, measure: &Measure, priority: u8) -> u32
     requires { measure.now ≡ cost.cost_measure (app_of app.now) }
-    ensures { result ≡ waiting.idle_wait (app_of app.now) ceilings.now priority (option_map (body_of 0) app.now.idle) }
+    ensures { result ≡ waiting.idle_wait (app_of app.now) ceilings.now priority (option_map body_of app.now.idle) }
 {
     match &app.idle {
         None => 0,

@@ -1,7 +1,7 @@
 -- The tables after the listings so far.
 use Rattle.std.proofs.Common.{◌≡◌, take}
 use Rattle.std.specs.List.{fold}
-use Rattle.rt_ceil.specs.Tables.{listed}
+use Rattle.rt_ceil.specs.Inside.Tables.{listed}
 use Rattle.rt_ceil.proofs.bodies.count_listed.Given as goal
 
 abbrev pub invariant-loop-listing : goal.invariant-loop-listing

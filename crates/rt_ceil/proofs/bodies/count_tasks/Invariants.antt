@@ -2,7 +2,7 @@
 use Rattle.std.proofs.Common.{◌≡◌, map, take}
 use Rattle.std.specs.List.{fold}
 use Rattle.rt_app.specs.View.{task_of, app_of}
-use Rattle.rt_ceil.specs.Tables.{used_by_task}
+use Rattle.rt_ceil.specs.Inside.Tables.{used_by_task}
 use Rattle.rt_ceil.proofs.bodies.count_tasks.Given as goal
 
 abbrev pub invariant-loop-task : goal.invariant-loop-task

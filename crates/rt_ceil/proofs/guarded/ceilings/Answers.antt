@@ -1,7 +1,7 @@
 use Rattle.std.proofs.Common.{map, ap, ◌∙◌}
 use Rattle.rt_app.specs.View.{task_of}
-use Rattle.rt_ceil.specs.Tables.{Tables}
-use Rattle.rt_ceil.specs.Rows.{timer_row}
+use Rattle.rt_ceil.specs.Inside.Tables.{Tables}
+use Rattle.rt_ceil.specs.Inside.Rows.{timer_row}
 use Rattle.rt_ceil.proofs.Answer.{ceilings_are, free_fits, ready_fits, served_fits}
 use Rattle.rt_ceil.proofs.guarded.ceilings.Goals as goal
 

@@ -1,7 +1,7 @@
 -- The levels of the tasks so far.
 use Rattle.std.proofs.Common.{◌≡◌, map, take}
 use Rattle.rt_app.specs.View.{task_of}
-use Rattle.rt_ceil.specs.Rows as rows
+use Rattle.rt_ceil.specs.Inside.Rows as rows
 use Rattle.rt_ceil.proofs.rows.served_levels.Given as goal
 
 abbrev pub invariant-loop-task : goal.invariant-loop-task

@@ -1,5 +1,5 @@
 use Rattle.rt_app.specs.View.{app_of}
-use Rattle.rt_ceil.specs.Tables.{spawned}
+use Rattle.rt_ceil.specs.Inside.Tables.{spawned}
 use Rattle.rt_ceil.proofs.Blocks.{folded_more, branch_folded, repeat_folded, locked_folded}
 use Rattle.rt_ceil.proofs.spawns.+block.Goals as goal
 

@@ -3,7 +3,7 @@ use Rattle.std.proofs.Common.{◌≡◌, take}
 use Rattle.std.specs.List.{fold}
 use Rattle.rt_app.specs.Spawned.{spawns}
 use Rattle.rt_app.specs.View.{block_of, app_of}
-use Rattle.rt_ceil.specs.Tables.{spawned}
+use Rattle.rt_ceil.specs.Inside.Tables.{spawned}
 use Rattle.rt_ceil.proofs.spawns.+block.Given as goal
 
 abbrev pub invariant-count_block-loop-stmt : goal.invariant-count_block-loop-stmt

@@ -2,7 +2,7 @@
 use Rattle.std.proofs.Common.{◌≡◌, take}
 use Rattle.rt_app.specs.View.{block_of}
 use Rattle.rt_app.specs.Spawned.{spawns}
-use Rattle.rt_frames.specs.Flags.{flagged, armed_by}
+use Rattle.rt_frames.specs.Inside.Flags.{flagged, armed_by}
 use Rattle.rt_frames.proofs.armed.+block.Given as goal
 
 abbrev pub invariant-flag_block-loop-stmt : goal.invariant-flag_block-loop-stmt

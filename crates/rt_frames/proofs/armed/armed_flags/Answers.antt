@@ -1,6 +1,6 @@
 use Rattle.std.proofs.Common.{map, flat_map, ap, ◌∙◌}
 use Rattle.rt_app.specs.View.{task_of, app_of}
-use Rattle.rt_frames.specs.Flags.{flagged, armed_by, task_spawns}
+use Rattle.rt_frames.specs.Inside.Flags.{flagged, armed_by, task_spawns}
 use Rattle.rt_frames.proofs.Spawners.{armed_are}
 use Rattle.rt_frames.proofs.armed.armed_flags.Goals as goal
 

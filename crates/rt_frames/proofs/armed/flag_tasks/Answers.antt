@@ -1,7 +1,7 @@
 use Rattle.std.proofs.Common.{◌∷◌, [], map, flat_map, take, sym, ap, ◌∙◌, append-nil}
 use Rattle.std.proofs.lemmas.Grind.{flat_map-append}
 use Rattle.rt_app.specs.View.{task_of}
-use Rattle.rt_frames.specs.Flags.{flagged, armed_by, task_spawns}
+use Rattle.rt_frames.specs.Inside.Flags.{flagged, armed_by, task_spawns}
 use Rattle.rt_frames.proofs.Sums.{tasks_more}
 use Rattle.rt_frames.proofs.Flagging.{armed_both}
 use Rattle.rt_frames.proofs.armed.flag_tasks.Goals as goal

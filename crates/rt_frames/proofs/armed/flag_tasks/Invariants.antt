@@ -1,7 +1,7 @@
 -- The tasks that the tasks so far arm are flagged.
 use Rattle.std.proofs.Common.{◌≡◌, map, flat_map, take}
 use Rattle.rt_app.specs.View.{task_of}
-use Rattle.rt_frames.specs.Flags.{flagged, armed_by, task_spawns}
+use Rattle.rt_frames.specs.Inside.Flags.{flagged, armed_by, task_spawns}
 use Rattle.rt_frames.proofs.armed.flag_tasks.Given as goal
 
 abbrev pub invariant-loop-task : goal.invariant-loop-task

@@ -1,6 +1,6 @@
 use Rattle.rt_app.specs.View.{app_of}
 use Rattle.rt_app.specs.Stack.{has_handler}
-use Rattle.rt_frames.specs.Bounded.{wait_of}
+use Rattle.rt_frames.specs.Inside.Bounded.{wait_of}
 use Rattle.rt_frames.proofs.Below.{map_below_none, map_below_more}
 use Rattle.rt_frames.proofs.bound.waits_of.Goals as goal
 

@@ -3,7 +3,7 @@ use Rattle.std.proofs.Common.{◌≡◌, map}
 use Rattle.rt_app.specs.View.{app_of}
 use Rattle.rt_ids.specs.Lists.{those_below}
 use Rattle.rt_app.specs.Stack.{has_handler}
-use Rattle.rt_frames.specs.Bounded.{wait_of}
+use Rattle.rt_frames.specs.Inside.Bounded.{wait_of}
 use Rattle.rt_frames.proofs.bound.waits_of.Given as goal
 
 abbrev pub invariant-loop-level : goal.invariant-loop-level

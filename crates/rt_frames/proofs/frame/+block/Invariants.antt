@@ -1,7 +1,7 @@
 -- What the statements so far need.
 use Rattle.std.proofs.Common.{◌≡◌, take}
 use Rattle.rt_app.specs.View.{block_of}
-use Rattle.rt_frames.specs.FrameParts.{block_parts}
+use Rattle.rt_frames.specs.Inside.FrameParts.{block_parts}
 use Rattle.rt_frames.proofs.frame.+block.Given as goal
 
 abbrev pub invariant-block-loop-stmt : goal.invariant-block-loop-stmt

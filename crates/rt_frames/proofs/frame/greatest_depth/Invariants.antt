@@ -3,7 +3,7 @@ use Rattle.std.proofs.Common.{◌≡◌, map, take}
 use Rattle.rt_app.specs.View.{expression_of}
 use Rattle.rt_ids.specs.Lists.{greatest}
 use Rattle.rt_app.specs.Frame.{depth}
-use Rattle.rt_frames.specs.Saturated.{saturated}
+use Rattle.rt_frames.specs.Inside.Saturated.{saturated}
 use Rattle.rt_frames.proofs.frame.greatest_depth.Given as goal
 
 abbrev pub invariant-loop-expr : goal.invariant-loop-expr

@@ -1,6 +1,6 @@
 use Rattle.std.proofs.Common.{◌∷◌, [], map, take}
 use Rattle.rt_app.specs.View.{task_of}
-use Rattle.rt_frames.specs.Flags.{level_numbers}
+use Rattle.rt_frames.specs.Inside.Flags.{level_numbers}
 use Rattle.rt_frames.proofs.Sums.{tasks_more}
 use Rattle.rt_frames.proofs.Flagging.{flagged_both, levels_append}
 use Rattle.rt_frames.proofs.level.flag_levels.Goals as goal

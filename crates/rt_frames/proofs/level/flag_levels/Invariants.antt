@@ -1,7 +1,7 @@
 -- The priorities so far are flagged.
 use Rattle.std.proofs.Common.{◌≡◌, map, take}
 use Rattle.rt_app.specs.View.{task_of}
-use Rattle.rt_frames.specs.Flags.{flagged, level_numbers}
+use Rattle.rt_frames.specs.Inside.Flags.{flagged, level_numbers}
 use Rattle.rt_frames.proofs.level.flag_levels.Given as goal
 
 abbrev pub invariant-loop-task : goal.invariant-loop-task

@@ -1,6 +1,6 @@
 use Rattle.std.proofs.Common.{◌≡◌, map, ap, ◌∙◌, arith}
 use Rattle.rt_app.specs.View.{task_of, app_of}
-use Rattle.rt_frames.specs.Flags.{flagged, level_numbers}
+use Rattle.rt_frames.specs.Inside.Flags.{flagged, level_numbers}
 use Rattle.rt_frames.proofs.Flagging.{flagged_within}
 use Rattle.rt_frames.proofs.Spawners.{levels_are}
 use Rattle.rt_frames.proofs.level.level_flags.Goals as goal

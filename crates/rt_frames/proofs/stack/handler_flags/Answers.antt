@@ -1,7 +1,7 @@
 use Rattle.std.proofs.Common.{map, ap, ◌∙◌}
 use Rattle.rt_app.specs.Tree.{Task}
 use Rattle.rt_app.specs.View.{task_of, app_of}
-use Rattle.rt_frames.specs.Flags.{flagged}
+use Rattle.rt_frames.specs.Inside.Flags.{flagged}
 use Rattle.rt_frames.proofs.Handlers.{handlers_are}
 use Rattle.rt_frames.proofs.stack.handler_flags.Goals as goal
 

@@ -1,5 +1,5 @@
 use Rattle.std.proofs.Common.{arith}
-use Rattle.rt_frames.specs.Needs.{need_at}
+use Rattle.rt_frames.specs.Inside.Needs.{need_at}
 use Rattle.rt_frames.proofs.Handlers.{greatest_more}
 use Rattle.rt_frames.proofs.stack.tasks_need.Goals as goal
 

@@ -2,8 +2,8 @@
 use Rattle.std.proofs.Common.{◌≡◌, map, take}
 use Rattle.rt_app.specs.View.{task_of}
 use Rattle.rt_ids.specs.Lists.{greatest}
-use Rattle.rt_frames.specs.Saturated.{saturated}
-use Rattle.rt_frames.specs.Needs.{need_at}
+use Rattle.rt_frames.specs.Inside.Saturated.{saturated}
+use Rattle.rt_frames.specs.Inside.Needs.{need_at}
 use Rattle.rt_frames.proofs.stack.tasks_need.Given as goal
 
 abbrev pub invariant-loop-task : goal.invariant-loop-task

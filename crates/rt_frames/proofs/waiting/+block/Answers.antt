@@ -1,7 +1,7 @@
-use Rattle.std.proofs.Common.{sym, ◌∙◌, arith}
+use Rattle.std.proofs.Common.{arith}
 use Rattle.rt_app.specs.View.{statement_of, block_of, app_of}
 use Rattle.rt_frames.proofs.Views.{branch_at, repeat_at, locked_at}
-use Rattle.rt_frames.proofs.Waits.{block_wait_more, locked_below}
+use Rattle.rt_frames.proofs.Waits.{block_wait_more, locked_wait}
 use Rattle.rt_frames.proofs.waiting.+block.Goals as goal
 
 pub block_wait-loop-stmt-preserved : goal.block_wait-loop-stmt-preserved
@@ -18,10 +18,8 @@ statement_wait-returns-in-Repeat t c =
     let is = repeat_at c.args.stmt.now c.in-Repeat._variable c.in-Repeat._first c.in-Repeat._last c.in-Repeat.turn c.deref-in-Repeat.result.now c.in-Repeat.is c.deref-in-Repeat.ensures.value in
     rw is c.block_wait-in-Repeat.ensures
 
-pub statement_wait-returns-else-priority-shared_at :
-    goal.statement_wait-returns-else-priority-shared_at
-statement_wait-returns-else-priority-shared_at t c =
-    let is = locked_at c.args.stmt.now c.in-Locked.resource c.in-Locked.inner c.in-Locked._at c.deref-else-priority-shared_at.result.now c.in-Locked.is c.deref-else-priority-shared_at.ensures.value in
-    c.block_wait-else-priority-shared_at.ensures
-    ∙ sym (locked_below (app_of c.args.app.now) c.args.ceilings.now c.args.priority (statement_of c.args.stmt.now) c.in-Locked.resource (block_of c.deref-else-priority-shared_at.result.now) c.in-Locked._at c.shared_at.result is
-    c.shared_at.ensures c.if-priority-shared_at.false)
+pub statement_wait-returns-in-Locked : goal.statement_wait-returns-in-Locked
+statement_wait-returns-in-Locked t c =
+    let is = locked_at c.args.stmt.now c.in-Locked.resource c.in-Locked.inner c.in-Locked._at c.deref-in-Locked.result.now c.in-Locked.is c.deref-in-Locked.ensures.value in
+    locked_wait (app_of c.args.app.now) c.args.ceilings.now c.args.priority c.args.measure.now (statement_of c.args.stmt.now) c.in-Locked.resource (block_of c.deref-in-Locked.result.now) c.in-Locked._at c.shared_at-ceiling.result
+    c.statement.result c.if_reaches-own.result c.block_wait-in-Locked.result c.max-in-Locked.result c.requires is c.shared_at-ceiling.ensures c.statement.ensures c.if_reaches-own.ensures c.block_wait-in-Locked.ensures (omega arith)

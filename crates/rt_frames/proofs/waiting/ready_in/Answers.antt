@@ -3,7 +3,7 @@ use Rattle.std.specs.Option.{option_map}
 use Rattle.std.proofs.lemmas.Iterator.{YieldsList-from_slice}
 use Rattle.std.proofs.lemmas.Iterator.Search.{find_from_yields_List}
 use Rattle.rt_app.specs.declared.ceilings.ReadyCeiling.{ReadyCeiling}
-use Rattle.rt_app.specs.Waiting.{ceiling_or_zero}
+use Rattle.rt_frames.specs.Inside.Waits.{ceiling_or_zero}
 use Rattle.rt_frames.proofs.waiting.ready_in.Goals as goal
 
 pub returns-in-None : goal.returns-in-None

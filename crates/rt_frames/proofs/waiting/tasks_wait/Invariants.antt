@@ -1,7 +1,7 @@
 -- The greatest so far, and that of the tasks that are left.
 use Rattle.std.proofs.Common.{◌≡◌, max, map, drop}
 use Rattle.rt_app.specs.View.{task_of, app_of}
-use Rattle.rt_app.specs.Waiting.{tasks_wait}
+use Rattle.rt_frames.specs.Inside.Waits.{tasks_wait}
 use Rattle.rt_frames.proofs.waiting.tasks_wait.Given as goal
 
 abbrev pub invariant-loop-number : goal.invariant-loop-number

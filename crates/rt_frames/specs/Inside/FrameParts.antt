@@ -6,7 +6,7 @@ use Rattle.rt_app.specs.Variables.{variables_in, variables}
 use Rattle.rt_app.specs.Spawned.{value_spawns, statement_spawns, spawns}
 use Rattle.rt_app.specs.Frame.{depth, spawn_depth, value_depth, statement_depth, block_depth, is_loop, has_loop, statement_locks, locks, spawn_words}
 use Rattle.rt_frames.specs.declared.frame.Parts.{Parts}
-use Rattle.rt_frames.specs.Saturated.{saturated}
+use Rattle.rt_frames.specs.Inside.Saturated.{saturated}
 
 abbrev pub both : Parts → Parts → Parts
 both a b = record {

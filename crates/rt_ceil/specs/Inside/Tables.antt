@@ -1,5 +1,7 @@
--- What one pass over the bodies fills: for each thing that a section guards, the greatest priority of the bodies that use it.
-use Rattle.std.specs.Prelude.{ℕ, max, nat_lt, List, length, slice_get, slice_index, slice_set, replicate, Option, Some, None, if◌then◌else◌}
+-- What one pass over the bodies fills: for each thing that a section guards, the greatest priority of the bodies that
+-- use it.
+use Rattle.std.specs.Prelude.{ℕ, max, nat_lt, List, length, slice_get, slice_index, slice_set, replicate}
+use Rattle.std.specs.Prelude.{Option, Some, None, if◌then◌else◌}
 use Rattle.std.specs.List.{fold}
 use Rattle.rt_app.specs.declared.app.Mono.{Mono}
 use Rattle.rt_app.specs.declared.body.Listed.{Listed}
@@ -18,11 +20,17 @@ pub record Tables : Type 0 where
   pub timer : ℕ
 
 abbrev pub untouched : App → Tables
-untouched app = record { shared = replicate (length app.shared) 0; free = replicate (length app.tasks) 0; ready = replicate PRIORITIES 0; timer = 0 }
+untouched app = record {
+  shared = replicate (length app.shared) 0;
+  free = replicate (length app.tasks) 0;
+  ready = replicate PRIORITIES 0;
+  timer = 0;
+}
 
 -- with the entry at this place at least this, where there is such a place
 abbrev pub raised : List ℕ → ℕ → ℕ → List ℕ
-raised table place priority = if nat_lt place (length table) then slice_set table place (max (slice_index table place) priority) else table
+raised table place priority =
+    if nat_lt place (length table) then slice_set table place (max (slice_index table place) priority) else table
 
 abbrev pub raised_level : List ℕ → Option ℕ → ℕ → List ℕ
 raised_level table None priority = table
@@ -58,7 +66,12 @@ spawned app priority t (After word delay task args at) = record {
 
 -- after a listing by a body of this priority
 abbrev pub listed : ℕ → Tables → Listed → Tables
-listed priority t l = record { shared = raised t.shared l.resource priority; free = t.free; ready = t.ready; timer = t.timer }
+listed priority t l = record {
+  shared = raised t.shared l.resource priority;
+  free = t.free;
+  ready = t.ready;
+  timer = t.timer;
+}
 
 -- after a body of this priority that lists these and does this
 abbrev pub used : App → ℕ → List Listed → Block → Tables → Tables
@@ -74,4 +87,5 @@ used_by_task app t task = used app task.priority task.body.shared task.body.bloc
 
 -- after all bodies
 abbrev pub filled : App → Tables
-filled app = fold (used_by_task app) (used_by_thread app (used_by_thread app (untouched app) app.init) app.idle) app.tasks
+filled app =
+    fold (used_by_task app) (used_by_thread app (used_by_thread app (untouched app) app.init) app.idle) app.tasks

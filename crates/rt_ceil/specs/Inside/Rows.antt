@@ -1,5 +1,7 @@
 -- The ceilings as they are read off the filled tables.
-use Rattle.std.specs.Prelude.{ℕ, ◌+◌, max, Bool, true, false, List, [], ◌∷◌, length, map, nat_lt, slice_index, slice_index_or, slice_set, replicate, Option, Some, None, option_map, if◌then◌else◌}
+use Rattle.std.specs.Prelude.{ℕ, ◌+◌, max, Bool, true, false, List, [], ◌∷◌, length}
+use Rattle.std.specs.Prelude.{map, nat_lt, slice_index, slice_index_or, slice_set, replicate, Option, Some, None}
+use Rattle.std.specs.Prelude.{option_map, if◌then◌else◌}
 use Rattle.std.specs.List.{fold}
 use Rattle.rt_app.specs.declared.app.Mono.{Mono}
 use Rattle.rt_app.specs.declared.ceilings.ReadyCeiling.{ReadyCeiling}
@@ -7,7 +9,7 @@ use Rattle.rt_app.specs.declared.costs.TheConstants.{PRIORITIES}
 use Rattle.rt_app.specs.Tree.{Task}
 use Rattle.rt_app.specs.Level.{is_software}
 use Rattle.rt_ids.specs.Lists.{those_below}
-use Rattle.rt_ceil.specs.Tables.{level_of}
+use Rattle.rt_ceil.specs.Inside.Tables.{level_of}
 
 abbrev pub free_row : Task → ℕ → Option ℕ
 free_row t priority = if is_software t then Some (max t.priority priority) else None

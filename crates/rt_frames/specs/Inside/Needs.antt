@@ -6,7 +6,7 @@ use Rattle.rt_app.specs.Level.{is_software}
 use Rattle.rt_app.specs.Frame.{frame_words}
 
 abbrev pub task_need : Task → ℕ
-task_need t = if is_software t then DISPATCHER_WORDS + frame_words t.body else frame_words t.body
+task_need t = if is_software t then DISPATCHER_WORDS + frame_words t.args t.body else frame_words t.args t.body
 
 -- none where the task has another level
 abbrev pub need_at : ℕ → Task → ℕ

@@ -6,14 +6,18 @@ use Rattle.rt_app.specs.declared.bounds.Wait.{Wait}
 use Rattle.rt_app.specs.Tree.{Body, App}
 use Rattle.rt_app.specs.Cost.{Measure}
 use Rattle.rt_app.specs.BodyCost.{body_cost}
+use Rattle.rt_app.specs.Bodies.{Member}
 use Rattle.rt_app.specs.Ceiling.{Ceilings}
 use Rattle.rt_app.specs.Frame.{frame_words}
-use Rattle.rt_app.specs.Waiting.{wait_within}
-use Rattle.rt_frames.specs.Saturated.{saturated}
+use Rattle.rt_frames.specs.Inside.Waits.{wait_within}
+use Rattle.rt_frames.specs.Inside.Saturated.{saturated}
 
--- its frame up to the greatest number of 32 bits
-abbrev pub saturated_bound : Measure → BodyId → Body → BodyBound
-saturated_bound m id b = record { body = id; frame = saturated (frame_words b); cost = body_cost m b }
+-- a body that takes so many arguments, its frame up to the greatest number of 32 bits
+abbrev pub saturated_bound : Measure → BodyId → ℕ → Body → BodyBound
+saturated_bound m id args b = record { body = id; frame = saturated (frame_words args b); cost = body_cost m b }
+
+abbrev pub member_bound : Measure → Member → BodyBound
+member_bound measure m = saturated_bound measure m.id m.args m.body
 
 abbrev pub wait_of : App → Ceilings → ℕ → Wait
 wait_of app c p = record { level = p; steps = wait_within app c p }

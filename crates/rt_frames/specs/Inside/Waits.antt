@@ -1,0 +1,103 @@
+-- How long a job may wait for jobs of lower priorities, as the code finds it: by cases of statements, tasks and handlers, with the
+-- tables of ceilings.
+use Rattle.std.specs.Prelude.{ℕ, ◌+◌, ◌==◌, max, nat_lt, nat_le, List, [], ◌∷◌, get_or, slice_get, find}
+use Rattle.std.specs.Prelude.{Option, Some, None, if◌then◌else◌}
+use Rattle.rt_ids.specs.Lists.{or_zero}
+use Rattle.rt_app.specs.declared.app.Mono.{Mono}
+use Rattle.rt_app.specs.declared.ceilings.ReadyCeiling.{ReadyCeiling}
+use Rattle.rt_app.specs.declared.costs.TheConstants.{FREE_COST, READY_COST}
+use Rattle.rt_app.specs.Tree.{Spawn, Soon, After, Value, Calc, Now, Call}
+use Rattle.rt_app.specs.Tree.{Statement, Bind, Assign, Branch, Repeat, Locked, Emit, Pend, Spawns, Block, Empty, Then}
+use Rattle.rt_app.specs.Tree.{Body, Task, App}
+use Rattle.rt_app.specs.Bodies.{task_priority}
+use Rattle.rt_app.specs.Level.{is_software, is_armed}
+use Rattle.rt_app.specs.Ceiling.{Ceilings}
+use Rattle.rt_app.specs.Cost.{lock_cost, block_cost}
+use Rattle.rt_app.specs.BodyCost.{cost_measure, dispatcher_section_cost, timer_section_cost}
+
+abbrev pub or_zero_twice : Option (Option ℕ) → ℕ
+or_zero_twice None = 0
+or_zero_twice (Some p) = or_zero p
+
+abbrev pub ceiling_or_zero : Option ReadyCeiling → ℕ
+ceiling_or_zero None = 0
+ceiling_or_zero (Some r) = r.ceiling
+
+-- of a resource, of the free places of a task, of the ready queue of a level
+abbrev pub shared_at : Ceilings → ℕ → ℕ
+shared_at c r = get_or c.shared r 0
+
+abbrev pub free_at : Ceilings → ℕ → ℕ
+free_at c n = or_zero_twice (slice_get c.free n)
+
+abbrev pub ready_at : Ceilings → ℕ → ℕ
+ready_at c p = ceiling_or_zero (find (λ r. r.level == p) c.ready)
+
+-- the cost of a section, where its ceiling is at least the priority
+abbrev pub if_reaches : ℕ → ℕ → ℕ → ℕ
+if_reaches p ceiling cost = if nat_le p ceiling then cost else 0
+
+module _ (app : App) (c : Ceilings) (p : ℕ) where
+  abbrev pub spawn_wait : Spawn → ℕ
+  spawn_wait (Soon task args at) =
+      max (if_reaches p (free_at c task) FREE_COST) (if_reaches p (ready_at c (task_priority app task)) READY_COST)
+  spawn_wait (After word delay task args at) =
+      max (if_reaches p (free_at c task) FREE_COST) (if_reaches p (or_zero c.timer) (timer_section_cost app))
+
+  abbrev pub value_wait : Value → ℕ
+  value_wait (Calc e) = 0
+  value_wait (Now at) = 0
+  value_wait (Call s) = spawn_wait s
+
+  -- the greatest cost of a section that counts
+  abbrev mutual
+    pub statement_wait : Statement → ℕ
+    statement_wait (Bind x v) = value_wait v
+    statement_wait (Assign x e at) = 0
+    statement_wait (Branch e first second) = max (block_wait first) (block_wait second)
+    statement_wait (Repeat x first last turn) = block_wait turn
+    statement_wait (Locked r inner at) =
+        max (if_reaches p (shared_at c r) (lock_cost (block_cost (cost_measure app) inner))) (block_wait inner)
+    statement_wait (Emit e) = 0
+    statement_wait (Pend i) = 0
+    statement_wait (Spawns s) = spawn_wait s
+
+    pub block_wait : Block → ℕ
+    block_wait Empty = 0
+    block_wait (Then s rest) = max (statement_wait s) (block_wait rest)
+
+  abbrev pub idle_wait : Option Body → ℕ
+  idle_wait None = 0
+  idle_wait (Some b) = if nat_lt 0 p then block_wait b.block else 0
+
+  -- the sections of a software task's dispatcher
+  abbrev pub dispatcher_wait : ℕ → Task → ℕ
+  dispatcher_wait n t =
+      max (if_reaches p (ready_at c t.priority) (dispatcher_section_cost app t.priority)) (if_reaches p (free_at c n) FREE_COST)
+
+  abbrev pub task_wait : ℕ → Task → ℕ
+  task_wait n t =
+      if nat_lt t.priority p then max (block_wait t.body.block) (if is_software t then dispatcher_wait n t else 0) else 0
+
+  -- of the tasks from this number on
+  abbrev pub tasks_wait : ℕ → List Task → ℕ
+  tasks_wait n [] = 0
+  tasks_wait n (t ∷ ts) = max (task_wait n t) (tasks_wait (n + 1) ts)
+
+  -- the ready queue of a task that the timer handler moves messages to
+  abbrev pub move_wait : ℕ → Task → ℕ
+  move_wait n t =
+      if is_software t then (if is_armed app n then if_reaches p (ready_at c t.priority) READY_COST else 0) else 0
+
+  -- of the tasks from this number on
+  abbrev pub moves_wait : ℕ → List Task → ℕ
+  moves_wait n [] = 0
+  moves_wait n (t ∷ ts) = max (move_wait n t) (moves_wait (n + 1) ts)
+
+  abbrev pub timer_wait : Option Mono → ℕ
+  timer_wait None = 0
+  timer_wait (Some mono) =
+      if nat_lt mono.priority p then max (if_reaches p (or_zero c.timer) (timer_section_cost app)) (moves_wait 0 app.tasks) else 0
+
+  abbrev pub wait_within : ℕ
+  wait_within = max (idle_wait app.idle) (max (tasks_wait 0 app.tasks) (timer_wait app.mono))
