@@ -1,4 +1,4 @@
--- A resolved block has the statements, the nesting and the variables of the written one, and expressions as deep.
+-- A resolved block has the statements and the nesting of the written one, and expressions as deep.
 use Rattle.std.proofs.Common.{◌≡◌, ℕ, ◌+◌, ◌≤◌, max, List, [], ◌∷◌, map, refl, arith}
 use Rattle.std.specs.List.{AllByRecursion}
 use Rattle.rt_ids.specs.declared.limits.TheConstants.{DEPTH}
@@ -6,27 +6,11 @@ use Rattle.rt_ast.specs.Tree as written
 use Rattle.rt_ast.specs.Tree.{Statement, Bind, Assign, Branch, Repeat, Locked, Emit, Pend, Spawns, Block, Empty, Then, Expression, Num, Read, Oper, Spawn, Soon, After, Value, Calc, Now, Call}
 use Rattle.rt_ast.specs.PrintableBody as source
 use Rattle.rt_ast.specs.PrintableBody.{depth_of, IsPrintableExpression, IsPrintableSpawn, IsPrintableValue, IsPrintableStatement, ArePrintable}
-use Rattle.rt_app.specs.Variables.{variables_in, variables}
 use Rattle.rt_app.specs.Limits as kept
 use Rattle.rt_ids.specs.Lists.{greatest}
 use Rattle.rt_app.specs.Frame.{depth, spawn_depth, value_depth, statement_depth, block_depth}
 use Rattle.rt_resolve.specs.Scope.{Names, inside}
 use Rattle.rt_resolve.specs.Resolving.{expression, spawn, value, statement, block, behind, in_loop, binders_in, binders}
-
-mutual
-  pub variables_in_are : (names : Names) (n : ℕ) (s : Statement) → variables_in (statement names n s) ≡ binders_in s
-  variables_in_are names n (Bind x v) = refl
-  variables_in_are names n (Assign x e) = refl
-  variables_in_are names n (Branch e first second) = rw (variables_are (inside names) n first, variables_are (inside names) (n + binders first) second) refl
-  variables_in_are names n (Repeat x first last turn) = rw (variables_are (in_loop names x n) (n + 1) turn) refl
-  variables_in_are names n (Locked r inner) = variables_are (inside names) n inner
-  variables_in_are names n (Emit e) = refl
-  variables_in_are names n (Pend i) = refl
-  variables_in_are names n (Spawns s) = refl
-
-  pub variables_are : (names : Names) (n : ℕ) (b : Block) → variables (block names n b) ≡ binders b
-  variables_are names n Empty = refl
-  variables_are names n (Then s rest) = rw (variables_in_are names n s, variables_are (behind names n s) (n + binders_in s) rest) refl
 
 mutual
   pub statements_in_are : (names : Names) (n : ℕ) (s : Statement) → kept.statements_in (statement names n s) ≡ source.statements_in s

@@ -6,4 +6,5 @@ pub mod Tested
 pub mod Few
 pub mod Appended
 pub mod KeptBody
+pub mod KeptNumbers
 pub mod Kept

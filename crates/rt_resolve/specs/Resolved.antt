@@ -16,7 +16,6 @@ use Rattle.rt_app.specs.declared.app.Mono.{Mono}
 use Rattle.rt_app.specs.declared.app.Shared.{Shared}
 use Rattle.rt_app.specs.declared.app.Local.{Local}
 use Rattle.rt_app.specs.Tree as tree
-use Rattle.rt_app.specs.Variables.{variables}
 use Rattle.rt_resolve.specs.Scope.{Names, irq_named, shared_named, local_named, or_unknown, inside, with_variable}
 use Rattle.rt_resolve.specs.Resolving.{block}
 
@@ -61,7 +60,6 @@ abbrev pub body : App → List Ident → Body → tree.Body
 body app args b = record {
   shared = map (listed app) b.shared;
   local = map (owned app) b.local;
-  variables = length args + variables (body_block app args b);
   block = body_block app args b;
   at = b.at;
 }

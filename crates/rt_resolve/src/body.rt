@@ -62,7 +62,7 @@ fn resolve_body<'a>(
     requires counted { IsCounted (written.app_of app.now) }
     requires few { length args.now ≤ ARGUMENTS }
     requires short { IsShort (written.body_of body.now) }
-    ensures tree { IfOk result (λ b. built.body_of (length args.now) b ≡ meant.body (written.app_of app.now) args.now (written.body_of body.now)) }
+    ensures tree { IfOk result (λ b. built.body_of b ≡ meant.body (written.app_of app.now) args.now (written.body_of body.now)) }
     ensures faults { OnOk result (faults.new.items ≡ faults.old.items ++ rules_on.body_faults (written.app_of app.now) args.now (written.body_of body.now)) }
 {
     let shared = resolve_shared(alloc, faults, app, &body.shared)?;
@@ -93,7 +93,7 @@ pub(crate) fn resolve_thread(
 ) -> Result<Option<Body>, NoMemory>
     requires counted { IsCounted (written.app_of app.now) }
     requires short { IfThere IsShort (written.option_map written.body_of body.now) }
-    ensures tree { IfOk result (λ o. option_map (built.body_of 0) o ≡ option_map (meant.body (written.app_of app.now) []) (written.option_map written.body_of body.now)) }
+    ensures tree { IfOk result (λ o. option_map built.body_of o ≡ option_map (meant.body (written.app_of app.now) []) (written.option_map written.body_of body.now)) }
     ensures faults { OnOk result (faults.new.items ≡ faults.old.items ++ rules_on.thread_faults (written.app_of app.now) (written.option_map written.body_of body.now)) }
 {
     match body {
