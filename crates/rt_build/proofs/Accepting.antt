@@ -28,7 +28,7 @@ module _ (src : List ℕ) (tree : written.App) (text : IsText src tree) (only : 
 
   -- a text that is read is refused by its first broken rule alone
   pub first_by : (fault other : Fault) → IsBroken src tree fault → IsRefusedText src other → other ≡ fault
-  first_by fault other is (inl refused) = absurd (text_not_refused src tree other text ((refused.1 text.short).met))
+  first_by fault other is (inl refused) = absurd (text_not_refused src tree other text refused)
   first_by fault other is (inr b) =
       let moved = subst (λ t. IsBroken src t other) (only b.tree b.text) b.broken in
       moved.says ∙ ap (fault_at src) (one_first (broken tree) moved.violation is.violation moved.first is.first) ∙ sym is.says

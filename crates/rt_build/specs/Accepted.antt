@@ -1,5 +1,5 @@
--- The texts that are accepted, each as its application, and the refusal of a text that is not: what is met first from the left
--- where it is no text of the grammar within its limits, else the first rule that it breaks.
+-- The texts that are accepted, each as its application, and the refusal of a text that is not: what is met first from
+-- the left where it is no text of the grammar within its limits, else the first rule that it breaks.
 use Rattle.std.specs.Prelude.{◌≡◌, ◌⊎◌, ℕ, List, [], ◌++◌}
 use Rattle.rt_ids.specs.declared.refusal.Fault.{Fault}
 use Rattle.rt_ast.specs.Tree as written
@@ -37,5 +37,16 @@ pub record IsBrokenText (src : List ℕ) (fault : Fault) : Type 0 where
   pub text : IsText src tree
   pub broken : IsBroken src tree fault
 
+-- the refusal of a text that is no application's
 abbrev pub IsRefusedText : List ℕ → Fault → Type 0
 IsRefusedText src fault = IsRefused src fault ⊎ IsBrokenText src fault
+
+-- the text of no application is refused
+abbrev pub NoApplicationIsRefused : Type 0
+NoApplicationIsRefused =
+    (src : List ℕ) (app : App) (fault : Fault) → IsApplication src app → IsRefusedText src fault → ⊥
+
+-- each list of bytes is the text of some application, or has a refusal
+abbrev pub EachIsApplicationOrRefused : Type 0
+EachIsApplicationOrRefused =
+    (src : List ℕ) → ((app : App) × IsApplication src app) ⊎ ((fault : Fault) × IsRefusedText src fault)

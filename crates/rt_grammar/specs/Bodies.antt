@@ -47,4 +47,11 @@ task most before = do
   o ← options OfTask
   args ← arguments
   b ← block most most 1 0
-  gives (record { name = x; binds = o.binds; priority = o.priority; capacity = o.capacity; args = args; body = body_of o b.0 x.at })
+  gives (record {
+    name = x;
+    binds = o.binds;
+    priority = o.priority;
+    capacity = o.capacity;
+    args = args;
+    body = body_of o b.0 x.at;
+  })

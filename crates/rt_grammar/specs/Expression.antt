@@ -2,7 +2,8 @@
 --   Expr = Or [ ("==" | "!=" | "<" | "<=" | ">" | ">=") Or ]     Or = Xor { "|" Xor }     Xor = And { "^" And }
 --   And = Shift { "&" Shift }     Shift = Add { ("<<" | ">>") Add }     Add = Mul { ("+" | "-") Mul }
 --   Mul = Atom { ("*" | "/" | "%") Atom }     Atom = Num | Name | "(" Expr ")"
-use Rattle.std.specs.Prelude.{◌≡◌, ℕ, zero, suc, ◌+◌, max, Bool, true, false, nat_lt, nat_le, codes, List, [], ◌∷◌, Option, Some, None, if◌then◌else◌}
+use Rattle.std.specs.Prelude.{◌≡◌, ℕ, zero, suc, ◌+◌, max, Bool, true, false, nat_lt, nat_le, if◌then◌else◌}
+use Rattle.std.specs.Prelude.{codes, List, [], ◌∷◌, Option, Some, None}
 use Rattle.rt_ids.specs.declared.op.Op.{Op}
 use Rattle.rt_ids.specs.declared.op.Op.TheVariants as op
 use Rattle.rt_ids.specs.declared.limit.Limit.TheVariants as limit
@@ -30,13 +31,17 @@ abbrev pub operator : Signs → Language Op
 operator signs = token (op_of signs) (λ _. free)
 
 abbrev pub comparisons : Signs
-comparisons = (codes "==", op.Eq) ∷ (codes "!=", op.Ne) ∷ (codes "<", op.Lt) ∷ (codes "<=", op.Le) ∷ (codes ">", op.Gt) ∷ (codes ">=", op.Ge) ∷ []
+comparisons =
+    (codes "==", op.Eq) ∷ (codes "!=", op.Ne)
+    ∷ (codes "<", op.Lt) ∷ (codes "<=", op.Le) ∷ (codes ">", op.Gt) ∷ (codes ">=", op.Ge) ∷ []
 
 -- the other operators, the weakest first
 abbrev pub strengths : List Signs
 strengths =
-    ((codes "|", op.Or) ∷ []) ∷ ((codes "^", op.Xor) ∷ []) ∷ ((codes "&", op.And) ∷ []) ∷ ((codes "<<", op.Shl) ∷ (codes ">>", op.Shr) ∷ [])
-    ∷ ((codes "+", op.Add) ∷ (codes "-", op.Sub) ∷ []) ∷ ((codes "*", op.Mul) ∷ (codes "/", op.Div) ∷ (codes "%", op.Rem) ∷ []) ∷ []
+    ((codes "|", op.Or) ∷ []) ∷ ((codes "^", op.Xor) ∷ []) ∷ ((codes "&", op.And) ∷ [])
+    ∷ ((codes "<<", op.Shl) ∷ (codes ">>", op.Shr) ∷ [])
+    ∷ ((codes "+", op.Add) ∷ (codes "-", op.Sub) ∷ [])
+    ∷ ((codes "*", op.Mul) ∷ (codes "/", op.Div) ∷ (codes "%", op.Rem) ∷ []) ∷ []
 
 abbrev pub joined : Op → Operand → Operand → Operand
 joined o left right = record { at = left.at; tree = Oper o left.tree right.tree }

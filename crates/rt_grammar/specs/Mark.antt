@@ -1,7 +1,8 @@
 -- What stands in a text of the grammar: its tokens, each with the limit that it passes, if it passes one; and the end
 -- of each whole expression, where its depth is judged.
-use Rattle.std.specs.Prelude.{ℕ, Bool, List, [], ◌∷◌, Option, None, Some}
+use Rattle.std.specs.Prelude.{◌≡◌, ℕ, Bool, List, [], ◌∷◌, Option, None, Some}
 use Rattle.rt_ids.specs.declared.limit.Limit.{Limit}
+use Rattle.rt_ids.specs.declared.limit.Limit.TheVariants as limit
 use Rattle.rt_lex.specs.Token.{Token}
 
 pub data Mark : Type 0 where
@@ -15,9 +16,13 @@ tokens_of [] = []
 tokens_of (Takes t limit ∷ marks) = t ∷ tokens_of marks
 tokens_of (Ends compares deep ∷ marks) = tokens_of marks
 
+-- the limit that is passed here, with the offset that it is refused at: the token's, or the expression's first token's
+abbrev pub limit_of : Mark → Option (ℕ × Limit)
+limit_of (Takes t None) = None
+limit_of (Takes t (Some passed)) = Some (t.at, passed)
+limit_of (Ends compares None) = None
+limit_of (Ends compares (Some first)) = Some (first, limit.Depth)
+
 -- no limit is passed
 abbrev pub IsWithin : Mark → Type 0
-IsWithin (Takes t None) = Unit {0}
-IsWithin (Takes t (Some limit)) = ⊥
-IsWithin (Ends compares None) = Unit {0}
-IsWithin (Ends compares (Some at)) = ⊥
+IsWithin mark = limit_of mark ≡ None

@@ -81,7 +81,9 @@ local_option owner o = only_if (is_none o.local) (do
   gives (record o { local = Some xs }))
 
 abbrev pub option : Owner → Options → Language Options
-option owner o = binds_option owner o or priority_option owner o or capacity_option owner o or shared_option owner o or local_option owner o
+option owner o =
+    binds_option owner o or priority_option owner o or capacity_option owner o or shared_option owner o
+    or local_option owner o
 
 abbrev pub options : Owner → Language Options
 options owner = or_else no_options (sign (codes "(") >> list (codes ")") (option owner) no_options)

@@ -1,8 +1,6 @@
 -- How far the tokens of a text go with a language.
-use Rattle.std.specs.Prelude.{◌≡◌, ℕ, Bool, false, not, ◌&&◌, ◌||◌, List, [], ◌∷◌, ◌++◌, Option, Some, None}
+use Rattle.std.specs.Prelude.{◌≡◌, Bool, false, not, ◌&&◌, ◌||◌, List, [], ◌∷◌, ◌++◌}
 use Rattle.std.specs.List.{list_any}
-use Rattle.rt_ids.specs.declared.limit.Limit.{Limit}
-use Rattle.rt_ids.specs.declared.limit.Limit.TheVariants as limit
 use Rattle.rt_lex.specs.Token.{Token, is_this_sign}
 use Rattle.rt_grammar.specs.Mark.{Mark, Takes, Ends}
 use Rattle.rt_grammar.specs.Language.{Language}
@@ -26,13 +24,7 @@ Fits (Takes t limit ∷ marks) tokens rest = (behind : List Token) × (tokens �
 Fits (Ends compares deep ∷ marks) tokens rest = (expression_goes_on compares tokens ≡ false) × Fits marks tokens rest
 
 -- the marks begin some text of the language, and are those of the tokens up to the rest
-pub record Reaches {B : Type 0} (language : Language B) (tokens : List Token) (marks : List Mark) (rest : List Token) : Type 0 where
+pub record Reaches {B : Type 0} (language : Language B) (tokens : List Token) (marks : List Mark) (rest : List Token) :
+    Type 0 where
   pub begins : (more : List Mark) × (meaning : B) × language (marks ++ more) meaning
   pub fits : Fits marks tokens rest
-
--- the limit that stands at a mark, and the offset that it is refused at
-abbrev pub Passes : Mark → Option ℕ → Limit → Type 0
-Passes (Takes t None) at what = ⊥
-Passes (Takes t (Some passed)) at what = (at ≡ Some t.at) × (what ≡ passed)
-Passes (Ends compares None) at what = ⊥
-Passes (Ends compares (Some first)) at what = (at ≡ Some first) × (what ≡ limit.Depth)

@@ -1,7 +1,7 @@
 -- Statements in which no block stands.
 --   Simple = "let" Name "=" Value ";" | Name "=" Expr ";" | "emit" Expr ";" | "pend" Name ";" | Spawn ";"
--- A statement is told how many statements of the body stand before it; it means its tree, and how many stand before what is
--- behind it.
+-- A statement is told how many statements of the body stand before it; it means its tree, and how many stand before
+-- what is behind it.
 use Rattle.std.specs.Prelude.{ℕ, suc, codes}
 use Rattle.rt_ast.specs.Tree.{Statement, Bind, Assign, Emit, Pend, Spawns}
 use Rattle.rt_grammar.specs.Language.{Language, gives, ◌>>=◌, ◌>>◌}

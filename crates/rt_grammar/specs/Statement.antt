@@ -1,12 +1,14 @@
 -- Statements and blocks.
 --   Block = "{" { Stmt } "}"
---   Stmt = Simple | "if" Expr Block [ "else" Block ] | "for" Name "in" Num ".." Num Block | "lock" Name { "," Name } Block
--- A statement is told the nesting of the block that it stands in (a body's is 1), and how many statements of the body stand
--- before it; it means its tree, and how many stand before what is behind it.
+--   Stmt = Simple | "if" Expr Block [ "else" Block ] | "for" Name "in" Num ".." Num Block
+--       | "lock" Name { "," Name } Block
+-- A statement is told the nesting of the block that it stands in (a body's is 1), and how many statements of the body
+-- stand before it; it means its tree, and how many stand before what is behind it.
 use Rattle.std.specs.Prelude.{ℕ, zero, suc, codes, List, [], ◌∷◌, ◌++◌}
 use Rattle.rt_ast.specs.Tree.{Statement, Block, Branch, Repeat, Locked, Empty, Then}
 use Rattle.rt_grammar.specs.Language.{Language, gives, ◌>>=◌, ◌>>◌, ◌or◌, or_else, never, repeat}
-use Rattle.rt_grammar.specs.Tokens.{first_of, word, limited_word, sign, limited_sign, name, limited_name, number, limited_number}
+use Rattle.rt_grammar.specs.Tokens.{first_of, word, limited_word, sign, limited_sign}
+use Rattle.rt_grammar.specs.Tokens.{name, limited_name, number, limited_number}
 use Rattle.rt_grammar.specs.Expression.{expression}
 use Rattle.rt_grammar.specs.Limits.{counted, nested, turned}
 use Rattle.rt_grammar.specs.Simple.{Counted, bind, assign, emit, pend, call}

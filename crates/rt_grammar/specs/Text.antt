@@ -1,6 +1,7 @@
--- The texts of applications, and the first refusal of a text that is none: the text is read from left to right, and what is
--- met first is refused. Nothing is said here of how a text is read.
-use Rattle.std.specs.Prelude.{◌≡◌, ◌≢◌, ℕ, ◌<◌, ◌≤◌, List, [], ◌∷◌, ◌++◌, length, Option, Some}
+-- The texts of applications, and the refusal of a text that is none. A text is read from left to right, and what is met
+-- first is refused: a byte that no token begins with, a token with which the text is no beginning of an application (or
+-- its end, where it ends too early), or a limit that is passed. Nothing is said here of how a text is read.
+use Rattle.std.specs.Prelude.{◌≡◌, ◌≢◌, ℕ, ◌<◌, ◌≤◌, List, [], ◌∷◌, ◌++◌, length, Some}
 use Rattle.std.specs.List.{AllByRecursion}
 use Rattle.rt_ids.specs.declared.limit.Limit.{Limit}
 use Rattle.rt_ids.specs.declared.limits.TheConstants.{TEXT_BYTES}
@@ -12,18 +13,26 @@ use Rattle.rt_lex.specs.Token.{Token}
 use Rattle.rt_lex.specs.Tokens.{tokens}
 use Rattle.rt_lex.specs.Place.{place_of}
 use Rattle.rt_ast.specs.Tree.{App}
-use Rattle.rt_grammar.specs.Mark.{Mark, IsWithin}
+use Rattle.rt_grammar.specs.Mark.{Mark, limit_of, IsWithin}
 use Rattle.rt_grammar.specs.Language.{Language}
 use Rattle.rt_grammar.specs.Declaration.{application}
-use Rattle.rt_grammar.specs.Reach.{Fits, Reaches, Passes}
+use Rattle.rt_grammar.specs.Reach.{Fits, Reaches}
 
 -- the grammar
 abbrev pub text : Language App
 text marks app = (most : ℕ) × application most marks app
 
--- the tokens are in the grammar as this tree
+-- the tokens are a text of the grammar, and mean this tree
 abbrev pub IsSpelled : List Token → App → Type 0
 IsSpelled ts app = (marks : List Mark) × text marks app × Fits marks ts []
+
+-- some text of the grammar begins with these tokens
+abbrev pub Begins : List Token → Type 0
+Begins ts = (marks : List Mark) × Reaches text ts marks []
+
+-- as far as the tokens go with the grammar, they pass no limit
+abbrev pub IsUnlimited : List Token → Type 0
+IsUnlimited ts = (marks : List Mark) (left : List Token) → Reaches text ts marks left → AllByRecursion IsWithin marks
 
 -- the text is an application's, as this tree, and passes no limit
 pub record IsText (src : List ℕ) (app : App) : Type 0 where
@@ -33,58 +42,60 @@ pub record IsText (src : List ℕ) (app : App) : Type 0 where
   pub whole : Fits marks (tokens src) []
   pub within : AllByRecursion IsWithin marks
 
+-- a byte that no token begins with stands behind tokens that begin a text, which pass no limit
+pub record IsForeignAt (src : List ℕ) (at : ℕ) : Type 0 where
+  pub short : length src ≤ TEXT_BYTES
+  pub before : List Token
+  pub byte : Token
+  pub behind : List Token
+  pub split : tokens src ≡ before ++ byte ∷ behind
+  pub begins : Begins before
+  pub foreign : byte.kind ≡ kind.Foreign
+  pub unlimited : IsUnlimited (tokens src)
+  pub offset : at ≡ byte.at
+
+-- With the next token these tokens begin no text, and it is no byte that no token begins with; or there is no next
+-- token, and these are no text.
+abbrev pub IsDeadEnd : List Token → List Token → Type 0
+IsDeadEnd before [] = (app : App) → IsSpelled before app → ⊥
+IsDeadEnd before (t ∷ behind) = (Begins (before ++ t ∷ []) → ⊥) × (t.kind ≢ kind.Foreign)
+
 -- the offset of the first of these tokens, or the end of the text
 abbrev pub offset_of : List ℕ → List Token → ℕ
 offset_of src [] = length src
 offset_of src (t ∷ ts) = t.at
 
-abbrev pub IsNotForeign : List Token → Type 0
-IsNotForeign [] = Unit {0}
-IsNotForeign (t ∷ ts) = t.kind ≢ kind.Foreign
+-- the tokens before it begin a text, and pass no limit; with the token here they begin none, or the text ends too early
+pub record IsSyntaxAt (src : List ℕ) (at : ℕ) : Type 0 where
+  pub short : length src ≤ TEXT_BYTES
+  pub before : List Token
+  pub rest : List Token
+  pub split : tokens src ≡ before ++ rest
+  pub begins : Begins before
+  pub dead_end : IsDeadEnd before rest
+  pub unlimited : IsUnlimited (tokens src)
+  pub offset : at ≡ offset_of src rest
 
--- no text of the grammar begins with the tokens up to this rest and the next one, and the tokens are no text of it
-pub record IsDeadEnd (ts rest : List Token) : Type 0 where
-  pub furthest : (marks : List Mark) (left : List Token) → Reaches text ts marks left → length rest ≤ length left
-  pub none : (app : App) → IsSpelled ts app → ⊥
-
--- What is met behind marks that pass no limit, with these tokens left: a byte that is no token, a dead end, or a next mark
--- that passes a limit. It is refused at this offset.
-abbrev pub IsMet : List ℕ → List Mark → List Token → Refusal → ℕ → Type 0
-IsMet src marks rest refusal.TooLong at = ⊥
-IsMet src marks rest refusal.Foreign at = (t : Token) × (more : List Token) × (rest ≡ t ∷ more) × (t.kind ≡ kind.Foreign) × (at ≡ t.at)
-IsMet src marks rest refusal.Syntax at = IsDeadEnd (tokens src) rest × IsNotForeign rest × (at ≡ offset_of src rest)
-IsMet src marks rest (refusal.Limit what) at =
-    (mark : Mark) × (left : List Token) × Reaches text (tokens src) (marks ++ mark ∷ []) left × Passes mark (Some at) what
-IsMet src marks rest (refusal.Rule what) at = ⊥
-
-pub record IsMetAt (src : List ℕ) (fault : Fault) : Type 0 where
+-- the tokens go so far with the grammar that this limit is passed, and none before
+pub record IsLimitAt (src : List ℕ) (what : Limit) (at : ℕ) : Type 0 where
   pub short : length src ≤ TEXT_BYTES
   pub marks : List Mark
-  pub rest : List Token
-  pub reached : Reaches text (tokens src) marks rest
+  pub mark : Mark
+  pub left : List Token
+  pub reached : Reaches text (tokens src) (marks ++ mark ∷ []) left
   pub within : AllByRecursion IsWithin marks
+  pub passes : limit_of mark ≡ Some (at, what)
+
+-- what stands at the offset where a text is refused so; that it is too long comes before all else, at its first byte
+abbrev pub IsRefusedAt : List ℕ → Refusal → ℕ → Type 0
+IsRefusedAt src refusal.TooLong at = (TEXT_BYTES < length src) × (at ≡ 0)
+IsRefusedAt src refusal.Foreign at = IsForeignAt src at
+IsRefusedAt src refusal.Syntax at = IsSyntaxAt src at
+IsRefusedAt src (refusal.Limit what) at = IsLimitAt src what at
+IsRefusedAt src (refusal.Rule what) at = ⊥
+
+-- the refusal of a text, with its line and column
+pub record IsRefused (src : List ℕ) (fault : Fault) : Type 0 where
   pub at : ℕ
-  pub met : IsMet src marks rest fault.refusal at
+  pub stands : IsRefusedAt src fault.refusal at
   pub place : fault.place ≡ place_of src at
-
--- the tokens pass no limit, as far as they go with the grammar
-abbrev pub IsUnlimited : List Token → Type 0
-IsUnlimited ts = (marks : List Mark) (mark : Mark) (left : List Token) (at : Option ℕ) (what : Limit) → Reaches text ts (marks ++ mark ∷ []) left → Passes mark at what → ⊥
-
--- what is no limit is refused only where no limit is met before, as that of an expression that ends right there
-abbrev pub IsFirst : List Token → Refusal → Type 0
-IsFirst ts refusal.TooLong = Unit {0}
-IsFirst ts refusal.Foreign = IsUnlimited ts
-IsFirst ts refusal.Syntax = IsUnlimited ts
-IsFirst ts (refusal.Limit what) = Unit {0}
-IsFirst ts (refusal.Rule what) = Unit {0}
-
-pub record IsRefusedAt (src : List ℕ) (fault : Fault) : Type 0 where
-  pub met : IsMetAt src fault
-  pub first : IsFirst (tokens src) fault.refusal
-
--- the first refusal of a text: that it is too long comes before all others, and is refused at its first byte
-abbrev pub IsRefused : List ℕ → Fault → Type 0
-IsRefused src fault =
-    (TEXT_BYTES < length src → (fault.refusal ≡ refusal.TooLong) × (fault.place ≡ record { line = 1; col = 1 }))
-    × (length src ≤ TEXT_BYTES → IsRefusedAt src fault)

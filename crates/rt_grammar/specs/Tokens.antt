@@ -1,5 +1,6 @@
 -- The tokens of the grammar, and the lists that it is made of.
-use Rattle.std.specs.Prelude.{ℕ, ◌^◌, Bool, not, nat_lt, codes, List, [], ◌∷◌, ◌++◌, length, Option, Some, None, if◌then◌else◌}
+use Rattle.std.specs.Prelude.{ℕ, ◌^◌, Bool, not, nat_lt, codes, List, [], ◌∷◌, ◌++◌, length, if◌then◌else◌}
+use Rattle.std.specs.Prelude.{Option, Some, None}
 use Rattle.rt_ids.specs.declared.limit.Limit.{Limit}
 use Rattle.rt_ids.specs.declared.limit.Limit.TheVariants as limit
 use Rattle.rt_ids.specs.declared.limits.TheConstants.{NAME_BYTES}

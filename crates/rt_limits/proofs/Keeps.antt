@@ -1,6 +1,6 @@
 -- What holds of the meaning of each text of a language, where its tokens are of their kinds and pass no limit: of each form of
 -- the grammar, once it holds of those that it is made of.
-use Rattle.std.proofs.Common.{◌≡◌, ℕ, zero, suc, ◌<◌, ◌≤◌, Bool, true, List, [], ◌∷◌, ◌++◌, length, None, refl, sym, subst, inl, inr, length-append, arith}
+use Rattle.std.proofs.Common.{◌≡◌, ℕ, zero, suc, ◌<◌, ◌≤◌, Bool, true, List, [], ◌∷◌, ◌++◌, length, None, Some, refl, sym, subst, inl, inr, length-append, arith}
 use Rattle.std.specs.List.{AllByRecursion}
 use Rattle.rt_lemmas.proofs.Lists.{all_push}
 use Rattle.rt_lex.specs.Token.{Token}
@@ -24,9 +24,9 @@ sound_marks src [] ts rest fits within longest = tt
 sound_marks src (Takes t None ∷ marks) ts rest (behind, e, fits) (w, within) longest =
     let all : AllByRecursion (IsLongest src) (t ∷ behind) = subst (AllByRecursion (IsLongest src)) e longest in
     ((refl, all.0.kind), sound_marks src marks behind rest fits within all.1)
-sound_marks src (Takes t passed ∷ marks) ts rest fits (w, within) longest = absurd w
+sound_marks src (Takes t (Some what) ∷ marks) ts rest fits (w, within) longest = absurd cc
 sound_marks src (Ends compares None ∷ marks) ts rest (stops, fits) (w, within) longest = (refl, sound_marks src marks ts rest fits within longest)
-sound_marks src (Ends compares deep ∷ marks) ts rest fits (w, within) longest = absurd w
+sound_marks src (Ends compares (Some at) ∷ marks) ts rest fits (w, within) longest = absurd cc
 
 sound_front : (a b : List Mark) → AllSound (a ++ b) → AllSound a
 sound_front [] b all = tt

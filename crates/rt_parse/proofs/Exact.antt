@@ -1,14 +1,14 @@
 -- A reader that is exact for a language: it reads the texts of the language that pass no limit, and stops at the first
 -- token with which no text goes on, or at the first limit that is passed.
-use Rattle.std.proofs.Common.{◌≡◌, ℕ, suc, ◌≤◌, Bool, true, false, List, [], ◌∷◌, ◌++◌, length, Option, Result, Ok, Err}
+use Rattle.std.proofs.Common.{◌≡◌, ℕ, suc, ◌≤◌, Bool, true, false, List, [], ◌∷◌, ◌++◌, length, Option, Some, Result, Ok, Err}
 use Rattle.std.specs.Prelude.{◌⊎◌}
 use Rattle.std.specs.List.{AllByRecursion}
 use Rattle.rt_ids.specs.declared.limit.Limit.{Limit}
 use Rattle.rt_ids.specs.declared.refusal.Refusal.TheVariants as refusal
 use Rattle.rt_lex.specs.Token.{Token}
-use Rattle.rt_grammar.specs.Mark.{Mark, Takes, Ends, IsWithin}
+use Rattle.rt_grammar.specs.Mark.{Mark, Takes, Ends, limit_of, IsWithin}
 use Rattle.rt_grammar.specs.Language.{Language, ◌>>=◌}
-use Rattle.rt_grammar.specs.Reach.{Fits, Reaches, Passes, goes_on}
+use Rattle.rt_grammar.specs.Reach.{Fits, Reaches, goes_on}
 use Rattle.rt_parse.specs.Reading as reading
 use Rattle.rt_parse.specs.Reading.{Reader, wrong_at, begins_with}
 use Rattle.rt_parse.specs.declared.stop.Found.{Found}
@@ -35,6 +35,10 @@ pub record IsWrong {B : Type 0} (language : Language B) (tokens : List Token) (f
   pub most : (others : List Mark) (left : List Token) → Reaches language tokens others left → IsFront others marks
   pub none : (others : List Mark) (other : B) → language others other → Fits others tokens [] → ⊥
   pub is : found ≡ wrong_at rest
+
+-- the limit that is passed at a mark, and the offset that it is refused at
+abbrev pub Passes : Mark → Option ℕ → Limit → Type 0
+Passes mark at what = (offset : ℕ) × (at ≡ Some offset) × (limit_of mark ≡ Some (offset, what))
 
 -- the tokens begin some text of the language, and pass a limit at its last mark
 pub record IsLimited {B : Type 0} (language : Language B) (tokens : List Token) (at : Option ℕ) (what : Limit) : Type 0 where

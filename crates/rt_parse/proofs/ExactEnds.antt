@@ -73,8 +73,8 @@ module _ {B : Type 0} (e : Operand × Bool) (K : Expression → Language B) wher
   ends_outcome tokens read stop some exact = go (nat_lt DEPTH (depth e.0.tree)) refl
     where
       go : (deep : Bool) → nat_lt DEPTH (depth e.0.tree) ≡ deep → Outcome (ends e >>= K) tokens (if deep then Err (record { at = Some e.0.at; refusal = refusal.Limit limit.Depth }) else read)
-      go false is = outcome_marked _ _ _ _ _ (ends_marked false is tokens stop) tt read (exact is)
-      go true is = outcome_limited _ _ _ _ _ (ends_marked true is tokens stop) (Some e.0.at) limit.Depth (refl, refl) some
+      go false is = outcome_marked _ _ _ _ _ (ends_marked false is tokens stop) refl read (exact is)
+      go true is = outcome_limited _ _ _ _ _ (ends_marked true is tokens stop) (Some e.0.at) limit.Depth (e.0.at, refl, refl) some
 
 -- The end of an expression is read where the next token does not go on with it.
 pub reads_ends : {B C : Type 0} {goes : Expression → Token → Bool} {value : Expression → C} (e : Operand × Bool) (deep : Bool) (at : ℕ) (tree : C)

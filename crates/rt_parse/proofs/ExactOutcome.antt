@@ -6,10 +6,10 @@ use Rattle.rt_ids.specs.declared.refusal.Refusal.TheVariants as refusal
 use Rattle.rt_lex.specs.Token.{Token}
 use Rattle.rt_grammar.specs.Mark.{Mark, IsWithin}
 use Rattle.rt_grammar.specs.Language.{Language}
-use Rattle.rt_grammar.specs.Reach.{Fits, Reaches, Passes}
+use Rattle.rt_grammar.specs.Reach.{Fits, Reaches}
 use Rattle.rt_parse.specs.Reading.{wrong_at}
 use Rattle.rt_parse.specs.declared.stop.Found.{Found}
-use Rattle.rt_parse.proofs.Exact.{IsFront, Outcome, IsInhabited}
+use Rattle.rt_parse.proofs.Exact.{IsFront, Passes, Outcome, IsInhabited}
 
 -- no text of the language begins with the tokens' first, and none is empty where they are
 pub record IsBlocked {B : Type 0} (language : Language B) (tokens : List Token) : Type 0 where

@@ -77,8 +77,8 @@ module _ {A B : Type 0} (meaning : Token → Option A) (limit : A → Option Lim
   module _ (read : A → List Token → Result B Found) (most : ℕ) (some : (x : A) → IsInhabited (K x)) (exact : (x : A) → IsExact (K x) (read x) most) where
     outcome_token : (t : Token) (tokens : List Token) (x : A) → meaning t ≡ Some x → length tokens ≤ most → (l : Option Limit) → limit x ≡ l
         → Outcome (token meaning limit >>= K) (t ∷ tokens) (reading.◌>>=◌ (unless_limited t.at l x tokens) (λ got. read got.0 got.1))
-    outcome_token t tokens x em le None el = outcome_marked _ _ _ _ _ (token_marked t tokens x None em el) tt (read x tokens) (exact x tokens le)
-    outcome_token t tokens x em le (Some what) el = outcome_limited _ _ _ _ _ (token_marked t tokens x (Some what) em el) (Some t.at) what (refl, refl) (some x)
+    outcome_token t tokens x em le None el = outcome_marked _ _ _ _ _ (token_marked t tokens x None em el) refl (read x tokens) (exact x tokens le)
+    outcome_token t tokens x em le (Some what) el = outcome_limited _ _ _ _ _ (token_marked t tokens x (Some what) em el) (Some t.at) what (t.at, refl, refl) (some x)
 
     outcome_meaning : IsInhabited (token meaning limit >>= K) → (t : Token) (tokens : List Token) → length tokens ≤ most → (o : Option A) → meaning t ≡ o
         → Outcome (token meaning limit >>= K) (t ∷ tokens) (reading.◌>>=◌ (take_meaning o limit t tokens) (λ got. read got.0 got.1))

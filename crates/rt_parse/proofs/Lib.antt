@@ -42,14 +42,15 @@ pub mod ReadsOptions
 pub mod ReadsTask
 pub mod ReadsApplication
 pub mod WholeFronts
+pub mod WholeBegins
 pub mod Whole
 pub mod Known
 pub mod KnownStatement
 pub mod KnownApplication
-pub mod WholeOnly
-pub mod WholeRefused
 pub mod Shrinks
 pub mod ShrinksStatement
 pub mod ShrinksApplication
 pub mod WholeExact
+pub mod WholeOnly
+pub mod WholeRefused
 pub mod Refusals

@@ -23,7 +23,7 @@ module _ {A B : Type 0} (meaning : Token → Option A) (limit : A → Option Lim
   closed_token : (t : Token) (tokens : List Token) (x : A) → meaning t ≡ Some x → (l : Option Limit) → limit x ≡ l
       → Outcome (token meaning limit >>= K) (t ∷ tokens) (reading.◌>>=◌ (unless_limited t.at l x tokens) (λ got. read got.0 got.1))
   closed_token t tokens x em None el = let e : limit x ≡ Some (always x).0 = (always x).1 in absurd cc
-  closed_token t tokens x em (Some what) el = outcome_limited _ _ _ _ _ (token_marked meaning limit K t tokens x (Some what) em el) (Some t.at) what (refl, refl) (some x)
+  closed_token t tokens x em (Some what) el = outcome_limited _ _ _ _ _ (token_marked meaning limit K t tokens x (Some what) em el) (Some t.at) what (t.at, refl, refl) (some x)
 
   closed_meaning : (t : Token) (tokens : List Token) (o : Option A) → meaning t ≡ o
       → Outcome (token meaning limit >>= K) (t ∷ tokens) (reading.◌>>=◌ (take_meaning o limit t tokens) (λ got. read got.0 got.1))

@@ -123,7 +123,7 @@ pub shrinks_closed : {A B : Type 0} {meaning : Token → Option A} {limit : A �
 shrinks_closed {A} {B} {meaning = meaning} {limit = limit} {M = M} {M' = M'} always some = record { some = some; whole = λ marks y l within. absurd (passed marks y l within); front = front }
   where
     stands : (m : Mark) (t : Token) (l : Option Limit) (what : Limit) → m ≡ Takes t l → l ≡ Some what → IsWithin m → ⊥
-    stands m t l what e f within = subst IsWithin (e ∙ ap (Takes t) f) within
+    stands m t l what e f within = let passed : IsWithin (Takes t (Some what)) = subst IsWithin (e ∙ ap (Takes t) f) within in absurd cc
 
     passed : (marks : List Mark) (y : B) → (token meaning limit >>= M) marks y → AllWithin marks → ⊥
     passed [] y l within = let b : IsBehindToken meaning limit M [] y = behind_token meaning limit M [] y l in let e : [] ≡ Takes b.t (limit b.x) ∷ b.back = b.is in absurd cc

@@ -1,4 +1,4 @@
--- The reader of texts is exact for the grammar, whatever the bound on parentheses and blocks inside each other.
+-- The reader of texts is exact for the grammar, with any number of parentheses and blocks inside each other.
 use Rattle.std.proofs.Common.{◌≡◌, ℕ, List, [], ◌∷◌, ◌++◌, Option, Result, Ok, Err, refl, sym, ap, ◌∙◌, subst, inl, inr, append_assoc, arith}
 use Rattle.std.specs.Prelude.{◌⊎◌}
 use Rattle.std.specs.List.{AllByRecursion}
@@ -8,16 +8,14 @@ use Rattle.rt_lex.specs.Token.{Token}
 use Rattle.rt_ast.specs.Tree.{App}
 use Rattle.rt_grammar.specs.Mark.{Mark, IsWithin}
 use Rattle.rt_grammar.specs.Declaration.{application}
-use Rattle.rt_grammar.specs.Reach.{Passes}
 use Rattle.rt_grammar.specs.Text.{text}
 use Rattle.rt_parse.specs.ReadingDeclaration.{text_at}
 use Rattle.rt_parse.specs.declared.stop.Found.{Found}
-use Rattle.rt_parse.proofs.Exact.{IsFront, IsExact, IsRead, IsWrong, IsLimited, Outcome}
+use Rattle.rt_parse.proofs.Exact.{IsFront, IsRead, IsWrong, IsLimited, Passes, Outcome}
 use Rattle.rt_parse.proofs.ShrinksApplication.{shrinks_application}
 use Rattle.rt_parse.proofs.LargerDeclaration.{larger}
-use Rattle.rt_parse.proofs.WholeFronts.{within_not}
+use Rattle.rt_parse.proofs.WholeFronts.{within_not, last_front}
 use Rattle.rt_parse.proofs.Whole.{bound, bounded, outcome, of_bound, to_bound, wrong_no_limit}
-use Rattle.rt_parse.proofs.WholeOnly.{last_front}
 
 front_then : (a b c : List Mark) → IsFront a b → IsFront b c → IsFront a c
 front_then a b c (more, e) (rest, f) = (more ++ rest, f ∙ ap (λ (ms : List Mark). ms ++ rest) e ∙ append_assoc a more rest)
@@ -105,14 +103,11 @@ module _ (ts : List Token) where
             either (limited m).0 v.marks v.mark v.passes v.within
             (v.most (l.marks ++ l.mark ∷ []) l.rest (record { begins = (l.reached.begins.0, l.reached.begins.1, to_larger m _ _ l.reached.begins.2); fits = l.reached.fits }))
 
-  text_outcome : (read : Result App Found) → text_at ts ≡ read → Outcome text ts read
+  -- what is read of the tokens, or found in them
+  pub text_outcome : (read : Result App Found) → text_at ts ≡ read → Outcome text ts read
   text_outcome (Ok app) e = read_text app e
   text_outcome (Err found) e = go (outcome 0 ts (Err found) e)
     where
       go : Outcome (application (bound 0)) ts (Err found) → Outcome text ts (Err found)
       go (inl w) = inl (wrong_text found e w)
       go (inr (what, f, l)) = inr (what, f, limited_text found e what f l)
-
--- the tokens of any list, of any length
-pub whole_exact : (n : ℕ) → IsExact text text_at n
-whole_exact n ts le = text_outcome ts (text_at ts) refl

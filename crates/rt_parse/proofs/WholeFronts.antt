@@ -1,14 +1,12 @@
 -- Marks that are a front of others, and the tokens that they leave.
-use Rattle.std.proofs.Common.{◌≡◌, ℕ, zero, suc, ◌≤◌, List, [], ◌∷◌, ◌++◌, length, Option, Some, None, refl, sym, ap, ◌∙◌, subst, arith, length-append}
+use Rattle.std.proofs.Common.{◌≡◌, ℕ, ◌≤◌, List, [], ◌∷◌, ◌++◌, length, Option, refl, sym, ap, ◌∙◌, subst, inl, inr, arith, length-append}
+use Rattle.std.specs.Prelude.{◌⊎◌}
 use Rattle.std.specs.List.{AllByRecursion}
 use Rattle.rt_ids.specs.declared.limit.Limit.{Limit}
 use Rattle.rt_lex.specs.Token.{Token}
-use Rattle.rt_lex.specs.Tokens.{with_front, tokens_behind, tokens}
-use Rattle.rt_lex.specs.declared.token.Kind.{Kind}
 use Rattle.rt_grammar.specs.Mark.{Mark, Takes, Ends, IsWithin}
-use Rattle.rt_grammar.specs.Reach.{Fits, Passes}
-use Rattle.rt_parse.specs.Reading.{next_offset}
-use Rattle.rt_parse.proofs.Exact.{IsFront}
+use Rattle.rt_grammar.specs.Reach.{Fits}
+use Rattle.rt_parse.proofs.Exact.{IsFront, Passes}
 
 pub fits_suffix : (marks : List Mark) (ts rest : List Token) → Fits marks ts rest → (front : List Token) × (ts ≡ front ++ rest)
 fits_suffix [] ts rest fits = ([], fits)
@@ -50,17 +48,43 @@ pub within_behind : (a b : List Mark) → AllByRecursion IsWithin (a ++ b) → A
 within_behind [] b all = all
 within_behind (m ∷ a) b (first, all) = within_behind a b all
 
-pub passes_none : (mark : Mark) (at : Option ℕ) (what : Limit) → Passes mark at what → IsWithin mark → ⊥
-passes_none (Takes t None) at what passes within = passes
-passes_none (Takes t (Some passed)) at what passes within = within
-passes_none (Ends compares None) at what passes within = passes
-passes_none (Ends compares (Some first)) at what passes within = within
+passes_none : (mark : Mark) (at : Option ℕ) (what : Limit) → Passes mark at what → IsWithin mark → ⊥
+passes_none mark at what (offset, e, f) within = absurd cc
 
 -- marks that pass no limit do not begin with some of which the last passes one
 pub within_not : (others : List Mark) (mark : Mark) (at : Option ℕ) (what : Limit) (marks : List Mark) → Passes mark at what → IsFront (others ++ mark ∷ []) marks → AllByRecursion IsWithin marks → ⊥
 within_not others mark at what marks passes (more, e) within =
     let all : AllByRecursion IsWithin (others ++ mark ∷ []) = within_front (others ++ mark ∷ []) more (subst (AllByRecursion IsWithin) e within) in
     passes_none mark at what passes (within_behind others (mark ∷ []) all).0
+
+-- what ends with a mark begins with all of it, or before it
+pub last_front : (a b : List Mark) (x : Mark) → IsFront b (a ++ x ∷ []) → (b ≡ a ++ x ∷ []) ⊎ IsFront b a
+last_front a [] x front = inr (a, refl)
+last_front [] (m ∷ []) x (more, e) = inl cc
+last_front [] (m ∷ n ∷ b) x (more, e) = absurd cc
+last_front (n ∷ a) (m ∷ b) x (more, e) =
+    let same : n ≡ m = cc in
+    go (last_front a b x (more, (let tail : a ++ x ∷ [] ≡ b ++ more = cc in tail)))
+  where
+    go : (b ≡ a ++ x ∷ []) ⊎ IsFront b a → (m ∷ b ≡ n ∷ a ++ x ∷ []) ⊎ IsFront (m ∷ b) (n ∷ a)
+    go (inl f) = inl cc
+    go (inr (others, f)) = inr (others, cc)
+
+last_same : (a b : List Mark) (x y : Mark) → a ++ x ∷ [] ≡ b ++ y ∷ [] → x ≡ y
+last_same [] [] x y e = cc
+last_same [] (m ∷ []) x y e = absurd cc
+last_same [] (m ∷ n ∷ b) x y e = absurd cc
+last_same (m ∷ []) [] x y e = absurd cc
+last_same (m ∷ n ∷ a) [] x y e = absurd cc
+last_same (m ∷ a) (n ∷ b) x y e = last_same a b x y (let tail : a ++ x ∷ [] ≡ b ++ y ∷ [] = cc in tail)
+
+-- marks that each pass a limit at their last mark, of which one begins the other, are the same
+pub limits_same : (a b : List Mark) (x y : Mark) (at : Option ℕ) (what : Limit) → Passes x at what → AllByRecursion IsWithin b → IsFront (a ++ x ∷ []) (b ++ y ∷ []) → x ≡ y
+limits_same a b x y at what passes within front = go (last_front b (a ++ x ∷ []) y front)
+  where
+    go : (a ++ x ∷ [] ≡ b ++ y ∷ []) ⊎ IsFront (a ++ x ∷ []) b → x ≡ y
+    go (inl e) = last_same a b x y e
+    go (inr f) = absurd (within_not a x at what b passes f within)
 
 -- Suffixes of a list that are as long are the same.
 
@@ -69,51 +93,3 @@ suffix_same [] [] r s e same = e
 suffix_same [] (t ∷ b) r s e same = let n : length r ≡ length (t ∷ b ++ s) = ap length e in let m : length (b ++ s) ≡ _ = length-append b s in absurd (omega (arith, n, m, same))
 suffix_same (t ∷ a) [] r s e same = let n : length (t ∷ a ++ r) ≡ length s = ap length e in let m : length (a ++ r) ≡ _ = length-append a r in absurd (omega (arith, n, m, same))
 suffix_same (t ∷ a) (u ∷ b) r s e same = suffix_same a b r s (let tail : a ++ r ≡ b ++ s = cc in tail) same
-
--- The tokens of a text stand behind each other.
-
-abbrev pub IsRising : ℕ → List Token → Type 0
-IsRising k [] = Unit {0}
-IsRising k (t ∷ ts) = (k ≤ t.at) × IsRising (suc t.at) ts
-
-rising_less : (j k : ℕ) (ts : List Token) → j ≤ k → IsRising k ts → IsRising j ts
-rising_less j k [] le rising = tt
-rising_less j k (t ∷ ts) le (first, rising) = (omega arith, rising)
-
-rising_front : (kind : Option Kind) (at : ℕ) (text : List ℕ) (ts : List Token) → IsRising (suc at) ts → IsRising at (with_front kind at text ts)
-rising_front None at text ts rising = rising_less at (suc at) ts (omega arith) rising
-rising_front (Some kind) at text ts rising = (omega arith, rising)
-
-rising_behind : (n at : ℕ) (text : List ℕ) → IsRising at (tokens_behind n at text)
-rising_behind n at [] = tt
-rising_behind (suc n) at (b ∷ text) = rising_less at (suc at) _ (omega arith) (rising_behind n (suc at) text)
-rising_behind zero at (b ∷ text) = rising_front _ at _ _ (rising_behind _ (suc at) text)
-
-pub rising_tokens : (src : List ℕ) → IsRising 0 (tokens src)
-rising_tokens src = rising_behind 0 0 src
-
--- a rest that is offered behind this offset does not begin before
-rising_rest : (k : ℕ) (a : List Token) (t : Token) (r : List Token) → IsRising k (a ++ t ∷ r) → k ≤ t.at
-rising_rest k [] t r (first, rising) = first
-rising_rest k (u ∷ a) t r (first, rising) = let le : suc u.at ≤ t.at = rising_rest (suc u.at) a t r rising in omega arith
-
-later : (t : Token) (a r : List Token) → IsRising (suc t.at) (a ++ r) → next_offset r ≡ Some t.at → ⊥
-later t a [] rising e = absurd cc
-later t a (u ∷ r) rising e = let same : u.at ≡ t.at = cc in let le : suc t.at ≤ u.at = rising_rest (suc t.at) a u r rising in absurd (omega arith)
-
--- rests that begin at the same offset are the same
-pub offset_same : (k : ℕ) (a b r s ts : List Token) → IsRising k ts → ts ≡ a ++ r → ts ≡ b ++ s → next_offset r ≡ next_offset s → r ≡ s
-offset_same k [] [] r s ts rising e f same = sym e ∙ f
-offset_same k [] (t ∷ b) r s ts rising e f same =
-    let rises : IsRising k (t ∷ b ++ s) = subst (IsRising k) f rising in
-    let g : r ≡ t ∷ b ++ s = sym e ∙ f in
-    absurd (later t b s rises.1 (sym same ∙ ap next_offset g))
-offset_same k (t ∷ a) [] r s ts rising e f same =
-    let rises : IsRising k (t ∷ a ++ r) = subst (IsRising k) e rising in
-    let g : s ≡ t ∷ a ++ r = sym f ∙ e in
-    absurd (later t a r rises.1 (same ∙ ap next_offset g))
-offset_same k (t ∷ a) (u ∷ b) r s ts rising e f same =
-    let rises : IsRising k (t ∷ a ++ r) = subst (IsRising k) e rising in
-    let both : t ∷ a ++ r ≡ u ∷ b ++ s = sym e ∙ f in
-    let tail : a ++ r ≡ b ++ s = cc in
-    offset_same (suc t.at) a b r s (a ++ r) rises.1 refl tail same

@@ -13,3 +13,4 @@ pub mod ReadingBodies
 pub mod ReadingDeclaration
 pub mod DeclarationView
 pub mod Fault
+pub mod Laws

@@ -4,6 +4,7 @@
 mod body;
 mod declaration;
 mod expression;
+pub mod laws;
 mod list;
 mod statement;
 mod stop;

@@ -21,8 +21,8 @@ const TOO_LONG: Fault = Fault {
     refusal: Refusal::TooLong,
 };
 
-/// The tree of an application text, or its first refusal: that it is too long, or else what is met first from the left, a
-/// byte that no token begins with, a token with which the text is no beginning of an application (or its end, where
+/// The tree of an application text, or its first refusal: that it is too long, or else what is met first from the left,
+/// a byte that no token begins with, a token with which the text is no beginning of an application (or its end, where
 /// it ends too early), or a limit that is passed.
 pub fn parse(alloc: Global, src: &[u8]) -> Result<AppTree, Refused>
     ensures ok { IfOk result (λ tree. IsText src.now (app_of tree)) }

@@ -220,7 +220,7 @@ same_depth e t h = sym (depth_bare t) ∙ ap depth h ∙ depth_bare e ∙ depth_
 
 is_within_ends : (compares deep : Bool) (at : ℕ) → deep ≡ false → IsWithin (Ends compares (cond deep (Some at) None))
 is_within_ends compares true at e = absurd cc
-is_within_ends compares false at e = tt
+is_within_ends compares false at e = refl
 
 read_ends : (c : Operand × Bool) (e : Expression) (Y : List ℕ) → IsCompared e c → depth_of e ≤ DEPTH → Plain Y → Reads (ends c) (IsTree e) Y Y
 read_ends c e Y h d plain at =

@@ -80,7 +80,7 @@ read_step step P Q s X Y Z h k =
     (λ x q. q) (read_then (step s) (repeat step) P Q X Y Z h k)
 
 is_within : (t : Token) (limit : Option Limit) → limit ≡ None → IsWithin (Takes t limit)
-is_within t limit e = subst (λ (l : Option Limit). IsWithin (Takes t l)) (sym e) tt
+is_within t limit e = subst (λ (l : Option Limit). IsWithin (Takes t l)) (sym e) refl
 
 -- one token
 pub read_token : {A : Type 0} (meaning : Token → Option A) (limit : A → Option Limit) (P : A → Type 0) (X Y : List ℕ) (at behind : ℕ) (t : Token) (x : A)

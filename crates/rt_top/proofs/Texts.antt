@@ -38,7 +38,7 @@ too_long = record { place = record { line = 1; col = 1 }; refusal = refusal.TooL
 
 -- a text that is too long is refused so, and is no application's
 pub refused_long : (text : List ℕ) → TEXT_BYTES + 1 ≤ length text → IsRefused text too_long
-refused_long text long = (λ _. (refl, refl), λ short. absurd (omega (arith, long, short)))
+refused_long text long = record { at = 0; stands = (omega (arith, long), refl); place = refl }
 
 pub no_long : (text : List ℕ) → TEXT_BYTES + 1 ≤ length text → (a : tree.App) → IsText text a → ⊥
 no_long text long a is = let short = is.short in absurd (omega (arith, long, short))

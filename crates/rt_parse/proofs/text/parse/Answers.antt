@@ -2,20 +2,20 @@ use Rattle.std.proofs.Common.{◌≤◌, length, sym, ap, ◌∙◌, arith}
 use Rattle.rt_ids.specs.declared.limits.TheConstants.{TEXT_BYTES}
 use Rattle.rt_ast.specs.View.{app_of}
 use Rattle.rt_parse.specs.ReadingDeclaration.{text_at}
-use Rattle.rt_parse.proofs.Whole.{read_is_text}
 use Rattle.rt_parse.proofs.WholeOnly.{text_only}
+use Rattle.rt_parse.proofs.WholeRefused.{read_is_text}
 use Rattle.rt_parse.proofs.Refusals.{refused, refused_first, no_text, same_fault}
 use Rattle.rt_parse.proofs.text.parse.Goals as goal
 
 pub returns-in-Ok-clause-ok : goal.returns-in-Ok-clause-ok
 returns-in-Ok-clause-ok c =
     let short : length c.args.src.now ≤ TEXT_BYTES = omega (arith, c.if-src.false) in
-    read_is_text c.args.src.now (app_of c.in-Ok.tree) short (ap text_at (sym c.of.ensures.all) ∙ c.in-Ok.ensures)
+    read_is_text c.args.src.now short (app_of c.in-Ok.tree) (ap text_at (sym c.of.ensures.all) ∙ c.in-Ok.ensures)
 
 pub returns-in-Ok-clause-only : goal.returns-in-Ok-clause-only
 returns-in-Ok-clause-only c other t =
     let short : length c.args.src.now ≤ TEXT_BYTES = omega (arith, c.if-src.false) in
-    text_only c.args.src.now other (app_of c.in-Ok.tree) t (read_is_text c.args.src.now (app_of c.in-Ok.tree) short (ap text_at (sym c.of.ensures.all) ∙ c.in-Ok.ensures))
+    text_only c.args.src.now other (app_of c.in-Ok.tree) t (read_is_text c.args.src.now short (app_of c.in-Ok.tree) (ap text_at (sym c.of.ensures.all) ∙ c.in-Ok.ensures))
 
 pub returns-in-Err-At-clause-refused : goal.returns-in-Err-At-clause-refused
 returns-in-Err-At-clause-refused c fault e =
