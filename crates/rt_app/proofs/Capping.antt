@@ -24,8 +24,10 @@ capped_turns (suc k) s = ⊎_elim (λ h. ap (λ n. capped (4 + suc k * (n + 6)))
     either (inl same) = inl (omega arith)
     either (inr (inl less)) = inl (omega arith)
     either (inr (inr more)) = inr more
+
     grows : (n : ℕ) → n ≤ suc k * n
     grows n = omega arith
+
     many : 1000001 < s → capped (4 + suc k * (capped s + 6)) ≡ capped (4 + suc k * (s + 6))
     many more = omega (arith, grows (capped s + 6), grows (s + 6))
 

@@ -1,7 +1,15 @@
+ghost use Rattle.rt_app.specs.Acceptance.{AcceptedAreSound};
 ghost use Rattle.rt_app.specs.Steps.{CapSteps};
 
 /// Costs and sizes are plain sums over statements, up to the cap at which they stop.
 #[tactic(auto, using(crate::proofs::Capping::cap_steps))]
 pub fn costs_are_capped_sums()
     ensures { CapSteps }
+{}
+
+/// An application that is accepted can be run: its bodies use what they may, as they may; they are short; and nothing that
+/// serves interrupts, guards resources or holds the stack is missing or used for two things.
+#[tactic(auto, using(crate::proofs::Sound::accepted_are_sound))]
+pub fn accepted_applications_are_sound()
+    ensures { AcceptedAreSound }
 {}

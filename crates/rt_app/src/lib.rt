@@ -17,7 +17,7 @@ pub use body::{Body, Listed, Owned};
 pub use bounds::{BodyBound, Bounds, Wait};
 pub use ceilings::{Ceilings, ReadyCeiling};
 pub use expr::{Atom, Expr};
-pub use laws::costs_are_capped_sums;
+pub use laws::{accepted_applications_are_sound, costs_are_capped_sums};
 pub use stmt::{Spawn, Stmt, Value};
 pub use violation::Violation;
 

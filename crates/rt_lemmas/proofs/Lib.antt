@@ -5,3 +5,4 @@ pub mod Runs
 pub mod Texts
 pub mod Options
 pub mod Results
+pub mod Membership

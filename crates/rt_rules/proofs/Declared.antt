@@ -10,7 +10,7 @@ use Rattle.rt_app.specs.Statements.{breaks, statements}
 use Rattle.rt_app.specs.Length.{too_long, lengths}
 use Rattle.rt_app.specs.BodyCost.{shared_size}
 use Rattle.rt_app.specs.Rules.{violations}
-use Rattle.rt_rules.specs.First.{first_of}
+use Rattle.rt_rules.specs.Inside.First.{first_of}
 use Rattle.rt_rules.proofs.Fold.{behind}
 
 pub declared : (app : App) (bodies : List Member) (o p q r s t : Option Violation) → bodies ≡ members app

@@ -4,7 +4,7 @@ use Rattle.std.proofs.lemmas.Bool.Decides.{nat_tests}
 use Rattle.std.specs.List.{Contains}
 use Rattle.rt_app.specs.declared.violation.Violation.{Violation}
 use Rattle.rt_app.specs.Violation.{IsNotAfter, IsFirst}
-use Rattle.rt_rules.specs.First.{is_before, first_of}
+use Rattle.rt_rules.specs.Inside.First.{is_before, first_of}
 
 -- offsets and numbers
 not_after : (a b r s : ℕ) → Type 0

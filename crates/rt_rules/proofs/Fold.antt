@@ -4,7 +4,7 @@ use Rattle.std.proofs.lemmas.List.{take_more, get_or_default}
 use Rattle.std.proofs.lemmas.List.Concat.{flat_map-append}
 use Rattle.rt_lemmas.proofs.Lists.{flat_map_next, flat_map-map}
 use Rattle.rt_app.specs.declared.violation.Violation.{Violation}
-use Rattle.rt_rules.specs.First.{earlier, first_of}
+use Rattle.rt_rules.specs.Inside.First.{earlier, first_of}
 
 pub first_of_append : (o : Option Violation) (xs ys : List Violation) → first_of o (xs ++ ys) ≡ first_of (first_of o xs) ys
 first_of_append o [] ys = refl

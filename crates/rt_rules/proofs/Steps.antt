@@ -14,8 +14,8 @@ use Rattle.rt_app.specs.Tree.{App}
 use Rattle.rt_app.specs.Violation.{when}
 use Rattle.rt_app.specs.Listing.{Listing, first_listing, judged_by, judged}
 use Rattle.rt_app.specs.Declarations.{Used, used_twice, is_known, owns, owned_before, owned_twice}
-use Rattle.rt_rules.specs.First.{first_of}
-use Rattle.rt_rules.specs.Tables.{or_else}
+use Rattle.rt_rules.specs.Inside.First.{first_of}
+use Rattle.rt_rules.specs.Inside.Tables.{or_else}
 use Rattle.rt_rules.proofs.Fold.{first_of_append}
 
 -- the violation of one more use

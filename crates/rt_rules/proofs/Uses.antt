@@ -17,8 +17,8 @@ use Rattle.rt_app.specs.declared.stmt.Spawn.{Spawn}
 use Rattle.rt_app.specs.declared.stmt.Spawn.TheVariants.{After}
 use Rattle.rt_app.specs.declared.stmt.Stmt.{Stmt, Branch, Repeat, Locked}
 use Rattle.rt_app.proofs.Statements.{branch_is, repeat_is, locked_is}
-use Rattle.rt_rules.specs.First.{first_of}
-use Rattle.rt_rules.specs.Uses.{first_use}
+use Rattle.rt_rules.specs.Inside.First.{first_of}
+use Rattle.rt_rules.specs.Inside.Uses.{first_use}
 use Rattle.rt_rules.proofs.Fold.{behind}
 
 -- uses behind others

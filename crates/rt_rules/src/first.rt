@@ -2,7 +2,7 @@
 
 ghost use Rattle.std.specs.Prelude.{◌≡◌, [], ◌∷◌, None, if◌then◌else◌};
 ghost use Rattle.rt_app.specs.Violation.{rank, when};
-ghost use Rattle.rt_rules.specs.First.{is_before, first_of};
+ghost use Rattle.rt_rules.specs.Inside.First.{is_before, first_of};
 
 use rt_app::Violation;
 use rt_ids::Rule;

@@ -5,9 +5,9 @@ ghost use Rattle.rt_app.specs.Level.{is_software};
 ghost use Rattle.rt_ids.specs.Lists.{is_some_and};
 ghost use Rattle.rt_app.specs.Use.{loops as loops_of};
 ghost use Rattle.rt_app.specs.Statements.{listing_in, is_lockable, is_free, is_outside, is_misplaced_lock, is_inside_itself, is_fixed, is_bad_spawn};
-ghost use Rattle.rt_rules.specs.Locked.{locked_of};
-ghost use Rattle.rt_rules.specs.Tables.{has, listing_at};
-ghost use Rattle.rt_rules.specs.View.{member_of};
+ghost use Rattle.rt_rules.specs.Inside.Locked.{locked_of};
+ghost use Rattle.rt_rules.specs.Inside.Tables.{has, listing_at};
+ghost use Rattle.rt_rules.specs.Inside.View.{member_of};
 
 use crate::listing::{FirstListings, Listing, is_lock_free};
 use crate::locked::{Locked, is_locked};

@@ -5,9 +5,9 @@ ghost use Rattle.rt_app.specs.View.{app_of};
 ghost use Rattle.rt_app.specs.Bodies.{members};
 ghost use Rattle.rt_app.specs.Declarations.{is_known};
 ghost use Rattle.rt_app.specs.Listing.{listings_of, listed, is_lock_free, is_shared_and_exclusive, is_at_two_priorities, judged_by, judged};
-ghost use Rattle.rt_rules.specs.First.{first_of};
-ghost use Rattle.rt_rules.specs.View.{member_of};
-ghost use Rattle.rt_rules.specs.Tables.{listing_at, or_else};
+ghost use Rattle.rt_rules.specs.Inside.First.{first_of};
+ghost use Rattle.rt_rules.specs.Inside.View.{member_of};
+ghost use Rattle.rt_rules.specs.Inside.Tables.{listing_at, or_else};
 
 use crate::first::First;
 use crate::member::Member;

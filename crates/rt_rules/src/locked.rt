@@ -1,6 +1,6 @@
 ghost use Rattle.std.specs.Prelude.{◌≡◌, ◌==◌};
 ghost use Rattle.std.specs.List.{list_any};
-ghost use Rattle.rt_rules.specs.Locked.{locked_of};
+ghost use Rattle.rt_rules.specs.Inside.Locked.{locked_of};
 
 use rt_ids::ResId;
 

@@ -2,7 +2,7 @@ ghost use Rattle.std.specs.Prelude.{◌≡◌, ◌==◌, ◌||◌, ℕ, OnOk};
 ghost use Rattle.std.specs.List.{list_any};
 ghost use Rattle.rt_app.specs.View.{statement_of, block_of};
 ghost use Rattle.rt_app.specs.Use.{statement_loops, loops};
-ghost use Rattle.rt_rules.specs.Tables.{has};
+ghost use Rattle.rt_rules.specs.Inside.Tables.{has};
 
 use crate::numbers::Numbers;
 use rt_app::Stmt;

@@ -1,8 +1,8 @@
-ghost use Rattle.std.specs.Prelude.{◌≡◌, ◌++◌, ℕ, zero, map, option_map, IfOk, OnOk};
+ghost use Rattle.std.specs.Prelude.{◌≡◌, ◌++◌, ℕ, map, option_map, IfOk, OnOk};
 ghost use Rattle.rt_app.specs.View.{body_of, task_of, app_of};
 ghost use Rattle.rt_app.specs.Bodies.{thread_members, task_members, members};
 ghost use Rattle.rt_app.specs.Statements.{is_init};
-ghost use Rattle.rt_rules.specs.View.{id_of, member_of};
+ghost use Rattle.rt_rules.specs.Inside.View.{id_of, member_of};
 
 use rt_app::{App, Body, Task};
 use rt_ids::NoMemory;
@@ -46,7 +46,7 @@ fn push_thread<'a>(
     which: Which,
     body: &'a Option<Body>,
 ) -> Result<(), NoMemory>
-    ensures { OnOk result (map member_of members.new.items ≡ map member_of members.old.items ++ thread_members (id_of which) (option_map (body_of zero) body.now)) }
+    ensures { OnOk result (map member_of members.new.items ≡ map member_of members.old.items ++ thread_members (id_of which) (option_map body_of body.now)) }
 {
     if let Some(body) = body {
         members.push(Member {

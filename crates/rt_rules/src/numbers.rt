@@ -1,5 +1,5 @@
 ghost use Rattle.std.specs.Prelude.{◌≡◌, ℕ, ◌==◌, ◌||◌, false, OnOk};
-ghost use Rattle.rt_rules.specs.Tables.{has};
+ghost use Rattle.rt_rules.specs.Inside.Tables.{has};
 
 use rt_ids::NoMemory;
 use std::alloc::Global;

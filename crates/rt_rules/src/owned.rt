@@ -5,9 +5,9 @@ ghost use Rattle.std.specs.List.{list_any};
 ghost use Rattle.rt_ids.specs.declared.rule.Rule.TheVariants as rule;
 ghost use Rattle.rt_app.specs.Violation.{when};
 ghost use Rattle.rt_app.specs.Declarations.{is_known, owned_twice};
-ghost use Rattle.rt_rules.specs.First.{first_of};
-ghost use Rattle.rt_rules.specs.Tables.{has};
-ghost use Rattle.rt_rules.specs.View.{member_of};
+ghost use Rattle.rt_rules.specs.Inside.First.{first_of};
+ghost use Rattle.rt_rules.specs.Inside.Tables.{has};
+ghost use Rattle.rt_rules.specs.Inside.View.{member_of};
 
 use crate::first::First;
 use crate::member::Member;

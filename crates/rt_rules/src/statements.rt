@@ -7,10 +7,10 @@ ghost use Rattle.rt_app.specs.Bodies.{members};
 ghost use Rattle.rt_app.specs.Statements.{is_bad_spawn, use_breaks, breaks};
 ghost use Rattle.rt_app.specs.Violation.{when};
 ghost use Rattle.rt_ids.specs.declared.rule.Rule.TheVariants as rule;
-ghost use Rattle.rt_rules.specs.First.{first_of};
-ghost use Rattle.rt_rules.specs.Locked.{locked_of};
-ghost use Rattle.rt_rules.specs.Uses.{first_use};
-ghost use Rattle.rt_rules.specs.View.{member_of};
+ghost use Rattle.rt_rules.specs.Inside.First.{first_of};
+ghost use Rattle.rt_rules.specs.Inside.Locked.{locked_of};
+ghost use Rattle.rt_rules.specs.Inside.Uses.{first_use};
+ghost use Rattle.rt_rules.specs.Inside.View.{member_of};
 
 use crate::first::First;
 use crate::judge::{Judge, is_inside_itself};

@@ -3,7 +3,7 @@
 ghost use Rattle.std.specs.Prelude.{◌≡◌, ◌++◌, [], map, flat_map, IfOk, OnOk};
 ghost use Rattle.rt_app.specs.View.{task_of, app_of};
 ghost use Rattle.rt_app.specs.Declarations.{use_of, mono_use, bound_use, interrupt_uses, number_uses, used_twice, interrupts};
-ghost use Rattle.rt_rules.specs.First.{first_of};
+ghost use Rattle.rt_rules.specs.Inside.First.{first_of};
 
 use crate::first::First;
 use crate::numbers::Numbers;

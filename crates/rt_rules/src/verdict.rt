@@ -6,9 +6,9 @@ ghost use Rattle.rt_app.specs.View.{app_of};
 ghost use Rattle.rt_app.specs.Bodies.{members};
 ghost use Rattle.rt_app.specs.Declarations.{declarations};
 ghost use Rattle.rt_app.specs.Rules.{violations};
-ghost use Rattle.rt_rules.specs.First.{first_of};
+ghost use Rattle.rt_rules.specs.Inside.First.{first_of};
 ghost use Rattle.rt_rules.specs.Refusal.{fault_at, IsRefusal};
-ghost use Rattle.rt_rules.specs.View.{member_of};
+ghost use Rattle.rt_rules.specs.Inside.View.{member_of};
 
 use crate::declarations::{judge_dispatchers, judge_hardware_tasks, judge_priorities};
 use crate::first::First;

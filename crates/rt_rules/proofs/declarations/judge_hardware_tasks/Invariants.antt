@@ -4,7 +4,7 @@ use Rattle.rt_ids.specs.declared.rule.Rule.TheVariants as rule
 use Rattle.rt_app.specs.View.{task_of}
 use Rattle.rt_app.specs.Violation.{when}
 use Rattle.rt_app.specs.Declarations.{is_mixed}
-use Rattle.rt_rules.specs.First.{first_of}
+use Rattle.rt_rules.specs.Inside.First.{first_of}
 use Rattle.rt_rules.proofs.declarations.judge_hardware_tasks.Given as goal
 
 abbrev pub invariant-loop-task : goal.invariant-loop-task

@@ -2,7 +2,7 @@
 use Rattle.std.proofs.Common.{◌≡◌, map, flat_map, take}
 use Rattle.rt_app.specs.View.{task_of}
 use Rattle.rt_app.specs.Declarations.{task_priority}
-use Rattle.rt_rules.specs.First.{first_of}
+use Rattle.rt_rules.specs.Inside.First.{first_of}
 use Rattle.rt_rules.proofs.declarations.judge_tasks.Given as goal
 
 abbrev pub invariant-loop-task : goal.invariant-loop-task

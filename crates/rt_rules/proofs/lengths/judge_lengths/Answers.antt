@@ -1,7 +1,7 @@
 use Rattle.std.proofs.Common.{◌+◌, ap, ◌∙◌, lit<}
 use Rattle.rt_app.specs.View.{app_of}
 use Rattle.rt_app.specs.BodyCost.{body_cost}
-use Rattle.rt_rules.specs.View.{member_of}
+use Rattle.rt_rules.specs.Inside.View.{member_of}
 use Rattle.rt_rules.proofs.Sizes.{length_more}
 use Rattle.rt_rules.proofs.lengths.judge_lengths.Goals as goal
 

@@ -3,8 +3,8 @@ use Rattle.std.proofs.Common.{◌≡◌, ℕ, ◌-◌, ◌^◌, min, map, drop}
 use Rattle.rt_app.specs.View.{app_of}
 use Rattle.rt_app.specs.BodyCost.{shared_size}
 use Rattle.rt_app.specs.Length.{too_long}
-use Rattle.rt_rules.specs.First.{first_of}
-use Rattle.rt_rules.specs.View.{member_of}
+use Rattle.rt_rules.specs.Inside.First.{first_of}
+use Rattle.rt_rules.specs.Inside.View.{member_of}
 use Rattle.rt_rules.proofs.lengths.judge_lengths.Given as goal
 
 abbrev pub invariant-loop-member : goal.invariant-loop-member

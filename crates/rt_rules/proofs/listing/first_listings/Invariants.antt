@@ -1,6 +1,6 @@
 -- The first listings are those of the listings so far.
 use Rattle.std.proofs.Common.{◌≡◌, ℕ, ◌==◌, find, take}
-use Rattle.rt_rules.specs.Tables.{listing_at}
+use Rattle.rt_rules.specs.Inside.Tables.{listing_at}
 use Rattle.rt_rules.proofs.listing.first_listings.Given as goal
 
 abbrev pub invariant-loop-listing : goal.invariant-loop-listing

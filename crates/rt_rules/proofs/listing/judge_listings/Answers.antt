@@ -1,8 +1,8 @@
 use Rattle.std.proofs.Common.{◌≡◌, ◌==◌, find, flat_map, ap, ◌∙◌}
 use Rattle.rt_app.specs.View.{app_of}
 use Rattle.rt_app.specs.Listing.{Listing, listings_of, listings, first_listing, judged}
-use Rattle.rt_rules.specs.Tables.{listing_at}
-use Rattle.rt_rules.specs.First.{first_of}
+use Rattle.rt_rules.specs.Inside.Tables.{listing_at}
+use Rattle.rt_rules.specs.Inside.First.{first_of}
 use Rattle.rt_rules.proofs.Fold.{one_more}
 use Rattle.rt_rules.proofs.Steps.{judged_by_first}
 use Rattle.rt_rules.proofs.listing.judge_listings.Goals as goal

@@ -2,7 +2,7 @@
 use Rattle.std.proofs.Common.{◌≡◌, flat_map, take}
 use Rattle.rt_app.specs.View.{app_of}
 use Rattle.rt_app.specs.Listing.{judged}
-use Rattle.rt_rules.specs.First.{first_of}
+use Rattle.rt_rules.specs.Inside.First.{first_of}
 use Rattle.rt_rules.proofs.listing.judge_listings.Given as goal
 
 abbrev pub invariant-loop-listing : goal.invariant-loop-listing

@@ -3,7 +3,7 @@ use Rattle.std.proofs.Common.{◌≡◌, ℕ, ◌==◌, ◌||◌, take}
 use Rattle.std.specs.List.{list_any}
 use Rattle.rt_app.specs.View.{block_of}
 use Rattle.rt_app.specs.Use.{loops}
-use Rattle.rt_rules.specs.Tables.{has}
+use Rattle.rt_rules.specs.Inside.Tables.{has}
 use Rattle.rt_rules.proofs.loops.+block.Given as goal
 
 abbrev pub invariant-insert_loops-loop-stmt : goal.invariant-insert_loops-loop-stmt

@@ -2,7 +2,7 @@
 use Rattle.std.proofs.Common.{◌≡◌, ◌++◌, map, drop}
 use Rattle.rt_app.specs.View.{task_of}
 use Rattle.rt_app.specs.Bodies.{task_members}
-use Rattle.rt_rules.specs.View.{member_of}
+use Rattle.rt_rules.specs.Inside.View.{member_of}
 use Rattle.rt_rules.proofs.member.push_tasks.Given as goal
 
 abbrev pub invariant-loop-number : goal.invariant-loop-number

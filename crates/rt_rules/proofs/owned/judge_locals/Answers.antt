@@ -2,7 +2,7 @@ use Rattle.std.proofs.Common.{◌&&◌}
 use Rattle.rt_ids.specs.declared.rule.Rule.TheVariants as rule
 use Rattle.rt_app.specs.Violation.{when}
 use Rattle.rt_app.specs.Declarations.{is_known}
-use Rattle.rt_rules.specs.Tables.{has}
+use Rattle.rt_rules.specs.Inside.Tables.{has}
 use Rattle.rt_rules.proofs.Fold.{one_more_read}
 use Rattle.rt_rules.proofs.owned.judge_locals.Goals as goal
 

@@ -3,8 +3,8 @@ use Rattle.std.proofs.Common.{◌≡◌, ◌&&◌, flat_map, take}
 use Rattle.rt_ids.specs.declared.rule.Rule.TheVariants as rule
 use Rattle.rt_app.specs.Violation.{when}
 use Rattle.rt_app.specs.Declarations.{is_known}
-use Rattle.rt_rules.specs.First.{first_of}
-use Rattle.rt_rules.specs.Tables.{has}
+use Rattle.rt_rules.specs.Inside.First.{first_of}
+use Rattle.rt_rules.specs.Inside.Tables.{has}
 use Rattle.rt_rules.proofs.owned.judge_locals.Given as goal
 
 abbrev pub invariant-loop-item : goal.invariant-loop-item

@@ -1,6 +1,6 @@
 use Rattle.std.proofs.Common.{◌∷◌}
-use Rattle.rt_rules.specs.Tables.{has}
-use Rattle.rt_rules.specs.View.{member_of}
+use Rattle.rt_rules.specs.Inside.Tables.{has}
+use Rattle.rt_rules.specs.Inside.View.{member_of}
 use Rattle.rt_rules.proofs.Steps.{owned_table, owned_more}
 use Rattle.rt_rules.proofs.owned.judge_owned.Goals as goal
 

@@ -3,9 +3,9 @@ use Rattle.std.proofs.Common.{◌≡◌, ℕ, List, [], map, drop}
 use Rattle.std.specs.List.{list_any}
 use Rattle.rt_app.specs.Bodies.{Member}
 use Rattle.rt_app.specs.Declarations.{owns, owned_twice}
-use Rattle.rt_rules.specs.First.{first_of}
-use Rattle.rt_rules.specs.Tables.{has}
-use Rattle.rt_rules.specs.View.{member_of}
+use Rattle.rt_rules.specs.Inside.First.{first_of}
+use Rattle.rt_rules.specs.Inside.Tables.{has}
+use Rattle.rt_rules.specs.Inside.View.{member_of}
 use Rattle.rt_rules.proofs.owned.judge_owned.Given as goal
 
 abbrev pub invariant-loop-member : goal.invariant-loop-member

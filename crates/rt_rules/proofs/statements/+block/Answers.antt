@@ -1,8 +1,8 @@
 use Rattle.std.proofs.Common.{◌∷◌, ◌++◌, ◌+◌, take, refl}
 use Rattle.rt_app.specs.View.{app_of, expression_of, statement_of, block_of}
 use Rattle.rt_app.specs.Use.{Locks, reads, statement_uses, uses}
-use Rattle.rt_rules.specs.Locked.{locked_of}
-use Rattle.rt_rules.specs.View.{member_of}
+use Rattle.rt_rules.specs.Inside.Locked.{locked_of}
+use Rattle.rt_rules.specs.Inside.View.{member_of}
 use Rattle.rt_rules.proofs.Uses.{uses_behind, uses_behind_one, branch_uses, repeat_uses, lock_uses, uses_more}
 use Rattle.rt_rules.proofs.statements.+block.Goals as goal
 

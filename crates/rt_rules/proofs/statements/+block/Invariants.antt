@@ -2,9 +2,9 @@
 use Rattle.std.proofs.Common.{◌≡◌, take}
 use Rattle.rt_app.specs.View.{app_of, block_of}
 use Rattle.rt_app.specs.Use.{uses}
-use Rattle.rt_rules.specs.Locked.{locked_of}
-use Rattle.rt_rules.specs.Uses.{first_use}
-use Rattle.rt_rules.specs.View.{member_of}
+use Rattle.rt_rules.specs.Inside.Locked.{locked_of}
+use Rattle.rt_rules.specs.Inside.Uses.{first_use}
+use Rattle.rt_rules.specs.Inside.View.{member_of}
 use Rattle.rt_rules.proofs.statements.+block.Given as goal
 
 abbrev pub invariant-judge_block-loop-stmt : goal.invariant-judge_block-loop-stmt

@@ -1,8 +1,8 @@
 use Rattle.std.proofs.Common.{◌+◌, map, flat_map, take}
 use Rattle.rt_app.specs.View.{app_of, expression_of}
 use Rattle.rt_app.specs.Use.{reads}
-use Rattle.rt_rules.specs.Locked.{locked_of}
-use Rattle.rt_rules.specs.View.{member_of}
+use Rattle.rt_rules.specs.Inside.Locked.{locked_of}
+use Rattle.rt_rules.specs.Inside.View.{member_of}
 use Rattle.rt_rules.proofs.Uses.{uses_behind, reads_more}
 use Rattle.rt_rules.proofs.statements.judge_expressions.Goals as goal
 

@@ -2,9 +2,9 @@
 use Rattle.std.proofs.Common.{◌≡◌, map, flat_map, take}
 use Rattle.rt_app.specs.View.{app_of, expression_of}
 use Rattle.rt_app.specs.Use.{reads}
-use Rattle.rt_rules.specs.Locked.{locked_of}
-use Rattle.rt_rules.specs.Uses.{first_use}
-use Rattle.rt_rules.specs.View.{member_of}
+use Rattle.rt_rules.specs.Inside.Locked.{locked_of}
+use Rattle.rt_rules.specs.Inside.Uses.{first_use}
+use Rattle.rt_rules.specs.Inside.View.{member_of}
 use Rattle.rt_rules.proofs.statements.judge_expressions.Given as goal
 
 abbrev pub invariant-loop-expr : goal.invariant-loop-expr

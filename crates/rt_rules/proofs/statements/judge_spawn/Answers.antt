@@ -1,6 +1,6 @@
 use Rattle.rt_app.specs.View.{app_of}
-use Rattle.rt_rules.specs.Locked.{locked_of}
-use Rattle.rt_rules.specs.View.{member_of}
+use Rattle.rt_rules.specs.Inside.Locked.{locked_of}
+use Rattle.rt_rules.specs.Inside.View.{member_of}
 use Rattle.rt_rules.proofs.Uses.{after_uses}
 use Rattle.rt_rules.proofs.statements.judge_spawn.Goals as goal
 

@@ -3,7 +3,7 @@ use Rattle.rt_app.specs.View.{app_of}
 use Rattle.rt_app.specs.Bodies.{Member}
 use Rattle.rt_app.specs.Use.{uses}
 use Rattle.rt_app.specs.Statements.{breaks}
-use Rattle.rt_rules.specs.View.{member_of}
+use Rattle.rt_rules.specs.Inside.View.{member_of}
 use Rattle.rt_rules.proofs.Fold.{one_more_seen}
 use Rattle.rt_rules.proofs.statements.judge_statements.Goals as goal
 

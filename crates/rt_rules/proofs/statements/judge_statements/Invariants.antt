@@ -3,8 +3,8 @@ use Rattle.std.proofs.Common.{◌≡◌, [], map, flat_map, take}
 use Rattle.rt_app.specs.View.{app_of}
 use Rattle.rt_app.specs.Use.{uses}
 use Rattle.rt_app.specs.Statements.{breaks}
-use Rattle.rt_rules.specs.First.{first_of}
-use Rattle.rt_rules.specs.View.{member_of}
+use Rattle.rt_rules.specs.Inside.First.{first_of}
+use Rattle.rt_rules.specs.Inside.View.{member_of}
 use Rattle.rt_rules.proofs.statements.judge_statements.Given as goal
 
 abbrev pub invariant-loop-member : goal.invariant-loop-member

@@ -1,6 +1,6 @@
 use Rattle.std.proofs.Common.{◌∷◌}
 use Rattle.rt_app.specs.Declarations.{Used}
-use Rattle.rt_rules.specs.Tables.{has}
+use Rattle.rt_rules.specs.Inside.Tables.{has}
 use Rattle.rt_rules.proofs.Steps.{seen_at, used_table, used_more}
 use Rattle.rt_rules.proofs.used.judge_uses.Goals as goal
 

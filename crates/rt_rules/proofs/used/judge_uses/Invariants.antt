@@ -2,8 +2,8 @@
 use Rattle.std.proofs.Common.{◌≡◌, ℕ, ◌==◌, List, [], drop}
 use Rattle.std.specs.List.{list_any}
 use Rattle.rt_app.specs.Declarations.{used_twice}
-use Rattle.rt_rules.specs.First.{first_of}
-use Rattle.rt_rules.specs.Tables.{has}
+use Rattle.rt_rules.specs.Inside.First.{first_of}
+use Rattle.rt_rules.specs.Inside.Tables.{has}
 use Rattle.rt_rules.proofs.used.judge_uses.Given as goal
 
 abbrev pub invariant-loop-item : goal.invariant-loop-item

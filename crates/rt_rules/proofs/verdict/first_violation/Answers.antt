@@ -1,6 +1,6 @@
 use Rattle.std.proofs.Common.{map, ap, ◌∙◌}
 use Rattle.rt_app.specs.View.{app_of}
-use Rattle.rt_rules.specs.View.{member_of}
+use Rattle.rt_rules.specs.Inside.View.{member_of}
 use Rattle.rt_rules.proofs.Declared.{all_judged}
 use Rattle.rt_rules.proofs.verdict.first_violation.Goals as goal
 

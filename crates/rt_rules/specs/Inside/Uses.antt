@@ -5,7 +5,7 @@ use Rattle.rt_app.specs.Bodies.{Member}
 use Rattle.rt_app.specs.declared.violation.Violation.{Violation}
 use Rattle.rt_app.specs.Use.{Placed}
 use Rattle.rt_app.specs.Statements.{breaks}
-use Rattle.rt_rules.specs.First.{first_of}
+use Rattle.rt_rules.specs.Inside.First.{first_of}
 
 abbrev pub first_use : App → Member → Option Violation → List Placed → Option Violation
 first_use app m o ps = first_of o (flat_map (breaks app m) ps)

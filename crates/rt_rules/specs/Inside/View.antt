@@ -13,4 +13,4 @@ id_of which.Idle = body.Idle
 id_of (which.Task n) = body.Task n
 
 abbrev pub member_of : Member → bodies.Member
-member_of m = record { id = id_of m.which; priority = m.priority; body = body_of m.args m.body.now }
+member_of m = record { id = id_of m.which; priority = m.priority; args = m.args; body = body_of m.body.now }
