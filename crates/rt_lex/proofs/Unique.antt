@@ -1,9 +1,9 @@
 -- A list of tokens that meets the three laws is the text's.
 use Rattle.std.proofs.Common.{◌≡◌, ℕ, zero, suc, ◌+◌, ◌-◌, ◌<◌, ◌≤◌, Bool, true, false, ◌||◌, ◌&&◌, eqb, not, List, [], ◌∷◌, ◌++◌, length, take, drop, refl, sym, ap, subst, ◌∙◌, arith, inl, inr}
 use Rattle.std.specs.Prelude.{◌⊎◌, fold, nat_le}
-use Rattle.std.specs.List.{list_all, list_any, starts_with, AllByRecursion}
+use Rattle.std.specs.List.{list_any, starts_with, AllByRecursion}
 use Rattle.std.proofs.lemmas.Bool.{eqb-true, leb-true}
-use Rattle.std.proofs.lemmas.List.{length-drop, drop-drop, take-append-drop}
+use Rattle.std.proofs.lemmas.List.{length-drop, drop-drop}
 use Rattle.std.proofs.lemmas.List.Sums.{fold-append}
 use Rattle.std.proofs.Math.Seq.{take-add, take-length}
 use Rattle.rt_lemmas.proofs.Bools.{and_left, and_right, or_cases, or_left, or_right, true_and_false, not_true}
@@ -13,7 +13,7 @@ use Rattle.rt_lex.specs.declared.token.Kind.TheVariants as kind
 use Rattle.rt_lex.specs.Bytes.{is_blank}
 use Rattle.rt_ids.specs.Byte.{is_digit, is_letter, is_lower, is_upper}
 use Rattle.rt_ids.specs.Word.{is_word, is_identifier}
-use Rattle.rt_lex.specs.Spelling.{is_long_sign, is_short_sign, short_signs, long_signs}
+use Rattle.rt_lex.specs.Spelling.{short_signs, long_signs}
 use Rattle.rt_lex.specs.Token.{Token}
 use Rattle.rt_lex.specs.Tokens.{tokens}
 use Rattle.rt_lex.specs.Split.{is_run, is_hex, is_number, is_sign, is_whole, is_foreign, has_kind, LieIn, IsSlice, IsLongest}
@@ -21,12 +21,7 @@ use Rattle.rt_lex.specs.Gap.{Standing, Outside, Slash, Inside, Lost, after_byte,
 use Rattle.rt_lex.proofs.Parts.{tokens_lie, tokens_longest}
 use Rattle.rt_lex.proofs.Gaps.{tokens_have_gaps}
 
--- Kinds exclude each other.
-
--- what is told of the first byte of each name, number and sign
-abbrev Not : Bool → Type 0
-Not b = b ≡ false
-
+-- A name begins with a letter, a number with a digit, and a sign with neither.
 number_first : (b : ℕ) (text : List ℕ) → is_number (b ∷ text) ≡ true → is_digit b ≡ true
 number_first b text h =
     elim (or_cases (is_run is_digit (b ∷ text)) (is_hex (b ∷ text)) h) [
