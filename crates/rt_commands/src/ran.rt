@@ -21,7 +21,12 @@ pub struct Ran {
 }
 
 /// Runs words on sources in memory.
-pub fn run_on<R: Threads + Sync>(rt: &R, alloc: Global, words: &[&str], mut outside: Outside) -> Ran {
+pub fn run_on<R: Threads + Sync>(
+    rt: &R,
+    alloc: Global,
+    words: &[&str],
+    mut outside: Outside,
+) -> Ran {
     let status = rtic(
         rt,
         alloc,
