@@ -26,7 +26,8 @@ fn cell_row(alloc: Global, words: &mut SplitWhitespace<'_>) -> Result<CellRow> {
     Ok(CellRow { name, first })
 }
 
-/// How an interrupt is served, from its priority value on, where a dash stands in place of an interrupt that is not enabled.
+/// How an interrupt is served, from its priority value on, where a dash stands in place of an interrupt that is not
+/// enabled.
 fn handler(words: &mut SplitWhitespace<'_>) -> Result<Option<Handler>> {
     let value = word(words)?;
     if value == "-" {

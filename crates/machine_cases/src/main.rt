@@ -1,4 +1,5 @@
-// Runs the tables of cases of the machine that stand in data/, and prints a line for each case: its name, and `ok` or what
+// Runs the tables of cases of the machine that stand in data/, and prints a line for each case: its name, and `ok` or
+// what
 // differs. What cores are to show comes from an independent implementation.
 #![tactic(auto)]
 

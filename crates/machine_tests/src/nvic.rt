@@ -2,7 +2,8 @@ use rt_ids::Irq;
 use rt_nvic::Nvic;
 use std::test::Fail;
 
-/// Interrupt 3 at 32, 7 at 32 and 31 at 16; 35 is not enabled. Each row has an execution priority and what is taken there.
+/// Interrupt 3 at 32, 7 at 32 and 31 at 16; 35 is not enabled. Each row has an execution priority and what is taken
+/// there.
 #[test]
 fn the_highest_is_taken_then_the_lowest_number(rt: HostRuntime) -> Result<(), Fail> {
     let low = Irq::new(3).ok_or("no interrupt 3")?;

@@ -1,4 +1,5 @@
-// Tests of what a program cannot show: faults of sources and sinks, what is left unread, threads, and the bounds of types.
+// Tests of what a program cannot show: faults of sources and sinks, what is left unread, threads, and the bounds of
+// types.
 #![tactic(auto)]
 
 #[cfg(test)]

@@ -1,4 +1,5 @@
-// Runs the tables of application texts that stand in data/, and prints a line for each case: its name, and `ok` or what differs.
+// Runs the tables of application texts that stand in data/, and prints a line for each case: its name, and `ok` or
+// what differs.
 // What texts are to become, or are refused for, comes from an independent implementation.
 #![tactic(auto)]
 

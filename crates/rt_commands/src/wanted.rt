@@ -62,8 +62,10 @@ fn told(ran: &Ran, case: &Case) -> &'static str {
     "ok"
 }
 
-/// What is told of a case: `ok`, or what differs. The parts of a case are `words`, where they are not these; the texts `app` and
-/// `second`; the numbers of calls that fail, `app_fails`, `second_fails` and `out_fails`; the `room` of the sink; and what is
+/// What is told of a case: `ok`, or what differs. The parts of a case are `words`, where they are not these; the
+/// texts `app` and
+/// `second`; the numbers of calls that fail, `app_fails`, `second_fails` and `out_fails`; the `room` of the sink; and
+/// what is
 /// wanted, `exit` and `output`.
 pub fn verdict<R: Threads + Sync>(
     rt: &R,

@@ -1,4 +1,5 @@
-// Runs the tables of commands that stand in data/, and prints a line for each case: its name, and `ok` or what differs. What
+// Runs the tables of commands that stand in data/, and prints a line for each case: its name, and `ok` or what
+// differs. What
 // reports, refusals and traces are to be comes from an independent implementation.
 #![tactic(auto)]
 
