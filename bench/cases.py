@@ -1,11 +1,11 @@
 #!/usr/bin/env python3
-"""Writes the cases of rt_core's tests: images with scripts, and what an independent core makes of them.
+"""Writes the cases of machine_cases: images with scripts, and what an independent core makes of them.
 
-    python3 cases.py REFERENCE FOLDER
+    python3 cases.py REFERENCE CRATE
 
-REFERENCE is the folder that has the package `rticref`, an implementation of the core in Python; FOLDER, which is
-crates/rt_core/src/tests, takes the files cases_1.rt, cases_2.rt and so on; `rt fmt` then lays them out. The images are those of
-cases.txt beside this file, one for each way to miss a slot, and some made by chance.
+REFERENCE is the folder that has the package `rticref`, an implementation of the core in Python; CRATE, which is
+crates/machine_cases, takes data/cores, and the stdout that is wanted of all tables in data/. The images are those of cases.txt
+beside this file, one for each way to miss a slot, and some made by chance.
 
 An image of cases.txt is a line `= NAME`, lines of its parts, and a line `script:`. A part is `bits N`, `stack N` (bytes),
 `thread N` (words), `cell VALUE NAME`, `iN -` for an interrupt that is not enabled, or a block of code: `main:` for the
@@ -29,7 +29,6 @@ NO_SLOT = [
     "set 1 0", "copy 1 0", "copy 0 1", "add 1 0 0", "sub 0 1 0", "mul 0 0 1", "load 1 0", "store 0 1", "loadat 1 0 0",
     "storeat 0 0 1", "jumpz 1 .0", "emit 1", "clock 1", "alarm 1 i0", "raise 1 0", "restore 1", "mask 1", "unmask 1",
 ]
-FILE_CASES = 10
 
 
 def made_image(parts):
@@ -149,6 +148,19 @@ def outcome(image, orders):
     return items, made.nsteps, made.depth()
 
 
+def describe(items):
+    """What the items of a run made by chance show of: the words of their kinds that not every run has."""
+    kinds = {what[0] for _, what in items}
+    words = [word for word in ("alarm", "trap", "start", "leave", "clock", "post", "emit") if word in kinds]
+    took = [(step, what[0]) for step, what in items if what[0] in ("take", "ret")]
+    pairs = list(zip(took, took[1:]))
+    if any((a[1], b[1]) == ("take", "take") for a, b in pairs):
+        words.insert(0, "preemption")
+    if any((a[1], b[1]) == ("ret", "take") and b[0] == a[0] + 1 for a, b in pairs):
+        words.insert(0, "tail-chaining")
+    return ", ".join(words)
+
+
 def chance_cases(count):
     number, seed = 0, 0
     while number < count:
@@ -159,29 +171,36 @@ def chance_cases(count):
         kinds = len({what[0] for _, what in items})
         if len(image.code) <= 25 and 10 <= len(items) <= 30 and taken >= 2 and kinds >= 6:
             number += 1
-            yield f"chance {number}", image, orders
+            yield f"by chance, seed {seed}: {describe(items)}", image, orders
 
 
-def constant(name, image, orders):
+def part(name, text):
+    return "".join(f"{name} | {line}\n" for line in text.splitlines())
+
+
+def written(name, image, orders):
+    """The lines of a case: the image, the script, and what the independent core makes of them."""
     items, steps, depth = outcome(image, orders)
     assert len(items) <= 60, name
-    listing = core.listing(image).decode().rstrip("\n")
     lines = "".join(trace.line(item, NAMES).decode() for item in items)
-    word = "".join(c if c.isalnum() else "_" for c in name).upper()
-    text = f'\nconst {word}: Case = Case {{\n    name: "{name}",\n    listing: "{listing}",\n    script: "' + "\n".join(orders)
-    return word, text + f'",\n    trace: "{lines}",\n    steps: {steps},\n    depth: {depth},\n}};\n'
+    names = "tasks | t0 t1 t2 t3\nshared | r0 r1 r2\n"
+    image = part("image", core.listing(image).decode())
+    played = part("script", "\n".join(orders)) + part("trace", lines)
+    return f"= {name}\n{names}{image}{played}steps | {steps}\ndepth | {depth}\n\n"
 
 
 def main():
-    folder = Path(sys.argv[2])
+    crate = Path(sys.argv[2])
     text = Path(__file__).with_name("cases.txt").read_text()
-    cases = list(read_cases("\n" + text)) + list(no_slot_cases()) + list(chance_cases(16))
-    for n in range(0, len(cases), FILE_CASES):
-        made = [constant(*case) for case in cases[n:n + FILE_CASES]]
-        words = "".join(f"        &{word},\n" for word, _ in made)
-        out = "// Written by bench/cases.py.\nuse crate::tests::Case;\n" + "".join(body for _, body in made)
-        out += f"\npub(super) fn cases() -> [&'static Case; {len(made)}] {{\n    [\n{words}    ]\n}}\n"
-        (folder / f"cases_{n // FILE_CASES + 1}.rt").write_text(out)
+    cases = list(read_cases("\n" + text)) + list(no_slot_cases()) + list(chance_cases(48))
+    assert len({name for name, _, _ in cases}) == len(cases)
+    head = "; Written by bench/cases.py: images with scripts, and what an independent core makes of them.\n\n"
+    (crate / "data" / "cores").write_text(head + "".join(written(*case) for case in cases))
+    told = "".join(f"{name}: ok\n" for name, _, _ in cases)
+    for table in ("instructions", "conditions", "listings"):
+        lines = (crate / "data" / table).read_text().splitlines()
+        told += "".join(f"{line[2:]}: ok\n" for line in lines if line.startswith("= "))
+    (crate / "stdout").write_text(told)
 
 
 main()

@@ -38,14 +38,14 @@ pub record IsSound (app : App) : Type 0 where
   -- levels and ceilings are priorities that there are
   pub priorities : AllByRecursion (λ p. (1 ≤ p) × (p ≤ 2 ^ app.bits)) (handler_levels app)
   pub ceilings : (s : Section) → IsSectionOf app s → ceiling app s ≤ 2 ^ app.bits
-  -- a resource that is `lock_free` is listed at one priority, and one that is read as `&name` is so by all that list it, and is not
-  -- `lock_free`; a local one is listed by one body
+  -- a resource that is `lock_free` is listed at one priority; one that is read as `&name` is so by all that list it,
+  -- and is not `lock_free`; a local one is listed by one body
   pub lock_free : (l k : Listing) → IsIn (listings app) l → IsIn (listings app) k → l.listed.resource ≡ k.listed.resource → is_lock_free app l.listed.resource ≡ true → l.priority ≡ k.priority
   pub alike : (l k : Listing) → IsIn (listings app) l → IsIn (listings app) k → l.listed.resource ≡ k.listed.resource → l.listed.by_ref ≡ k.listed.by_ref
   pub read_alone : (l : Listing) → IsIn (listings app) l → l.listed.by_ref ≡ true → is_lock_free app l.listed.resource ≡ false
   pub owners : (n i j : ℕ) (m o : Member) → slice_get (members app) i ≡ Some m → slice_get (members app) j ≡ Some o → owns n m ≡ true → owns n o ≡ true → i ≡ j
-  -- an interrupt that serves something is declared, serves that alone, and at a priority that there is; numbers are those of
-  -- interrupts, and differ; each level of software tasks has a dispatcher
+  -- an interrupt that serves something is declared, serves that alone, and at a priority that there is; numbers are
+  -- those of interrupts, and differ; each level of software tasks has a dispatcher
   pub served : AllByRecursion (λ s. (s.irq < length app.irqs) × (1 ≤ s.level) × (s.level ≤ 2 ^ app.bits)) (services app)
   pub services_differ : AreDifferent (map (λ s. s.irq) (services app))
   pub numbers : AllByRecursion (λ d. d.number < IRQ_NUMBERS) app.irqs

@@ -1,6 +1,7 @@
 -- A list has one first violation at the most.
 use Rattle.std.proofs.Common.{◌≡◌, ◌==◌, ℕ, zero, suc, ◌<◌, inl, inr, List, [], ◌∷◌, length, get_or, refl, sym, ap, subst, ◌∙◌, arith, Contains, if◌then◌else◌}
 use Rattle.std.specs.List.{AllByRecursion}
+use Rattle.rt_lemmas.proofs.Membership.{all_has, contains_none}
 use Rattle.rt_ids.specs.declared.rule.Rule.{Rule}
 use Rattle.rt_ids.specs.declared.rule.Rule.TheVariants as rule
 use Rattle.rt_app.specs.declared.violation.Violation.{Violation}
@@ -33,15 +34,6 @@ of_rank_is rule.NotWritable = refl
 rank_tells : (r s : Rule) → rank r ≡ rank s → r ≡ s
 rank_tells r s e = sym (of_rank_is r) ∙ ap of_rank e ∙ of_rank_is s
 
--- what holds of all holds of one at a place
-at_place : (P : Violation → Type 0) (vs : List Violation) (k : ℕ) (d : Violation) → AllByRecursion P vs → k < length vs → P (get_or vs k d)
-at_place P [] k d all few = absurd (omega arith)
-at_place P (v ∷ vs) zero d all few = all.0
-at_place P (v ∷ vs) (suc k) d all few = at_place P vs k d all.1 (omega arith)
-
-of_one : (P : Violation → Type 0) (vs : List Violation) (v : Violation) → AllByRecursion P vs → Contains vs v → P v
-of_one P vs v all is = subst P is.2 (at_place P vs is.0 v all is.1)
-
 -- two that are not behind each other are the same
 same : (v w : Violation) → IsNotAfter v w → IsNotAfter w v → v ≡ w
 same v w (inl a) (inl b) = absurd (omega arith)
@@ -53,11 +45,8 @@ same v w (inr a) (inr b) =
     let at = a.0 in λ i. record { at = at i; rule = e i }
 
 pub one_first : (vs : List Violation) (v w : Violation) → IsFirst vs v → IsFirst vs w → v ≡ w
-one_first vs v w a b = same v w (of_one (IsNotAfter v) vs w a.first b.is_one) (of_one (IsNotAfter w) vs v b.first a.is_one)
+one_first vs v w a b = same v w (all_has (IsNotAfter v) vs w a.first b.is_one) (all_has (IsNotAfter w) vs v b.first a.is_one)
 
 -- nothing is broken where nothing is the first
 pub no_first : (vs : List Violation) (v : Violation) → vs ≡ [] → IsFirst vs v → ⊥
-no_first vs v none first = at_none (subst (λ us. Contains us v) none first.is_one)
-  where
-    at_none : Contains {X = Violation} [] v → ⊥
-    at_none is = let few = is.1 in absurd (omega arith)
+no_first vs v none first = contains_none v (subst (λ us. Contains us v) none first.is_one)

@@ -3,6 +3,7 @@ pub mod Firsts
 pub mod Accepting
 pub mod Refusing
 pub mod PlacedNames
+pub mod ListedOnce
 pub mod PlacedStatements
 pub mod Named
 pub mod Placed

@@ -6,7 +6,6 @@ use Rattle.std.proofs.lemmas.Option.{same_Some}
 use Rattle.std.proofs.lemmas.Slice.Eq.{bytes_eq-Decides}
 use Rattle.rt_lemmas.proofs.Lists.{all_map, append_none_left, append_none_right}
 use Rattle.rt_lemmas.proofs.Bools.{both_of_none}
-use Rattle.rt_ids.specs.declared.rule.Rule.{Rule}
 use Rattle.rt_ids.specs.declared.rule.Rule.TheVariants as rule
 use Rattle.rt_ids.specs.Word.{is_identifier, IsName}
 use Rattle.rt_ast.specs.declared.ident.Ident.{Ident}
@@ -15,6 +14,7 @@ use Rattle.rt_ast.specs.PrintableBody.{IsPrintableName}
 use Rattle.rt_ast.specs.Printable.{IsPrintable}
 use Rattle.rt_app.specs.Violation.{when}
 use Rattle.rt_app.specs.Names.{HasNames}
+use Rattle.rt_app.proofs.Unbroken.{not_broken}
 use Rattle.rt_ids.specs.Lists.{AreDifferent}
 use Rattle.rt_resolve.specs.Scope.{is_named}
 use Rattle.rt_resolve.specs.Resolved.{resolved, irq, task, shared, local}
@@ -29,10 +29,6 @@ name_is x is = let spelled = identifier x.name is.name in record { some = spelle
 
 abbrev texts : List Ident → List (List ℕ)
 texts xs = map (λ x. x.name) xs
-
-not_broken : (b : Bool) (r : Rule) (at : ℕ) → when b r at ≡ [] → b ≡ false
-not_broken true r at fine = absurd (cc)
-not_broken false r at fine = refl
 
 module _ (x : Ident) (before xs : List Ident) (fine : declared_twice before (x ∷ xs) ≡ []) where
   first_fine : list_any (is_named x.name) before ≡ false

@@ -1,25 +1,28 @@
 -- The application of a tree whose names are all known is placed.
 use Rattle.std.proofs.Common.{◌≡◌, ◌<◌, List, [], ◌∷◌, ◌++◌, length, map, flat_map, Option, Some, None, option_map, Result, Ok, Err, IfOk, refl, sym, ap, subst, ◌∙◌}
 use Rattle.std.specs.List.{AllByRecursion, range_with_len}
+use Rattle.std.proofs.lemmas.Simd.{map-map}
 use Rattle.rt_lemmas.proofs.Lists.{append_none_left, append_none_right}
+use Rattle.rt_ids.specs.Lists.{AreDifferent}
 use Rattle.rt_ids.specs.declared.refusal.Refused.{Refused}
 use Rattle.rt_ast.specs.declared.ident.Ident.{Ident}
 use Rattle.rt_ast.specs.declared.app.MonoTree.{MonoTree}
 use Rattle.rt_ast.specs.Tree.{Body, Task, App}
-use Rattle.rt_ast.specs.Printable.{IsPrintable}
+use Rattle.rt_ast.specs.Printable.{IfThere, IsPrintableInit, IsPrintable}
 use Rattle.rt_app.specs.declared.app.App as code
 use Rattle.rt_app.specs.declared.violation.Violation.{Violation}
 use Rattle.rt_app.specs.View.{app_of}
 use Rattle.rt_app.specs.Rules.{violations}
 use Rattle.rt_app.specs.Limits.{KeepsLimits}
-use Rattle.rt_app.specs.Accepted.{IsBodyPlaced, IsThreadPlaced, IsBindingPlaced, IsMonoPlaced, IsTaskPlaced, IsBlockPlaced, IsAccepted}
+use Rattle.rt_app.specs.Accepted.{IsBodyPlaced, IsThreadPlaced, IsInitPlaced, IsBindingPlaced, IsMonoPlaced, IsTaskPlaced, IsBlockPlaced, IsAccepted}
 use Rattle.rt_resolve.specs.Scope.{irq_named, shared_named, local_named, or_unknown, Names, inside}
 use Rattle.rt_resolve.specs.Resolved as resolve
 use Rattle.rt_resolve.specs.Resolved.{resolved, with_arguments, body_names, body_block}
 use Rattle.rt_resolve.specs.Misnamed.{if_unknown, block_faults}
 use Rattle.rt_resolve.specs.NameRules.{declaration_faults, listing_faults, argument_faults, body_faults, thread_faults, binds_fault, task_faults, mono_fault, name_violations, listed_twice, listing_of}
-use Rattle.rt_build.proofs.PlacedNames.{irq_placed, shared_placed, local_placed, arguments_seen, before_arguments}
+use Rattle.rt_build.proofs.PlacedNames.{irq_placed, shared_placed, local_placed, listed_by, arguments_seen, before_arguments}
 use Rattle.rt_build.proofs.PlacedStatements.{block_placed}
+use Rattle.rt_build.proofs.ListedOnce.{listed_once}
 use Rattle.rt_build.proofs.Named.{named}
 
 -- what holds of the picture of each element without a fault
@@ -29,7 +32,7 @@ all_of f P faults one (x ∷ xs) fine = (one x (append_none_left (faults x) (fla
 
 module _ (app : App) where
   body_placed : (args : List Ident) (b : Body) → body_faults app args b ≡ [] → IsBodyPlaced (resolved app) (length args) (resolve.body app args b)
-  body_placed args b fine = record { shared = shared; local = local; variables = refl; block = block }
+  body_placed args b fine = record { shared = shared; local = local; shared_once = shared_once; local_once = local_once; block = block }
     where
       on_shared : List Violation
       on_shared = flat_map (λ l. if_unknown (shared_named app l.name.name) l.name.at) b.shared
@@ -37,8 +40,11 @@ module _ (app : App) where
       on_local : List Violation
       on_local = flat_map (λ x. if_unknown (local_named app x.name) x.at) b.local
 
-      twice : List Violation
-      twice = listed_twice [] (flat_map (λ l. listing_of (shared_named app l.name.name) l.name.at) b.shared) ++ listed_twice [] (flat_map (λ x. listing_of (local_named app x.name) x.at) b.local)
+      shared_twice : List Violation
+      shared_twice = listed_twice [] (flat_map (λ l. listing_of (shared_named app l.name.name) l.name.at) b.shared)
+
+      local_twice : List Violation
+      local_twice = listed_twice [] (flat_map (λ x. listing_of (local_named app x.name) x.at) b.local)
 
       names : Names
       names = with_arguments (body_names app b) 0 args
@@ -52,19 +58,45 @@ module _ (app : App) where
       listings : listing_faults app b ≡ []
       listings = append_none_left (listing_faults app b) (on_arguments ++ on_block) fine
 
+      shared_known : on_shared ≡ []
+      shared_known = append_none_left on_shared (on_local ++ (shared_twice ++ local_twice)) listings
+
+      behind_shared : on_local ++ (shared_twice ++ local_twice) ≡ []
+      behind_shared = append_none_right on_shared (on_local ++ (shared_twice ++ local_twice)) listings
+
+      local_known : on_local ≡ []
+      local_known = append_none_left on_local (shared_twice ++ local_twice) behind_shared
+
+      once : shared_twice ++ local_twice ≡ []
+      once = append_none_right on_local (shared_twice ++ local_twice) behind_shared
+
       shared : AllByRecursion (λ l. l.resource < length (resolved app).shared) (map (resolve.listed app) b.shared)
-      shared = all_of (resolve.listed app) _ (λ l. if_unknown (shared_named app l.name.name) l.name.at) (λ l. shared_placed app l.name.name l.name.at) b.shared (append_none_left on_shared (on_local ++ twice) listings)
+      shared = all_of (resolve.listed app) _ (λ l. if_unknown (shared_named app l.name.name) l.name.at) (λ l. shared_placed app l.name.name l.name.at) b.shared shared_known
 
       local : AllByRecursion (λ o. o.local < length (resolved app).locals) (map (resolve.owned app) b.local)
-      local = all_of (resolve.owned app) _ (λ x. if_unknown (local_named app x.name) x.at) (λ x. local_placed app x.name x.at) b.local (append_none_left on_local twice (append_none_right on_shared (on_local ++ twice) listings))
+      local = all_of (resolve.owned app) _ (λ x. if_unknown (local_named app x.name) x.at) (λ x. local_placed app x.name x.at) b.local local_known
 
-      block : IsBlockPlaced (resolved app) (map (resolve.owned app) b.local) (length args) (range_with_len 0 (length args)) (body_block app args b)
-      block = before_arguments (λ a xs. IsBlockPlaced (resolved a) (map (resolve.owned a) xs) (length args) (range_with_len 0 (length args)) (body_block app args b)) args (body_names app b) 0
+      shared_once : AreDifferent (map (λ l. l.resource) (map (resolve.listed app) b.shared))
+      shared_once =
+          subst AreDifferent (sym (map-map (λ l. l.resource) (resolve.listed app) b.shared))
+          (listed_once (λ l. shared_named app l.name.name) (λ l. l.name.at) b.shared shared_known (append_none_left shared_twice local_twice once))
+
+      local_once : AreDifferent (map (λ o. o.local) (map (resolve.owned app) b.local))
+      local_once =
+          subst AreDifferent (sym (map-map (λ o. o.local) (resolve.owned app) b.local))
+          (listed_once (λ x. local_named app x.name) (λ x. x.at) b.local local_known (append_none_right shared_twice local_twice once))
+
+      block : IsBlockPlaced (resolved app) (listed_by app b.local) (length args) (range_with_len 0 (length args)) (body_block app args b)
+      block = before_arguments (λ a xs. IsBlockPlaced (resolved a) (listed_by a xs) (length args) (range_with_len 0 (length args)) (body_block app args b)) args (body_names app b) 0
           (block_placed b.block (inside names) (length args) (range_with_len 0 (length args)) (arguments_seen args (body_names app b) refl) (append_none_right on_arguments on_block (append_none_right (listing_faults app b) (on_arguments ++ on_block) fine)))
 
   thread_placed : (b : Option Body) → thread_faults app b ≡ [] → IsThreadPlaced (resolved app) (option_map (resolve.body app []) b)
   thread_placed None fine = tt
   thread_placed (Some b) fine = body_placed [] b fine
+
+  init_placed : (b : Option Body) → thread_faults app b ≡ [] → IfThere IsPrintableInit b → IsInitPlaced (resolved app) (option_map (resolve.body app []) b)
+  init_placed None fine printable = tt
+  init_placed (Some b) fine printable = (body_placed [] b fine, ap (map (resolve.listed app)) printable.1)
 
   mono_placed : (m : Option MonoTree) → mono_fault app m ≡ [] → IsMonoPlaced (resolved app) (option_map (resolve.mono app) m)
   mono_placed None fine = tt
@@ -84,7 +116,7 @@ module _ (app : App) where
     names = named app printable (append_none_left (declaration_faults app) (on_dispatchers ++ (on_mono ++ (on_init ++ (on_idle ++ on_tasks)))) fine);
     dispatchers = all_of (resolve.dispatcher app) _ (λ x. if_unknown (irq_named app x.name) x.at) (λ x. irq_placed app x.name x.at) app.dispatchers (append_none_left on_dispatchers (on_mono ++ (on_init ++ (on_idle ++ on_tasks))) behind_declarations);
     mono = mono_placed app.mono (append_none_left on_mono (on_init ++ (on_idle ++ on_tasks)) behind_dispatchers);
-    init = thread_placed app.init (append_none_left on_init (on_idle ++ on_tasks) behind_mono);
+    init = init_placed app.init (append_none_left on_init (on_idle ++ on_tasks) behind_mono) printable.init;
     idle = thread_placed app.idle (append_none_left on_idle on_tasks behind_init);
     tasks = all_of (resolve.task app) (IsTaskPlaced (resolved app)) (task_faults app) task_placed app.tasks (append_none_right on_idle on_tasks behind_init);
   }

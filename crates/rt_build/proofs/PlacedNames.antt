@@ -1,17 +1,16 @@
 -- A name that is no unknown name means something that is declared, and a variable is one in scope.
-use Rattle.std.proofs.Common.{◌≡◌, ◌==◌, ◌<◌, nat_lt, ◌||◌, ℕ, ◌+◌, Bool, true, false, cond, IsTrue, List, [], ◌∷◌, ◌++◌, length, map, take, find, position, Option, Some, None, IfSome, option_map, refl, sym, ap, subst, ◌∙◌, if◌then◌else◌}
+use Rattle.std.proofs.Common.{◌≡◌, ◌==◌, ◌<◌, nat_lt, ◌||◌, ℕ, ◌+◌, Bool, true, false, cond, Contains, List, [], ◌∷◌, ◌++◌, length, map, take, find, position, Option, Some, None, IfSome, option_map, refl, sym, ap, subst, ◌∙◌, if◌then◌else◌}
 use Rattle.std.specs.List.{AllByRecursion, list_any, position_or_len, range_with_len}
 use Rattle.std.specs.Option.{option_or, unwrap_or}
 use Rattle.std.proofs.lemmas.List.{length-map}
-use Rattle.std.proofs.lemmas.Bool.{ltb-true, eq-eqb}
+use Rattle.std.proofs.lemmas.Bool.{ltb-true}
 use Rattle.std.proofs.lemmas.Slice.Eq.{bytes_eq-Decides}
 use Rattle.rt_lemmas.proofs.Lists.{position_within}
-use Rattle.rt_lemmas.proofs.Bools.{true_right}
+use Rattle.rt_lemmas.proofs.Membership.{contains_here, contains_there, all_weaker, all_from_members}
 use Rattle.rt_lemmas.proofs.Options.{if_some-map, if_some_either}
 use Rattle.rt_ast.specs.declared.ident.Ident.{Ident}
 use Rattle.rt_ast.specs.Tree.{App}
 use Rattle.rt_app.specs.declared.TheConstants.{UNKNOWN}
-use Rattle.rt_app.specs.declared.body.Owned.{Owned}
 use Rattle.rt_app.specs.declared.expr.Atom.{Atom}
 use Rattle.rt_app.specs.declared.expr.Atom.TheVariants as atom
 use Rattle.rt_app.specs.Accepted.{IsMeant}
@@ -42,63 +41,50 @@ module _ (app : App) where
   pub local_placed : (name : List ℕ) (at : ℕ) → if_unknown (local_named app name) at ≡ [] → or_unknown (local_named app name) < length (resolved app).locals
   local_placed name at = known (λ k. k < length (resolved app).locals) (local_named app name) UNKNOWN at (placed local (λ r. is_named name r.name) app.locals)
 
--- one of these numbers
-abbrev pub IsIn : List ℕ → ℕ → Type 0
-IsIn visible n = IsTrue (list_any (λ y. y == n) visible)
-
 -- each variable in scope has one of these numbers
 abbrev pub AreSeen : List ℕ → List Variable → Type 0
-AreSeen visible vs = AllByRecursion (λ v. IsIn visible v.number) vs
-
-pub is_first : (n : ℕ) (visible : List ℕ) → IsIn (n ∷ visible) n
-is_first n visible = rw (eq-eqb n n refl)
-
--- numbers that are in a list are in a longer one
-more : {X : Type 0} (number : X → ℕ) (n : ℕ) (visible : List ℕ) (xs : List X) → AllByRecursion (λ x. IsIn visible (number x)) xs → AllByRecursion (λ x. IsIn (n ∷ visible) (number x)) xs
-more number n visible [] h = tt
-more number n visible (x ∷ xs) h = (true_right (n == number x) _ h.0, more number n visible xs h.1)
+AreSeen visible vs = AllByRecursion (λ v. Contains visible v.number) vs
 
 pub seen_more : (n : ℕ) (visible : List ℕ) (vs : List Variable) → AreSeen visible vs → AreSeen (n ∷ visible) vs
-seen_more n visible vs = more (λ v. v.number) n visible vs
+seen_more n visible vs = all_weaker (λ v. Contains visible v.number) (λ v. Contains (n ∷ visible) v.number) (λ v is. contains_there n visible v.number is) vs
 
-all_in : (xs : List ℕ) → AllByRecursion (IsIn xs) xs
-all_in [] = tt
-all_in (x ∷ xs) = (is_first x xs, more (λ k. k) x xs xs (all_in xs))
+all_in : (xs : List ℕ) → AllByRecursion (Contains xs) xs
+all_in xs = all_from_members (Contains xs) xs (λ x is. is)
 
-pub declared_seen : (visible : List ℕ) (s : Scope) (name : List ℕ) (n : ℕ) → IsIn visible n → AreSeen visible s.variables → AreSeen visible (declared s name n).variables
+pub declared_seen : (visible : List ℕ) (s : Scope) (name : List ℕ) (n : ℕ) → Contains visible n → AreSeen visible s.variables → AreSeen visible (declared s name n).variables
 declared_seen visible s name n is seen = go (list_any (is_variable name) (take s.here s.variables))
   where
     go : (b : Bool) → AreSeen visible (if b then s else record { variables = record { name = name; number = n } ∷ s.variables; here = s.here + 1 }).variables
     go true = seen
     go false = (is, seen)
 
-found_seen : (visible : List ℕ) (p : Variable → Bool) (vs : List Variable) → AreSeen visible vs → IfSome (find p vs) (λ v. IsIn visible v.number)
+found_seen : (visible : List ℕ) (p : Variable → Bool) (vs : List Variable) → AreSeen visible vs → IfSome (find p vs) (λ v. Contains visible v.number)
 found_seen visible p [] seen = tt
 found_seen visible p (v ∷ vs) seen = go (p v) (found_seen visible p vs seen.1)
   where
-    go : (b : Bool) → IfSome (find p vs) (λ w. IsIn visible w.number) → IfSome (cond b (Some v) (find p vs)) (λ w. IsIn visible w.number)
+    go : (b : Bool) → IfSome (find p vs) (λ w. Contains visible w.number) → IfSome (cond b (Some v) (find p vs)) (λ w. Contains visible w.number)
     go true rest = seen.0
     go false rest = rest
 
 -- the local resources that a body lists
-abbrev pub listings : Names → List Owned
-listings names = map (resolve.owned names.app) names.local
+abbrev pub listed_by : App → List Ident → List ℕ
+listed_by app xs = map (λ o. o.local) (map (resolve.owned app) xs)
+
+abbrev pub listings : Names → List ℕ
+listings names = listed_by names.app names.local
 
 -- a name that a body lists is that of a resource that it lists
-listed_here : (app : App) (name : List ℕ) (n : ℕ) → local_named app name ≡ Some n → (xs : List Ident) → list_any (is_named name) xs ≡ true → IsTrue (list_any (λ o. o.local == n) (map (resolve.owned app) xs))
+listed_here : (app : App) (name : List ℕ) (n : ℕ) → local_named app name ≡ Some n → (xs : List Ident) → list_any (is_named name) xs ≡ true → Contains (listed_by app xs) n
 listed_here app name n is [] test = absurd (cc)
 listed_here app name n is (x ∷ xs) test = go (is_named name x) refl (listed_here app name n is xs)
   where
-    others : List Owned
-    others = map (resolve.owned app) xs
-
-    go : (b : Bool) → is_named name x ≡ b → (list_any (is_named name) xs ≡ true → IsTrue (list_any (λ o. o.local == n) others)) → IsTrue ((or_unknown (local_named app x.name) == n) || list_any (λ o. o.local == n) others)
+    go : (b : Bool) → is_named name x ≡ b → (list_any (is_named name) xs ≡ true → Contains (listed_by app xs) n) → Contains (or_unknown (local_named app x.name) ∷ listed_by app xs) n
     go true e behind =
         let same : x.name ≡ name = (bytes_eq-Decides x.name name).0 e in
         let number : or_unknown (local_named app x.name) ≡ n = ap (λ t. or_unknown (local_named app t)) same ∙ ap or_unknown is in
-        rw (eq-eqb (or_unknown (local_named app x.name)) n number) refl
+        subst (λ k. Contains (k ∷ listed_by app xs) n) (sym number) (contains_here n (listed_by app xs))
     go false e behind =
-        true_right (or_unknown (local_named app x.name) == n) (list_any (λ o. o.local == n) others) (behind (ap (λ b. b || list_any (is_named name) xs) (sym e) ∙ test))
+        contains_there (or_unknown (local_named app x.name)) (listed_by app xs) n (behind (ap (λ b. b || list_any (is_named name) xs) (sym e) ∙ test))
 
 -- what a known name in an expression or an assignment stands for
 pub meant : (names : Names) (visible : List ℕ) → AreSeen visible names.scope.variables → (name : List ℕ) (at : ℕ) → if_unknown (meaning names name) at ≡ [] → IsMeant (resolved names.app) (listings names) visible (atom_named names name)
@@ -124,7 +110,7 @@ meant names visible seen name at = known P (meaning names name) (atom.Shared UNK
     owned = owned_when (list_any (is_named name) names.local) (local_named names.app name) refl refl (placed local (λ r. is_named name r.name) names.app.locals)
 
 -- the arguments of a body are the first of its variables
-arguments_in : (visible : List ℕ) (xs : List Ident) (names : Names) (n : ℕ) → AllByRecursion (IsIn visible) (range_with_len n (length xs)) → AreSeen visible names.scope.variables → AreSeen visible (with_arguments names n xs).scope.variables
+arguments_in : (visible : List ℕ) (xs : List Ident) (names : Names) (n : ℕ) → AllByRecursion (Contains visible) (range_with_len n (length xs)) → AreSeen visible names.scope.variables → AreSeen visible (with_arguments names n xs).scope.variables
 arguments_in visible [] names n in_range seen = seen
 arguments_in visible (x ∷ xs) names n in_range seen =
     arguments_in visible xs (with_variable names x n) (n + 1) in_range.1 (declared_seen visible names.scope x.name n in_range.0 seen)

@@ -2,6 +2,7 @@
 use Rattle.std.proofs.Common.{◌≡◌, ℕ, ◌+◌, ◌<◌, List, [], ◌∷◌, ◌++◌, length, map, flat_map, refl, sym, ap, subst}
 use Rattle.std.specs.List.{AllByRecursion}
 use Rattle.rt_lemmas.proofs.Lists.{append_none_left, append_none_right}
+use Rattle.rt_lemmas.proofs.Membership.{contains_here}
 use Rattle.rt_ast.specs.declared.ident.Ident.{Ident}
 use Rattle.rt_ast.specs.Tree.{App, Expression, Num, Read, Oper, Spawn, Soon, After, Value, Calc, Now, Call, Statement, Bind, Assign, Branch, Repeat, Locked, Emit, Pend, Spawns, Block, Empty, Then}
 use Rattle.rt_app.specs.declared.violation.Violation.{Violation}
@@ -10,9 +11,9 @@ use Rattle.rt_app.specs.Accepted as accepted
 use Rattle.rt_app.specs.Accepted.{AreMeant, IsSpawnPlaced, IsValuePlaced, IsStatementPlaced, IsBlockPlaced}
 use Rattle.rt_resolve.specs.Scope.{task_named, shared_named, or_unknown, Names, inside, with_variable, meaning}
 use Rattle.rt_resolve.specs.Resolving.{expression, spawn, value, statement, block, binders_in, binders, behind, in_loop}
-use Rattle.rt_resolve.specs.Resolved.{resolved, owned}
+use Rattle.rt_resolve.specs.Resolved.{resolved}
 use Rattle.rt_resolve.specs.Misnamed.{if_unknown, if_taken, expression_faults, call_faults, spawn_faults, value_faults, statement_faults, block_faults}
-use Rattle.rt_build.proofs.PlacedNames.{irq_placed, task_placed, shared_placed, AreSeen, is_first, seen_more, declared_seen, listings, meant}
+use Rattle.rt_build.proofs.PlacedNames.{irq_placed, task_placed, shared_placed, AreSeen, seen_more, declared_seen, listed_by, listings, meant}
 
 module _ (names : Names) (visible : List ℕ) (seen : AreSeen visible names.scope.variables) where
   pub expression_meant : (e : Expression) → expression_faults names e ≡ [] → AreMeant (resolved names.app) (listings names) visible (expression names e)
@@ -76,7 +77,7 @@ before P names n (Spawns s) h = h
 
 -- a variable that is declared has its number, and those before have theirs
 with_seen : (names : Names) (visible : List ℕ) (x : Ident) (n : ℕ) → AreSeen visible names.scope.variables → AreSeen (n ∷ visible) (with_variable names x n).scope.variables
-with_seen names visible x n seen = declared_seen (n ∷ visible) names.scope x.name n (is_first n visible) (seen_more n visible names.scope.variables seen)
+with_seen names visible x n seen = declared_seen (n ∷ visible) names.scope x.name n (contains_here n visible) (seen_more n visible names.scope.variables seen)
 
 behind_seen : (names : Names) (n : ℕ) (visible : List ℕ) → AreSeen visible names.scope.variables → (s : Statement) → AreSeen (accepted.behind (resolved names.app) (listings names) n visible (statement names n s)) (behind names n s).scope.variables
 behind_seen names n visible seen (Bind x v) = with_seen names visible x n seen
@@ -118,7 +119,7 @@ mutual
       let on_rest = block_faults (behind names n s) (n + binders_in s) rest in
       let wider = accepted.behind (resolved names.app) (listings names) n visible (statement names n s) in
       let placed_rest = block_placed rest (behind names n s) (n + binders_in s) wider (behind_seen names n visible seen s) (append_none_right (statement_faults names n s) on_rest fine) in
-      let of_app = before (λ a xs. IsBlockPlaced (resolved a) (map (owned a) xs) (n + binders_in s) wider (block (behind names n s) (n + binders_in s) rest)) names n s placed_rest in (
+      let of_app = before (λ a xs. IsBlockPlaced (resolved a) (listed_by a xs) (n + binders_in s) wider (block (behind names n s) (n + binders_in s) rest)) names n s placed_rest in (
         statement_placed s names n visible seen (append_none_left (statement_faults names n s) on_rest fine),
         subst (λ k. IsBlockPlaced (resolved names.app) (listings names) (n + k) wider (block (behind names n s) (n + binders_in s) rest)) (sym (same_variables_in s names n)) of_app,
       )

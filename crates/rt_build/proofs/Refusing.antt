@@ -10,7 +10,7 @@ use Rattle.rt_app.specs.declared.violation.Violation.{Violation}
 use Rattle.rt_app.specs.Tree.{App}
 use Rattle.rt_app.specs.Violation.{IsFirst}
 use Rattle.rt_resolve.specs.Resolved.{resolved}
-use Rattle.rt_rules.specs.First.{first_of}
+use Rattle.rt_rules.specs.Inside.First.{first_of}
 use Rattle.rt_rules.specs.Refusal.{fault_at}
 use Rattle.rt_rules.proofs.Earliest.{is_first, is_none}
 use Rattle.rt_build.specs.Accepted.{broken, IsApplication, IsRefusedText}

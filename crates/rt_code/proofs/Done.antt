@@ -1,8 +1,7 @@
 -- The effect of an instruction, test by test.
-use Rattle.std.proofs.Common.{◌≡◌, ℕ, Bool, true, false, not, if◌then◌else◌, refl, ◌∙◌, ap}
-use Rattle.rt_code.specs.Access.{cells_of}
+use Rattle.std.proofs.Common.{Bool, true, not, if◌then◌else◌, ◌∙◌, ap}
 use Rattle.rt_code.specs.Operands.{slots_of, are_there}
-use Rattle.rt_code.specs.Effect.{done, effect}
+use Rattle.rt_code.specs.Effect.{done}
 use Rattle.rt_code.specs.Laws.{EffectIsDone}
 use Rattle.rt_code.specs.Processor.{Effect, Traps}
 use Rattle.rt_code.specs.declared.processor.Trap.TheVariants as trap

@@ -1,5 +1,5 @@
 -- What an instruction does to the cells and to the size of its frame, and how it depends on the cells.
-use Rattle.std.proofs.Common.{◌≡◌, ◌≢◌, ℕ, zero, suc, ◌+◌, ◌<◌, ◌&&◌, ◌==◌, Bool, true, false, not, nat_le, nat_lt, if◌then◌else◌, Option, Some, option_map, List, [], ◌∷◌, length, slice_get, slice_index, slice_set, refl, sym, ap, ◌∙◌, arith, length-set}
+use Rattle.std.proofs.Common.{◌≡◌, ◌≢◌, ℕ, zero, suc, ◌+◌, ◌&&◌, ◌==◌, Bool, true, false, nat_le, nat_lt, if◌then◌else◌, Option, Some, option_map, List, [], ◌∷◌, length, slice_get, slice_index, slice_set, refl, sym, ap, ◌∙◌, arith, length-set, None, subst}
 use Rattle.std.specs.List.{list_all}
 use Rattle.std.specs.Option.{option_to_list}
 use Rattle.std.proofs.lemmas.Bool.{ltb-true}
@@ -8,7 +8,7 @@ use Rattle.std.specs.Prelude.{unwrap_or}
 use Rattle.rt_ids.specs.Operation.{number_of}
 use Rattle.rt_code.specs.Access.{Access, Loads, Stores, cell_of, access_of, access_with, cells_of}
 use Rattle.rt_code.specs.Operands.{slots_of, are_there}
-use Rattle.rt_code.specs.Effect.{slot, next, written, unmask, done, effect}
+use Rattle.rt_code.specs.Effect.{slot, next, written, done, effect}
 use Rattle.rt_code.specs.Processor.{Processor, Effect, Traps, Leads}
 use Rattle.rt_code.specs.declared.instr.Instr.{Instr}
 use Rattle.rt_code.specs.declared.instr.Instr.TheVariants as instr
@@ -136,15 +136,78 @@ alike_if true true e other a cells own load f = f refl load
 alike_if true false e other a cells own load f = refl
 alike_if false s e other a cells own load f = refl
 
+same_tests : (i : Instr) (p : Processor) (cells : List ℕ) → length cells ≡ length p.cells
+    → are_there (cells_of i (with_memory p cells)) cells ≡ are_there (cells_of i p) p.cells
+same_tests i p cells long =
+    ap (λ a. are_there (option_to_list (option_map cell_of a)) cells) (access_same i p cells)
+    ∙ ap (λ n. list_all (λ place. nat_lt place n) (cells_of i p)) long
+
 -- on as many cells that agree at what it loads, an instruction has the same effect but for the cells
 pub effect_alike : (i : Instr) (time : ℕ) (p : Processor) (cells : List ℕ) → length cells ≡ length p.cells → HaveLoad (access_with (effect i time p) (access_of i p)) cells p.cells
     → aside (effect i time (with_memory p cells)) ≡ aside (effect i time p)
 effect_alike i time p cells long load =
-    let same : are_there (cells_of i (with_memory p cells)) cells ≡ are_there (cells_of i p) p.cells =
-    ap (λ a. are_there (option_to_list (option_map cell_of a)) cells) (access_same i p cells)
-    ∙ ap (λ n. list_all (λ place. nat_lt place n) (cells_of i p)) long in
-    ap (λ b. aside (tested (done i time (with_memory p cells)) b (are_there (slots_of i) p.slots))) same
+    ap (λ b. aside (tested (done i time (with_memory p cells)) b (are_there (slots_of i) p.slots))) (same_tests i p cells long)
     ∙ alike_if (are_there (cells_of i p) p.cells) (are_there (slots_of i) p.slots) (done i time p) (done i time (with_memory p cells)) (access_of i p) cells p.cells load (done_alike i time p cells)
+
+-- the access does not depend on other cells either
+access_aside : (e : Effect) (a : Option Access) → access_with e a ≡ access_with (aside e) a
+access_aside (Traps t) a = refl
+access_aside (Leads p asked) a = refl
+
+pub access_alike : (i : Instr) (time : ℕ) (p : Processor) (cells : List ℕ) → length cells ≡ length p.cells → HaveLoad (access_with (effect i time p) (access_of i p)) cells p.cells
+    → access_with (effect i time (with_memory p cells)) (access_of i (with_memory p cells)) ≡ access_with (effect i time p) (access_of i p)
+access_alike i time p cells long load =
+    ap (access_with (effect i time (with_memory p cells))) (access_same i p cells)
+    ∙ access_aside (effect i time (with_memory p cells)) (access_of i p)
+    ∙ ap (λ e. access_with e (access_of i p)) (effect_alike i time p cells long load)
+    ∙ sym (access_aside (effect i time p) (access_of i p))
+
+-- the cell that is stored, in as many cells
+slice_get-set_alike : (xs ys : List ℕ) (c v : ℕ) → length xs ≡ length ys → slice_get (slice_set xs c v) c ≡ slice_get (slice_set ys c v) c
+slice_get-set_alike [] [] c v h = refl
+slice_get-set_alike [] (y ∷ ys) c v h = absurd (omega (arith, h))
+slice_get-set_alike (x ∷ xs) [] c v h = absurd (omega (arith, h))
+slice_get-set_alike (x ∷ xs) (y ∷ ys) zero v h = refl
+slice_get-set_alike (x ∷ xs) (y ∷ ys) (suc c) v h = slice_get-set_alike xs ys c v (omega (arith, h))
+
+unmask_none : (b set : Bool) (p : Processor)
+    → access_with (if b then Leads (record (next p) { primask = set }) request.Nothing else Traps trap.Stack) None ≡ None
+unmask_none true set p = refl
+unmask_none false set p = refl
+
+stored_at : (cells own : List ℕ) (c k v : ℕ) → length cells ≡ length own → c ≡ k → slice_get (slice_set cells c v) k ≡ slice_get (slice_set own c v) k
+stored_at cells own c k v long e =
+    subst (λ n. slice_get (slice_set cells c v) n ≡ slice_get (slice_set own c v) n) e (slice_get-set_alike cells own c v long)
+
+done_stores : (i : Instr) (time : ℕ) (p : Processor) (cells : List ℕ) (k : ℕ) → length cells ≡ length p.cells → are_there (slots_of i) p.slots ≡ true
+    → access_with (done i time p) (access_of i p) ≡ Some (Stores k)
+    → slice_get (cells_after (done i time (with_memory p cells)) cells) k ≡ slice_get (cells_after (done i time p) p.cells) k
+done_stores (instr.Store c s) time p cells k long there h = stored_at cells p.cells c k (slot p s) long (cc)
+done_stores (instr.StoreAt c s a) time p cells k long there h =
+    let at : Some (Stores (c + slot p s)) ≡ Some (Stores k) = sym (ap (option_map (λ n. Stores (c + n))) (slot_there p s (a ∷ []) there)) ∙ h in
+    stored_at cells p.cells (c + slot p s) k (slot p a) long (cc)
+done_stores (instr.LoadAt d c s) time p cells k long there h = absurd (one (slice_get p.slots s) h)
+  where
+    one : (o : Option ℕ) → option_map (λ n. Loads (c + n)) o ≡ Some (Stores k) → ⊥
+    one None h = cc
+    one (Some n) h = cc
+done_stores (instr.Unmask s) time p cells k long there h =
+    let none = unmask_none (nat_le (slot p s) 1) (slot p s == 1) p in absurd (cc)
+done_stores i time p cells k long there h = absurd (cc)
+
+stores_if : (b s : Bool) (e other : Effect) (a : Option Access) (cells own : List ℕ) (k : ℕ) → access_with (tested e b s) a ≡ Some (Stores k)
+    → (s ≡ true → access_with e a ≡ Some (Stores k) → slice_get (cells_after other cells) k ≡ slice_get (cells_after e own) k)
+    → slice_get (cells_after (tested other b s) cells) k ≡ slice_get (cells_after (tested e b s) own) k
+stores_if true true e other a cells own k h f = f refl h
+stores_if true false e other a cells own k h f = absurd (cc)
+stores_if false s e other a cells own k h f = absurd (cc)
+
+-- on as many cells, what an instruction stores is the same
+pub stores_alike : (i : Instr) (time : ℕ) (p : Processor) (cells : List ℕ) (k : ℕ) → length cells ≡ length p.cells → access_with (effect i time p) (access_of i p) ≡ Some (Stores k)
+    → slice_get (cells_after (effect i time (with_memory p cells)) cells) k ≡ slice_get (cells_after (effect i time p) p.cells) k
+stores_alike i time p cells k long h =
+    ap (λ b. slice_get (cells_after (tested (done i time (with_memory p cells)) b (are_there (slots_of i) p.slots)) cells) k) (same_tests i p cells long)
+    ∙ stores_if (are_there (cells_of i p) p.cells) (are_there (slots_of i) p.slots) (done i time p) (done i time (with_memory p cells)) (access_of i p) cells p.cells k h (done_stores i time p cells k long)
 
 sized_if : (b s : Bool) (e : Effect) (slots : List ℕ) → length (slots_after e slots) ≡ length slots → length (slots_after (tested e b s) slots) ≡ length slots
 sized_if true true e slots h = h

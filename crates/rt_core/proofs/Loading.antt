@@ -1,5 +1,6 @@
 -- What a step does depends on memory by what it loads alone.
 use Rattle.std.proofs.Common.{◌≡◌, ℕ, ◌+◌, Bool, true, false, nat_le, if◌then◌else◌, List, [], length, Option, Some, None, slice_get, option_map, refl, sym, ap, ◌∙◌}
+use Rattle.rt_code.specs.Access.{Stores}
 use Rattle.rt_code.specs.Effect.{effect}
 use Rattle.rt_code.specs.Image.{Image, entry_words}
 use Rattle.rt_code.specs.Processor.{Effect, Traps, Leads}
@@ -12,7 +13,7 @@ use Rattle.rt_code.specs.declared.instr.Note.TheVariants as note
 use Rattle.rt_code.specs.declared.processor.Request.{Request}
 use Rattle.rt_code.specs.declared.processor.Request.TheVariants as request
 use Rattle.rt_code.specs.declared.processor.Trap.TheVariants as trap
-use Rattle.rt_code.proofs.Touching.{with_memory, aside, effect_alike, HaveLoad}
+use Rattle.rt_code.proofs.Touching.{with_memory, aside, effect_alike, access_alike, stores_alike, HaveLoad}
 use Rattle.rt_context.specs.Stack.{interrupted}
 use Rattle.rt_program.specs.Tables.{argument_count}
 use Rattle.rt_trace.specs.declared.item.What.{What}
@@ -26,6 +27,7 @@ use Rattle.rt_core.specs.Stepping as stepping
 use Rattle.rt_core.specs.Touching.{with_cells, without_value, StepsAlike, DependsOnItsLoadAlone}
 use Rattle.rt_core.specs.Transfer as transfer
 use Rattle.rt_core.proofs.Happening.{step_by}
+use Rattle.rt_core.proofs.Keeping.{cells_by_line, cells_by, cells_of_step}
 
 -- an outcome with its cells put aside, and without the value of a leave besides
 abbrev cut : Outcome → Outcome
@@ -164,9 +166,44 @@ module _ (img : Image) (c : Core) (cells : List ℕ) (long : length cells ≡ le
       settled_shown (stepping.attempt img other (pick img c)) ∙ ap (λ o. (settle o).1) (attempt_alike (pick img c) load)
       ∙ sym (settled_shown (stepping.attempt img c (pick img c)))
 
+  line_touches_alike : (line : Option (Instr × Option Note)) → HaveLoad (access_by_line c line) cells c.processor.cells → access_by_line other line ≡ access_by_line c line
+  line_touches_alike None load = refl
+  line_touches_alike (Some line) load = access_alike line.0 c.time c.processor cells long load
+
+  attempt_touches_alike : (taken : Option IrqRow) → HaveLoad (access_by img c taken) cells c.processor.cells → access_by img other taken ≡ access_by img c taken
+  attempt_touches_alike (Some row) load = refl
+  attempt_touches_alike None load = line_touches_alike (slice_get img.code c.processor.address) load
+
+  touches_alike : (stopped : Bool) → HaveLoad (if stopped then None else access_by img c (pick img c)) cells c.processor.cells
+      → (if stopped then None else access_by img other (pick img c)) ≡ (if stopped then None else access_by img c (pick img c))
+  touches_alike true load = refl
+  touches_alike false load = attempt_touches_alike (pick img c) load
+
+  line_stores_alike : (line : Option (Instr × Option Note)) (k : ℕ) → access_by_line c line ≡ Some (Stores k)
+      → slice_get (cells_by_line other line) k ≡ slice_get (cells_by_line c line) k
+  line_stores_alike None k h = absurd (cc)
+  line_stores_alike (Some line) k h = stores_alike line.0 c.time c.processor cells k long h
+
+  attempt_stores_alike : (taken : Option IrqRow) (k : ℕ) → access_by img c taken ≡ Some (Stores k)
+      → slice_get (cells_by img other taken) k ≡ slice_get (cells_by img c taken) k
+  attempt_stores_alike (Some row) k h = absurd (cc)
+  attempt_stores_alike None k h = line_stores_alike (slice_get img.code c.processor.address) k h
+
+  step_stores_alike : (stopped : Bool) (k : ℕ) → (if stopped then None else access_by img c (pick img c)) ≡ Some (Stores k)
+      → slice_get (step_by img other stopped).0.processor.cells k ≡ slice_get (step_by img c stopped).0.processor.cells k
+  step_stores_alike true k h = absurd (cc)
+  step_stores_alike false k h =
+      ap (λ cells. slice_get cells k) (cells_of_step img other) ∙ attempt_stores_alike (pick img c) k h
+      ∙ sym (ap (λ cells. slice_get cells k) (cells_of_step img c))
+
   alike : HaveLoad (if c.stopped then None else access_by img c (pick img c)) cells c.processor.cells → StepsAlike img c cells
   unfolding stepping.step
-  alike load = record { core = core_alike c.stopped load; shown = shown_alike c.stopped load }
+  alike load = record {
+    touched = touches_alike c.stopped load;
+    core = core_alike c.stopped load;
+    stored = step_stores_alike c.stopped;
+    shown = shown_alike c.stopped load;
+  }
 
 pub depends_on_its_load_alone : DependsOnItsLoadAlone
 depends_on_its_load_alone img c cells same = alike img c cells same.long same.load

@@ -27,10 +27,13 @@ pub record HasItsLoad (img : Image) (c : Core) (cells : List ℕ) : Type 0 where
   pub long : length cells ≡ length c.processor.cells
   pub load : (cell : ℕ) → access img c ≡ Some (Loads cell) → slice_get cells cell ≡ slice_get c.processor.cells cell
 
--- On two memories that agree at what it loads, a step leads to cores that differ in their cells alone, and gives the
--- same item but for the value of a leave.
+-- On two memories that agree at what it loads, a step makes the same access, leads to cores that differ in their cells
+-- alone, stores the same, and gives the same item but for the value of a leave.
 pub record StepsAlike (img : Image) (c : Core) (cells : List ℕ) : Type 0 where
+  pub touched : access img (with_cells c cells) ≡ access img c
   pub core : with_cells (step img (with_cells c cells)).0 [] ≡ with_cells (step img c).0 []
+  pub stored : (cell : ℕ) → access img c ≡ Some (Stores cell)
+      → slice_get (step img (with_cells c cells)).0.processor.cells cell ≡ slice_get (step img c).0.processor.cells cell
   pub shown : without_value (step img (with_cells c cells)).1 ≡ without_value (step img c).1
 
 abbrev pub DependsOnItsLoadAlone : Type 0

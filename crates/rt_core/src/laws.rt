@@ -2,8 +2,8 @@ ghost use Rattle.rt_core.specs.Taken.{TakesTheFirst};
 ghost use Rattle.rt_core.specs.Touching.{ChangesItsCellAlone, DependsOnItsLoadAlone};
 ghost use Rattle.rt_core.specs.Laws as laws;
 
-/// The interrupt that a core takes is, of those that it may take, the one of the highest priority, and of equal ones the
-/// one of the lowest number; none is taken only where it may take none.
+/// The interrupt that a core takes is, of those that it may take, the one of the highest priority, and of equal ones
+/// the one of the lowest number; none is taken only where it may take none.
 #[tactic(auto, using(crate::proofs::Picking::taken))]
 pub fn the_first_interrupt_is_taken()
     ensures { TakesTheFirst }
@@ -28,7 +28,6 @@ pub fn steps_change_their_cell_alone()
 {}
 
 /// What a core step does depends on memory by what it loads alone, and on the value that a leave shows.
-#[tactic(auto, using(crate::proofs::Loading::depends_on_its_load_alone))]
 pub fn steps_depend_on_their_load_alone()
     ensures { DependsOnItsLoadAlone }
 {}

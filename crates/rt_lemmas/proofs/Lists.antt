@@ -23,6 +23,19 @@ pub all_push : {A : Type 0} (P : A → Type 0) (xs : List A) (x : A) → AllByRe
 all_push P [] x all h = (h, tt)
 all_push P (y ∷ xs) x (first, all) h = (first, all_push P xs x all h)
 
+-- what holds of all of two lists, one behind the other, and what holds of all of each
+pub all_append : {A : Type 0} (P : A → Type 0) (xs ys : List A) → AllByRecursion P xs → AllByRecursion P ys → AllByRecursion P (xs ++ ys)
+all_append P [] ys all more = more
+all_append P (x ∷ xs) ys (first, all) more = (first, all_append P xs ys all more)
+
+pub all_front : {A : Type 0} (P : A → Type 0) (xs ys : List A) → AllByRecursion P (xs ++ ys) → AllByRecursion P xs
+all_front P [] ys all = tt
+all_front P (x ∷ xs) ys (first, all) = (first, all_front P xs ys all)
+
+pub all_behind : {A : Type 0} (P : A → Type 0) (xs ys : List A) → AllByRecursion P (xs ++ ys) → AllByRecursion P ys
+all_behind P [] ys all = all
+all_behind P (x ∷ xs) ys (first, all) = all_behind P xs ys all
+
 pub all_both : {A : Type 0} (P Q : A → Type 0) (xs : List A) → AllByRecursion P xs → AllByRecursion Q xs → AllByRecursion (λ x. P x × Q x) xs
 all_both P Q [] p q = tt
 all_both P Q (x ∷ xs) p q = ((p.0, q.0), all_both P Q xs p.1 q.1)

@@ -2,7 +2,7 @@
 -- the grammar, once it holds of those that it is made of.
 use Rattle.std.proofs.Common.{◌≡◌, ℕ, zero, suc, ◌<◌, ◌≤◌, Bool, true, List, [], ◌∷◌, ◌++◌, length, None, Some, refl, sym, subst, inl, inr, length-append, arith}
 use Rattle.std.specs.List.{AllByRecursion}
-use Rattle.rt_lemmas.proofs.Lists.{all_push}
+use Rattle.rt_lemmas.proofs.Lists.{all_push, all_front, all_behind}
 use Rattle.rt_lex.specs.Token.{Token}
 use Rattle.rt_lex.specs.Split.{has_kind, IsLongest}
 use Rattle.rt_grammar.specs.Mark.{Mark, Takes, Ends, IsWithin}
@@ -28,14 +28,6 @@ sound_marks src (Takes t (Some what) ∷ marks) ts rest fits (w, within) longest
 sound_marks src (Ends compares None ∷ marks) ts rest (stops, fits) (w, within) longest = (refl, sound_marks src marks ts rest fits within longest)
 sound_marks src (Ends compares (Some at) ∷ marks) ts rest fits (w, within) longest = absurd cc
 
-sound_front : (a b : List Mark) → AllSound (a ++ b) → AllSound a
-sound_front [] b all = tt
-sound_front (m ∷ a) b (first, all) = (first, sound_front a b all)
-
-sound_behind : (a b : List Mark) → AllSound (a ++ b) → AllSound b
-sound_behind [] b all = all
-sound_behind (m ∷ a) b (first, all) = sound_behind a b all
-
 -- this holds of what each sound text of the language means
 pub record Keeps {A : Type 0} (L : Language A) (P : A → Type 0) : Type 0 where
   pub kept : (marks : List Mark) (x : A) → L marks x → AllSound marks → P x
@@ -49,7 +41,7 @@ keeps_then {A} {B} {L} {M} {P} {Q} first second = record { kept = both }
     both : (marks : List Mark) (y : B) → (L >>= M) marks y → AllSound marks → Q y
     both marks y (x, front, back, l, m, e) all =
         let sound : AllSound (front ++ back) = subst AllSound e all in
-        (second x (first.kept front x l (sound_front front back sound))).kept back y m (sound_behind front back sound)
+        (second x (first.kept front x l (all_front IsSound front back sound))).kept back y m (all_behind IsSound front back sound)
 
 pub keeps_or : {A : Type 0} {L M : Language A} {P : A → Type 0} → Keeps L P → Keeps M P → Keeps (L or M) P
 keeps_or {A} {L} {M} {P} one other = record { kept = either }

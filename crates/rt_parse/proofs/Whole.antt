@@ -1,5 +1,5 @@
 -- The reader of texts is exact for the grammar with a bound on parentheses and blocks inside each other.
-use Rattle.std.proofs.Common.{◌≡◌, ℕ, suc, max, List, [], ◌∷◌, length, Result, Err, subst, arith}
+use Rattle.std.proofs.Common.{◌≡◌, ℕ, suc, max, List, [], ◌∷◌, length, Result, subst, arith}
 use Rattle.rt_ids.specs.declared.limit.Limit.{Limit}
 use Rattle.rt_ids.specs.declared.limits.TheConstants.{PARENTHESES}
 use Rattle.rt_ids.specs.declared.refusal.Refusal.TheVariants as refusal

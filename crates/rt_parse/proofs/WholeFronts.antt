@@ -2,6 +2,7 @@
 use Rattle.std.proofs.Common.{◌≡◌, ℕ, ◌≤◌, List, [], ◌∷◌, ◌++◌, length, Option, refl, sym, ap, ◌∙◌, subst, inl, inr, arith, length-append}
 use Rattle.std.specs.Prelude.{◌⊎◌}
 use Rattle.std.specs.List.{AllByRecursion}
+use Rattle.rt_lemmas.proofs.Lists.{all_front, all_behind}
 use Rattle.rt_ids.specs.declared.limit.Limit.{Limit}
 use Rattle.rt_lex.specs.Token.{Token}
 use Rattle.rt_grammar.specs.Mark.{Mark, Takes, Ends, IsWithin}
@@ -41,12 +42,10 @@ front_shorter a b ts left rest front fits fits' =
     suffix_shorter s.0 rest left s.1
 
 pub within_front : (a b : List Mark) → AllByRecursion IsWithin (a ++ b) → AllByRecursion IsWithin a
-within_front [] b all = tt
-within_front (m ∷ a) b (first, all) = (first, within_front a b all)
+within_front a b = all_front IsWithin a b
 
 pub within_behind : (a b : List Mark) → AllByRecursion IsWithin (a ++ b) → AllByRecursion IsWithin b
-within_behind [] b all = all
-within_behind (m ∷ a) b (first, all) = within_behind a b all
+within_behind a b = all_behind IsWithin a b
 
 passes_none : (mark : Mark) (at : Option ℕ) (what : Limit) → Passes mark at what → IsWithin mark → ⊥
 passes_none mark at what (offset, e, f) within = absurd cc

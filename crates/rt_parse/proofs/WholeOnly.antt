@@ -1,7 +1,7 @@
 -- What is a text is read, so a text has one tree; and nothing goes further than to a byte that no token begins with.
-use Rattle.std.proofs.Common.{◌≡◌, ℕ, List, [], ◌∷◌, ◌++◌, Option, Result, Ok, Err, refl, sym, ap, ◌∙◌, subst, inl, inr}
+use Rattle.std.proofs.Common.{◌≡◌, ℕ, List, [], ◌∷◌, ◌++◌, Result, Ok, Err, refl, sym, ap, ◌∙◌, subst, inl, inr}
 use Rattle.std.specs.List.{AllByRecursion}
-use Rattle.rt_ids.specs.declared.limit.Limit.{Limit}
+use Rattle.rt_lemmas.proofs.Lists.{all_front, all_behind}
 use Rattle.rt_lex.specs.declared.token.Kind.TheVariants as kind
 use Rattle.rt_lex.specs.Token.{Token}
 use Rattle.rt_lex.specs.Tokens.{tokens}
@@ -38,14 +38,6 @@ text_only src a b t u = same_app a b (text_at (tokens src)) (text_is_read src a 
 
 -- No mark takes a byte that no token begins with.
 
-tokens_behind : (a b : List Mark) → AllByRecursion IsToken (a ++ b) → AllByRecursion IsToken b
-tokens_behind [] b all = all
-tokens_behind (m ∷ a) b (first, all) = tokens_behind a b all
-
-tokens_front : (a b : List Mark) → AllByRecursion IsToken (a ++ b) → AllByRecursion IsToken a
-tokens_front [] b all = tt
-tokens_front (m ∷ a) b (first, all) = (first, tokens_front a b all)
-
 foreign_stops : (marks : List Mark) (t : Token) (ts rest : List Token) → t.kind ≡ kind.Foreign → AllByRecursion IsToken marks → Fits marks (t ∷ ts) rest → t ∷ ts ≡ rest
 foreign_stops [] t ts rest e all fits = fits
 foreign_stops (Takes u limit ∷ marks) t ts rest e (first, all) (behind, f, fits) =
@@ -58,6 +50,6 @@ pub foreign_rest : (src : List ℕ) (marks others : List Mark) (t : Token) (more
     → Fits marks (tokens src) rest → Reaches text (tokens src) others left → IsFront marks others → rest ≡ left
 foreign_rest src marks others t more rest left e k fits r front =
     let f = front_fits marks others (tokens src) rest left front fits r.fits in
-    let all : AllByRecursion IsToken others = tokens_front others r.begins.0 (text_known (others ++ r.begins.0) r.begins.1 r.begins.2) in
-    let behind : AllByRecursion IsToken f.0 = tokens_behind marks f.0 (subst (AllByRecursion IsToken) f.1 all) in
+    let all : AllByRecursion IsToken others = all_front IsToken others r.begins.0 (text_known (others ++ r.begins.0) r.begins.1 r.begins.2) in
+    let behind : AllByRecursion IsToken f.0 = all_behind IsToken marks f.0 (subst (AllByRecursion IsToken) f.1 all) in
     e ∙ foreign_stops f.0 t more left k behind (subst (λ (us : List Token). Fits f.0 us left) e f.2)

@@ -20,7 +20,7 @@ use Rattle.rt_ast.specs.Tree.{App}
 use Rattle.rt_grammar.specs.Mark.{Mark, limit_of, IsWithin}
 use Rattle.rt_grammar.specs.Reach.{Reaches}
 use Rattle.rt_grammar.specs.Text.{text, IsSpelled, Begins, IsUnlimited, IsText, IsForeignAt, IsDeadEnd, IsSyntaxAt, IsLimitAt, IsRefusedAt, IsRefused, offset_of}
-use Rattle.rt_parse.specs.Reading.{refusal_of, refusal_at, wrong_at}
+use Rattle.rt_parse.specs.Reading.{refusal_of, wrong_at}
 use Rattle.rt_parse.specs.Fault.{offset_or, fault_of}
 use Rattle.rt_parse.specs.ReadingDeclaration.{text_at}
 use Rattle.rt_parse.specs.declared.stop.Found.{Found}

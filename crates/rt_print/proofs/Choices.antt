@@ -95,14 +95,11 @@ priority_read owner b n o Z t h a ends =
     (read_then number _ (IsNumber n.value) P (decimal n.value ++ Z) Z Z (read_number n.value (λ v. free) Z h refl ends.stops) (λ m e.
     read_gives P (record o { priority = Some m }) Z (record { binds = a.binds; priority = rw e refl; capacity = a.capacity; shared = a.shared; local = a.local }))))))
 
-capacity_none : (x : Option ℕ) → x ≡ None → is_none x ≡ true
-capacity_none x e = rw e refl
-
 capacity_read : (owner : Owner) (b : Option Ident) (p : Option Number) (n : ℕ) (o : Options) (Z : List ℕ) → is_task owner ≡ true → IsPrintableCapacity n → AreRead b p None [] [] o → IsEnd Z
     → Reads (option owner o) (AreRead b p (Some n) [] []) ((codes "capacity = " ++ decimal n) ++ Z) Z
 capacity_read owner b p n o Z t h a ends =
     let P = AreRead b p (Some n) [] [] in
-    let test : (is_task owner && is_none o.capacity) ≡ true = rw (t, capacity_none o.capacity a.capacity) refl in
+    let test : (is_task owner && is_none o.capacity) ≡ true = rw (t, ap is_none a.capacity) refl in
     read_right (grammar.binds_option owner o) _ P _ Z (read_right (grammar.priority_option owner o) _ P _ Z (read_left (grammar.capacity_option owner o) _ P _ Z
     (read_only_if (is_task owner && is_none o.capacity) _ P _ Z test
     (read_word_is (codes "capacity") _ P (decimal n ++ Z) Z refl

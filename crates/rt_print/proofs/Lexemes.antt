@@ -1,10 +1,9 @@
 -- The tokens that a text begins with: names, numbers, words and signs.
 use Rattle.std.proofs.Common.{◌≡◌, ℕ, ◌+◌, ◌*◌, ◌^◌, ◌<◌, ◌≤◌, Bool, true, false, cond, eqb, ◌||◌, ◌&&◌, List, [], ◌∷◌, ◌++◌, length, take, drop, Option, None, refl, sym, ap, subst, ◌∙◌, arith, append-nil, inl, inr}
-use Rattle.std.specs.Prelude.{◌-◌, decimal, bytes_eq, fold, nat_lt, nat_le}
+use Rattle.std.specs.Prelude.{◌-◌, decimal, fold, nat_lt, nat_le}
 use Rattle.std.specs.List.{list_all, take_while, prefix_len, starts_with}
 use Rattle.std.proofs.Math.Seq.{take-append_seam}
-use Rattle.std.proofs.lemmas.Slice.Eq.{bytes_eq-Decides}
-use Rattle.std.proofs.lemmas.Bool.{eqb-true, leb-true, ne_eqb, lt-ltb, le-ltb, le-leb}
+use Rattle.std.proofs.lemmas.Bool.{cond-true, cond-false, eqb-true, leb-true, ne_eqb, lt-ltb, le-ltb, le-leb}
 use Rattle.std.proofs.lemmas.Fmt.{decimal_is_IsNumeral}
 use Rattle.std.proofs.lemmas.Str.{digit_value_digit}
 use Rattle.std.proofs.lemmas.Str.Parse.{digit_from_value}
@@ -77,12 +76,6 @@ is_no_comment : (b : ℕ) (text : List ℕ) → 47 < b → starts_with eqb (b �
 is_no_comment b [] h = rw (ne_eqb 47 b (λ e. omega (arith, h, e))) refl
 is_no_comment b (c ∷ text) h = rw (ne_eqb 47 b (λ e. omega (arith, h, e))) refl
 
-cond_true : (test : Bool) (x y : Front) → test ≡ true → cond test x y ≡ x
-cond_true test x y e = rw e refl
-
-cond_false : (test : Bool) (x y : Front) → test ≡ false → cond test x y ≡ y
-cond_false test x y e = rw e refl
-
 letter_high : (b : ℕ) → is_letter b ≡ true → 57 < b
 letter_high b h =
     elim (or_cases (is_lower b || is_upper b) (eqb b 95) h) [
@@ -100,16 +93,16 @@ no_letter b low false e = e
 front_of_letter : (b : ℕ) (X : List ℕ) → is_letter b ≡ true → front_of b (b ∷ X) ≡ name_front (take_while is_name_byte (b ∷ X))
 front_of_letter b X letter =
     let high = letter_high b letter in
-    cond_false (is_blank b) (skips 1) _ (is_no_blank b (omega (arith, high)))
-    ∙ cond_false (starts_with eqb (b ∷ X) (47 ∷ 47 ∷ [])) (skips (length (comment (b ∷ X)))) _ (is_no_comment b X (omega (arith, high)))
-    ∙ cond_true (is_letter b) (name_front (take_while is_name_byte (b ∷ X))) _ letter
+    cond-false (is_blank b) (skips 1) _ (is_no_blank b (omega (arith, high)))
+    ∙ cond-false (starts_with eqb (b ∷ X) (47 ∷ 47 ∷ [])) (skips (length (comment (b ∷ X)))) _ (is_no_comment b X (omega (arith, high)))
+    ∙ cond-true (is_letter b) (name_front (take_while is_name_byte (b ∷ X))) _ letter
 
 front_of_digit : (b : ℕ) (X : List ℕ) → 47 < b → b ≤ 57 → is_digit b ≡ true → front_of b (b ∷ X) ≡ number_front (take_while is_digit (b ∷ X)) (hex_digits (b ∷ X))
 front_of_digit b X high low digit =
-    cond_false (is_blank b) (skips 1) _ (is_no_blank b high)
-    ∙ cond_false (starts_with eqb (b ∷ X) (47 ∷ 47 ∷ [])) (skips (length (comment (b ∷ X)))) _ (is_no_comment b X high)
-    ∙ cond_false (is_letter b) (name_front (take_while is_name_byte (b ∷ X))) _ (no_letter b low (is_letter b) refl)
-    ∙ cond_true (is_digit b) (number_front (take_while is_digit (b ∷ X)) (hex_digits (b ∷ X))) (sign_front b (take 2 (b ∷ X))) digit
+    cond-false (is_blank b) (skips 1) _ (is_no_blank b high)
+    ∙ cond-false (starts_with eqb (b ∷ X) (47 ∷ 47 ∷ [])) (skips (length (comment (b ∷ X)))) _ (is_no_comment b X high)
+    ∙ cond-false (is_letter b) (name_front (take_while is_name_byte (b ∷ X))) _ (no_letter b low (is_letter b) refl)
+    ∙ cond-true (is_digit b) (number_front (take_while is_digit (b ∷ X)) (hex_digits (b ∷ X))) (sign_front b (take 2 (b ∷ X))) digit
 
 name_is_front : (text Y : List ℕ) → is_identifier text ≡ true → is_word text ≡ false → Stops Y → IsFront text kind.Name Y
 name_is_front [] Y h no_word stop = absurd cc
@@ -129,18 +122,18 @@ all_digits (c ∷ ds) h =
     let k = digit_from_value c h.0 in
     rw (digit_is c (omega (arith, k)) (omega (arith, k)), all_digits ds h.1) refl
 
-second_false : (a b c : Bool) → b ≡ false → (a && (b && c)) ≡ false
-second_false true b c e = rw e refl
-second_false false b c e = refl
+second-false : (a b c : Bool) → b ≡ false → (a && (b && c)) ≡ false
+second-false true b c e = rw e refl
+second-false false b c e = refl
 
 -- digits before such a text do not begin with 0x
 is_no_hex : (c : ℕ) (ds Y : List ℕ) → AllDigits 10 ds → Stops Y → starts_with eqb (c ∷ (ds ++ Y)) (48 ∷ 120 ∷ []) ≡ false
-is_no_hex c [] [] h stop = second_false (eqb 48 c) false false refl
+is_no_hex c [] [] h stop = second-false (eqb 48 c) false false refl
 is_no_hex c [] (y ∷ Y) h stop =
-    second_false (eqb 48 c) (eqb 120 y) true (ne_eqb 120 y (λ e. let clash : is_name_byte 120 ≡ false = subst (λ (b : ℕ). is_name_byte b ≡ false) (sym e) stop in cc))
+    second-false (eqb 48 c) (eqb 120 y) true (ne_eqb 120 y (λ e. let clash : is_name_byte 120 ≡ false = subst (λ (b : ℕ). is_name_byte b ≡ false) (sym e) stop in cc))
 is_no_hex c (d ∷ ds) Y h stop =
     let k = digit_from_value d h.0 in
-    second_false (eqb 48 c) (eqb 120 d) true (ne_eqb 120 d (λ e. omega (arith, k, e)))
+    second-false (eqb 48 c) (eqb 120 d) true (ne_eqb 120 d (λ e. omega (arith, k, e)))
 
 number_is_front : (ds Y : List ℕ) → 0 < length ds → AllDigits 10 ds → Stops Y → IsFront ds kind.Num Y
 number_is_front [] Y some h stop = absurd (omega (arith, some))

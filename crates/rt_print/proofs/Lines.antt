@@ -1,5 +1,5 @@
 -- Statements and blocks of the code, and their texts.
-use Rattle.std.proofs.Common.{◌≡◌, ℕ, ◌<◌, List, [], ◌∷◌, ◌++◌, flat_map, map, length, Vec, Global, Result, Ok, Err, OnOk, Some, codes, decimal, refl, sym, ap, ◌∙◌, arith, append_assoc}
+use Rattle.std.proofs.Common.{◌≡◌, ℕ, ◌<◌, List, [], ◌∷◌, ◌++◌, flat_map, map, length, Vec, Global, Result, OnOk, Some, codes, decimal, refl, sym, ap, ◌∙◌, arith, append_assoc}
 use Rattle.rt_lemmas.proofs.Results.{on_ok_weaker}
 use Rattle.rt_ast.specs.Tree as tree
 use Rattle.rt_ast.specs.View.{expression_of, spawn_of, statement_of, block_of}

@@ -3,6 +3,7 @@
 use Rattle.std.proofs.Common.{◌≡◌, ℕ, suc, Bool, true, List, [], ◌∷◌, ◌++◌, Option, Some, None, refl, sym, subst, inl, inr}
 use Rattle.std.specs.List.{AllByRecursion}
 use Rattle.rt_ids.specs.declared.limit.Limit.{Limit}
+use Rattle.rt_lemmas.proofs.Lists.{all_append}
 use Rattle.rt_lex.specs.Token.{Token}
 use Rattle.rt_lex.specs.Tokens.{tokens_at}
 use Rattle.rt_grammar.specs.Mark.{Mark, Takes, Ends, IsWithin}
@@ -31,10 +32,6 @@ fits_append [] n ts mid rest h k = subst (λ (x : List Token). Fits n x rest) (s
 fits_append (Takes t limit ∷ m) n ts mid rest h k = (h.0, h.1, fits_append m n h.0 mid rest h.2 k)
 fits_append (Ends compares deep ∷ m) n ts mid rest h k = (h.0, fits_append m n ts mid rest h.1 k)
 
-within_append : (m n : List Mark) → AllByRecursion IsWithin m → AllByRecursion IsWithin n → AllByRecursion IsWithin (m ++ n)
-within_append [] n h k = k
-within_append (mark ∷ m) n h k = (h.0, within_append m n h.1 k)
-
 pub read_gives : {A : Type 0} (P : A → Type 0) (x : A) (X : List ℕ) → P x → Reads (gives x) P X X
 read_gives P x X h at = record { behind = at; marks = []; meaning = x; means = (refl, refl); holds = h; fits = refl; within = tt }
 
@@ -50,7 +47,7 @@ read_then L next P Q X Y Z h k at =
       means = (r.meaning, r.marks, s.marks, r.means, s.means, refl);
       holds = s.holds;
       fits = fits_append r.marks s.marks _ _ _ r.fits s.fits;
-      within = within_append r.marks s.marks r.within s.within;
+      within = all_append IsWithin r.marks s.marks r.within s.within;
     }
 
 -- a weaker language, and a weaker meaning

@@ -1,0 +1,13 @@
+// Tests of the parts of the machine, by their public calls. What whole cores show stands in machine_cases.
+#![tactic(auto)]
+
+#[cfg(test)]
+mod context;
+#[cfg(test)]
+mod nvic;
+#[cfg(test)]
+mod program;
+#[cfg(test)]
+mod stack;
+#[cfg(test)]
+mod trace;

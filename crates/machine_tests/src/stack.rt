@@ -1,0 +1,40 @@
+ghost use Rattle.std.specs.Prelude.{◌≡◌, ◌<◌, ◌≤◌, ◌++◌, slice_set};
+ghost use Rattle.rt_stack.specs.Region.{Fits, used, top, below};
+
+use rt_stack::Region;
+use std::test::Fail;
+
+/// Writes one of the last words: the word alone is another.
+fn write(region: &mut Region, words: u32, at: u32, value: u32)
+    requires within { words ≤ used region.old }
+    requires at { at < words }
+    ensures { region.new ≡ record region.old { words = below region.old words ++ slice_set (top region.old words) at value } }
+{
+    region.top(words)[at as usize] = value;
+}
+
+/// Frames of two words, of eight and of two fill a region of twelve.
+#[test]
+fn frames_stand_on_each_other(rt: HostRuntime) -> Result<(), Fail> {
+    let mut region = Region::new(rt.alloc(), 48)?;
+    for (words, at, value, left) in [(2, 1, 5, 10), (8, 0, 6, 2), (2, 0, 7, 0)] {
+        assert!(rt; region.fits(words));
+        region.push(words);
+        assert!(rt; region.used() >= words);
+        write(&mut region, words, at, value);
+        assert!(rt; region.fits(left));
+        assert!(rt; !region.fits(left + 1));
+    }
+    assert_eq!(rt; region.used(), 12);
+    assert_eq!(rt;
+        region.top_ref(12),
+        [0, 5, 6, 0, 0, 0, 0, 0, 0, 0, 7, 0].as_slice()
+    );
+    region.pop(3);
+    region.push(1);
+    assert_eq!(rt;
+        region.top_ref(10),
+        [0, 5, 6, 0, 0, 0, 0, 0, 0, 0].as_slice()
+    );
+    Ok(())
+}

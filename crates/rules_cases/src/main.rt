@@ -1,0 +1,35 @@
+// Runs the tables of commands that stand in data/, and prints a line for each case: its name, and `ok` or what
+// differs. What
+// reports, refusals and traces are to be comes from an independent implementation.
+#![tactic(auto)]
+
+use anyhow::Result;
+use rt_cases::cases;
+use rt_commands::verdict;
+use std::fs;
+use std::rt::Files;
+use std::thread::Threads;
+
+/// Prints a line for each case of a file, whose words are these where the case has none.
+fn run<R: Threads + Sync + Files + Print + AllocGlobal>(
+    rt: &R,
+    file: &str,
+    words: &str,
+) -> Result<()> {
+    let text = fs::read_to_string(rt, file)?;
+    for case in &cases(rt.alloc(), text.as_str())? {
+        println!(rt;
+            "{}: {}",
+            case.name(),
+            verdict(rt, rt.alloc(), words, case)?
+        )?;
+    }
+    Ok(())
+}
+
+fn main(rt: HostRuntime) -> Result<()> {
+    run(&rt, "reports", "check app")?;
+    run(&rt, "refusals", "check app")?;
+    run(&rt, "runs", "run app script")?;
+    run(&rt, "commands", "")
+}
