@@ -41,7 +41,7 @@ fn show(trace: &mut String, step: u64, what: What) -> Result<(), AllocError> {
 }
 
 /// One core step.
-#[tactic(auto, using(rt_core::proofs::Timing::step_keeps_time))]
+#[tactic(auto, using(rt_core::proofs::Keeping::step_keeps_time))]
 fn step(core: &mut Core, trace: &mut String) -> Result<(), AllocError>
     requires { core.old.steps < 2 ^ 31 }
     ensures steps { core.new.steps ≡ core.old.steps + 1 }
@@ -55,7 +55,7 @@ fn step(core: &mut Core, trace: &mut String) -> Result<(), AllocError>
 }
 
 /// One tick.
-#[tactic(auto, using(rt_core::proofs::Timing::tick_adds_one))]
+#[tactic(auto, using(rt_core::proofs::Keeping::tick_adds_one))]
 fn tick(core: &mut Core, trace: &mut String) -> Result<(), AllocError>
     requires { core.old.core.time < 2 ^ 31 }
     ensures steps { core.new.steps ≡ core.old.steps }
@@ -70,7 +70,7 @@ fn tick(core: &mut Core, trace: &mut String) -> Result<(), AllocError>
 }
 
 /// One request of an interrupt.
-#[tactic(auto, using(rt_core::proofs::Timing::arrivals_keep_time))]
+#[tactic(auto, using(rt_core::proofs::Keeping::arrivals_keep_time))]
 fn arrive(core: &mut Core, irq: Irq, trace: &mut String) -> Result<(), AllocError>
     ensures steps { core.new.steps ≡ core.old.steps }
     ensures time { core.new.core.time ≡ core.old.core.time }

@@ -3,7 +3,7 @@ ghost use Rattle.rt_outside.specs.Faults.{Rose};
 ghost use Rattle.rt_outside.specs.Bytes.{Took};
 ghost use Rattle.rt_app.specs.Tree as application;
 ghost use Rattle.rt_app.specs.View.{app_of};
-ghost use Rattle.rt_app.specs.Limits.{KeepsLimits};
+ghost use Rattle.rt_app.specs.Accepted.{IsAccepted};
 ghost use Rattle.rt_build.specs.Accepted.{IsApplication};
 ghost use Rattle.rt_top.specs.Words.{IsCheck};
 ghost use Rattle.rt_top.specs.Defined.{IsAnswer, WroteAll, WrotePart, check_report};
@@ -46,7 +46,7 @@ pub(crate) fn check<A: Source, K: Sink>(alloc: Global, app: &mut A, out: &mut K)
 
 /// The report on an application.
 fn checked(alloc: Global, app: &App) -> Result<Vec<u8>, NoMemory>
-    requires { KeepsLimits (app_of app.now) }
+    requires { IsAccepted (app_of app.now) }
     ensures { IfOk result (λ text. text.items ≡ check_report (app_of app.now)) }
 {
     let ceilings = ceilings(alloc, app)?;

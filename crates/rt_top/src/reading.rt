@@ -4,7 +4,7 @@ ghost use Rattle.rt_ast.specs.View.{app_of};
 ghost use Rattle.rt_grammar.specs.Text.{IsText};
 ghost use Rattle.rt_app.specs.Tree as application;
 ghost use Rattle.rt_app.specs.View as resolved;
-ghost use Rattle.rt_app.specs.Limits.{KeepsLimits};
+ghost use Rattle.rt_app.specs.Accepted.{IsAccepted};
 ghost use Rattle.rt_build.specs.Accepted.{KeepsRules, IsApplication};
 ghost use Rattle.rt_first.specs.Application as first_form;
 ghost use Rattle.rt_first.specs.Form.{IsFirstForm};
@@ -66,7 +66,7 @@ pub(crate) fn read_tree<A: Source>(alloc: Global, app: &mut A) -> Result<Written
 fn judged(alloc: Global, written: &Written) -> Result<App, Halt>
     requires { IsText written.now.text.items (app_of written.now.tree) }
     ensures ok { IfOk result (λ app. KeepsRules (app_of written.now.tree) (resolved.app_of app)) }
-    ensures limits { IfOk result (λ app. KeepsLimits (resolved.app_of app)) }
+    ensures kept { IfOk result (λ app. IsAccepted (resolved.app_of app)) }
     ensures refused { IfErr result (λ halt. IfRefused halt (IsBrokenBy written.now.text.items (app_of written.now.tree))) }
     ensures ended { IfErr result (λ halt. IfEnded halt (λ ended. ended ≡ status.Memory)) }
 {
@@ -80,7 +80,7 @@ fn judged(alloc: Global, written: &Written) -> Result<App, Halt>
 /// Reads the application, where it breaks no rule.
 pub(crate) fn read_accepted<A: Source>(alloc: Global, app: &mut A) -> Result<App, Halt>
     ensures accepted { (text : List ℕ) → A.left app.old ≡ Some text → IfOk result (λ app. IsApplication text (resolved.app_of app)) }
-    ensures limits { IfOk result (λ app. KeepsLimits (resolved.app_of app)) }
+    ensures kept { IfOk result (λ app. IsAccepted (resolved.app_of app)) }
     ensures refused { (text : List ℕ) → A.left app.old ≡ Some text → IfErr result (λ halt. IfRefused halt (IsCheckRefusal text)) }
     ensures ended { IfErr result (λ halt. IfEnded halt (Stops (A.faults app.old) (A.faults app.new))) }
 {
