@@ -1,7 +1,5 @@
 -- Trees of the first form.
-use Rattle.std.specs.List.{AllByRecursion}
-use Rattle.std.proofs.lemmas.List.{take_more, map_push}
-use Rattle.std.proofs.Common.{◌≡◌, ◌<◌, ℕ, ◌+◌, map, take, length, get_or, List, [], ◌∷◌, ◌++◌, Option, Some, None, IfNone, IfSome, subst, sym, ap, ◌∙◌}
+use Rattle.std.proofs.Common.{◌≡◌, Option, Some, None, subst, sym, ap, ◌∙◌}
 use Rattle.rt_ast.specs.Tree as tree
 use Rattle.rt_first.specs.Application.{App}
 use Rattle.rt_first.specs.Form.{HasFirstForm, KeepsLimits, KeepsRules, app_of}

@@ -1,5 +1,5 @@
 -- Tests of all elements of a list, and what they decide of the elements' views.
-use Rattle.std.proofs.Common.{ℕ, ◌≡◌, ◌≢◌, ◌↔◌, ◌<◌, ◌≤◌, suc, List, [], ◌∷◌, Bool, true, false, length, map, find, take, drop, get_or, ◌-◌, inl, inr, Option, Some, None, IsTrue, cond, refl, ap, sym, ◌∙◌, subst, arith}
+use Rattle.std.proofs.Common.{ℕ, ◌≡◌, ◌≢◌, ◌↔◌, ◌<◌, ◌≤◌, List, [], ◌∷◌, Bool, true, false, length, map, find, take, drop, get_or, ◌-◌, inl, inr, Option, Some, None, IsTrue, cond, refl, ap, sym, ◌∙◌, subst, arith}
 use lib.Dec.{leb}
 use Rattle.std.specs.Bool.{Decides}
 use Rattle.std.specs.List.{AllByRecursion, list_all}

@@ -13,6 +13,7 @@ pub mod SimulationServe
 pub mod SimulationTake
 pub mod Good
 pub mod Handlers
+mod OfApplication
 pub mod Progress
 pub mod AcceptedTree
 pub mod Judged

@@ -3,10 +3,10 @@ use Rattle.std.proofs.Common.{◌≡◌, ◌<◌, ◌≤◌, ◌^◌, ℕ, zero,
 use Rattle.std.proofs.Common.{sym, Bool, true, false}
 use Rattle.std.proofs.lemmas.List.{map-append, append-nil}
 use Rattle.std.specs.Borrow.{Bor}
-use Rattle.std.proofs.Common.{Option, Some, None, sum_by, option_and_then}
+use Rattle.std.proofs.Common.{Some, sum_by, option_and_then}
 use Rattle.std.proofs.Common.{subst, nat_le}
 use Rattle.std.proofs.lemmas.Bool.{leb-true}
-use Rattle.std.proofs.lemmas.Option.{cond_some, none-some, option_and_then_some}
+use Rattle.std.proofs.lemmas.Option.{cond_some, option_and_then_some}
 use Rattle.rt_ids.specs.declared.limits.TheConstants.{SCRIPT_EVENTS, SCRIPT_BYTES}
 use Rattle.rt_first.specs.Application.{App}
 use Rattle.rt_first.specs.Script.{script_of, within_events, count_of, gather, line_orders}

@@ -3,6 +3,7 @@ ghost use Rattle.std.specs.List.{AllByRecursion};
 ghost use Rattle.rt_ids.specs.declared.limits.TheConstants.{CODE_SIZE};
 ghost use Rattle.rt_first.specs.Bounds.{frame as frame_of, need, needs};
 ghost use Rattle.rt_first.specs.Good.{Good};
+ghost use Rattle.rt_first.specs.Output.{IsImageOf};
 ghost use Rattle.rt_first.specs.Compiled.{image_of, task_code, thread_code as fixed_code, handler_of, row_of};
 
 use crate::application::{Application, IrqDecl, Task};
@@ -16,10 +17,11 @@ pub(crate) const THREAD_SIZE: u32 = 2;
 /// Bytes that an exception entry puts on the stack: eight words.
 const EXCEPTION_BYTES: u32 = 32;
 
-/// The image of an application: its code, tables and stack region. For every list of events its trace is a run of
-/// Baker's machine on the application, within the stack bound and without a trap.
+/// The image of an application: its code, tables and stack region, with its bits, interrupts and priorities. For every
+/// list of events its trace is a run of Baker's machine on the application, within the stack bound and without a trap.
 pub(crate) fn compile(alloc: Global, app: &Application) -> Result<Image, NoMemory>
-    ensures { IfOk result (λ image. Good app.now image) }
+    ensures good { IfOk result (λ image. Good app.now image) }
+    ensures of_application { IfOk result (λ image. IsImageOf app.now image) }
 {
     let _accepted = &app.bits;
     let image = make_image(alloc, app)?;
