@@ -1,8 +1,8 @@
 -- The words of a command.
-use Rattle.std.proofs.Common.{◌≡◌, ◌<◌, ◌≤◌, ℕ, Bool, IsTrue, List, [], ◌∷◌, length, get_or, codes, bytes_eq, inl, inr, refl, ap, sym, ◌∙◌, arith}
+use Rattle.std.proofs.Common.{◌≡◌, ◌<◌, ◌≤◌, ℕ, Bool, IsTrue, true, false, ◌↔◌, List, [], ◌∷◌, length, get_or, codes, bytes_eq, refl, ap, sym, ◌∙◌, arith}
 use Rattle.std.proofs.lemmas.Slice.Eq.{bytes_eq-Decides}
 use Rattle.std.specs.Borrow.{Bor}
-use Rattle.rt_top.specs.Words.{texts, IsRun, IsCheck, IsFmt, IsCommand}
+use Rattle.rt_top.specs.Words.{Command, Run, Check, Fmt, Build, Audit, Live, Soak, Demo, texts, Names, IsBuilt, IsCommand}
 
 -- three words are the first, and two more
 pub three : (words : List (Bor (List ℕ))) (d : Bor (List ℕ)) → 3 ≤ length words → length words < 4 → (a : List ℕ) × (b : List ℕ) × (texts words ≡ (get_or words 0 d).now ∷ a ∷ b ∷ [])
@@ -17,7 +17,7 @@ head_of : {a b c x y z : List ℕ} → a ∷ b ∷ c ∷ [] ≡ x ∷ y ∷ z �
 head_of e = cc
 
 -- the test of the first of three words
-pub is_run_by : (words : List (Bor (List ℕ))) (d : Bor (List ℕ)) (b : Bool) → 3 ≤ length words → length words < 4 → b ≡ bytes_eq (get_or words 0 d).now (codes "run") → (IsTrue b → IsRun (texts words)) × (IsRun (texts words) → IsTrue b)
+pub is_run_by : (words : List (Bor (List ℕ))) (d : Bor (List ℕ)) (b : Bool) → 3 ≤ length words → length words < 4 → b ≡ bytes_eq (get_or words 0 d).now (codes "run") → (IsTrue b → Names (texts words) Run) × (Names (texts words) Run → IsTrue b)
 is_run_by words d b least most test =
     let t = three words d least most in
     let decides = bytes_eq-Decides (get_or words 0 d).now (codes "run") in (
@@ -48,8 +48,62 @@ module _ (verb : List ℕ) (words : List (Bor (List ℕ))) (d : Bor (List ℕ)) 
         λ is. test ∙ decides.1 (head_of_two (sym t.1 ∙ is.1)),
       )
 
--- words that are none of these are no command
-pub no_command : (words : List (List ℕ)) → (IsRun words → ⊥) → (IsCheck words → ⊥) → (IsFmt words → ⊥) → IsCommand words → ⊥
-no_command words run check fmt (inl is) = run is
-no_command words run check fmt (inr (inl is)) = check is
-no_command words run check fmt (inr (inr is)) = fmt is
+-- a test that is false refutes what it tests
+refuted : {P : Type 0} (b : Bool) → (IsTrue b ↔ P) → b ≡ false → P → ⊥
+refuted b both is_false p = let is_true : b ≡ true = both.1 p in cc
+
+-- words that are none of these are no command that is built
+module _ (words : List (List ℕ)) (run check fmt : Bool) (is_run : IsTrue run ↔ Names words Run) (is_check : IsTrue check ↔ Names words Check) (is_fmt : IsTrue fmt ↔ Names words Fmt) (no_run : run ≡ false) (no_check : check ≡ false) (no_fmt : fmt ≡ false) where
+  none : (c : Command) → IsBuilt c → Names words c → ⊥
+  none Run built named = refuted run is_run no_run named
+  none Check built named = refuted check is_check no_check named
+  none Fmt built named = refuted fmt is_fmt no_fmt named
+  none Build built named = absurd built
+  none Audit built named = absurd built
+  none Live built named = absurd built
+  none (Soak number count workers) built named = absurd built
+  none (Demo n) built named = absurd built
+
+  pub no_command : IsCommand words → ⊥
+  no_command (c, built, named) = none c built named
+
+-- the words name one command
+three_two : (words : List (List ℕ)) (a b c x y : List ℕ) → words ≡ a ∷ b ∷ c ∷ [] → words ≡ x ∷ y ∷ [] → ⊥
+three_two words a b c x y e f = cc
+
+same_verb : (words : List (List ℕ)) (a b x y : List ℕ) → words ≡ a ∷ b ∷ [] → words ≡ x ∷ y ∷ [] → a ≡ x
+same_verb words a b x y e f = cc
+
+check_fmt : codes "check" ≡ codes "fmt" → ⊥
+check_fmt e = omega (arith, ap length e)
+
+pub one_command : (words : List (List ℕ)) (c d : Command) → IsBuilt c → IsBuilt d → Names words c → Names words d → c ≡ d
+one_command words Run Run built also named other = refl
+one_command words Run Check built also named other = absurd (three_two words _ _ _ _ _ named.2 other.1)
+one_command words Run Fmt built also named other = absurd (three_two words _ _ _ _ _ named.2 other.1)
+one_command words Check Run built also named other = absurd (three_two words _ _ _ _ _ other.2 named.1)
+one_command words Check Check built also named other = refl
+one_command words Check Fmt built also named other = absurd (check_fmt (same_verb words _ _ _ _ named.1 other.1))
+one_command words Fmt Run built also named other = absurd (three_two words _ _ _ _ _ other.2 named.1)
+one_command words Fmt Check built also named other = absurd (check_fmt (same_verb words _ _ _ _ other.1 named.1))
+one_command words Fmt Fmt built also named other = refl
+one_command words Run Build built also named other = absurd also
+one_command words Run Audit built also named other = absurd also
+one_command words Run Live built also named other = absurd also
+one_command words Run (Soak number count workers) built also named other = absurd also
+one_command words Run (Demo n) built also named other = absurd also
+one_command words Check Build built also named other = absurd also
+one_command words Check Audit built also named other = absurd also
+one_command words Check Live built also named other = absurd also
+one_command words Check (Soak number count workers) built also named other = absurd also
+one_command words Check (Demo n) built also named other = absurd also
+one_command words Fmt Build built also named other = absurd also
+one_command words Fmt Audit built also named other = absurd also
+one_command words Fmt Live built also named other = absurd also
+one_command words Fmt (Soak number count workers) built also named other = absurd also
+one_command words Fmt (Demo n) built also named other = absurd also
+one_command words Build d built also named other = absurd built
+one_command words Audit d built also named other = absurd built
+one_command words Live d built also named other = absurd built
+one_command words (Soak number count workers) d built also named other = absurd built
+one_command words (Demo n) d built also named other = absurd built

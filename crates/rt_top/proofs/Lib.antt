@@ -1,4 +1,8 @@
-mod Answers
-mod Texts
+mod Clauses
 mod CommandWords
-mod Checked
+mod Deciding
+mod Ending
+mod Excluding
+mod ImageOf
+mod FirstText
+mod Refused

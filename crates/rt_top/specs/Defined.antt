@@ -1,5 +1,5 @@
--- What the program is to write, and its status, for a command and the texts that its sources hold. Each command has a line in each of
--- three tables, and a file of its own for what is long.
+-- What the program is to write, and its status, for a command and the texts that its sources hold. Each command has a
+-- line in each of three tables, and a file of its own for what is long.
 use Rattle.std.specs.Prelude.{◌≡◌, ℕ, ◌≤◌, ◌⊎◌, List, Option, Some, None}
 use Rattle.rt_ids.specs.declared.status.Status.{Status}
 use Rattle.rt_ids.specs.declared.status.Status.TheVariants as status
@@ -32,14 +32,17 @@ RefusesSecond other text more line = ⊥
 
 -- with this status these bytes are the output for texts that are not refused
 abbrev pub Writes : Command → Inputs → Status → List ℕ → Type 0
-Writes Run t status.Done bytes = (text more : List ℕ) × (t.first ≡ Some text) × (t.second ≡ Some more) × IsRun text more bytes
-Writes Check t status.Done bytes = (text : List ℕ) × (t.first ≡ Some text) × IsChecked text bytes
-Writes Fmt t status.Done bytes = (text : List ℕ) × (t.first ≡ Some text) × IsFormatted text bytes
+Writes Run t ended bytes =
+    (ended ≡ status.Done) × (text more : List ℕ) × (t.first ≡ Some text) × (t.second ≡ Some more)
+    × IsRun text more bytes
+Writes Check t ended bytes = (ended ≡ status.Done) × (text : List ℕ) × (t.first ≡ Some text) × IsChecked text bytes
+Writes Fmt t ended bytes = (ended ≡ status.Done) × (text : List ℕ) × (t.first ≡ Some text) × IsFormatted text bytes
 Writes other t ended bytes = ⊥
 
 pub data Defined (c : Command) (t : Inputs) : Status → List ℕ → Type 0 where
-  first : (text line : List ℕ) → t.first ≡ Some text → RefusesFirst c text line → Defined c t status.App line
-  second : (text more line : List ℕ) → t.first ≡ Some text → t.second ≡ Some more → RefusesSecond c text more line → Defined c t status.Text line
+  refused : (text line : List ℕ) → t.first ≡ Some text → RefusesFirst c text line → Defined c t status.App line
+  faulty : (text more line : List ℕ) → t.first ≡ Some text → t.second ≡ Some more → RefusesSecond c text more line
+      → Defined c t status.Text line
   output : (ended : Status) (bytes : List ℕ) → Writes c t ended bytes → Defined c t ended bytes
 
 -- the status is due
@@ -82,7 +85,8 @@ abbrev pub WroteAll : Command → Inputs → Status → Option (List ℕ) → Op
 WroteAll c t ended before after = (bytes : List ℕ) × Defined c t ended bytes × Took before after bytes
 
 abbrev pub WrotePart : Command → Inputs → Option (List ℕ) → Option (List ℕ) → Type 0
-WrotePart c t before after = (ended : Status) × (bytes : List ℕ) × Defined c t ended bytes × TookPrefix before after bytes
+WrotePart c t before after =
+    (ended : Status) × (bytes : List ℕ) × Defined c t ended bytes × TookPrefix before after bytes
 
 -- all bytes were written and the status is the wanted one, or the sink failed behind a beginning of them
 abbrev pub Wrote : Option (List ℕ) → Option (List ℕ) → ℕ → ℕ → Status → Status → List ℕ → Type 0

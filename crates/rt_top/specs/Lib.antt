@@ -2,4 +2,4 @@ pub mod Words
 pub mod Refusal
 pub mod Outputs
 pub mod Defined
-pub mod Steps
+pub mod Inside

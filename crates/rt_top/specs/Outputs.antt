@@ -1,5 +1,5 @@
 -- What each command writes where its texts are not refused, and which scripts `run` refuses.
-use Rattle.std.specs.Prelude.{◌≡◌, ℕ, List, ◌++◌, codes, map, Option, Some, None, IfSome}
+use Rattle.std.specs.Prelude.{◌≡◌, ℕ, List, ◌++◌, codes, map, Some, None, IfSome}
 use Rattle.std.specs.List.{AllByRecursion}
 use Rattle.rt_ids.specs.Priority.{hardware}
 use Rattle.rt_ast.specs.Tree as tree
@@ -18,6 +18,7 @@ use Rattle.rt_first.specs.Listing.{listing}
 use Rattle.rt_first.specs.Text.{names_of}
 use Rattle.rt_first.specs.Output.{traced}
 use Rattle.rt_first.specs.Script.{script_of}
+use Rattle.rt_first.specs.declared.image.Handler.{Handler}
 use Rattle.rt_first.specs.declared.script.Order.{Order}
 
 -- `fmt`: the canonical text of the tree
@@ -38,12 +39,16 @@ pub record IsBuiltForm (text : List ℕ) (app : App) (first : form.App) : Type 0
   pub kept : KeepsRules tree app
   pub form : HasFirstForm tree first
 
--- an image of an application: its priority bits, a row for each declared interrupt in order, and in each row that has a handler the
--- priority value of the tasks, which in this form are of one priority
+-- the priority value of a handler is that of each task
+abbrev pub HasValueOf : App → Handler → Type 0
+HasValueOf app h = AllByRecursion (λ t. h.value ≡ hardware app.bits t.priority) app.tasks
+
+-- an image of an application: its priority bits, a row for each declared interrupt in order, and in each row that has a
+-- handler the priority value of the tasks, which in this form are of one priority
 pub record IsImageOf (app : App) (img : Image) : Type 0 where
   pub bits : img.bits ≡ app.bits
-  pub rows : map (λ row. (row.name, row.number)) img.irqs ≡ map (λ d. (d.name, d.number)) app.irqs
-  pub values : AllByRecursion (λ row. IfSome row.handler (λ h. AllByRecursion (λ t. h.value ≡ hardware app.bits t.priority) app.tasks)) img.irqs
+  pub rows : map {B = List ℕ × ℕ} (λ row. (row.name, row.number)) img.irqs ≡ map (λ d. (d.name, d.number)) app.irqs
+  pub values : AllByRecursion (λ row. IfSome row.handler (HasValueOf app)) img.irqs
 
 -- `run`: the listing of a good image of the application, and that image's trace under the script
 pub record IsRun (text script bytes : List ℕ) : Type 0 where

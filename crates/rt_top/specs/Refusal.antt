@@ -57,7 +57,8 @@ refusal_words (refusal.Rule what) = rule_words what
 
 abbrev pub refusal_line : Fault → List ℕ
 refusal_line fault =
-    decimal fault.place.line ++ codes ":" ++ decimal fault.place.col ++ codes " " ++ refusal_words fault.refusal ++ codes "\n"
+    decimal fault.place.line ++ codes ":" ++ decimal fault.place.col ++ codes " "
+    ++ refusal_words fault.refusal ++ codes "\n"
 
 -- the line for an application of no form that is built
 abbrev pub unbuilt_line : List ℕ

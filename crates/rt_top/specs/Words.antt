@@ -1,5 +1,5 @@
 -- The words behind the program's name, by position, and the command that they name.
-use Rattle.std.specs.Prelude.{◌≡◌, ℕ, ◌<◌, ◌≤◌, ◌^◌, true, List, [], ◌∷◌, codes, length, map}
+use Rattle.std.specs.Prelude.{◌≡◌, ℕ, ◌<◌, ◌≤◌, ◌^◌, true, List, [], ◌∷◌, ◌++◌, codes, length, map}
 use Rattle.std.specs.List.{list_all}
 use Rattle.std.specs.Borrow.{Bor}
 use Rattle.rt_ids.specs.Byte.{is_digit}
@@ -73,4 +73,5 @@ IsCommand words = (c : Command) × IsBuilt c × Names words c
 -- the line for all other words
 abbrev pub usage_line : List ℕ
 usage_line =
-    codes "usage: rtic run APP SCRIPT | check APP | fmt APP | build APP | audit APP TRACE | live APP SCRIPT | soak APP NUMBER COUNT WORKERS | demo N\n"
+    codes "usage: rtic run APP SCRIPT | check APP | fmt APP | build APP | audit APP TRACE | live APP SCRIPT"
+    ++ codes " | soak APP NUMBER COUNT WORKERS | demo N\n"

@@ -1,13 +1,14 @@
 // The top call: from the program's words, sources and sink to its status.
 #![tactic(auto)]
 
-mod answer;
 mod check;
+mod command;
+mod decide;
 mod format;
 pub mod gate;
-mod halt;
 mod reading;
 mod refusal;
+mod reply;
 mod run;
 pub mod top;
 

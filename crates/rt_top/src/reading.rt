@@ -1,19 +1,18 @@
 ghost use Rattle.std.specs.Prelude.{◌≡◌, ℕ, List, Some, IfOk, IfErr};
-ghost use Rattle.rt_ast.specs.Tree as tree;
+ghost use Rattle.rt_ids.specs.declared.status.Status.TheVariants as status;
+ghost use Rattle.rt_outside.specs.Faults.{Rose};
 ghost use Rattle.rt_ast.specs.View.{app_of};
 ghost use Rattle.rt_grammar.specs.Text.{IsText};
 ghost use Rattle.rt_app.specs.Tree as application;
 ghost use Rattle.rt_app.specs.View as resolved;
 ghost use Rattle.rt_app.specs.Accepted.{IsAccepted};
 ghost use Rattle.rt_build.specs.Accepted.{KeepsRules, IsApplication};
-ghost use Rattle.rt_first.specs.Application as first_form;
-ghost use Rattle.rt_first.specs.Form.{IsFirstForm};
-ghost use Rattle.rt_top.specs.Refusal.{refusal_line, unbuilt_line};
-ghost use Rattle.rt_top.specs.Steps.{Stops, IfRefused, IfEnded, IsWrong, IsBrokenBy, IsUnfitBy, IsCheckRefusal, IsRefusal};
-ghost use Rattle.rt_ids.specs.declared.status.Status.TheVariants as status;
+ghost use Rattle.rt_first.specs.Form.{HasFirstForm};
+ghost use Rattle.rt_top.specs.Outputs.{IsBuiltForm};
+ghost use Rattle.rt_top.specs.Refusal.{RefusesText, RefusesApplication};
+ghost use Rattle.rt_top.specs.Inside.Decides.{Tells, Halts, IsBrokenBy, IsUnbuiltBy, RefusesRun};
 
-use crate::halt::Halt;
-use crate::refusal::refusal_line;
+use crate::reply::{Reply, line, refuse};
 use rt_app::App;
 use rt_ast::AppTree;
 use rt_build::judge;
@@ -24,7 +23,7 @@ use rt_outside::{ReadFail, Source, read_text};
 use rt_parse::parse;
 use std::alloc::Global;
 
-/// The line for an application that is not of the form that is built.
+/// The line for an application that is of no form that is built.
 const UNBUILT: &[u8] = b"1:1 E00 not built\n";
 
 /// A text that is too long is refused at its first byte.
@@ -41,103 +40,77 @@ pub(crate) struct Written {
 }
 
 /// Reads the tree of the application.
-pub(crate) fn read_tree<A: Source>(alloc: Global, app: &mut A) -> Result<Written, Halt>
+pub(crate) fn read_tree<A: Source>(alloc: Global, app: &mut A) -> Result<Written, Reply>
     ensures read { IfOk result (λ read. IsText read.text.items (app_of read.tree)) }
     ensures same { (text : List ℕ) → A.left app.old ≡ Some text → IfOk result (λ read. read.text.items ≡ text) }
     ensures text { (text : List ℕ) → A.left app.old ≡ Some text → IfOk result (λ read. IsText text (app_of read.tree)) }
-    ensures only { (text : List ℕ) → A.left app.old ≡ Some text → IfOk result (λ read. (other : tree.App) → IsText text other → other ≡ app_of read.tree) }
-    ensures refused { (text : List ℕ) → A.left app.old ≡ Some text → IfErr result (λ halt. IfRefused halt (IsWrong text)) }
-    ensures ended { IfErr result (λ halt. IfEnded halt (Stops (A.faults app.old) (A.faults app.new))) }
+    ensures halts { IfErr result (Halts (A.left app.old) RefusesText (Rose (A.faults app.old) (A.faults app.new))) }
 {
     let text = match read_text(alloc, app, TEXT_BYTES) {
         Ok(text) => text,
         Err(ReadFail::TooLong) => return Err(refuse(alloc, TOO_LONG)),
-        Err(ReadFail::Fault) => return Err(Halt::Ended(Status::Read)),
-        Err(ReadFail::NoMemory) => return Err(Halt::Ended(Status::Memory)),
+        Err(ReadFail::Fault) => return Err(Reply::Stop(Status::Read)),
+        Err(ReadFail::NoMemory) => return Err(Reply::Stop(Status::Memory)),
     };
     match parse(alloc, &text) {
         Ok(tree) => Ok(Written { text, tree }),
         Err(Refused::At(fault)) => Err(refuse(alloc, fault)),
-        Err(Refused::NoMemory) => Err(Halt::Ended(Status::Memory)),
+        Err(Refused::NoMemory) => Err(Reply::Stop(Status::Memory)),
     }
 }
 
 /// The application of what was read, where it breaks no rule.
-fn judged(alloc: Global, written: &Written) -> Result<App, Halt>
+fn judged(alloc: Global, written: &Written) -> Result<App, Reply>
     requires { IsText written.now.text.items (app_of written.now.tree) }
     ensures ok { IfOk result (λ app. KeepsRules (app_of written.now.tree) (resolved.app_of app)) }
     ensures kept { IfOk result (λ app. IsAccepted (resolved.app_of app)) }
-    ensures refused { IfErr result (λ halt. IfRefused halt (IsBrokenBy written.now.text.items (app_of written.now.tree))) }
-    ensures ended { IfErr result (λ halt. IfEnded halt (λ ended. ended ≡ status.Memory)) }
+    ensures broken { IfErr result (Tells status.App (IsBrokenBy written.now.text.items (app_of written.now.tree))) }
 {
     match judge(alloc, &written.text, &written.tree) {
         Ok(app) => Ok(app),
         Err(Refused::At(fault)) => Err(refuse(alloc, fault)),
-        Err(Refused::NoMemory) => Err(Halt::Ended(Status::Memory)),
+        Err(Refused::NoMemory) => Err(Reply::Stop(Status::Memory)),
+    }
+}
+
+/// The application of a tree where it is of the form that is built.
+fn of_form(alloc: Global, tree: &AppTree) -> Result<Application, Reply>
+    ensures form { IfOk result (HasFirstForm (app_of tree.now)) }
+    ensures unbuilt { IfErr result (Tells status.App (IsUnbuiltBy (app_of tree.now))) }
+{
+    match Application::of(alloc, tree) {
+        Ok(Some(application)) => Ok(application),
+        Ok(None) => Err(line(alloc, Status::App, UNBUILT)),
+        Err(_) => Err(Reply::Stop(Status::Memory)),
     }
 }
 
 /// Reads the application, where it breaks no rule.
-pub(crate) fn read_accepted<A: Source>(alloc: Global, app: &mut A) -> Result<App, Halt>
-    ensures accepted { (text : List ℕ) → A.left app.old ≡ Some text → IfOk result (λ app. IsApplication text (resolved.app_of app)) }
+pub(crate) fn read_accepted<A: Source>(alloc: Global, app: &mut A) -> Result<App, Reply>
+    ensures accepted { (text : List ℕ) → A.left app.old ≡ Some text →
+        IfOk result (λ app. IsApplication text (resolved.app_of app)) }
     ensures kept { IfOk result (λ app. IsAccepted (resolved.app_of app)) }
-    ensures refused { (text : List ℕ) → A.left app.old ≡ Some text → IfErr result (λ halt. IfRefused halt (IsCheckRefusal text)) }
-    ensures ended { IfErr result (λ halt. IfEnded halt (Stops (A.faults app.old) (A.faults app.new))) }
+    ensures halts { IfErr result (Halts (A.left app.old) RefusesApplication
+        (Rose (A.faults app.old) (A.faults app.new))) }
 {
     match read_tree(alloc, app) {
         Ok(written) => judged(alloc, &written),
-        Err(halt) => Err(halt),
+        Err(reply) => Err(reply),
     }
 }
 
-/// Reads the application where it is of the form that is built.
-pub(crate) fn read_application<A: Source>(alloc: Global, app: &mut A) -> Result<Application, Halt>
-    ensures form { (text : List ℕ) → A.left app.old ≡ Some text → IfOk result (λ application. IsFirstForm text application) }
-    ensures only { (text : List ℕ) → A.left app.old ≡ Some text → IfOk result (λ application. (other : first_form.App) → IsFirstForm text other → other ≡ application) }
-    ensures refused { (text : List ℕ) → A.left app.old ≡ Some text → IfErr result (λ halt. IfRefused halt (IsRefusal text)) }
-    ensures ended { IfErr result (λ halt. IfEnded halt (Stops (A.faults app.old) (A.faults app.new))) }
+/// Reads the application where it breaks no rule and is of the form that is built.
+pub(crate) fn read_built<A: Source>(alloc: Global, app: &mut A) -> Result<Application, Reply>
+    ensures built { (text : List ℕ) → A.left app.old ≡ Some text →
+        IfOk result (λ first. (app : application.App) × IsBuiltForm text app first) }
+    ensures halts { IfErr result (Halts (A.left app.old) RefusesRun (Rose (A.faults app.old) (A.faults app.new))) }
 {
     let written = match read_tree(alloc, app) {
         Ok(written) => written,
-        Err(halt) => return Err(halt),
+        Err(reply) => return Err(reply),
     };
-    match Application::of(alloc, &written.tree) {
-        Ok(Some(application)) => Ok(application),
-        Ok(None) => Err(unfit(alloc, &written)),
-        Err(_) => Err(Halt::Ended(Status::Memory)),
-    }
-}
-
-/// The halt of an application that is not of the form that is built: by the first rule that it breaks, where it breaks one.
-fn unfit(alloc: Global, written: &Written) -> Halt
-    requires { IsText written.now.text.items (app_of written.now.tree) }
-    ensures line { IfRefused result (IsUnfitBy written.now.text.items (app_of written.now.tree)) }
-    ensures ended { IfEnded result (λ ended. ended ≡ status.Memory) }
-{
-    match judged(alloc, written) {
-        Ok(_) => unbuilt(alloc),
-        Err(halt) => halt,
-    }
-}
-
-/// The halt of a refusal.
-fn refuse(alloc: Global, fault: Fault) -> Halt
-    ensures line { IfRefused result (λ line. line ≡ refusal_line fault) }
-    ensures ended { IfEnded result (λ ended. ended ≡ status.Memory) }
-{
-    match refusal_line(alloc, fault) {
-        Ok(line) => Halt::Refused(line),
-        Err(_) => Halt::Ended(Status::Memory),
-    }
-}
-
-/// The halt of an application that is not of the form that is built.
-fn unbuilt(alloc: Global) -> Halt
-    ensures line { IfRefused result (λ line. line ≡ unbuilt_line) }
-    ensures ended { IfEnded result (λ ended. ended ≡ status.Memory) }
-{
-    match UNBUILT.to_vec(alloc) {
-        Ok(line) => Halt::Refused(line),
-        Err(_) => Halt::Ended(Status::Memory),
+    match judged(alloc, &written) {
+        Ok(_) => of_form(alloc, &written.tree),
+        Err(reply) => Err(reply),
     }
 }

@@ -1,22 +1,14 @@
-ghost use Rattle.std.specs.Prelude.{◌≡◌, ◌⊎◌, ℕ, List, [], Some, IsTrue, ◌↔◌};
+ghost use Rattle.std.specs.Prelude.{◌≡◌, ◌≤◌, ◌⊎◌, ℕ, List, [], Option};
 ghost use Rattle.rt_outside.specs.Faults.{Rose};
 ghost use Rattle.rt_outside.specs.Bytes.{Took};
-ghost use Rattle.rt_ast.specs.Tree as tree;
-ghost use Rattle.rt_grammar.specs.Text.{IsText};
-ghost use Rattle.rt_app.specs.Tree as application;
-ghost use Rattle.rt_build.specs.Accepted.{IsApplication};
-ghost use Rattle.rt_first.specs.Application.{App};
-ghost use Rattle.rt_first.specs.Form.{IsFirstForm};
-ghost use Rattle.rt_first.specs.Script.{script_of};
-ghost use Rattle.rt_first.specs.declared.script.Order.{Order};
-ghost use Rattle.rt_top.specs.Words.{texts, IsRun, IsCheck, IsFmt, IsCommand, usage_line};
-ghost use Rattle.rt_top.specs.Defined.{IsAnswer, IsKept, WroteAll, WrotePart};
+ghost use Rattle.rt_top.specs.Words.{Command, texts, Names, IsBuilt, IsCommand, reads, usage_line};
+ghost use Rattle.rt_top.specs.Defined.{inputs, IsDue, IsAnswer, IsFirstRefused, AreTold, AreReadTold};
+ghost use Rattle.rt_top.specs.Defined.{SkipsFirst, SkipsSecond, WroteAll, WrotePart, Wrote, IsKept};
 
-use crate::answer::answer;
-use crate::check::check;
-use crate::format::fmt;
+use crate::command::command_of;
+use crate::decide::decide;
 use crate::gate::Gate;
-use crate::run::run;
+use crate::reply::{answer, finish};
 use rt_ids::Status;
 use rt_outside::{Sink, Source};
 use std::alloc::Global;
@@ -24,37 +16,8 @@ use std::thread::Threads;
 
 /// The line for words that are no command.
 const USAGE: &[u8] =
-    b"usage: rtic run APP SCRIPT | check APP | fmt APP | build APP | audit APP TRACE | live APP SCRIPT | soak APP NUMBER COUNT WORKERS | demo N\n";
-
-/// Whether the words are `run APP SCRIPT`.
-fn is_run(words: &[&str]) -> bool
-    ensures { IsTrue result ↔ IsRun (texts words.now) }
-{
-    match words {
-        [verb, _, _] => *verb == "run",
-        _ => false,
-    }
-}
-
-/// Whether the words are `check APP`.
-fn is_check(words: &[&str]) -> bool
-    ensures { IsTrue result ↔ IsCheck (texts words.now) }
-{
-    match words {
-        [verb, _] => *verb == "check",
-        _ => false,
-    }
-}
-
-/// Whether the words are `fmt APP`.
-fn is_fmt(words: &[&str]) -> bool
-    ensures { IsTrue result ↔ IsFmt (texts words.now) }
-{
-    match words {
-        [verb, _] => *verb == "fmt",
-        _ => false,
-    }
-}
+    b"usage: rtic run APP SCRIPT | check APP | fmt APP | build APP | audit APP TRACE | live APP SCRIPT \
+| soak APP NUMBER COUNT WORKERS | demo N\n";
 
 /// Runs the command that the words name, and answers its status. `app` is the source of the application, `second` of
 /// the script; `third` is read by no command yet. All that is written goes to `out`.
@@ -68,9 +31,9 @@ pub fn rtic<R: Threads + Sync, A: Source, B: Source, C: Source, K: Sink + Send, 
     out: &mut K,
     _gate: &G,
 ) -> Status
-    // With an answer all that is defined was written, and nothing else. For `run` at `Done` it is the listing of an image
-    // of the application and that image's trace, and for every list of fewer than 2^31 events in which only declared
-    // interrupts arrive the image's trace is a run of Baker's machine.
+    // With an answer all that is defined was written, and nothing else. For `run` at `Done` it is the listing of an
+    // image of the application and that image's trace, and for every list of fewer than 2^31 events in which only
+    // declared interrupts arrive the image's trace is a run of Baker's machine.
     ensures answered { (c : Command) → IsBuilt c → Names (texts words.now) c → IsAnswer result →
         let t = inputs (A.left app.old) (B.left second.old) (C.left third.old) in
         AreReadTold c t result → WroteAll c t result (K.taken out.old) (K.taken out.new) }
@@ -83,19 +46,21 @@ pub fn rtic<R: Threads + Sync, A: Source, B: Source, C: Source, K: Sink + Send, 
 
     // Words that are no command that is built give the usage line.
     ensures usage { ¬ IsCommand (texts words.now) →
-        Wrote (K.taken out.old) (K.taken out.new) (K.faults out.old) (K.faults out.new) Status.Usage result usage_line }
+        Wrote (K.taken out.old) (K.taken out.new) (K.faults out.old) (K.faults out.new)
+        Status.Usage result usage_line }
     ensures no_usage { result ≡ Status.Usage → ¬ IsCommand (texts words.now) }
 
     // A source that the command does not come to keeps what it has, whatever the status.
     ensures first_unread { SkipsFirst (texts words.now) → IsKept A.left A.faults app.old app.new }
-    ensures second_unread { SkipsSecond (texts words.now) (inputs (A.left app.old) (B.left second.old) (C.left third.old)) →
+    ensures second_unread { SkipsSecond (texts words.now)
+        (inputs (A.left app.old) (B.left second.old) (C.left third.old)) →
         IsKept B.left B.faults second.old second.new }
     ensures third_unread { IsKept C.left C.faults third.old third.new }
 
     // A source that the command reads failed, and then no source behind it was read and nothing was written.
     ensures read { result ≡ Status.Read → (c : Command) × IsBuilt c × Names (texts words.now) c
         × (((1 ≤ reads c) × Rose (A.faults app.old) (A.faults app.new) × IsKept B.left B.faults second.old second.new)
-            ⊎ ((2 ≤ reads c) × Rose (B.faults second.old) (B.faults second.new))) }
+        ⊎ ((2 ≤ reads c) × Rose (B.faults second.old) (B.faults second.new))) }
     ensures silent { (result ≡ Status.Read) ⊎ (result ≡ Status.Memory) → Took (K.taken out.old) (K.taken out.new) [] }
 
     // The sink failed, having taken a beginning of what is defined.
@@ -104,13 +69,8 @@ pub fn rtic<R: Threads + Sync, A: Source, B: Source, C: Source, K: Sink + Send, 
         let t = inputs (A.left app.old) (B.left second.old) (C.left third.old) in
         AreTold c t ⊎ IsFirstRefused c t → WrotePart c t (K.taken out.old) (K.taken out.new) }
 {
-    if is_run(words) {
-        run(alloc, app, second, out)
-    } else if is_check(words) {
-        check(alloc, app, out)
-    } else if is_fmt(words) {
-        fmt(alloc, app, out)
-    } else {
-        answer(out, USAGE, Status::Usage)
+    match command_of(words) {
+        Some(command) => finish(out, &decide(alloc, command, app, second)),
+        None => answer(out, USAGE, Status::Usage),
     }
 }

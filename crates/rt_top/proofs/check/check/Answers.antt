@@ -1,36 +1,22 @@
-use Rattle.std.proofs.Common.{subst, sym, ap, ◌∙◌, ℕ, Vec, Global}
+use Rattle.std.proofs.Common.{◌≡◌, ◌∙◌, arith}
 use Rattle.rt_ids.specs.declared.status.Status.TheVariants as status
+use Rattle.rt_outside.specs.Faults.{Rose}
 use Rattle.rt_app.specs.View.{app_of}
-use Rattle.rt_top.specs.Defined.{Defined, checked}
-use Rattle.rt_top.specs.Steps.{IsCheckRefusal}
-use Rattle.rt_top.proofs.Answers.{answered_by, part_by}
+use Rattle.rt_top.specs.Words.{Check}
+use Rattle.rt_top.specs.Refusal.{RefusesApplication}
+use Rattle.rt_top.specs.Defined.{inputs}
+use Rattle.rt_top.proofs.Deciding.{halts_decides, tells_decides, checked_decided}
 use Rattle.rt_top.proofs.check.check.Goals as goal
 
-pub returns-in-Err-Refused-clause-answered : goal.returns-in-Err-Refused-clause-answered
-returns-in-Err-Refused-clause-answered g c words text script check told is_answer =
-    let is : IsCheckRefusal text c.in-Err-Refused.line.items = rw c.in-Err-Refused.field-0-is at c.in-Err-Refused.ensures.refused text told in
-    answered_by words text script c.deref.result.now (g.K.Sink.taken c.args.out.now) (g.K.Sink.taken c.answer.new.out) (g.K.Sink.faults c.args.out.now) (g.K.Sink.faults c.answer.new.out) status.App c.answer.result
-    (subst (Defined words text script status.App) (sym (c.deref.ensures.value ∙ ap (λ (v : Vec ℕ Global). v.items) c.in-Err-Refused.line-is)) (is.defined words script check)) c.answer.ensures is_answer
+pub returns-in-Err : goal.returns-in-Err
+returns-in-Err g c second third =
+    halts_decides Check (inputs (g.A.Source.left c.args.app.now) second third) (omega arith) RefusesApplication (λ text line r. r)
+    (Rose (g.A.Source.faults c.args.app.now) (g.A.Source.faults c.read_accepted.new.app)) (Rose (g.A.Source.faults c.args.app.now) (g.A.Source.faults c.read_accepted.new.app)) ⊥ (λ h. h)
+    c.in-Err.reply c.in-Err.ensures.halts
 
-pub returns-in-Err-Refused-clause-part : goal.returns-in-Err-Refused-clause-part
-returns-in-Err-Refused-clause-part g c words text script check told is_write =
-    let is : IsCheckRefusal text c.in-Err-Refused.line.items = rw c.in-Err-Refused.field-0-is at c.in-Err-Refused.ensures.refused text told in
-    part_by words text script c.deref.result.now (g.K.Sink.taken c.args.out.now) (g.K.Sink.taken c.answer.new.out) (g.K.Sink.faults c.args.out.now) (g.K.Sink.faults c.answer.new.out) status.App c.answer.result
-    (subst (Defined words text script status.App) (sym (c.deref.ensures.value ∙ ap (λ (v : Vec ℕ Global). v.items) c.in-Err-Refused.line-is)) (is.defined words script check)) c.answer.ensures is_write
-
-pub returns-in-Err-Refused-clause-complete : goal.returns-in-Err-Refused-clause-complete
-returns-in-Err-Refused-clause-complete g c text application told form no_fault no_fault' =
-    let is : IsCheckRefusal text c.in-Err-Refused.line.items = rw c.in-Err-Refused.field-0-is at c.in-Err-Refused.ensures.refused text told in
-    absurd (is.none application form)
-
-pub returns-in-Ok-checked-clause-answered : goal.returns-in-Ok-checked-clause-answered
-returns-in-Ok-checked-clause-answered g c words text script check told is_answer =
-    let written = c.deref-in-Ok-checked.ensures.value ∙ c.in-Ok-checked.ensures in
-    answered_by words text script c.deref-in-Ok-checked.result.now (g.K.Sink.taken c.args.out.now) (g.K.Sink.taken c.answer-in-Ok-checked.new.out) (g.K.Sink.faults c.args.out.now) (g.K.Sink.faults c.answer-in-Ok-checked.new.out) status.Done c.answer-in-Ok-checked.result
-    (subst (Defined words text script status.Done) (sym written) (checked check (app_of c.in-Ok.accepted) (c.in-Ok.ensures.accepted text told))) c.answer-in-Ok-checked.ensures is_answer
-
-pub returns-in-Ok-checked-clause-part : goal.returns-in-Ok-checked-clause-part
-returns-in-Ok-checked-clause-part g c words text script check told is_write =
-    let written = c.deref-in-Ok-checked.ensures.value ∙ c.in-Ok-checked.ensures in
-    part_by words text script c.deref-in-Ok-checked.result.now (g.K.Sink.taken c.args.out.now) (g.K.Sink.taken c.answer-in-Ok-checked.new.out) (g.K.Sink.faults c.args.out.now) (g.K.Sink.faults c.answer-in-Ok-checked.new.out) status.Done c.answer-in-Ok-checked.result
-    (subst (Defined words text script status.Done) (sym written) (checked check (app_of c.in-Ok.accepted) (c.in-Ok.ensures.accepted text told))) c.answer-in-Ok-checked.ensures is_write
+pub returns-in-Ok-checked : goal.returns-in-Ok-checked
+returns-in-Ok-checked g c second third =
+    tells_decides Check (inputs (g.A.Source.left c.args.app.now) second third)
+    (Rose (g.A.Source.faults c.args.app.now) (g.A.Source.faults c.read_accepted.new.app)) ⊥ status.Done (λ bytes. bytes ≡ c.in-Ok-checked.bytes.items)
+    (λ bytes e. checked_decided (g.A.Source.left c.args.app.now) second third (app_of c.in-Ok.accepted) (λ text told. c.in-Ok.ensures.accepted text told) bytes (e ∙ c.in-Ok-checked.ensures))
+    c.text.result c.text.ensures

@@ -1,25 +1,113 @@
-use Rattle.rt_ids.specs.declared.status.Status.TheVariants as status
-use Rattle.rt_top.specs.Defined.{usage}
-use Rattle.rt_top.specs.Words.{texts, usage_line}
-use Rattle.rt_top.proofs.CommandWords.{no_command}
-use Rattle.rt_top.proofs.Answers.{answered_by, part_by, refuted}
+use Rattle.rt_outside.specs.Faults.{Rose}
+use Rattle.rt_top.specs.Words.{texts}
+use Rattle.rt_top.specs.Defined.{inputs, IsKept}
+use Rattle.rt_top.proofs.Clauses.{answered, complete, no_usage, is_command, first_unread, second_unread, read, silent, write, part, no_words}
 use Rattle.rt_top.proofs.top.rtic.Goals as goal
 
-pub returns-then-is_run-clause-complete : goal.returns-then-is_run-clause-complete
-returns-then-is_run-clause-complete g c text script application orders told heard run = c.run.ensures.complete text script application orders told heard
+pub returns-in-Some-clause-answered : goal.returns-in-Some-clause-answered
+returns-in-Some-clause-answered g c command is named is_answer told =
+    answered (texts c.args.words.now) c.in-Some.command c.in-Some.ensures.some
+    (inputs (g.A.Source.left c.args.app.now) (g.B.Source.left c.args.second.now) (g.C.Source.left c.args.third.now))
+    (Rose (g.A.Source.faults c.args.app.now) (g.A.Source.faults c.decide.new.app))
+    (IsKept g.B.Source.left g.B.Source.faults c.args.second.now c.decide.new.second)
+    (Rose (g.B.Source.faults c.args.second.now) (g.B.Source.faults c.decide.new.second))
+    c.decide.result (c.decide.ensures.decides (g.C.Source.left c.args.third.now))
+    (g.K.Sink.taken c.args.out.now) (g.K.Sink.taken c.finish.new.out) (g.K.Sink.faults c.args.out.now) (g.K.Sink.faults c.finish.new.out) c.finish.result c.finish.ensures
+    command is named is_answer told
 
-pub returns-then-is_check-clause-complete_check : goal.returns-then-is_check-clause-complete_check
-returns-then-is_check-clause-complete_check g c text accepted told check is = c.check.ensures.complete text accepted told is
+pub returns-in-Some-clause-complete : goal.returns-in-Some-clause-complete
+returns-in-Some-clause-complete g c command due is named is_due no_first no_second no_sink =
+    complete (texts c.args.words.now) c.in-Some.command c.in-Some.ensures.some
+    (inputs (g.A.Source.left c.args.app.now) (g.B.Source.left c.args.second.now) (g.C.Source.left c.args.third.now))
+    (Rose (g.A.Source.faults c.args.app.now) (g.A.Source.faults c.decide.new.app))
+    (IsKept g.B.Source.left g.B.Source.faults c.args.second.now c.decide.new.second)
+    (Rose (g.B.Source.faults c.args.second.now) (g.B.Source.faults c.decide.new.second))
+    c.decide.result (c.decide.ensures.decides (g.C.Source.left c.args.third.now))
+    (g.K.Sink.taken c.args.out.now) (g.K.Sink.taken c.finish.new.out) (g.K.Sink.faults c.args.out.now) (g.K.Sink.faults c.finish.new.out) c.finish.result c.finish.ensures
+    command due is named is_due no_first no_second no_sink
 
-pub returns-then-is_fmt-clause-complete_fmt : goal.returns-then-is_fmt-clause-complete_fmt
-returns-then-is_fmt-clause-complete_fmt g c text application told fmt form = c.fmt.ensures.complete text application told form
+pub returns-in-Some-clause-usage : goal.returns-in-Some-clause-usage
+returns-in-Some-clause-usage g c none =
+    absurd (none (is_command (texts c.args.words.now) c.in-Some.command c.in-Some.ensures.some))
 
-pub returns-else-is_fmt-clause-answered : goal.returns-else-is_fmt-clause-answered
-returns-else-is_fmt-clause-answered g c text script told heard is_answer =
-    answered_by (texts c.args.words.now) text script usage_line (g.K.Sink.taken c.args.out.now) (g.K.Sink.taken c.answer.new.out) (g.K.Sink.faults c.args.out.now) (g.K.Sink.faults c.answer.new.out) status.Usage c.answer.result
-    (usage (no_command (texts c.args.words.now) (refuted c.is_run.result c.is_run.ensures c.if-is_run.false) (refuted c.is_check.result c.is_check.ensures c.if-is_check.false) (refuted c.is_fmt.result c.is_fmt.ensures c.if-is_fmt.false))) c.answer.ensures is_answer
+pub returns-in-Some-clause-no_usage : goal.returns-in-Some-clause-no_usage
+returns-in-Some-clause-no_usage g c is_usage =
+    no_usage (texts c.args.words.now) c.in-Some.command c.in-Some.ensures.some
+    (inputs (g.A.Source.left c.args.app.now) (g.B.Source.left c.args.second.now) (g.C.Source.left c.args.third.now))
+    (Rose (g.A.Source.faults c.args.app.now) (g.A.Source.faults c.decide.new.app))
+    (IsKept g.B.Source.left g.B.Source.faults c.args.second.now c.decide.new.second)
+    (Rose (g.B.Source.faults c.args.second.now) (g.B.Source.faults c.decide.new.second))
+    c.decide.result (c.decide.ensures.decides (g.C.Source.left c.args.third.now))
+    (g.K.Sink.taken c.args.out.now) (g.K.Sink.taken c.finish.new.out) (g.K.Sink.faults c.args.out.now) (g.K.Sink.faults c.finish.new.out) c.finish.result c.finish.ensures
+    is_usage
 
-pub returns-else-is_fmt-clause-part : goal.returns-else-is_fmt-clause-part
-returns-else-is_fmt-clause-part g c text script told heard is_write =
-    part_by (texts c.args.words.now) text script usage_line (g.K.Sink.taken c.args.out.now) (g.K.Sink.taken c.answer.new.out) (g.K.Sink.faults c.args.out.now) (g.K.Sink.faults c.answer.new.out) status.Usage c.answer.result
-    (usage (no_command (texts c.args.words.now) (refuted c.is_run.result c.is_run.ensures c.if-is_run.false) (refuted c.is_check.result c.is_check.ensures c.if-is_check.false) (refuted c.is_fmt.result c.is_fmt.ensures c.if-is_fmt.false))) c.answer.ensures is_write
+pub returns-in-Some-clause-first_unread : goal.returns-in-Some-clause-first_unread
+returns-in-Some-clause-first_unread g c skips =
+    absurd (first_unread (texts c.args.words.now) c.in-Some.command c.in-Some.ensures.some skips)
+
+pub returns-in-Some-clause-second_unread : goal.returns-in-Some-clause-second_unread
+returns-in-Some-clause-second_unread g c skips =
+    second_unread (texts c.args.words.now) c.in-Some.command c.in-Some.ensures.some
+    (inputs (g.A.Source.left c.args.app.now) (g.B.Source.left c.args.second.now) (g.C.Source.left c.args.third.now))
+    (Rose (g.A.Source.faults c.args.app.now) (g.A.Source.faults c.decide.new.app))
+    (IsKept g.B.Source.left g.B.Source.faults c.args.second.now c.decide.new.second)
+    (Rose (g.B.Source.faults c.args.second.now) (g.B.Source.faults c.decide.new.second))
+    c.decide.result (c.decide.ensures.decides (g.C.Source.left c.args.third.now))
+    (g.K.Sink.taken c.args.out.now) (g.K.Sink.taken c.finish.new.out) (g.K.Sink.faults c.args.out.now) (g.K.Sink.faults c.finish.new.out) c.finish.result c.finish.ensures
+    (c.decide.ensures.kept (g.C.Source.left c.args.third.now)) skips
+
+pub returns-in-Some-clause-read : goal.returns-in-Some-clause-read
+returns-in-Some-clause-read g c is_read =
+    read (texts c.args.words.now) c.in-Some.command c.in-Some.ensures.some
+    (inputs (g.A.Source.left c.args.app.now) (g.B.Source.left c.args.second.now) (g.C.Source.left c.args.third.now))
+    (Rose (g.A.Source.faults c.args.app.now) (g.A.Source.faults c.decide.new.app))
+    (IsKept g.B.Source.left g.B.Source.faults c.args.second.now c.decide.new.second)
+    (Rose (g.B.Source.faults c.args.second.now) (g.B.Source.faults c.decide.new.second))
+    c.decide.result (c.decide.ensures.decides (g.C.Source.left c.args.third.now))
+    (g.K.Sink.taken c.args.out.now) (g.K.Sink.taken c.finish.new.out) (g.K.Sink.faults c.args.out.now) (g.K.Sink.faults c.finish.new.out) c.finish.result c.finish.ensures
+    is_read
+
+pub returns-in-Some-clause-silent : goal.returns-in-Some-clause-silent
+returns-in-Some-clause-silent g c quiet =
+    silent (texts c.args.words.now) c.in-Some.command c.in-Some.ensures.some
+    (inputs (g.A.Source.left c.args.app.now) (g.B.Source.left c.args.second.now) (g.C.Source.left c.args.third.now))
+    (Rose (g.A.Source.faults c.args.app.now) (g.A.Source.faults c.decide.new.app))
+    (IsKept g.B.Source.left g.B.Source.faults c.args.second.now c.decide.new.second)
+    (Rose (g.B.Source.faults c.args.second.now) (g.B.Source.faults c.decide.new.second))
+    c.decide.result (c.decide.ensures.decides (g.C.Source.left c.args.third.now))
+    (g.K.Sink.taken c.args.out.now) (g.K.Sink.taken c.finish.new.out) (g.K.Sink.faults c.args.out.now) (g.K.Sink.faults c.finish.new.out) c.finish.result c.finish.ensures
+    quiet
+
+pub returns-in-Some-clause-write : goal.returns-in-Some-clause-write
+returns-in-Some-clause-write g c is_write =
+    write (texts c.args.words.now) c.in-Some.command c.in-Some.ensures.some
+    (inputs (g.A.Source.left c.args.app.now) (g.B.Source.left c.args.second.now) (g.C.Source.left c.args.third.now))
+    (Rose (g.A.Source.faults c.args.app.now) (g.A.Source.faults c.decide.new.app))
+    (IsKept g.B.Source.left g.B.Source.faults c.args.second.now c.decide.new.second)
+    (Rose (g.B.Source.faults c.args.second.now) (g.B.Source.faults c.decide.new.second))
+    c.decide.result (c.decide.ensures.decides (g.C.Source.left c.args.third.now))
+    (g.K.Sink.taken c.args.out.now) (g.K.Sink.taken c.finish.new.out) (g.K.Sink.faults c.args.out.now) (g.K.Sink.faults c.finish.new.out) c.finish.result c.finish.ensures
+    is_write
+
+pub returns-in-Some-clause-part : goal.returns-in-Some-clause-part
+returns-in-Some-clause-part g c command is named is_write told =
+    part (texts c.args.words.now) c.in-Some.command c.in-Some.ensures.some
+    (inputs (g.A.Source.left c.args.app.now) (g.B.Source.left c.args.second.now) (g.C.Source.left c.args.third.now))
+    (Rose (g.A.Source.faults c.args.app.now) (g.A.Source.faults c.decide.new.app))
+    (IsKept g.B.Source.left g.B.Source.faults c.args.second.now c.decide.new.second)
+    (Rose (g.B.Source.faults c.args.second.now) (g.B.Source.faults c.decide.new.second))
+    c.decide.result (c.decide.ensures.decides (g.C.Source.left c.args.third.now))
+    (g.K.Sink.taken c.args.out.now) (g.K.Sink.taken c.finish.new.out) (g.K.Sink.faults c.args.out.now) (g.K.Sink.faults c.finish.new.out) c.finish.result c.finish.ensures
+    command is named is_write told
+
+pub returns-in-None-clause-answered : goal.returns-in-None-clause-answered
+returns-in-None-clause-answered g c command is named is_answer told = no_words (texts c.args.words.now) c.in-None.ensures.none command is named
+
+pub returns-in-None-clause-complete : goal.returns-in-None-clause-complete
+returns-in-None-clause-complete g c command due is named is_due no_first no_second no_sink = no_words (texts c.args.words.now) c.in-None.ensures.none command is named
+
+pub returns-in-None-clause-part : goal.returns-in-None-clause-part
+returns-in-None-clause-part g c command is named is_write told = no_words (texts c.args.words.now) c.in-None.ensures.none command is named
+
+pub returns-in-None-clause-usage : goal.returns-in-None-clause-usage
+returns-in-None-clause-usage g c none = c.answer.ensures

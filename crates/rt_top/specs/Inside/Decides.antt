@@ -1,0 +1,79 @@
+-- What a command replies, said before anything is written: a text with its status, or why the program stops.
+use Rattle.std.specs.Prelude.{◌≡◌, ℕ, ◌≤◌, ◌⊎◌, List, [], ◌++◌, Option, Some}
+use Rattle.rt_ids.specs.declared.refusal.Fault.{Fault}
+use Rattle.rt_ids.specs.declared.status.Status.{Status}
+use Rattle.rt_ids.specs.declared.status.Status.TheVariants as status
+use Rattle.rt_outside.specs.Bytes.{Took}
+use Rattle.rt_ast.specs.Tree as tree
+use Rattle.rt_build.specs.Accepted.{IsBroken}
+use Rattle.rt_first.specs.Application.{App}
+use Rattle.rt_first.specs.Form.{HasFirstForm}
+use Rattle.rt_first.specs.Output.{IsOutput}
+use Rattle.rt_first.specs.Script.{script_of}
+use Rattle.rt_first.specs.declared.script.Order.{Order}
+use Rattle.rt_top.specs.Words as word
+use Rattle.rt_top.specs.Refusal.{refusal_line, unbuilt_line, RefusesApplication, RefusesForm}
+use Rattle.rt_top.specs.Defined.{Inputs, Defined, IsFirstRefused, AreReadTold, Wrote}
+use Rattle.rt_top.specs.declared.command.Command.{Command}
+use Rattle.rt_top.specs.declared.command.Command.TheVariants as command
+use Rattle.rt_top.specs.declared.reply.Reply.{Reply}
+use Rattle.rt_top.specs.declared.reply.Reply.TheVariants as reply
+
+-- the command of the code, as a command of the definitions
+abbrev pub meant : Command → word.Command
+meant command.Run = word.Run
+meant command.Check = word.Check
+meant command.Fmt = word.Fmt
+
+-- the reply is with this status, and this is so of its text; or memory was wanted
+abbrev pub Tells : Status → (List ℕ → Type 0) → Reply → Type 0
+Tells wanted P (reply.Write ended first second) = (ended ≡ wanted) × P (first.items ++ second.items)
+Tells wanted P (reply.Stop ended) = ended ≡ status.Memory
+
+-- the source failed, or memory was wanted
+abbrev pub Stops : Type 0 → Status → Type 0
+Stops failed ended = (ended ≡ status.Memory) ⊎ ((ended ≡ status.Read) × failed)
+
+-- the reply refuses the first text, where it is told, or the program stops
+abbrev pub Halts : Option (List ℕ) → (List ℕ → List ℕ → Type 0) → Type 0 → Reply → Type 0
+Halts told Refuses failed (reply.Write ended first second) =
+    (ended ≡ status.App) × ((text : List ℕ) → told ≡ Some text → Refuses text (first.items ++ second.items))
+Halts told Refuses failed (reply.Stop ended) = Stops failed ended
+
+-- the line refuses the text of this tree by the first rule that it breaks
+pub record IsBrokenBy (text : List ℕ) (a : tree.App) (line : List ℕ) : Type 0 where
+  pub fault : Fault
+  pub broken : IsBroken text a fault
+  pub says : line ≡ refusal_line fault
+
+-- the line says that this tree is of no form that is built
+pub record IsUnbuiltBy (a : tree.App) (line : List ℕ) : Type 0 where
+  pub none : (first : App) → HasFirstForm a first → ⊥
+  pub says : line ≡ unbuilt_line
+
+-- the line refuses a text for `run`
+abbrev pub RefusesRun : List ℕ → List ℕ → Type 0
+RefusesRun text line = RefusesApplication text line ⊎ RefusesForm text line
+
+-- the output of an application under a script text
+pub record Outputs (app : App) (script first second : List ℕ) : Type 0 where
+  pub orders : List Order
+  pub read : script_of app script ≡ Some orders
+  pub output : IsOutput app orders first second
+
+-- These bytes and this status are due: the first text is refused, or is not, and the status tells which.
+pub record IsDecided (c : word.Command) (t : Inputs) (ended : Status) (bytes : List ℕ) : Type 0 where
+  pub which : (ended ≡ status.App) ⊎ (((ended ≡ status.Done) ⊎ (ended ≡ status.Text)) × (IsFirstRefused c t → ⊥))
+  pub defined : AreReadTold c t ended → Defined c t ended bytes
+
+-- What a command replies: what is due, or that it stops, for memory, or since the first or the second source failed so.
+abbrev pub Decides : word.Command → Inputs → Type 0 → Type 0 → Reply → Type 0
+Decides c t first second (reply.Write ended front back) = IsDecided c t ended (front.items ++ back.items)
+Decides c t first second (reply.Stop ended) =
+    Stops (((1 ≤ word.reads c) × first) ⊎ ((2 ≤ word.reads c) × second)) ended
+
+-- the reply was written as far as the sink took it, or there was nothing to write
+abbrev pub Finishes : Option (List ℕ) → Option (List ℕ) → ℕ → ℕ → Reply → Status → Type 0
+Finishes before after faults_before faults_after (reply.Write ended first second) result =
+    Wrote before after faults_before faults_after ended result (first.items ++ second.items)
+Finishes before after faults_before faults_after (reply.Stop ended) result = (result ≡ ended) × Took before after []

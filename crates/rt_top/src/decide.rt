@@ -1,0 +1,34 @@
+ghost use Rattle.std.specs.Prelude.{◌≤◌, ◌⊎◌, ℕ, List, Option};
+ghost use Rattle.rt_outside.specs.Faults.{Rose};
+ghost use Rattle.rt_top.specs.Words.{reads};
+ghost use Rattle.rt_top.specs.Defined.{inputs, IsFirstRefused, IsKept};
+ghost use Rattle.rt_top.specs.Inside.Decides.{meant, Decides};
+
+use crate::check::check;
+use crate::command::Command;
+use crate::format::fmt;
+use crate::reply::Reply;
+use crate::run::run;
+use rt_outside::Source;
+use std::alloc::Global;
+
+/// What the command replies.
+pub(crate) fn decide<A: Source, B: Source>(
+    alloc: Global,
+    command: Command,
+    app: &mut A,
+    second: &mut B,
+) -> Reply
+    ensures decides { (third : Option (List ℕ)) →
+        Decides (meant command) (inputs (A.left app.old) (B.left second.old) third)
+        (Rose (A.faults app.old) (A.faults app.new) × IsKept B.left B.faults second.old second.new)
+        (Rose (B.faults second.old) (B.faults second.new)) result }
+    ensures kept { (third : Option (List ℕ)) → let t = inputs (A.left app.old) (B.left second.old) third in
+        (reads (meant command) ≤ 1) ⊎ IsFirstRefused (meant command) t → IsKept B.left B.faults second.old second.new }
+{
+    match command {
+        Command::Run => run(alloc, app, second),
+        Command::Check => check(alloc, app),
+        Command::Fmt => fmt(alloc, app),
+    }
+}
