@@ -87,7 +87,7 @@ const WALK: [(Step, Answer, u32, &[u32]); 18] = [
 /// Each step of the walk answers, and leaves the stack, as its row says.
 #[test]
 fn frames_stand_on_each_other(rt: HostRuntime) -> Result<(), Fail> {
-    let mut frames = Frames::new(rt.alloc(), 160, 2)?;
+    let mut frames = Frames::new(rt.alloc(), 160, 8, 2)?;
     for (row, &(step, answer, depth, slots)) in WALK.iter().enumerate() {
         assert_eq!(rt; take(&mut frames, step), answer, "row {row}");
         assert_eq!(rt; frames.depth(), depth, "row {row}");
