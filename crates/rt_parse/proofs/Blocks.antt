@@ -6,9 +6,9 @@ use Rattle.rt_ast.specs.View as code
 use Rattle.rt_ast.specs.View.{statement_of}
 use Rattle.rt_ast.specs.declared.stmt.Stmt.{Stmt}
 use Rattle.rt_grammar.specs.Statement as grammar
-use Rattle.rt_parse.specs.Reading.{begins_with}
-use Rattle.rt_parse.specs.ReadingNested.{further_at}
-use Rattle.rt_parse.specs.ReadingStatement.{block_at, inside_at, below_at}
+use Rattle.rt_parse.specs.Inside.Reading.{begins_with}
+use Rattle.rt_parse.specs.Inside.ReadingNested.{further_at}
+use Rattle.rt_parse.specs.Inside.ReadingStatement.{block_at, inside_at, below_at}
 
 pub block_is : (statements : List Stmt) → grammar.block_of (map statement_of statements) ≡ code.block_of statements
 block_is [] = refl

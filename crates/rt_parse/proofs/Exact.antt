@@ -9,8 +9,8 @@ use Rattle.rt_lex.specs.Token.{Token}
 use Rattle.rt_grammar.specs.Mark.{Mark, Takes, Ends, limit_of, IsWithin}
 use Rattle.rt_grammar.specs.Language.{Language, ◌>>=◌}
 use Rattle.rt_grammar.specs.Reach.{Fits, Reaches, goes_on}
-use Rattle.rt_parse.specs.Reading as reading
-use Rattle.rt_parse.specs.Reading.{Reader, wrong_at, begins_with}
+use Rattle.rt_parse.specs.Inside.Reading as reading
+use Rattle.rt_parse.specs.Inside.Reading.{Reader, wrong_at, begins_with}
 use Rattle.rt_parse.specs.declared.stop.Found.{Found}
 
 abbrev pub IsFront : List Mark → List Mark → Type 0

@@ -16,8 +16,8 @@ use Rattle.rt_grammar.specs.Language.{Language, gives, ◌>>=◌, ◌or◌}
 use Rattle.rt_grammar.specs.Tokens.{free, limit_if, name, number, sign, sign_of, ident_of, ident_at, number_of, number_at, name_limit, number_limit}
 use Rattle.rt_grammar.specs.Expression.{Operand, operator, comparisons, strengths, joined, chains, comparison, plain_atom, atom, depth, ends, expression}
 use Rattle.rt_grammar.specs.Reach.{is_of, goes_on}
-use Rattle.rt_parse.specs.Reading as reading
-use Rattle.rt_parse.specs.Reading.{Reader, begins_with, token_at, sign_at}
+use Rattle.rt_parse.specs.Inside.Reading as reading
+use Rattle.rt_parse.specs.Inside.Reading.{Reader, begins_with, token_at, sign_at}
 use Rattle.rt_parse.proofs.Exact.{IsInhabited, Avoids, Starts, ReadsAfter, Reads, nothing}
 use Rattle.rt_parse.proofs.ExactToken.{reads_gives}
 use Rattle.rt_parse.proofs.ExactThen.{some_then, reads_seq, reads_then, reads_map, reads_fewer, reads_no_stop, Avoids-smaller}

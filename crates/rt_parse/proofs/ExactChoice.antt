@@ -5,8 +5,8 @@ use Rattle.rt_lemmas.proofs.Bools.{or_left, or_neither}
 use Rattle.rt_lex.specs.Token.{Token}
 use Rattle.rt_grammar.specs.Mark.{Mark}
 use Rattle.rt_grammar.specs.Language.{Language, gives, ◌>>=◌, ◌or◌, only_if}
-use Rattle.rt_parse.specs.Reading as reading
-use Rattle.rt_parse.specs.Reading.{Reader, begins_with}
+use Rattle.rt_parse.specs.Inside.Reading as reading
+use Rattle.rt_parse.specs.Inside.Reading.{Reader, begins_with}
 use Rattle.rt_parse.specs.declared.stop.Found.{Found}
 use Rattle.rt_parse.proofs.Exact.{Outcome, Avoids, Starts, ReadsAfter, nothing}
 use Rattle.rt_parse.proofs.ExactOutcome.{outcome_wider}

@@ -6,8 +6,8 @@ use Rattle.rt_lex.specs.Token.{Token}
 use Rattle.rt_grammar.specs.Language.{Language, ◌>>=◌}
 use Rattle.rt_grammar.specs.Expression.{Operand, op_of, operator, comparisons, strengths, joined, chains, comparison, atom}
 use Rattle.rt_grammar.specs.Reach.{is_of, goes_on}
-use Rattle.rt_parse.specs.Reading as reading
-use Rattle.rt_parse.specs.Reading.{Reader, begins_with, token_at, sign_at}
+use Rattle.rt_parse.specs.Inside.Reading as reading
+use Rattle.rt_parse.specs.Inside.Reading.{Reader, begins_with, token_at, sign_at}
 use Rattle.rt_parse.proofs.Exact.{IsInhabited, Avoids, Starts, ReadsAfter, Reads, nothing}
 use Rattle.rt_parse.proofs.ExactToken.{reads_token}
 use Rattle.rt_parse.proofs.ExactThen.{some_then, reads_seq, reads_then, reads_fewer, reads_wider, Avoids-smaller}

@@ -10,8 +10,8 @@ use Rattle.rt_grammar.specs.Mark.{Mark, Ends}
 use Rattle.rt_grammar.specs.Language.{Language, gives, ◌>>=◌}
 use Rattle.rt_grammar.specs.Expression.{Operand, depth, ends}
 use Rattle.rt_grammar.specs.Reach.{Fits, goes_on, expression_goes_on}
-use Rattle.rt_parse.specs.Reading as reading
-use Rattle.rt_parse.specs.Reading.{Reader, begins_with, wrong_at}
+use Rattle.rt_parse.specs.Inside.Reading as reading
+use Rattle.rt_parse.specs.Inside.Reading.{Reader, begins_with, wrong_at}
 use Rattle.rt_parse.specs.declared.stop.Found.{Found}
 use Rattle.rt_parse.proofs.Exact.{IsFront, Outcome, IsExact, IsInhabited, Avoids, AvoidsMarks, ReadsAfter, Reads, nothing}
 use Rattle.rt_parse.proofs.ExactOutcome.{IsMarked, outcome_marked, outcome_limited}

@@ -5,9 +5,9 @@ use Rattle.rt_lex.specs.Token.{Token, is_this_sign}
 use Rattle.rt_grammar.specs.Mark.{Mark}
 use Rattle.rt_grammar.specs.Language.{Language, ◌>>=◌}
 use Rattle.rt_grammar.specs.Tokens.{sign_of, list, free}
-use Rattle.rt_parse.specs.Reading as reading
-use Rattle.rt_parse.specs.Reading.{Reader, begins_with, token_at, sign_at, wrong_at}
-use Rattle.rt_parse.specs.ReadingList.{comma_at, items_at}
+use Rattle.rt_parse.specs.Inside.Reading as reading
+use Rattle.rt_parse.specs.Inside.Reading.{Reader, begins_with, token_at, sign_at, wrong_at}
+use Rattle.rt_parse.specs.Inside.ReadingList.{comma_at, items_at}
 use Rattle.rt_parse.specs.declared.stop.Found.{Found}
 use Rattle.rt_parse.proofs.Exact.{Outcome, IsExact, IsInhabited, Avoids, Starts, ReadsAfter, Reads, ReadsOrNone, IsForm, IsNone, nothing}
 use Rattle.rt_parse.proofs.ExactOutcome.{outcome_wider, outcome_blocked}

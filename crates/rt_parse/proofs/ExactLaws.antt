@@ -4,7 +4,7 @@ use Rattle.std.proofs.lemmas.List.{append-nil, append_assoc}
 use Rattle.rt_lex.specs.Token.{Token}
 use Rattle.rt_grammar.specs.Mark.{Mark}
 use Rattle.rt_grammar.specs.Language.{Language, gives, ◌>>=◌, ◌or◌, never, repeat}
-use Rattle.rt_parse.specs.Reading as reading
+use Rattle.rt_parse.specs.Inside.Reading as reading
 use Rattle.rt_parse.specs.declared.stop.Found.{Found}
 use Rattle.rt_parse.proofs.Exact.{Outcome, IsExact}
 use Rattle.rt_parse.proofs.ExactOutcome.{IsBlocked, outcome_wider}

@@ -7,7 +7,7 @@ use Rattle.rt_lex.specs.Token.{Token}
 use Rattle.rt_grammar.specs.Mark.{Mark, IsWithin}
 use Rattle.rt_grammar.specs.Language.{Language}
 use Rattle.rt_grammar.specs.Reach.{Fits, Reaches}
-use Rattle.rt_parse.specs.Reading.{wrong_at}
+use Rattle.rt_parse.specs.Inside.Reading.{wrong_at}
 use Rattle.rt_parse.specs.declared.stop.Found.{Found}
 use Rattle.rt_parse.proofs.Exact.{IsFront, Passes, Outcome, IsInhabited}
 

@@ -11,7 +11,7 @@ use Rattle.rt_lex.specs.Token.{Token, is_this_word, is_this_sign, if_word, if_si
 use Rattle.rt_ast.specs.declared.ident.Ident.{Ident}
 use Rattle.rt_ast.specs.declared.ident.Number.{Number}
 use Rattle.rt_grammar.specs.Tokens.{word_of, sign_of, ident_of, number_of, limited_word, limited_sign, limited_name, limited_number, name_limit, number_limit}
-use Rattle.rt_parse.specs.Reading.{token_at}
+use Rattle.rt_parse.specs.Inside.Reading.{token_at}
 use Rattle.rt_parse.proofs.Exact.{Starts, IsInhabited, ReadsAfter, nothing}
 use Rattle.rt_parse.proofs.ExactToken.{reads_token}
 use Rattle.rt_parse.proofs.ExactStarts.{starts_token, some_token}

@@ -5,7 +5,7 @@ use Rattle.rt_lex.specs.Token.{Token}
 use Rattle.rt_grammar.specs.Mark.{Mark, Takes, Ends}
 use Rattle.rt_grammar.specs.Language.{Language, gives, ◌>>=◌, ◌or◌, token, only_if, repeat}
 use Rattle.rt_grammar.specs.Reach.{Fits, goes_on, expression_goes_on}
-use Rattle.rt_parse.specs.Reading.{begins_with}
+use Rattle.rt_parse.specs.Inside.Reading.{begins_with}
 use Rattle.rt_parse.proofs.Exact.{IsInhabited, Avoids, AvoidsMarks, Starts}
 use Rattle.rt_parse.proofs.ExactOutcome.{IsBlocked}
 use Rattle.rt_parse.proofs.ExactLaws.{IsWithinLanguage, gives_then', or_then', repeat_then'}

@@ -3,8 +3,8 @@ use Rattle.std.proofs.Common.{◌≡◌, ℕ, ◌≤◌, Bool, true, false, List
 use Rattle.rt_lex.specs.Token.{Token}
 use Rattle.rt_grammar.specs.Mark.{Mark, Takes, Ends}
 use Rattle.rt_grammar.specs.Language.{Language, gives, ◌>>=◌, only_if}
-use Rattle.rt_parse.specs.Reading as reading
-use Rattle.rt_parse.specs.Reading.{Reader, begins_with}
+use Rattle.rt_parse.specs.Inside.Reading as reading
+use Rattle.rt_parse.specs.Inside.Reading.{Reader, begins_with}
 use Rattle.rt_parse.specs.declared.stop.Found.{Found}
 use Rattle.rt_parse.proofs.Exact.{Outcome, IsInhabited, Avoids, AvoidsMarks, ReadsAfter, Reads, nothing}
 use Rattle.rt_parse.proofs.ExactLaws.{IsWithinLanguage, same_outcome, then_then, then_then', then_same, same_then, gives_then, gives_then', read_then}

@@ -3,6 +3,8 @@ pub mod Operators
 pub mod Shorter
 pub mod ShorterExpression
 pub mod Loops
+pub mod Climb
+pub mod ClimbStrengths
 pub mod Lists
 pub mod Numbers
 pub mod Blocks

@@ -1,8 +1,8 @@
 -- A loop of the parser and the list that it reads.
 use Rattle.std.proofs.Common.{◌≡◌, ℕ, zero, suc, ◌<◌, ◌≤◌, Bool, true, false, not, cond, codes, List, [], ◌∷◌, ◌++◌, length, Result, Ok, Err, refl, ap, sym, ◌∙◌, arith}
 use Rattle.rt_lex.specs.Token.{Token, is_this_sign}
-use Rattle.rt_parse.specs.Reading.{Reader, ◌>>=◌, Stops, sign_at, begins_with, token_at, wrong_at}
-use Rattle.rt_parse.specs.ReadingList.{items_at, adds_at, comma_at, goes_past}
+use Rattle.rt_parse.specs.Inside.Reading.{Reader, ◌>>=◌, Stops, sign_at, begins_with, token_at, wrong_at}
+use Rattle.rt_parse.specs.Inside.ReadingList.{items_at, adds_at, comma_at, goes_past}
 use Rattle.rt_parse.specs.declared.stop.Stop.{Stop}
 use Rattle.rt_parse.specs.declared.stop.Stop.TheVariants as stop
 use Rattle.rt_parse.specs.declared.stop.Found.{Found}

@@ -1,7 +1,7 @@
 -- A loop of the parser and the repetition that it reads.
 use Rattle.std.proofs.Common.{◌≡◌, ℕ, zero, suc, ◌<◌, ◌≤◌, Bool, true, false, List, [], ◌∷◌, length, Result, Ok, Err, refl, sym, ◌∙◌, arith}
 use Rattle.rt_lex.specs.Token.{Token}
-use Rattle.rt_parse.specs.Reading.{Reader, ◌>>=◌, Stops, repeat_at, begins_with}
+use Rattle.rt_parse.specs.Inside.Reading.{Reader, ◌>>=◌, Stops, repeat_at, begins_with}
 use Rattle.rt_parse.specs.declared.stop.Stop.{Stop}
 use Rattle.rt_parse.specs.declared.stop.Stop.TheVariants as stop
 use Rattle.rt_parse.specs.declared.stop.Found.{Found}
@@ -20,7 +20,7 @@ some_token : (starts : Token → Bool) (rest : List Token) → begins_with start
 some_token starts [] e = absurd cc
 some_token starts (t ∷ rest) e = omega arith
 
-turn : {S : Type 0} (starts : Token → Bool) (step : S → Reader S) (n : ℕ) (s : S) (rest : List Token) (r : Result (S × List Token) Found) → begins_with starts rest ≡ true → step s rest ≡ r
+pub turn : {S : Type 0} (starts : Token → Bool) (step : S → Reader S) (n : ℕ) (s : S) (rest : List Token) (r : Result (S × List Token) Found) → begins_with starts rest ≡ true → step s rest ≡ r
     → repeat_at starts step (suc n) s rest ≡ (r >>= λ x. repeat_at starts step n x.0 x.1)
 unfolding repeat_at
 turn starts step n s rest r open_ e = rw (open_, e) refl

@@ -12,7 +12,7 @@ use Rattle.rt_grammar.specs.Tokens.{free, first_of, limit_if, number_limit}
 use Rattle.rt_grammar.specs.Tokens as grammar
 use Rattle.rt_parse.specs.declared.stop.Stop.{Stop}
 use Rattle.rt_parse.specs.declared.stop.Stop.TheVariants as stop
-use Rattle.rt_parse.specs.Reading.{◌>>=◌, Stops, token_at, take_meaning, unless_limited, number_at, limited_number_at}
+use Rattle.rt_parse.specs.Inside.Reading.{◌>>=◌, Stops, token_at, take_meaning, unless_limited, number_at, limited_number_at}
 use Rattle.rt_parse.specs.declared.stop.Found.{Found}
 
 module _ (judge : ℕ → Option Limit) where

@@ -2,10 +2,10 @@
 use Rattle.std.proofs.Common.{◌≡◌, ◌++◌, codes, length, List, [], ◌∷◌, Option, Some, None, Result, Ok, Err, refl}
 use Rattle.rt_lex.specs.Token.{Token}
 use Rattle.rt_ast.specs.declared.ident.Ident.{Ident}
-use Rattle.rt_parse.specs.Reading.{◌>>=◌, sign_at}
-use Rattle.rt_parse.specs.ReadingBodies.{argument_at, one_argument_at}
+use Rattle.rt_parse.specs.Inside.Reading.{◌>>=◌, sign_at}
+use Rattle.rt_parse.specs.Inside.ReadingBodies.{argument_at, one_argument_at}
 use Rattle.std.specs.Prelude.{Vec, is_none}
-use Rattle.rt_parse.specs.DeclarationView.{items_of}
+use Rattle.rt_parse.specs.Inside.DeclarationView.{items_of}
 
 pub is_none_items : {A Z : Type 0} (o : Option (Vec A Z)) → is_none (items_of o) ≡ is_none o
 is_none_items None = refl

@@ -14,11 +14,11 @@ use Rattle.rt_grammar.specs.Resources.{shared, locals}
 use Rattle.rt_grammar.specs.Options.{OfInit, OfIdle}
 use Rattle.rt_grammar.specs.Bodies.{thread_body, task}
 use Rattle.rt_grammar.specs.Declaration.{Head, application}
-use Rattle.rt_parse.specs.Reading as reading
-use Rattle.rt_parse.specs.Reading.{wrong_at, token_at}
-use Rattle.rt_parse.specs.ReadingList.{adds_at}
-use Rattle.rt_parse.specs.ReadingBodies.{task_at}
-use Rattle.rt_parse.specs.ReadingDeclaration.{application_at, text_at}
+use Rattle.rt_parse.specs.Inside.Reading as reading
+use Rattle.rt_parse.specs.Inside.Reading.{wrong_at, token_at}
+use Rattle.rt_parse.specs.Inside.ReadingList.{adds_at}
+use Rattle.rt_parse.specs.Inside.ReadingBodies.{task_at}
+use Rattle.rt_parse.specs.Inside.ReadingDeclaration.{application_at, text_at}
 use Rattle.rt_parse.proofs.Exact.{IsExact, Avoids, Starts, nothing}
 use Rattle.rt_parse.proofs.ExactLaws.{then_then'}
 use Rattle.rt_parse.proofs.ExactThen.{Avoids-smaller}

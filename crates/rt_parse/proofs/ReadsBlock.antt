@@ -16,11 +16,11 @@ use Rattle.rt_grammar.specs.Tokens.{free, limit_if, first_of, sign, limited_sign
 use Rattle.rt_grammar.specs.Limits.{counted, nested}
 use Rattle.rt_grammar.specs.Simple.{Counted}
 use Rattle.rt_grammar.specs.Statement.{Blocks, block_of, one_more, block, inside}
-use Rattle.rt_parse.specs.Reading.{Reader, begins_with, wrong_at}
-use Rattle.rt_parse.specs.ReadingExpression.{is_name, is_name_kind}
-use Rattle.rt_parse.specs.ReadingSimple.{counted_limit}
-use Rattle.rt_parse.specs.ReadingNested.{nested_limit, further_at}
-use Rattle.rt_parse.specs.ReadingStatement.{one_more_at, is_inside, braced_at, closed_block_at, nothing_at, block_at, inside_at}
+use Rattle.rt_parse.specs.Inside.Reading.{Reader, begins_with, wrong_at}
+use Rattle.rt_parse.specs.Inside.ReadingExpression.{is_name, is_name_kind}
+use Rattle.rt_parse.specs.Inside.ReadingSimple.{counted_limit}
+use Rattle.rt_parse.specs.Inside.ReadingNested.{nested_limit, further_at}
+use Rattle.rt_parse.specs.Inside.ReadingStatement.{one_more_at, is_inside, braced_at, closed_block_at, nothing_at, block_at, inside_at}
 use Rattle.rt_parse.proofs.Exact.{IsInhabited, Starts, Reads, nothing}
 use Rattle.rt_parse.proofs.ExactThen.{some_then, reads_seq, reads_then, reads_map, reads_fewer}
 use Rattle.rt_parse.proofs.ExactStarts.{starts_then, starts_wider, avoids_starts, avoids_apart, some_gives, some_left, some_repeat}

@@ -7,10 +7,10 @@ use Rattle.rt_lex.specs.Token.{Token}
 use Rattle.rt_grammar.specs.Language.{Language, gives, ◌>>=◌, ◌or◌}
 use Rattle.rt_grammar.specs.Expression.{Operand, Signs, operator, comparisons, strengths, joined, chains, comparison}
 use Rattle.rt_grammar.specs.Reach.{is_of, goes_on}
-use Rattle.rt_parse.specs.Reading as reading
-use Rattle.rt_parse.specs.Reading.{Reader, begins_with}
-use Rattle.rt_parse.specs.ReadingDepth.{Measured, measure, measured_joined}
-use Rattle.rt_parse.specs.ReadingExpression.{operator_at, joined_at, chain_at, chains_at, compared_at, comparison_at}
+use Rattle.rt_parse.specs.Inside.Reading as reading
+use Rattle.rt_parse.specs.Inside.Reading.{Reader, begins_with}
+use Rattle.rt_parse.specs.Inside.ReadingDepth.{Measured, measure, measured_joined}
+use Rattle.rt_parse.specs.Inside.ReadingExpression.{operator_at, joined_at, chain_at, chains_at, compared_at, comparison_at}
 use Rattle.rt_parse.specs.declared.stop.Found.{Found}
 use Rattle.rt_parse.proofs.Exact.{IsInhabited, Avoids, Starts, ReadsAfter, Reads, nothing}
 use Rattle.rt_parse.proofs.ExactLaws.{read_then}

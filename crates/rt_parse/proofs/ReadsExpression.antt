@@ -14,10 +14,10 @@ use Rattle.rt_grammar.specs.Language.{Language, gives, ◌>>=◌, ◌or◌}
 use Rattle.rt_grammar.specs.Tokens.{free, limit_if, sign, limited_sign}
 use Rattle.rt_grammar.specs.Expression.{Operand, comparison, plain_atom, atom, depth, ends, expression}
 use Rattle.rt_grammar.specs.Reach.{goes_on}
-use Rattle.rt_parse.specs.Reading as reading
-use Rattle.rt_parse.specs.Reading.{Reader, begins_with, sign_at}
-use Rattle.rt_parse.specs.ReadingDepth.{Kept, Measured, measure, kept_if, atomic}
-use Rattle.rt_parse.specs.ReadingExpression.{comparison_at, is_number, is_number_kind, is_name, is_name_kind, number_atom_at, name_atom_at, parenthesized_at, closed_at, atom_or_at, nested_at, atom_at, unless_deep, expression_at}
+use Rattle.rt_parse.specs.Inside.Reading as reading
+use Rattle.rt_parse.specs.Inside.Reading.{Reader, begins_with, sign_at}
+use Rattle.rt_parse.specs.Inside.ReadingDepth.{Kept, Measured, measure, kept_if, atomic}
+use Rattle.rt_parse.specs.Inside.ReadingExpression.{comparison_at, is_number, is_number_kind, is_name, is_name_kind, number_atom_at, name_atom_at, parenthesized_at, closed_at, atom_or_at, nested_at, atom_at, unless_deep, expression_at}
 use Rattle.rt_parse.proofs.Exact.{IsInhabited, Starts, ReadsAfter, Reads, nothing}
 use Rattle.rt_parse.proofs.ExactToken.{reads_gives}
 use Rattle.rt_parse.proofs.ExactThen.{some_then, reads_seq, reads_then, reads_map, reads_fewer, reads_no_stop, reads_same}

@@ -5,8 +5,8 @@ use Rattle.rt_ids.specs.declared.limit.Limit.{Limit}
 use Rattle.rt_lex.specs.Token.{Token}
 use Rattle.rt_grammar.specs.Language.{Language, gives, ◌>>=◌, or_else}
 use Rattle.rt_grammar.specs.Tokens.{limited_word, limited_sign, limited_name, limited_number}
-use Rattle.rt_parse.specs.Reading as reading
-use Rattle.rt_parse.specs.Reading.{Reader, begins_with, limited_word_at, limited_sign_at, limited_name_at, limited_number_at}
+use Rattle.rt_parse.specs.Inside.Reading as reading
+use Rattle.rt_parse.specs.Inside.Reading.{Reader, begins_with, limited_word_at, limited_sign_at, limited_name_at, limited_number_at}
 use Rattle.rt_parse.proofs.Exact.{IsInhabited, Avoids, Starts, ReadsAfter, nothing}
 use Rattle.rt_parse.proofs.ExactThen.{some_then, reads_seq, reads_then, reads_map, reads_fewer, reads_goes, reads_no_stop}
 use Rattle.rt_parse.proofs.ExactStarts.{some_token, some_gives, some_left}

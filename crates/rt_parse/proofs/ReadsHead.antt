@@ -14,11 +14,11 @@ use Rattle.rt_grammar.specs.Tokens.{free, word, sign, name, number, list, adds, 
 use Rattle.rt_grammar.specs.Limits.{within, at_most}
 use Rattle.rt_grammar.specs.Resources.{interrupt, interrupts, monotonic, first_value, lock_free, locked, shared, local, locals}
 use Rattle.rt_grammar.specs.Declaration.{dispatchers, head}
-use Rattle.rt_parse.specs.Reading.{Reader, wrong_at, name_at, token_at}
-use Rattle.rt_parse.specs.ReadingList.{items_at, adds_at, names_at}
-use Rattle.rt_parse.specs.ReadingExpression.{is_name}
-use Rattle.rt_parse.specs.ReadingResources.{interrupt_at, interrupts_at, clock_at, monotonic_at, first_value_at, lock_free_at, locked_at, resource_at, resources_at, shared_at, local_at, local_resources_at, locals_at}
-use Rattle.rt_parse.specs.ReadingDeclaration.{dispatcher_names_at, dispatchers_at, head_at}
+use Rattle.rt_parse.specs.Inside.Reading.{Reader, wrong_at, name_at, token_at}
+use Rattle.rt_parse.specs.Inside.ReadingList.{items_at, adds_at, names_at}
+use Rattle.rt_parse.specs.Inside.ReadingExpression.{is_name}
+use Rattle.rt_parse.specs.Inside.ReadingResources.{interrupt_at, interrupts_at, clock_at, monotonic_at, first_value_at, lock_free_at, locked_at, resource_at, resources_at, shared_at, local_at, local_resources_at, locals_at}
+use Rattle.rt_parse.specs.Inside.ReadingDeclaration.{dispatcher_names_at, dispatchers_at, head_at}
 use Rattle.rt_parse.proofs.Exact.{Starts, nothing}
 use Rattle.rt_parse.proofs.ExactStarts.{starts_token, starts_then, starts_or, starts_wider, avoids_apart, some_left}
 use Rattle.rt_parse.proofs.ExactChoice.{reads_choice}

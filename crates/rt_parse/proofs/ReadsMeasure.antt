@@ -6,7 +6,7 @@ use Rattle.rt_ids.specs.declared.op.Op.{Op}
 use Rattle.rt_ids.specs.declared.limits.TheConstants.{DEPTH}
 use Rattle.rt_ast.specs.Tree.{Oper}
 use Rattle.rt_grammar.specs.Expression.{Operand, joined, depth}
-use Rattle.rt_parse.specs.ReadingDepth.{Kept, kept_if, kept_joined, measured_joined, measure}
+use Rattle.rt_parse.specs.Inside.ReadingDepth.{Kept, kept_if, kept_joined, measured_joined, measure}
 
 deeper_left : (a b : ℕ) → nat_lt DEPTH a ≡ true → nat_lt DEPTH (1 + max a b) ≡ true
 deeper_left a b e = grind arith

@@ -11,10 +11,10 @@ use Rattle.rt_grammar.specs.Language.{Language, gives, ◌>>=◌, ◌or◌, only
 use Rattle.rt_grammar.specs.Tokens.{free, word, sign, name, number, limited_number, list, adds, names}
 use Rattle.rt_grammar.specs.Limits.{within}
 use Rattle.rt_grammar.specs.Options.{Options, no_options, Owner, is_task, is_init, listed, priority_option, capacity_option, shared_option, local_option, option, options}
-use Rattle.rt_parse.specs.Reading as reading
-use Rattle.rt_parse.specs.Reading.{Reader, begins_with, wrong_at, token_at}
-use Rattle.rt_parse.specs.ReadingExpression.{is_name}
-use Rattle.rt_parse.specs.ReadingOptions.{takes, binds_at, priority_at, capacity_at, listed_by_ref_at, listed_plainly_at, listed_at, shared_list_at, local_list_at, option_at, some_options_at, options_at}
+use Rattle.rt_parse.specs.Inside.Reading as reading
+use Rattle.rt_parse.specs.Inside.Reading.{Reader, begins_with, wrong_at, token_at}
+use Rattle.rt_parse.specs.Inside.ReadingExpression.{is_name}
+use Rattle.rt_parse.specs.Inside.ReadingOptions.{takes, binds_at, priority_at, capacity_at, listed_by_ref_at, listed_plainly_at, listed_at, shared_list_at, local_list_at, option_at, some_options_at, options_at}
 use Rattle.rt_parse.specs.declared.stop.Found.{Found}
 use Rattle.rt_parse.proofs.Exact.{Outcome, IsInhabited, Starts, ReadsAfter, ReadsOrNone, IsForm, IsNone, nothing}
 use Rattle.rt_parse.proofs.ExactOutcome.{outcome_blocked}

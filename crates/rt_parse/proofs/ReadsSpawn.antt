@@ -14,12 +14,12 @@ use Rattle.rt_grammar.specs.Expression.{expression}
 use Rattle.rt_grammar.specs.Limits.{counted}
 use Rattle.rt_grammar.specs.Spawn.{arguments, soon, after, spawn}
 use Rattle.rt_grammar.specs.Simple.{Counted}
-use Rattle.rt_parse.specs.Reading as reading
-use Rattle.rt_parse.specs.Reading.{Reader, begins_with, wrong_at, token_at, limited_word_at, word_at, sign_at, limited_name_at, name_at}
-use Rattle.rt_parse.specs.ReadingList.{items_at, adds_at}
-use Rattle.rt_parse.specs.ReadingExpression.{expression_at, comparison_at, chains_at, chain_at, atom_or_at, nested_at, parenthesized_at}
-use Rattle.rt_parse.specs.ReadingSpawn.{arguments_at, soon_at, after_at, spawn_at}
-use Rattle.rt_parse.specs.ReadingSimple.{counted_limit}
+use Rattle.rt_parse.specs.Inside.Reading as reading
+use Rattle.rt_parse.specs.Inside.Reading.{Reader, begins_with, wrong_at, token_at, limited_word_at, word_at, sign_at, limited_name_at, name_at}
+use Rattle.rt_parse.specs.Inside.ReadingList.{items_at, adds_at}
+use Rattle.rt_parse.specs.Inside.ReadingExpression.{expression_at, comparison_at, chains_at, chain_at, atom_or_at, nested_at, parenthesized_at}
+use Rattle.rt_parse.specs.Inside.ReadingSpawn.{arguments_at, soon_at, after_at, spawn_at}
+use Rattle.rt_parse.specs.Inside.ReadingSimple.{counted_limit}
 use Rattle.rt_parse.proofs.Exact.{IsInhabited, Starts, ReadsAfter, nothing}
 use Rattle.rt_parse.proofs.ExactThen.{some_then, reads_then, reads_map, reads_fewer, reads_same}
 use Rattle.rt_parse.proofs.ExactStarts.{starts_then, some_token, some_gives, some_left}

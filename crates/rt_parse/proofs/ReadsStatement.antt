@@ -14,10 +14,10 @@ use Rattle.rt_grammar.specs.Tokens.{free, word, sign, name_limit, number, limite
 use Rattle.rt_grammar.specs.Limits.{counted, turned}
 use Rattle.rt_grammar.specs.Simple.{Counted, bind, assign, emit, pend, call}
 use Rattle.rt_grammar.specs.Statement.{Blocks, branch, loop, lock, statement}
-use Rattle.rt_parse.specs.Reading.{Reader}
-use Rattle.rt_parse.specs.ReadingExpression.{is_name, is_name_kind}
-use Rattle.rt_parse.specs.ReadingNested.{else_block_at, else_at, branch_at, loop_at, lock_at}
-use Rattle.rt_parse.specs.ReadingStatement.{statement_at}
+use Rattle.rt_parse.specs.Inside.Reading.{Reader}
+use Rattle.rt_parse.specs.Inside.ReadingExpression.{is_name, is_name_kind}
+use Rattle.rt_parse.specs.Inside.ReadingNested.{else_block_at, else_at, branch_at, loop_at, lock_at}
+use Rattle.rt_parse.specs.Inside.ReadingStatement.{statement_at}
 use Rattle.rt_parse.proofs.Exact.{IsInhabited, Starts, ReadsAfter, Reads, nothing}
 use Rattle.rt_parse.proofs.ExactThen.{some_then, reads_then, reads_map, reads_fewer, reads_same, reads_any}
 use Rattle.rt_parse.proofs.ExactStarts.{starts_token, starts_then, starts_or, starts_wider, starts_within, avoids_apart, some_token, some_gives, some_left}

@@ -14,7 +14,7 @@ use Rattle.rt_grammar.specs.Simple.{Counted}
 use Rattle.rt_grammar.specs.Statement.{block, inside}
 use Rattle.rt_grammar.specs.Options.{Options, Owner, OfTask, options}
 use Rattle.rt_grammar.specs.Bodies.{body_of, thread_body, argument, arguments, task}
-use Rattle.rt_parse.specs.ReadingBodies.{thread_at, thread_body_at, argument_at, parameters_at, task_arguments_at, task_at, body_block_at}
+use Rattle.rt_parse.specs.Inside.ReadingBodies.{thread_at, thread_body_at, argument_at, parameters_at, task_arguments_at, task_at, body_block_at}
 use Rattle.rt_parse.proofs.Exact.{IsInhabited, Avoids, Starts, nothing}
 use Rattle.rt_parse.proofs.ExactThen.{reads_after}
 use Rattle.rt_parse.proofs.ExactLaws.{then_then'}

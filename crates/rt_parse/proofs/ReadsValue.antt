@@ -14,9 +14,9 @@ use Rattle.rt_grammar.specs.Expression.{expression}
 use Rattle.rt_grammar.specs.Limits.{counted}
 use Rattle.rt_grammar.specs.Spawn.{spawn, value}
 use Rattle.rt_grammar.specs.Simple.{bind, assign, emit, pend, call}
-use Rattle.rt_parse.specs.ReadingExpression.{is_name_kind}
-use Rattle.rt_parse.specs.ReadingSpawn.{spawn_at, now_at, call_value_at, calc_at, is_spawn, value_at}
-use Rattle.rt_parse.specs.ReadingSimple.{counted_limit, bind_at, assign_at, emit_at, pend_at, call_at}
+use Rattle.rt_parse.specs.Inside.ReadingExpression.{is_name_kind}
+use Rattle.rt_parse.specs.Inside.ReadingSpawn.{spawn_at, now_at, call_value_at, calc_at, is_spawn, value_at}
+use Rattle.rt_parse.specs.Inside.ReadingSimple.{counted_limit, bind_at, assign_at, emit_at, pend_at, call_at}
 use Rattle.rt_parse.proofs.Exact.{IsInhabited, ReadsAfter, nothing}
 use Rattle.rt_parse.proofs.ExactThen.{some_then, reads_then, reads_map, reads_fewer, reads_same, reads_after}
 use Rattle.rt_parse.proofs.ExactStarts.{starts_then, starts_or, starts_wider, avoids_apart, some_gives, some_left}

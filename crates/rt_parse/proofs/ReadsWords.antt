@@ -5,9 +5,9 @@ use Rattle.rt_lemmas.proofs.Bools.{not_true, or_left, or_right, and_left, and_ri
 use Rattle.rt_lex.specs.Token.{Token, is_this_word, is_this_sign}
 use Rattle.rt_grammar.specs.Language.{Language, gives, ◌>>=◌, ◌>>◌, ◌or◌}
 use Rattle.rt_grammar.specs.Tokens.{free, sign, list, adds}
-use Rattle.rt_parse.specs.Reading as reading
-use Rattle.rt_parse.specs.Reading.{Reader, begins_with, wrong_at}
-use Rattle.rt_parse.specs.ReadingList.{items_at, adds_at}
+use Rattle.rt_parse.specs.Inside.Reading as reading
+use Rattle.rt_parse.specs.Inside.Reading.{Reader, begins_with, wrong_at}
+use Rattle.rt_parse.specs.Inside.ReadingList.{items_at, adds_at}
 use Rattle.rt_parse.specs.declared.stop.Found.{Found}
 use Rattle.rt_parse.proofs.Exact.{IsInhabited, Starts, ReadsAfter, Reads, nothing}
 use Rattle.rt_parse.proofs.ExactLaws.{IsWithinLanguage}

@@ -8,8 +8,8 @@ use Rattle.rt_ast.specs.declared.app.AppTree.{AppTree}
 use Rattle.rt_lex.specs.Tokens.{tokens}
 use Rattle.rt_ast.specs.Tree.{App}
 use Rattle.rt_grammar.specs.Text.{IsText, IsRefused}
-use Rattle.rt_parse.specs.Fault.{fault_of}
-use Rattle.rt_parse.specs.ReadingDeclaration.{text_at}
+use Rattle.rt_parse.specs.Inside.Fault.{fault_of}
+use Rattle.rt_parse.specs.Inside.ReadingDeclaration.{text_at}
 use Rattle.rt_parse.specs.declared.stop.Found.{Found}
 use Rattle.rt_parse.proofs.WholeRefused.{found_is_refused, refused_is_found, text_not_refused}
 

@@ -3,7 +3,7 @@ use Rattle.std.proofs.Common.{◌≡◌, ℕ, zero, suc, ◌<◌, ◌≤◌, Boo
 use Rattle.rt_lex.specs.Token.{Token}
 use Rattle.rt_ids.specs.declared.limit.Limit.{Limit}
 use Rattle.std.specs.Prelude.{IfOk}
-use Rattle.rt_parse.specs.Reading.{Reader, Gives, ◌>>=◌, token_at, take_meaning, unless_limited, repeat_at, begins_with}
+use Rattle.rt_parse.specs.Inside.Reading.{Reader, Gives, ◌>>=◌, token_at, take_meaning, unless_limited, repeat_at, begins_with}
 use Rattle.rt_parse.specs.declared.stop.Stop.{Stop}
 use Rattle.rt_parse.specs.declared.stop.Found.{Found}
 

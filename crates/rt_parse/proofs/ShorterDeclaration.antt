@@ -1,16 +1,16 @@
 -- The readers of declarations take a token at least.
 use Rattle.std.proofs.Common.{◌≡◌, ℕ, codes, List, [], ◌∷◌, length, Err, refl}
 use Rattle.rt_lex.specs.Token.{is_this_word, is_this_sign}
-use Rattle.rt_parse.specs.Reading.{name_at, begins_with, wrong_at}
-use Rattle.rt_parse.specs.ReadingList.{items_at, adds_at, names_at}
+use Rattle.rt_parse.specs.Inside.Reading.{name_at, begins_with, wrong_at}
+use Rattle.rt_parse.specs.Inside.ReadingList.{items_at, adds_at, names_at}
 use Rattle.rt_grammar.specs.Options.{Options, Owner, OfTask, no_options}
 use Rattle.rt_ast.specs.declared.ident.Ident.{Ident}
 use Rattle.rt_ids.specs.declared.limits.TheConstants.{NESTING, STATEMENTS}
 use Rattle.rt_parse.proofs.Lists.{no_longer_items, shorter_adds}
 use Rattle.rt_parse.proofs.ShorterStatement.{shorter_block}
-use Rattle.rt_parse.specs.ReadingResources.{interrupt_at, first_value_at, lock_free_at, locked_at, resource_at, local_at}
-use Rattle.rt_parse.specs.ReadingOptions.{binds_at, priority_at, capacity_at, shared_list_at, local_list_at, option_at, options_at, some_options_at, listed_by_ref_at, listed_plainly_at, listed_at}
-use Rattle.rt_parse.specs.ReadingBodies.{one_argument_at, argument_at, task_arguments_at, parameters_at, task_at}
+use Rattle.rt_parse.specs.Inside.ReadingResources.{interrupt_at, first_value_at, lock_free_at, locked_at, resource_at, local_at}
+use Rattle.rt_parse.specs.Inside.ReadingOptions.{binds_at, priority_at, capacity_at, shared_list_at, local_list_at, option_at, options_at, some_options_at, listed_by_ref_at, listed_plainly_at, listed_at}
+use Rattle.rt_parse.specs.Inside.ReadingBodies.{one_argument_at, argument_at, task_arguments_at, parameters_at, task_at}
 use Rattle.rt_parse.proofs.Shorter.{IsShorter, IsNoLonger, shorter_no_longer, shorter_then, no_longer_then, no_longer_ok, shorter_if, no_longer_if, shorter_err, no_longer_repeat, shorter_token}
 
 pub shorter_name : IsShorter name_at

@@ -3,9 +3,9 @@ use Rattle.std.proofs.Common.{ℕ, zero, suc, List, [], ◌∷◌, length, Optio
 use Rattle.rt_grammar.specs.Expression.{Signs, strengths, comparisons}
 use Rattle.rt_grammar.specs.Reach.{is_of}
 use Rattle.rt_grammar.specs.Tokens.{free, ident_of, number_of, name_limit, number_limit}
-use Rattle.rt_parse.specs.Reading.{Reader, begins_with, wrong_at}
-use Rattle.rt_parse.specs.ReadingDepth.{Measured, Kept}
-use Rattle.rt_parse.specs.ReadingExpression.{operator_at, joined_at, chain_at, chains_at, compared_at, comparison_at, number_atom_at, name_atom_at, parenthesized_at, closed_at, atom_or_at, nested_at, atom_at, is_number, is_name, unless_deep, expression_at}
+use Rattle.rt_parse.specs.Inside.Reading.{Reader, begins_with, wrong_at}
+use Rattle.rt_parse.specs.Inside.ReadingDepth.{Measured, Kept}
+use Rattle.rt_parse.specs.Inside.ReadingExpression.{operator_at, joined_at, chain_at, chains_at, compared_at, comparison_at, number_atom_at, name_atom_at, parenthesized_at, closed_at, atom_or_at, nested_at, atom_at, is_number, is_name, unless_deep, expression_at}
 use Rattle.rt_ids.specs.declared.limits.TheConstants.{PARENTHESES}
 use Rattle.rt_parse.proofs.Shorter.{IsShorter, IsNoLonger, shorter_no_longer, shorter_then, no_longer_then, no_longer_ok, shorter_err, shorter_if, no_longer_if, shorter_token, no_longer_repeat}
 

@@ -4,13 +4,13 @@ use Rattle.rt_lex.specs.Token.{is_this_word, is_this_sign}
 use Rattle.rt_ids.specs.declared.limit.Limit.{Limit}
 use Rattle.rt_ast.specs.Tree.{Statement, Block}
 use Rattle.rt_grammar.specs.Simple.{Counted}
-use Rattle.rt_parse.specs.Reading.{Reader, begins_with, repeat_at, wrong_at}
-use Rattle.rt_parse.specs.ReadingList.{adds_at}
-use Rattle.rt_parse.specs.ReadingExpression.{is_name, expression_at}
-use Rattle.rt_parse.specs.ReadingSpawn.{arguments_at, soon_at, after_at, spawn_at, now_at, call_value_at, calc_at, value_at, is_spawn}
-use Rattle.rt_parse.specs.ReadingSimple.{bind_at, assign_at, emit_at, pend_at, call_at}
-use Rattle.rt_parse.specs.ReadingNested.{else_block_at, else_at, branch_at, loop_at, further_at, lock_at}
-use Rattle.rt_parse.specs.ReadingStatement.{statement_at, one_more_at, is_inside, braced_at, closed_block_at, nothing_at, block_at, inside_at}
+use Rattle.rt_parse.specs.Inside.Reading.{Reader, begins_with, repeat_at, wrong_at}
+use Rattle.rt_parse.specs.Inside.ReadingList.{adds_at}
+use Rattle.rt_parse.specs.Inside.ReadingExpression.{is_name, expression_at}
+use Rattle.rt_parse.specs.Inside.ReadingSpawn.{arguments_at, soon_at, after_at, spawn_at, now_at, call_value_at, calc_at, value_at, is_spawn}
+use Rattle.rt_parse.specs.Inside.ReadingSimple.{bind_at, assign_at, emit_at, pend_at, call_at}
+use Rattle.rt_parse.specs.Inside.ReadingNested.{else_block_at, else_at, branch_at, loop_at, further_at, lock_at}
+use Rattle.rt_parse.specs.Inside.ReadingStatement.{statement_at, one_more_at, is_inside, braced_at, closed_block_at, nothing_at, block_at, inside_at}
 use Rattle.rt_parse.proofs.Shorter.{IsShorter, IsNoLonger, shorter_no_longer, shorter_then, no_longer_then, no_longer_ok, shorter_err, shorter_if, no_longer_if, shorter_token, no_longer_repeat}
 use Rattle.rt_parse.proofs.ShorterExpression.{shorter_expression}
 use Rattle.rt_parse.proofs.Lists.{no_longer_items, shorter_adds}

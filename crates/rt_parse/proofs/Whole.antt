@@ -11,8 +11,8 @@ use Rattle.rt_grammar.specs.Mark.{Mark}
 use Rattle.rt_grammar.specs.Declaration.{application}
 use Rattle.rt_grammar.specs.Reach.{Reaches}
 use Rattle.rt_grammar.specs.Text.{text}
-use Rattle.rt_parse.specs.Reading.{refusal_of, refusal_at}
-use Rattle.rt_parse.specs.ReadingDeclaration.{text_at}
+use Rattle.rt_parse.specs.Inside.Reading.{refusal_of, refusal_at}
+use Rattle.rt_parse.specs.Inside.ReadingDeclaration.{text_at}
 use Rattle.rt_parse.specs.declared.stop.Found.{Found}
 use Rattle.rt_parse.proofs.Exact.{Outcome}
 use Rattle.rt_parse.proofs.LargerDeclaration.{larger}

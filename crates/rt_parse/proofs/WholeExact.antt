@@ -9,7 +9,7 @@ use Rattle.rt_ast.specs.Tree.{App}
 use Rattle.rt_grammar.specs.Mark.{Mark, IsWithin}
 use Rattle.rt_grammar.specs.Declaration.{application}
 use Rattle.rt_grammar.specs.Text.{text}
-use Rattle.rt_parse.specs.ReadingDeclaration.{text_at}
+use Rattle.rt_parse.specs.Inside.ReadingDeclaration.{text_at}
 use Rattle.rt_parse.specs.declared.stop.Found.{Found}
 use Rattle.rt_parse.proofs.Exact.{IsFront, IsRead, IsWrong, IsLimited, Passes, Outcome}
 use Rattle.rt_parse.proofs.ShrinksApplication.{shrinks_application}

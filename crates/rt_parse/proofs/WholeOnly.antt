@@ -9,7 +9,7 @@ use Rattle.rt_ast.specs.Tree.{App}
 use Rattle.rt_grammar.specs.Mark.{Mark, Takes, Ends}
 use Rattle.rt_grammar.specs.Reach.{Fits, Reaches}
 use Rattle.rt_grammar.specs.Text.{text, IsText}
-use Rattle.rt_parse.specs.ReadingDeclaration.{text_at}
+use Rattle.rt_parse.specs.Inside.ReadingDeclaration.{text_at}
 use Rattle.rt_parse.specs.declared.stop.Found.{Found}
 use Rattle.rt_parse.proofs.Exact.{IsFront, Outcome}
 use Rattle.rt_parse.proofs.WholeFronts.{front_fits, within_not}

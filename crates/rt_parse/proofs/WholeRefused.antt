@@ -20,9 +20,9 @@ use Rattle.rt_ast.specs.Tree.{App}
 use Rattle.rt_grammar.specs.Mark.{Mark, limit_of, IsWithin}
 use Rattle.rt_grammar.specs.Reach.{Reaches}
 use Rattle.rt_grammar.specs.Text.{text, IsSpelled, Begins, IsUnlimited, IsText, IsForeignAt, IsDeadEnd, IsSyntaxAt, IsLimitAt, IsRefusedAt, IsRefused, offset_of}
-use Rattle.rt_parse.specs.Reading.{refusal_of, wrong_at}
-use Rattle.rt_parse.specs.Fault.{offset_or, fault_of}
-use Rattle.rt_parse.specs.ReadingDeclaration.{text_at}
+use Rattle.rt_parse.specs.Inside.Reading.{refusal_of, wrong_at}
+use Rattle.rt_parse.specs.Inside.Fault.{offset_or, fault_of}
+use Rattle.rt_parse.specs.Inside.ReadingDeclaration.{text_at}
 use Rattle.rt_parse.specs.declared.stop.Found.{Found}
 use Rattle.rt_parse.proofs.Exact.{IsFront, IsRead, IsWrong, IsLimited, Outcome}
 use Rattle.rt_parse.proofs.WholeFronts.{fits_suffix, front_shorter, within_front, within_not, limits_same, suffix_same}

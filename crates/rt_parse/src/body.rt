@@ -5,12 +5,12 @@ ghost use Rattle.rt_lex.specs.Token.{is_this_sign, is_this_word};
 ghost use Rattle.rt_ast.specs.View.{block_of, body_of, task_of, app_of, option_map};
 ghost use Rattle.rt_grammar.specs.Options.{no_options, is_task, is_init};
 ghost use Rattle.rt_grammar.specs.Bodies.{or_empty};
-ghost use Rattle.rt_parse.specs.Reading.{Gives, begins_with, repeat_at};
-ghost use Rattle.rt_parse.specs.ReadingList.{items_at, adds_at};
-ghost use Rattle.rt_parse.specs.ReadingOptions.{binds_at, priority_at, capacity_at, shared_list_at, local_list_at, takes, option_at, some_options_at, options_at};
-ghost use Rattle.rt_parse.specs.ReadingBodies.{thread_at, thread_body_at, one_argument_at, argument_at, parameters_at, task_arguments_at, task_is, task_block_at, task_at};
-ghost use Rattle.rt_parse.specs.ReadingDeclaration.{app_is, bodies_at, declarations_at, application_at, text_at};
-ghost use Rattle.rt_parse.specs.DeclarationView.{declared_view, opening_view, options_view, owner_view, items_of};
+ghost use Rattle.rt_parse.specs.Inside.Reading.{Gives, begins_with, repeat_at};
+ghost use Rattle.rt_parse.specs.Inside.ReadingList.{items_at, adds_at};
+ghost use Rattle.rt_parse.specs.Inside.ReadingOptions.{binds_at, priority_at, capacity_at, shared_list_at, local_list_at, takes, option_at, some_options_at, options_at};
+ghost use Rattle.rt_parse.specs.Inside.ReadingBodies.{thread_at, thread_body_at, one_argument_at, argument_at, parameters_at, task_arguments_at, task_is, task_block_at, task_at};
+ghost use Rattle.rt_parse.specs.Inside.ReadingDeclaration.{app_is, bodies_at, declarations_at, application_at, text_at};
+ghost use Rattle.rt_parse.specs.Inside.DeclarationView.{declared_view, opening_view, options_view, owner_view, items_of};
 
 use crate::declaration::{Opening, heading, interrupts, locals, monotonic, names, shared};
 use crate::list::{comma, goes_past, list};
@@ -73,7 +73,7 @@ fn no_options() -> BodyOptions
     }
 }
 
-#[tactic(auto, unfolding(crate::specs::ReadingOptions::binds_at))]
+#[tactic(auto, unfolding(crate::specs::Inside::ReadingOptions::binds_at))]
 fn binds<'a>(
     alloc: Global,
     tokens: Tokens<'a>,
@@ -88,7 +88,7 @@ fn binds<'a>(
     Ok((BodyOptions { binds, ..options }, tokens))
 }
 
-#[tactic(auto, unfolding(crate::specs::ReadingOptions::priority_at))]
+#[tactic(auto, unfolding(crate::specs::Inside::ReadingOptions::priority_at))]
 fn priority<'a>(tokens: Tokens<'a>, options: BodyOptions) -> Result<(BodyOptions, Tokens<'a>), Stop>
     ensures { Gives (λ x. (options_view x.0, x.1)) result (priority_at (options_view options) tokens.entry) }
 {
@@ -105,7 +105,7 @@ fn priority<'a>(tokens: Tokens<'a>, options: BodyOptions) -> Result<(BodyOptions
     ))
 }
 
-#[tactic(auto, unfolding(crate::specs::ReadingOptions::capacity_at))]
+#[tactic(auto, unfolding(crate::specs::Inside::ReadingOptions::capacity_at))]
 fn capacity<'a>(tokens: Tokens<'a>, options: BodyOptions) -> Result<(BodyOptions, Tokens<'a>), Stop>
     ensures { Gives (λ x. (options_view x.0, x.1)) result (capacity_at (options_view options) tokens.entry) }
 {
@@ -122,7 +122,7 @@ fn capacity<'a>(tokens: Tokens<'a>, options: BodyOptions) -> Result<(BodyOptions
     ))
 }
 
-#[tactic(auto, unfolding(crate::specs::ReadingOptions::shared_list_at))]
+#[tactic(auto, unfolding(crate::specs::Inside::ReadingOptions::shared_list_at))]
 fn shared_list<'a>(
     alloc: Global,
     tokens: Tokens<'a>,
@@ -138,7 +138,7 @@ fn shared_list<'a>(
     Ok((BodyOptions { shared, ..options }, tokens))
 }
 
-#[tactic(auto, unfolding(crate::specs::ReadingOptions::local_list_at))]
+#[tactic(auto, unfolding(crate::specs::Inside::ReadingOptions::local_list_at))]
 fn local_list<'a>(
     alloc: Global,
     tokens: Tokens<'a>,
@@ -198,7 +198,7 @@ fn takes(tokens: &Tokens<'_>, allowed: bool, option: &[u8]) -> bool
 }
 
 /// One more option, of which each stands at most once.
-#[tactic(auto, unfolding(crate::specs::ReadingOptions::option_at))]
+#[tactic(auto, unfolding(crate::specs::Inside::ReadingOptions::option_at))]
 fn option<'a>(
     alloc: Global,
     tokens: Tokens<'a>,
@@ -242,7 +242,7 @@ fn option_list<'a>(
 }
 
 /// The options of a body, where there are any.
-#[tactic(auto, unfolding(crate::specs::ReadingOptions::options_at, crate::specs::ReadingOptions::some_options_at))]
+#[tactic(auto, unfolding(crate::specs::Inside::ReadingOptions::options_at, crate::specs::Inside::ReadingOptions::some_options_at))]
 fn options<'a>(
     alloc: Global,
     tokens: Tokens<'a>,
@@ -268,7 +268,7 @@ fn or_empty<T: Drop>(alloc: Global, list: Option<Vec<T>>) -> Vec<T>
 }
 
 /// The body of `init` or `idle`, where there is one.
-#[tactic(auto, unfolding(crate::specs::ReadingBodies::thread_body_at, crate::specs::ReadingBodies::thread_at))]
+#[tactic(auto, unfolding(crate::specs::Inside::ReadingBodies::thread_body_at, crate::specs::Inside::ReadingBodies::thread_at))]
 fn thread_body<'a>(
     alloc: Global,
     tokens: Tokens<'a>,
@@ -293,7 +293,7 @@ fn thread_body<'a>(
 }
 
 /// One more argument, behind so many.
-#[tactic(auto, unfolding(crate::specs::ReadingBodies::one_argument_at))]
+#[tactic(auto, unfolding(crate::specs::Inside::ReadingBodies::one_argument_at))]
 fn argument<'a>(
     alloc: Global,
     tokens: Tokens<'a>,
@@ -326,7 +326,7 @@ fn more_arguments<'a>(
 }
 
 /// The arguments of a task, where there are any.
-#[tactic(auto, unfolding(crate::specs::ReadingBodies::task_arguments_at, crate::specs::ReadingBodies::parameters_at))]
+#[tactic(auto, unfolding(crate::specs::Inside::ReadingBodies::task_arguments_at, crate::specs::Inside::ReadingBodies::parameters_at))]
 fn task_arguments<'a>(alloc: Global, tokens: Tokens<'a>) -> Result<(Vec<Ident>, Tokens<'a>), Stop>
     ensures { Gives (λ x. (x.0.items, x.1)) result (task_arguments_at tokens.entry) }
 {
@@ -378,7 +378,7 @@ fn task_block<'a>(
 }
 
 /// One more task, behind so many.
-#[tactic(auto, unfolding(crate::specs::ReadingBodies::task_at))]
+#[tactic(auto, unfolding(crate::specs::Inside::ReadingBodies::task_at))]
 fn task<'a>(
     alloc: Global,
     tokens: Tokens<'a>,
@@ -484,7 +484,7 @@ fn declarations<'a>(
 }
 
 /// A whole application.
-#[tactic(auto, unfolding(crate::specs::ReadingDeclaration::application_at))]
+#[tactic(auto, unfolding(crate::specs::Inside::ReadingDeclaration::application_at))]
 fn application<'a>(alloc: Global, tokens: Tokens<'a>) -> Result<(AppTree, Tokens<'a>), Stop>
     ensures { Gives (λ x. (app_of x.0, x.1)) result (application_at tokens.entry) }
 {
@@ -493,7 +493,7 @@ fn application<'a>(alloc: Global, tokens: Tokens<'a>) -> Result<(AppTree, Tokens
 }
 
 /// An application, and nothing behind it.
-#[tactic(auto, unfolding(crate::specs::ReadingDeclaration::text_at))]
+#[tactic(auto, unfolding(crate::specs::Inside::ReadingDeclaration::text_at))]
 pub(crate) fn whole(alloc: Global, tokens: Tokens<'_>) -> Result<AppTree, Stop>
     ensures { Gives app_of result (text_at tokens.entry) }
 {

@@ -4,13 +4,13 @@ ghost use Rattle.std.specs.Prelude.{◌≡◌, ◌-◌, ◌&&◌, [], ◌∷◌,
 ghost use Rattle.rt_lex.specs.Token.{is_this_sign, is_this_word};
 ghost use Rattle.rt_ast.specs.View.{block_of, body_of, task_of, app_of, option_map};
 ghost use Rattle.rt_grammar.specs.Limits.{at_most};
-ghost use Rattle.rt_parse.specs.DeclarationView.{opening_view};
-ghost use Rattle.rt_parse.specs.Reading.{Gives, begins_with, repeat_at, name_at};
-ghost use Rattle.rt_parse.specs.ReadingList.{items_at, adds_at, names_at};
-ghost use Rattle.rt_parse.specs.ReadingResources.{interrupt_at, interrupts_at, clock_priority_at, clock_at, monotonic_at, first_value_at, lock_free_at, locked_at, resource_at, resources_at, shared_at, local_at, local_resources_at, locals_at};
-ghost use Rattle.rt_parse.specs.ReadingOptions.{binds_at, priority_at, capacity_at, listed_by_ref_at, listed_plainly_at, listed_at, shared_list_at, local_list_at, takes, option_at, some_options_at, options_at};
-ghost use Rattle.rt_parse.specs.ReadingBodies.{body_block_at, thread_at, thread_body_at, argument_at, parameters_at, task_arguments_at, task_at};
-ghost use Rattle.rt_parse.specs.ReadingDeclaration.{dispatcher_names_at, dispatchers_at, dispatched_at, levels_at, head_at, application_at, text_at};
+ghost use Rattle.rt_parse.specs.Inside.DeclarationView.{opening_view};
+ghost use Rattle.rt_parse.specs.Inside.Reading.{Gives, begins_with, repeat_at, name_at};
+ghost use Rattle.rt_parse.specs.Inside.ReadingList.{items_at, adds_at, names_at};
+ghost use Rattle.rt_parse.specs.Inside.ReadingResources.{interrupt_at, interrupts_at, clock_priority_at, clock_at, monotonic_at, first_value_at, lock_free_at, locked_at, resource_at, resources_at, shared_at, local_at, local_resources_at, locals_at};
+ghost use Rattle.rt_parse.specs.Inside.ReadingOptions.{binds_at, priority_at, capacity_at, listed_by_ref_at, listed_plainly_at, listed_at, shared_list_at, local_list_at, takes, option_at, some_options_at, options_at};
+ghost use Rattle.rt_parse.specs.Inside.ReadingBodies.{body_block_at, thread_at, thread_body_at, argument_at, parameters_at, task_arguments_at, task_at};
+ghost use Rattle.rt_parse.specs.Inside.ReadingDeclaration.{dispatcher_names_at, dispatchers_at, dispatched_at, levels_at, head_at, application_at, text_at};
 
 use crate::list::{Item, comma, goes_past, list};
 use crate::statement::block;
@@ -51,7 +51,7 @@ impl Item for Ident {
 }
 
 /// Names in square brackets.
-#[tactic(auto, unfolding(crate::specs::ReadingList::names_at))]
+#[tactic(auto, unfolding(crate::specs::Inside::ReadingList::names_at))]
 pub(crate) fn names<'a>(alloc: Global, tokens: Tokens<'a>) -> Result<(Vec<Ident>, Tokens<'a>), Stop>
     ensures { Gives (λ x. (x.0.items, x.1)) result (names_at tokens.entry) }
 {
@@ -59,7 +59,7 @@ pub(crate) fn names<'a>(alloc: Global, tokens: Tokens<'a>) -> Result<(Vec<Ident>
     list(alloc, tokens, b"]")
 }
 
-#[tactic(auto, unfolding(crate::specs::ReadingResources::interrupt_at))]
+#[tactic(auto, unfolding(crate::specs::Inside::ReadingResources::interrupt_at))]
 fn interrupt<'a>(
     alloc: Global,
     tokens: Tokens<'a>,
@@ -87,7 +87,7 @@ impl Item for IrqTree {
     }
 }
 
-#[tactic(auto, unfolding(crate::specs::ReadingResources::interrupts_at))]
+#[tactic(auto, unfolding(crate::specs::Inside::ReadingResources::interrupts_at))]
 pub(crate) fn interrupts<'a>(
     alloc: Global,
     tokens: Tokens<'a>,
@@ -100,7 +100,7 @@ pub(crate) fn interrupts<'a>(
 }
 
 /// The names of the dispatchers, behind a comma.
-#[tactic(auto, unfolding(crate::specs::ReadingDeclaration::dispatchers_at, crate::specs::ReadingDeclaration::dispatcher_names_at))]
+#[tactic(auto, unfolding(crate::specs::Inside::ReadingDeclaration::dispatchers_at, crate::specs::Inside::ReadingDeclaration::dispatcher_names_at))]
 fn dispatchers<'a>(alloc: Global, tokens: Tokens<'a>) -> Result<(Vec<Ident>, Tokens<'a>), Stop>
     ensures { Gives (λ x. (x.0.items, x.1)) result (dispatchers_at tokens.entry) }
 {
@@ -152,7 +152,7 @@ fn levels<'a>(alloc: Global, tokens: Tokens<'a>, name: Ident) -> Result<(Opening
     dispatched(alloc, tokens, name, bits.value)
 }
 
-#[tactic(auto, unfolding(crate::specs::ReadingDeclaration::head_at))]
+#[tactic(auto, unfolding(crate::specs::Inside::ReadingDeclaration::head_at))]
 pub(crate) fn heading<'a>(alloc: Global, tokens: Tokens<'a>) -> Result<(Opening, Tokens<'a>), Stop>
     ensures { Gives (λ x. (opening_view x.0, x.1)) result (head_at tokens.entry) }
 {
@@ -177,7 +177,7 @@ fn clock_priority<'a>(
     Ok((Some(MonoTree { binds, priority }), tokens))
 }
 
-#[tactic(auto, unfolding(crate::specs::ReadingResources::clock_at))]
+#[tactic(auto, unfolding(crate::specs::Inside::ReadingResources::clock_at))]
 fn clock<'a>(alloc: Global, tokens: Tokens<'a>) -> Result<(Option<MonoTree>, Tokens<'a>), Stop>
     ensures { Gives (λ x. x) result (clock_at tokens.entry) }
 {
@@ -190,7 +190,7 @@ fn clock<'a>(alloc: Global, tokens: Tokens<'a>) -> Result<(Option<MonoTree>, Tok
 }
 
 /// The monotonic, where one is declared.
-#[tactic(auto, unfolding(crate::specs::ReadingResources::monotonic_at))]
+#[tactic(auto, unfolding(crate::specs::Inside::ReadingResources::monotonic_at))]
 pub(crate) fn monotonic<'a>(
     alloc: Global,
     tokens: Tokens<'a>,
@@ -204,7 +204,7 @@ pub(crate) fn monotonic<'a>(
     }
 }
 
-#[tactic(auto, unfolding(crate::specs::ReadingResources::first_value_at))]
+#[tactic(auto, unfolding(crate::specs::Inside::ReadingResources::first_value_at))]
 fn first_value(tokens: Tokens<'_>) -> Result<(u32, Tokens<'_>), Stop>
     ensures { Gives (λ x. x) result (first_value_at tokens.entry) }
 {
@@ -213,7 +213,7 @@ fn first_value(tokens: Tokens<'_>) -> Result<(u32, Tokens<'_>), Stop>
     Ok((number.value, tokens))
 }
 
-#[tactic(auto, unfolding(crate::specs::ReadingResources::lock_free_at))]
+#[tactic(auto, unfolding(crate::specs::Inside::ReadingResources::lock_free_at))]
 fn lock_free<'a>(
     alloc: Global,
     tokens: Tokens<'a>,
@@ -236,7 +236,7 @@ fn lock_free<'a>(
     ))
 }
 
-#[tactic(auto, unfolding(crate::specs::ReadingResources::locked_at))]
+#[tactic(auto, unfolding(crate::specs::Inside::ReadingResources::locked_at))]
 fn locked<'a>(
     alloc: Global,
     tokens: Tokens<'a>,
@@ -259,7 +259,7 @@ fn locked<'a>(
 }
 
 /// A shared resource, lock-free or not.
-#[tactic(auto, unfolding(crate::specs::ReadingResources::resource_at))]
+#[tactic(auto, unfolding(crate::specs::Inside::ReadingResources::resource_at))]
 fn resource<'a>(
     alloc: Global,
     tokens: Tokens<'a>,
@@ -286,7 +286,7 @@ impl Item for SharedTree {
     }
 }
 
-#[tactic(auto, unfolding(crate::specs::ReadingResources::shared_at, crate::specs::ReadingResources::resources_at))]
+#[tactic(auto, unfolding(crate::specs::Inside::ReadingResources::shared_at, crate::specs::Inside::ReadingResources::resources_at))]
 pub(crate) fn shared<'a>(
     alloc: Global,
     tokens: Tokens<'a>,
@@ -301,7 +301,7 @@ pub(crate) fn shared<'a>(
     list(alloc, tokens, b"}")
 }
 
-#[tactic(auto, unfolding(crate::specs::ReadingResources::local_at))]
+#[tactic(auto, unfolding(crate::specs::Inside::ReadingResources::local_at))]
 fn local<'a>(
     alloc: Global,
     tokens: Tokens<'a>,
@@ -327,7 +327,7 @@ impl Item for LocalTree {
     }
 }
 
-#[tactic(auto, unfolding(crate::specs::ReadingResources::locals_at, crate::specs::ReadingResources::local_resources_at))]
+#[tactic(auto, unfolding(crate::specs::Inside::ReadingResources::locals_at, crate::specs::Inside::ReadingResources::local_resources_at))]
 pub(crate) fn locals<'a>(
     alloc: Global,
     tokens: Tokens<'a>,
@@ -343,7 +343,7 @@ pub(crate) fn locals<'a>(
 }
 
 /// A shared resource that a body lists, by its name or by reference.
-#[tactic(auto, unfolding(crate::specs::ReadingOptions::listed_at, crate::specs::ReadingOptions::listed_by_ref_at, crate::specs::ReadingOptions::listed_plainly_at))]
+#[tactic(auto, unfolding(crate::specs::Inside::ReadingOptions::listed_at, crate::specs::Inside::ReadingOptions::listed_by_ref_at, crate::specs::Inside::ReadingOptions::listed_plainly_at))]
 fn listed<'a>(alloc: Global, tokens: Tokens<'a>) -> Result<(ListedTree, Tokens<'a>), Stop>
     ensures { Gives (λ x. x) result (listed_at tokens.entry) }
 {

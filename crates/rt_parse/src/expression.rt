@@ -1,27 +1,27 @@
 // The parser of expressions.
 
-ghost use Rattle.std.specs.Prelude.{◌≡◌, [], ◌∷◌, length, MatchOption, ◌≤◌, ◌-◌, Option, None, Some, Ok};
+ghost use Rattle.std.specs.Prelude.{◌≡◌, [], ◌∷◌, length, MatchOption, ◌≤◌, ◌-◌, Option, None, Some, Ok, false};
 ghost use Rattle.rt_lex.specs.Token.{view};
 ghost use Rattle.rt_ast.specs.View.{expression_of};
 ghost use Rattle.rt_grammar.specs.Expression.{op_of, comparisons, strengths};
 ghost use Rattle.rt_grammar.specs.Reach.{is_of};
-ghost use Rattle.rt_parse.specs.Reading.{Gives, begins_with, repeat_at};
-ghost use Rattle.rt_parse.specs.ReadingDepth.{measured_joined, atomic};
-ghost use Rattle.rt_parse.specs.ReadingExpression.{is_number, is_name, operator_at, joined_at, chain_at, chains_at, compared_at, comparison_at, number_atom_at, name_atom_at, parenthesized_at, closed_at, nested_at, atom_at, expression_at};
-ghost use Rattle.rt_parse.specs.ExpressionView.{signs_of, stronger_than, measured_view};
+ghost use Rattle.rt_parse.specs.Inside.Reading.{Gives, Leaves, begins_with};
+ghost use Rattle.rt_parse.specs.Inside.ReadingDepth.{measured_joined, atomic};
+ghost use Rattle.rt_parse.specs.Inside.ReadingExpression.{joined_at, chains_at, comparison_at, number_atom_at, name_atom_at, parenthesized_at, closed_at, nested_at, atom_at, expression_at};
+ghost use Rattle.rt_parse.specs.Inside.ExpressionView.{signs_of, levels, stronger_than, is_of_some, IsOperator, IsAhead, IsCompared, measured_view};
 
 use crate::stop::{Found, Stop};
-use crate::tokens::{limited_sign, name, number, sign, wrong, wrong_token};
+use crate::tokens::{is_byte, is_pair, take_name, take_number, take_sign, wrong};
 use rt_ast::Expr;
 use rt_ids::limits::{DEPTH, PARENTHESES};
 use rt_ids::{Limit, Op, Refusal};
 use rt_lex::{Kind, Token, Tokens};
 use std::alloc::Global;
 
-/// A tree, and its depth, which keeps the limit.
+/// A tree, and its depth, which keeps the limit. The tree is boxed, so that what is on the stack is small.
 #[derive(Debug, Drop)]
 struct Kept {
-    tree: Expr,
+    tree: Box<Expr>,
     depth: u8,
 }
 
@@ -33,7 +33,7 @@ struct Measured {
     kept: Option<Kept>,
 }
 
-/// The operators of one strength, comparisons aside.
+/// How strongly operators bind, the weakest first, comparisons aside. An atom has no operator.
 #[derive(Clone, Copy)]
 enum Strength {
     Or,
@@ -42,105 +42,129 @@ enum Strength {
     Shift,
     Sum,
     Product,
+    Atom,
 }
 
 impl Strength {
-    /// The next stronger one.
-    fn stronger(self) -> Option<Strength>
-        ensures { MatchOption result (stronger_than self ≡ []) (λ s. stronger_than self ≡ signs_of s ∷ stronger_than s) }
+    /// How many strengths of operators there are from it on.
+    fn levels(self) -> u8
+        ensures { result ≡ length (levels self) }
     {
         match self {
-            Strength::Or => Some(Strength::Xor),
-            Strength::Xor => Some(Strength::And),
-            Strength::And => Some(Strength::Shift),
-            Strength::Shift => Some(Strength::Sum),
-            Strength::Sum => Some(Strength::Product),
-            Strength::Product => None,
+            Strength::Or => 6,
+            Strength::Xor => 5,
+            Strength::And => 4,
+            Strength::Shift => 3,
+            Strength::Sum => 2,
+            Strength::Product => 1,
+            Strength::Atom => 0,
         }
     }
 
-    /// The operator of this strength that a token is.
-    fn op(self, token: &Token<'_>) -> Option<Op>
-        ensures { result ≡ op_of (signs_of self) (view token.now) }
+    /// The next stronger one.
+    fn stronger(self) -> Strength
+        ensures { levels result ≡ stronger_than self }
     {
         match self {
-            Strength::Or if token.is_sign(b"|") => Some(Op::Or),
-            Strength::Xor if token.is_sign(b"^") => Some(Op::Xor),
-            Strength::And if token.is_sign(b"&") => Some(Op::And),
-            Strength::Shift if token.is_sign(b"<<") => Some(Op::Shl),
-            Strength::Shift if token.is_sign(b">>") => Some(Op::Shr),
-            Strength::Sum if token.is_sign(b"+") => Some(Op::Add),
-            Strength::Sum if token.is_sign(b"-") => Some(Op::Sub),
-            Strength::Product if token.is_sign(b"*") => Some(Op::Mul),
-            Strength::Product if token.is_sign(b"/") => Some(Op::Div),
-            Strength::Product if token.is_sign(b"%") => Some(Op::Rem),
-            _ => None,
+            Strength::Or => Strength::Xor,
+            Strength::Xor => Strength::And,
+            Strength::And => Strength::Shift,
+            Strength::Shift => Strength::Sum,
+            Strength::Sum => Strength::Product,
+            Strength::Product | Strength::Atom => Strength::Atom,
         }
+    }
+}
+
+/// An operator, comparisons aside, and how strongly it binds.
+#[derive(Clone, Copy)]
+struct Operator {
+    op: Op,
+    strength: Strength,
+}
+
+/// An operator of this strength.
+fn some_operator(op: Op, strength: Strength) -> Option<Operator>
+    ensures { result ≡ Some (record { op = op; strength = strength }) }
+{
+    Some(Operator { op, strength })
+}
+
+/// The operator that a token is.
+fn operator_of(token: &Token<'_>) -> Option<Operator>
+    ensures { MatchOption result (is_of_some strengths (view token.now) ≡ false)
+        (λ o. IsOperator o.op o.strength (view token.now)) }
+{
+    if is_byte(token, b'*') {
+        some_operator(Op::Mul, Strength::Product)
+    } else if is_byte(token, b'/') {
+        some_operator(Op::Div, Strength::Product)
+    } else if is_byte(token, b'%') {
+        some_operator(Op::Rem, Strength::Product)
+    } else if is_byte(token, b'+') {
+        some_operator(Op::Add, Strength::Sum)
+    } else if is_byte(token, b'-') {
+        some_operator(Op::Sub, Strength::Sum)
+    } else if is_pair(token, b'<', b'<') {
+        some_operator(Op::Shl, Strength::Shift)
+    } else if is_pair(token, b'>', b'>') {
+        some_operator(Op::Shr, Strength::Shift)
+    } else if is_byte(token, b'&') {
+        some_operator(Op::And, Strength::And)
+    } else if is_byte(token, b'^') {
+        some_operator(Op::Xor, Strength::Xor)
+    } else if is_byte(token, b'|') {
+        some_operator(Op::Or, Strength::Or)
+    } else {
+        None
     }
 }
 
 /// The comparison that a token is.
-fn comparison_op(token: &Token<'_>) -> Option<Op>
+fn comparison_of(token: &Token<'_>) -> Option<Op>
     ensures { result ≡ op_of comparisons (view token.now) }
 {
-    if token.is_sign(b"==") {
+    if is_pair(token, b'=', b'=') {
         Some(Op::Eq)
-    } else if token.is_sign(b"!=") {
+    } else if is_pair(token, b'!', b'=') {
         Some(Op::Ne)
-    } else if token.is_sign(b"<") {
+    } else if is_byte(token, b'<') {
         Some(Op::Lt)
-    } else if token.is_sign(b"<=") {
+    } else if is_pair(token, b'<', b'=') {
         Some(Op::Le)
-    } else if token.is_sign(b">") {
+    } else if is_byte(token, b'>') {
         Some(Op::Gt)
-    } else if token.is_sign(b">=") {
+    } else if is_pair(token, b'>', b'=') {
         Some(Op::Ge)
     } else {
         None
     }
 }
 
-/// Whether an operator of this strength comes next.
-#[tactic(auto, using(crate::proofs::Operators::is_some_op))]
-fn goes_on(tokens: &Tokens<'_>, strength: Strength) -> bool
-    ensures { result ≡ begins_with (is_of (signs_of strength)) tokens.now }
+/// The operator that comes next, if it binds so strongly at least.
+#[tactic(auto, using(crate::proofs::Operators::ahead))]
+fn operator_ahead(tokens: &Tokens<'_>, least: Strength) -> Option<Operator>
+    ensures none { result ≡ None → begins_with (is_of_some (levels least)) tokens.now ≡ false }
+    ensures ahead { (o : Operator) → result ≡ Some o → IsAhead o.op o.strength tokens.now }
+    ensures least { (o : Operator) → result ≡ Some o → length (levels o.strength) ≤ length (levels least) }
 {
     match tokens.peek() {
-        Some(token) => strength.op(&token).is_some(),
-        None => false,
+        Some(token) => match operator_of(&token) {
+            Some(operator) if operator.strength.levels() <= least.levels() => Some(operator),
+            _ => None,
+        },
+        None => None,
     }
 }
 
-/// Whether a comparison comes next.
-#[tactic(auto, using(crate::proofs::Operators::is_some_op))]
-fn compares(tokens: &Tokens<'_>) -> bool
-    ensures { result ≡ begins_with (is_of comparisons) tokens.now }
+/// The comparison that comes next.
+fn comparison_ahead(tokens: &Tokens<'_>) -> Option<Op>
+    ensures { MatchOption result (begins_with (is_of comparisons) tokens.now ≡ false)
+        (λ op. IsCompared op tokens.now) }
 {
     match tokens.peek() {
-        Some(token) => comparison_op(&token).is_some(),
-        None => false,
-    }
-}
-
-#[tactic(auto, unfolding(crate::specs::Reading::token_at, crate::specs::ReadingExpression::operator_at))]
-fn operator(mut tokens: Tokens<'_>, strength: Strength) -> Result<(Op, Tokens<'_>), Stop>
-    ensures { Gives (λ x. x) result (operator_at (signs_of strength) tokens.entry) }
-{
-    let token = tokens.next().ok_or(Stop::At(wrong_token(None)))?;
-    match strength.op(&token) {
-        Some(op) => Ok((op, tokens)),
-        None => Err(Stop::At(wrong_token(Some(token)))),
-    }
-}
-
-#[tactic(auto, unfolding(crate::specs::Reading::token_at, crate::specs::ReadingExpression::operator_at))]
-fn comparison_operator(mut tokens: Tokens<'_>) -> Result<(Op, Tokens<'_>), Stop>
-    ensures { Gives (λ x. x) result (operator_at comparisons tokens.entry) }
-{
-    let token = tokens.next().ok_or(Stop::At(wrong_token(None)))?;
-    match comparison_op(&token) {
-        Some(op) => Ok((op, tokens)),
-        None => Err(Stop::At(wrong_token(Some(token)))),
+        Some(token) => comparison_of(&token),
+        None => None,
     }
 }
 
@@ -148,84 +172,81 @@ fn comparison_operator(mut tokens: Tokens<'_>) -> Result<(Op, Tokens<'_>), Stop>
 fn join(alloc: Global, op: Op, left: Measured, right: Measured) -> Result<Measured, Stop>
     ensures { Gives measured_view result (Ok (measured_joined op (measured_view left) (measured_view right))) }
 {
-    let kept = match (left.kept, right.kept) {
-        (Some(first), Some(second)) => {
-            let depth = 1 + u32::from(first.depth.max(second.depth));
-            if depth > DEPTH {
-                None
-            } else {
-                let first = Box::new(alloc, first.tree)?;
-                let second = Box::new(alloc, second.tree)?;
-                Some(Kept {
-                    tree: Expr::Oper(op, first, second),
-                    depth: depth as u8,
-                })
-            }
-        }
-        _ => None,
+    let at = left.at;
+    let (Some(first), Some(second)) = (left.kept, right.kept) else {
+        return Ok(Measured { at, kept: None });
     };
-    Ok(Measured { at: left.at, kept })
-}
-
-/// A number as an expression.
-#[tactic(auto, unfolding(crate::specs::ReadingExpression::number_atom_at))]
-fn number_atom(tokens: Tokens<'_>) -> Result<(Measured, Tokens<'_>), Stop>
-    ensures { Gives (λ x. (measured_view x.0, x.1)) result (number_atom_at tokens.entry) }
-{
-    let (number, tokens) = number(tokens)?;
-    Ok((atomic(number.at, Expr::Num(number.value)), tokens))
-}
-
-/// A name as an expression.
-#[tactic(auto, unfolding(crate::specs::ReadingExpression::name_atom_at))]
-fn name_atom<'a>(alloc: Global, tokens: Tokens<'a>) -> Result<(Measured, Tokens<'a>), Stop>
-    ensures { Gives (λ x. (measured_view x.0, x.1)) result (name_atom_at tokens.entry) }
-{
-    let (name, tokens) = name(alloc, tokens)?;
-    Ok((atomic(name.at, Expr::Read(name)), tokens))
+    let depth = 1 + u32::from(first.depth.max(second.depth));
+    if depth > DEPTH {
+        return Ok(Measured { at, kept: None });
+    }
+    let tree = Box::new(alloc, Expr::Oper(op, first.tree, second.tree))?;
+    let kept = Some(Kept {
+        tree,
+        depth: depth as u8,
+    });
+    Ok(Measured { at, kept })
 }
 
 /// A tree that is 1 deep.
-fn atomic(at: u32, tree: Expr) -> Measured
-    ensures { measured_view result ≡ atomic at (expression_of tree) }
+fn atomic(alloc: Global, at: u32, tree: Expr) -> Result<Measured, Stop>
+    ensures { Gives measured_view result (Ok (atomic at (expression_of tree))) }
 {
-    Measured {
+    let tree = Box::new(alloc, tree)?;
+    Ok(Measured {
         at,
         kept: Some(Kept { tree, depth: 1 }),
-    }
+    })
+}
+
+/// A number as an expression.
+#[inline(never)]
+#[tactic(auto, unfolding(crate::specs::Inside::ReadingExpression::number_atom_at))]
+fn number_atom(alloc: Global, tokens: &mut Tokens<'_>) -> Result<Measured, Stop>
+    ensures { Leaves measured_view result tokens.new (number_atom_at tokens.old) }
+{
+    let number = take_number(tokens)?;
+    atomic(alloc, number.at, Expr::Num(number.value))
+}
+
+/// A name as an expression.
+#[inline(never)]
+#[tactic(auto, unfolding(crate::specs::Inside::ReadingExpression::name_atom_at))]
+fn name_atom(alloc: Global, tokens: &mut Tokens<'_>) -> Result<Measured, Stop>
+    ensures { Leaves measured_view result tokens.new (name_atom_at tokens.old) }
+{
+    let name = take_name(alloc, tokens, None)?;
+    atomic(alloc, name.at, Expr::Read(name))
 }
 
 /// An expression in parentheses, where so many more may be opened besides.
 #[cycle(expression)]
-#[tactic(auto, unfolding(crate::specs::ReadingExpression::parenthesized_at))]
-fn parenthesized<'a>(
-    alloc: Global,
-    tokens: Tokens<'a>,
-    more: u32,
-) -> Result<(Measured, Tokens<'a>), Stop>
-    ensures { Gives (λ x. (measured_view x.0, x.1)) result (parenthesized_at (comparison_at (atom_at more)) tokens.entry) }
+#[tactic(auto, unfolding(crate::specs::Inside::ReadingExpression::parenthesized_at))]
+fn parenthesized(alloc: Global, tokens: &mut Tokens<'_>, more: u32) -> Result<Measured, Stop>
+    ensures { Leaves measured_view result tokens.new (parenthesized_at (comparison_at (atom_at more)) tokens.old) }
 {
-    let (at, tokens) = sign(tokens, b"(")?;
-    let (inner, tokens) = comparison(alloc, tokens, more)?;
-    let (_, tokens) = sign(tokens, b")")?;
+    let at = take_sign(tokens, b"(", None)?;
+    let inner = comparison(alloc, tokens, more)?;
+    take_sign(tokens, b")", None)?;
     let kept = inner.kept;
-    Ok((Measured { at, kept }, tokens))
+    Ok(Measured { at, kept })
 }
 
 /// Where no more parentheses may be opened.
-#[tactic(auto, unfolding(crate::specs::ReadingExpression::closed_at))]
-fn closed(tokens: Tokens<'_>) -> Result<(Measured, Tokens<'_>), Stop>
-    ensures { Gives (λ x. (measured_view x.0, x.1)) result (closed_at tokens.entry) }
+#[inline(never)]
+#[tactic(auto, unfolding(crate::specs::Inside::ReadingExpression::closed_at))]
+fn closed(tokens: &mut Tokens<'_>) -> Result<Measured, Stop>
+    ensures { Leaves measured_view result tokens.new (closed_at tokens.old) }
 {
-    let (_, tokens) = limited_sign(tokens, b"(", Some(Limit::Parentheses))?;
-    Err(Stop::At(wrong(&tokens)))
+    take_sign(tokens, b"(", Some(Limit::Parentheses))?;
+    Err(Stop::At(wrong(tokens)))
 }
 
 /// An expression in parentheses, where so many may be opened.
 #[cycle(expression)]
-#[tactic(auto, unfolding(crate::specs::ReadingExpression::nested_at))]
-fn nested<'a>(alloc: Global, tokens: Tokens<'a>, more: u32) -> Result<(Measured, Tokens<'a>), Stop>
-    ensures { Gives (λ x. (measured_view x.0, x.1)) result (nested_at more tokens.entry) }
+#[tactic(auto, unfolding(crate::specs::Inside::ReadingExpression::nested_at))]
+fn nested(alloc: Global, tokens: &mut Tokens<'_>, more: u32) -> Result<Measured, Stop>
+    ensures { Leaves measured_view result tokens.new (nested_at more tokens.old) }
 {
     match more.checked_sub(1) {
         Some(fewer) => parenthesized(alloc, tokens, fewer),
@@ -234,132 +255,97 @@ fn nested<'a>(alloc: Global, tokens: Tokens<'a>, more: u32) -> Result<(Measured,
 }
 
 /// A number, a name, or an expression in parentheses, where so many may be opened.
-#[tactic(auto, unfolding(crate::specs::ReadingExpression::atom_or_at))]
 #[cycle(expression)]
-fn atom<'a>(alloc: Global, tokens: Tokens<'a>, more: u32) -> Result<(Measured, Tokens<'a>), Stop>
-    ensures { Gives (λ x. (measured_view x.0, x.1)) result (atom_at more tokens.entry) }
+#[tactic(auto, unfolding(crate::specs::Inside::ReadingExpression::atom_or_at))]
+fn atom(alloc: Global, tokens: &mut Tokens<'_>, more: u32) -> Result<Measured, Stop>
+    ensures { Leaves measured_view result tokens.new (atom_at more tokens.old) }
 {
     match tokens.peek() {
-        Some(token) if token.kind == Kind::Num => number_atom(tokens),
+        Some(token) if token.kind == Kind::Num => number_atom(alloc, tokens),
         Some(token) if token.kind == Kind::Name => name_atom(alloc, tokens),
         _ => nested(alloc, tokens, more),
     }
 }
 
-/// An operand of the operators of a strength: stronger operators, or none.
-#[tactic(auto, unfolding(crate::specs::ReadingExpression::chains_at))]
+/// A left side with the operator that comes next, and its right side.
 #[cycle(expression)]
-fn operand<'a>(
+#[tactic(auto, unfolding(crate::specs::Inside::ReadingExpression::joined_at))]
+fn extend(
     alloc: Global,
-    tokens: Tokens<'a>,
-    strength: Strength,
-    more: u32,
-) -> Result<(Measured, Tokens<'a>), Stop>
-    ensures { Gives (λ x. (measured_view x.0, x.1)) result (chains_at (stronger_than strength) (atom_at more) tokens.entry) }
-{
-    match strength.stronger() {
-        Some(stronger) => chain(alloc, tokens, stronger, more),
-        None => atom(alloc, tokens, more),
-    }
-}
-
-/// One more operator and its operand.
-#[tactic(auto, unfolding(crate::specs::ReadingExpression::joined_at))]
-#[cycle(expression)]
-fn joined<'a>(
-    alloc: Global,
-    tokens: Tokens<'a>,
+    tokens: &mut Tokens<'_>,
     left: Measured,
-    strength: Strength,
+    operator: Operator,
     more: u32,
-) -> Result<(Measured, Tokens<'a>), Stop>
-    ensures { Gives (λ x. (measured_view x.0, x.1)) result (joined_at (signs_of strength) (chains_at (stronger_than strength) (atom_at more)) (measured_view left) tokens.entry) }
+) -> Result<Measured, Stop>
+    requires { IsAhead operator.op operator.strength tokens.old }
+    ensures { Leaves measured_view result tokens.new
+        (joined_at (signs_of operator.strength) (chains_at (stronger_than operator.strength) (atom_at more))
+        (measured_view left) tokens.old) }
 {
-    let (op, tokens) = operator(tokens, strength)?;
-    let (right, tokens) = operand(alloc, tokens, strength, more)?;
-    let both = join(alloc, op, left, right)?;
-    Ok((both, tokens))
+    tokens.next();
+    let right = climb(alloc, tokens, operator.strength.stronger(), more)?;
+    join(alloc, operator.op, left, right)
 }
 
-/// Further operators of a strength, each with its operand, behind a left side.
+/// Operands with operators between them that bind so strongly at least.
 #[cycle(expression)]
-fn chained<'a>(
+fn climb(
     alloc: Global,
-    tokens: Tokens<'a>,
-    first: Measured,
-    strength: Strength,
+    tokens: &mut Tokens<'_>,
+    least: Strength,
     more: u32,
-) -> Result<(Measured, Tokens<'a>), Stop>
-    ensures { Gives (λ x. (measured_view x.0, x.1)) result
-        (repeat_at (is_of (signs_of strength)) (joined_at (signs_of strength) (chains_at (stronger_than strength) (atom_at more))) (length tokens.entry) (measured_view first) tokens.entry) }
+) -> Result<Measured, Stop>
+    ensures { Leaves measured_view result tokens.new (chains_at (levels least) (atom_at more) tokens.old) }
 {
-    let mut left = first;
-    let mut rest = tokens;
-    while goes_on(&rest, strength) {
-        let (both, behind) = joined(alloc, rest, left, strength, more)?;
-        left = both;
-        rest = behind;
+    let mut left = atom(alloc, tokens, more)?;
+    while let Some(operator) = operator_ahead(tokens, least) {
+        left = extend(alloc, tokens, left, operator, more)?;
     }
-    Ok((left, rest))
+    Ok(left)
 }
 
-/// Operands with operators of a strength between them.
+/// A left side with the comparison that comes next, and its right side.
+#[inline(never)]
 #[cycle(expression)]
-#[tactic(auto, unfolding(crate::specs::ReadingExpression::chain_at))]
-fn chain<'a>(
+#[tactic(auto, unfolding(crate::specs::Inside::ReadingExpression::joined_at))]
+fn compare(
     alloc: Global,
-    tokens: Tokens<'a>,
-    strength: Strength,
-    more: u32,
-) -> Result<(Measured, Tokens<'a>), Stop>
-    ensures { Gives (λ x. (measured_view x.0, x.1)) result (chain_at (signs_of strength) (chains_at (stronger_than strength) (atom_at more)) tokens.entry) }
-{
-    let (first, tokens) = operand(alloc, tokens, strength, more)?;
-    chained(alloc, tokens, first, strength, more)
-}
-
-/// The comparison behind its left side, or none.
-#[tactic(auto, unfolding(crate::specs::ReadingExpression::compared_at, crate::specs::ReadingExpression::joined_at, crate::specs::ReadingExpression::chains_at))]
-#[cycle(expression)]
-fn compared<'a>(
-    alloc: Global,
-    tokens: Tokens<'a>,
+    tokens: &mut Tokens<'_>,
     left: Measured,
+    op: Op,
     more: u32,
-) -> Result<(Measured, Tokens<'a>), Stop>
-    ensures { Gives (λ x. (measured_view x.0, x.1)) result (compared_at (chains_at strengths (atom_at more)) (measured_view left) tokens.entry) }
+) -> Result<Measured, Stop>
+    requires { IsCompared op tokens.old }
+    ensures { Leaves measured_view result tokens.new
+        (joined_at comparisons (chains_at strengths (atom_at more)) (measured_view left) tokens.old) }
 {
-    if !compares(&tokens) {
-        return Ok((left, tokens));
-    }
-    let (op, tokens) = comparison_operator(tokens)?;
-    let (right, tokens) = chain(alloc, tokens, Strength::Or, more)?;
-    let both = join(alloc, op, left, right)?;
-    Ok((both, tokens))
+    tokens.next();
+    let right = climb(alloc, tokens, Strength::Or, more)?;
+    join(alloc, op, left, right)
 }
 
 /// At most one comparison.
-#[tactic(auto, unfolding(crate::specs::ReadingExpression::comparison_at, crate::specs::ReadingExpression::chains_at))]
 #[cycle(expression)]
-fn comparison<'a>(
-    alloc: Global,
-    tokens: Tokens<'a>,
-    more: u32,
-) -> Result<(Measured, Tokens<'a>), Stop>
-    ensures { Gives (λ x. (measured_view x.0, x.1)) result (comparison_at (atom_at more) tokens.entry) }
+#[tactic(auto, unfolding(crate::specs::Inside::ReadingExpression::comparison_at, crate::specs::Inside::ReadingExpression::compared_at))]
+fn comparison(alloc: Global, tokens: &mut Tokens<'_>, more: u32) -> Result<Measured, Stop>
+    ensures { Leaves measured_view result tokens.new (comparison_at (atom_at more) tokens.old) }
 {
-    let (left, tokens) = chain(alloc, tokens, Strength::Or, more)?;
-    compared(alloc, tokens, left, more)
+    let left = climb(alloc, tokens, Strength::Or, more)?;
+    match comparison_ahead(tokens) {
+        Some(op) => compare(alloc, tokens, left, op, more),
+        None => Ok(left),
+    }
 }
 
 /// An expression that stands in no other.
-#[tactic(auto, unfolding(crate::specs::ReadingExpression::expression_at))]
+#[tactic(auto, unfolding(crate::specs::Inside::ReadingExpression::expression_at))]
 pub(crate) fn expression<'a>(alloc: Global, tokens: Tokens<'a>) -> Result<(Expr, Tokens<'a>), Stop>
     ensures { Gives (λ x. (expression_of x.0, x.1)) result (expression_at tokens.entry) }
 {
-    let (whole, tokens) = comparison(alloc, tokens, PARENTHESES)?;
+    let mut tokens = tokens;
+    let whole = comparison(alloc, &mut tokens, PARENTHESES)?;
     match whole.kept {
-        Some(kept) => Ok((kept.tree, tokens)),
+        Some(kept) => Ok((Box::into_inner(kept.tree), tokens)),
         None => Err(Stop::At(Found {
             at: Some(whole.at),
             refusal: Refusal::Limit(Limit::Depth),

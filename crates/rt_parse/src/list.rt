@@ -1,8 +1,8 @@
 // Lists up to the sign that closes them.
 
 ghost use Rattle.std.specs.Prelude.{◌≡◌, ◌<◌, ℕ, [], length, IfOk};
-ghost use Rattle.rt_parse.specs.Reading.{Reader, Gives};
-ghost use Rattle.rt_parse.specs.ReadingList.{comma_at, goes_past, items_at, adds_at};
+ghost use Rattle.rt_parse.specs.Inside.Reading.{Reader, Gives};
+ghost use Rattle.rt_parse.specs.Inside.ReadingList.{comma_at, goes_past, items_at, adds_at};
 
 use crate::stop::Stop;
 use crate::tokens::{begins_sign, sign};

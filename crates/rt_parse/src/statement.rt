@@ -5,13 +5,13 @@ ghost use Rattle.std.specs.Prelude.{◌≡◌, ◌-◌, [], codes, length, map, 
 ghost use Rattle.rt_lex.specs.Token.{is_this_sign};
 ghost use Rattle.rt_ast.specs.Tree as tree;
 ghost use Rattle.rt_ast.specs.View.{expression_of, statement_of, spawn_of, value_of, block_of};
-ghost use Rattle.rt_parse.specs.Reading.{Gives, begins_with, repeat_at};
-ghost use Rattle.rt_parse.specs.ReadingList.{items_at, adds_at};
-ghost use Rattle.rt_parse.specs.ReadingExpression.{expression_at};
-ghost use Rattle.rt_parse.specs.ReadingSpawn.{is_spawn, arguments_at, soon_at, after_at, spawn_at, now_at, call_value_at, calc_at, value_at};
-ghost use Rattle.rt_parse.specs.ReadingSimple.{counted_limit, bind_at, assign_at, emit_at, pend_at, call_at};
-ghost use Rattle.rt_parse.specs.ReadingNested.{nested_limit, else_block_at, else_at, branch_at, loop_at, further_at, lock_at};
-ghost use Rattle.rt_parse.specs.ReadingStatement.{simple_at, compound_at, statement_at, one_more_at, is_inside, braced_at, closed_block_at, block_at, inside_at, below_at};
+ghost use Rattle.rt_parse.specs.Inside.Reading.{Gives, begins_with, repeat_at};
+ghost use Rattle.rt_parse.specs.Inside.ReadingList.{items_at, adds_at};
+ghost use Rattle.rt_parse.specs.Inside.ReadingExpression.{expression_at};
+ghost use Rattle.rt_parse.specs.Inside.ReadingSpawn.{is_spawn, arguments_at, soon_at, after_at, spawn_at, now_at, call_value_at, calc_at, value_at};
+ghost use Rattle.rt_parse.specs.Inside.ReadingSimple.{counted_limit, bind_at, assign_at, emit_at, pend_at, call_at};
+ghost use Rattle.rt_parse.specs.Inside.ReadingNested.{nested_limit, else_block_at, else_at, branch_at, loop_at, further_at, lock_at};
+ghost use Rattle.rt_parse.specs.Inside.ReadingStatement.{simple_at, compound_at, statement_at, one_more_at, is_inside, braced_at, closed_block_at, block_at, inside_at, below_at};
 
 use crate::expression::expression;
 use crate::list::{comma, goes_past};
@@ -54,7 +54,7 @@ fn expressions<'a>(alloc: Global, tokens: Tokens<'a>) -> Result<(Vec<Expr>, Toke
     Ok((items, rest))
 }
 
-#[tactic(auto, unfolding(crate::specs::ReadingSpawn::arguments_at))]
+#[tactic(auto, unfolding(crate::specs::Inside::ReadingSpawn::arguments_at))]
 fn arguments<'a>(alloc: Global, tokens: Tokens<'a>) -> Result<(Vec<Expr>, Tokens<'a>), Stop>
     ensures { Gives (λ x. (map expression_of x.0.items, x.1)) result (arguments_at tokens.entry) }
 {
@@ -62,7 +62,7 @@ fn arguments<'a>(alloc: Global, tokens: Tokens<'a>) -> Result<(Vec<Expr>, Tokens
     expressions(alloc, tokens)
 }
 
-#[tactic(auto, unfolding(crate::specs::ReadingSpawn::soon_at))]
+#[tactic(auto, unfolding(crate::specs::Inside::ReadingSpawn::soon_at))]
 fn soon<'a>(
     alloc: Global,
     tokens: Tokens<'a>,
@@ -76,7 +76,7 @@ fn soon<'a>(
     Ok((Spawn::Soon(task, args), tokens))
 }
 
-#[tactic(auto, unfolding(crate::specs::ReadingSpawn::after_at))]
+#[tactic(auto, unfolding(crate::specs::Inside::ReadingSpawn::after_at))]
 fn after<'a>(
     alloc: Global,
     tokens: Tokens<'a>,
@@ -94,7 +94,7 @@ fn after<'a>(
 }
 
 /// A spawn, whose first word may pass a limit.
-#[tactic(auto, unfolding(crate::specs::ReadingSpawn::spawn_at))]
+#[tactic(auto, unfolding(crate::specs::Inside::ReadingSpawn::spawn_at))]
 fn spawn<'a>(
     alloc: Global,
     tokens: Tokens<'a>,
@@ -120,7 +120,7 @@ fn begins_spawn(tokens: &Tokens<'_>) -> bool
 }
 
 /// What a variable is bound to.
-#[tactic(auto, unfolding(crate::specs::ReadingSpawn::value_at, crate::specs::ReadingSpawn::now_at, crate::specs::ReadingSpawn::call_value_at, crate::specs::ReadingSpawn::calc_at))]
+#[tactic(auto, unfolding(crate::specs::Inside::ReadingSpawn::value_at, crate::specs::Inside::ReadingSpawn::now_at, crate::specs::Inside::ReadingSpawn::call_value_at, crate::specs::Inside::ReadingSpawn::calc_at))]
 fn value<'a>(alloc: Global, tokens: Tokens<'a>) -> Result<(Value, Tokens<'a>), Stop>
     ensures { Gives (λ x. (value_of x.0, x.1)) result (value_at tokens.entry) }
 {
@@ -136,7 +136,7 @@ fn value<'a>(alloc: Global, tokens: Tokens<'a>) -> Result<(Value, Tokens<'a>), S
     }
 }
 
-#[tactic(auto, unfolding(crate::specs::ReadingSimple::bind_at))]
+#[tactic(auto, unfolding(crate::specs::Inside::ReadingSimple::bind_at))]
 fn bind<'a>(alloc: Global, tokens: Tokens<'a>, room: u32) -> Result<((Stmt, u32), Tokens<'a>), Stop>
     ensures { Gives (λ x. ((statement_of x.0.0, x.0.1), x.1)) result (bind_at room tokens.entry) }
 {
@@ -151,7 +151,7 @@ fn bind<'a>(alloc: Global, tokens: Tokens<'a>, room: u32) -> Result<((Stmt, u32)
     ))
 }
 
-#[tactic(auto, unfolding(crate::specs::ReadingSimple::assign_at))]
+#[tactic(auto, unfolding(crate::specs::Inside::ReadingSimple::assign_at))]
 fn assign<'a>(
     alloc: Global,
     tokens: Tokens<'a>,
@@ -166,7 +166,7 @@ fn assign<'a>(
     Ok(((Stmt::Assign(target, expr), room.saturating_sub(1)), tokens))
 }
 
-#[tactic(auto, unfolding(crate::specs::ReadingSimple::emit_at))]
+#[tactic(auto, unfolding(crate::specs::Inside::ReadingSimple::emit_at))]
 fn emit<'a>(alloc: Global, tokens: Tokens<'a>, room: u32) -> Result<((Stmt, u32), Tokens<'a>), Stop>
     ensures { Gives (λ x. ((statement_of x.0.0, x.0.1), x.1)) result (emit_at room tokens.entry) }
 {
@@ -176,7 +176,7 @@ fn emit<'a>(alloc: Global, tokens: Tokens<'a>, room: u32) -> Result<((Stmt, u32)
     Ok(((Stmt::Emit(expr), room.saturating_sub(1)), tokens))
 }
 
-#[tactic(auto, unfolding(crate::specs::ReadingSimple::pend_at))]
+#[tactic(auto, unfolding(crate::specs::Inside::ReadingSimple::pend_at))]
 fn pend<'a>(alloc: Global, tokens: Tokens<'a>, room: u32) -> Result<((Stmt, u32), Tokens<'a>), Stop>
     ensures { Gives (λ x. ((statement_of x.0.0, x.0.1), x.1)) result (pend_at room tokens.entry) }
 {
@@ -187,7 +187,7 @@ fn pend<'a>(alloc: Global, tokens: Tokens<'a>, room: u32) -> Result<((Stmt, u32)
 }
 
 /// A spawn as a statement.
-#[tactic(auto, unfolding(crate::specs::ReadingSimple::call_at))]
+#[tactic(auto, unfolding(crate::specs::Inside::ReadingSimple::call_at))]
 fn call<'a>(alloc: Global, tokens: Tokens<'a>, room: u32) -> Result<((Stmt, u32), Tokens<'a>), Stop>
     ensures { Gives (λ x. ((statement_of x.0.0, x.0.1), x.1)) result (call_at room tokens.entry) }
 {
@@ -197,7 +197,7 @@ fn call<'a>(alloc: Global, tokens: Tokens<'a>, room: u32) -> Result<((Stmt, u32)
 }
 
 #[cycle(statement)]
-#[tactic(auto, unfolding(crate::specs::ReadingNested::else_at, crate::specs::ReadingNested::else_block_at))]
+#[tactic(auto, unfolding(crate::specs::Inside::ReadingNested::else_at, crate::specs::Inside::ReadingNested::else_block_at))]
 fn else_block<'a>(
     alloc: Global,
     tokens: Tokens<'a>,
@@ -215,7 +215,7 @@ fn else_block<'a>(
 }
 
 #[cycle(statement)]
-#[tactic(auto, unfolding(crate::specs::ReadingNested::branch_at))]
+#[tactic(auto, unfolding(crate::specs::Inside::ReadingNested::branch_at))]
 fn branch<'a>(
     alloc: Global,
     tokens: Tokens<'a>,
@@ -233,7 +233,7 @@ fn branch<'a>(
 
 /// A `for`.
 #[cycle(statement)]
-#[tactic(auto, unfolding(crate::specs::ReadingNested::loop_at))]
+#[tactic(auto, unfolding(crate::specs::Inside::ReadingNested::loop_at))]
 fn repeat<'a>(
     alloc: Global,
     tokens: Tokens<'a>,
@@ -254,7 +254,7 @@ fn repeat<'a>(
 }
 
 #[cycle(statement)]
-#[tactic(auto, unfolding(crate::specs::ReadingNested::lock_at))]
+#[tactic(auto, unfolding(crate::specs::Inside::ReadingNested::lock_at))]
 fn lock<'a>(
     alloc: Global,
     tokens: Tokens<'a>,
@@ -309,7 +309,7 @@ fn compound<'a>(
 
 /// A statement, inside which so many blocks may be opened.
 #[cycle(statement)]
-#[tactic(auto, unfolding(crate::specs::ReadingStatement::statement_at))]
+#[tactic(auto, unfolding(crate::specs::Inside::ReadingStatement::statement_at))]
 fn statement<'a>(
     alloc: Global,
     tokens: Tokens<'a>,
@@ -352,7 +352,7 @@ fn statements<'a>(
 
 /// A block, inside which so many blocks may be opened.
 #[cycle(statement)]
-#[tactic(auto, unfolding(crate::specs::ReadingStatement::braced_at), using(crate::proofs::Blocks::block_is))]
+#[tactic(auto, unfolding(crate::specs::Inside::ReadingStatement::braced_at), using(crate::proofs::Blocks::block_is))]
 fn braced<'a>(
     alloc: Global,
     tokens: Tokens<'a>,
@@ -368,7 +368,7 @@ fn braced<'a>(
 }
 
 /// Where no more blocks may be opened.
-#[tactic(auto, unfolding(crate::specs::ReadingStatement::closed_block_at))]
+#[tactic(auto, unfolding(crate::specs::Inside::ReadingStatement::closed_block_at))]
 fn closed_block(tokens: Tokens<'_>) -> Result<((Vec<Stmt>, u32), Tokens<'_>), Stop>
     ensures { Gives (λ x. ((block_of x.0.0.items, x.0.1), x.1)) result (closed_block_at tokens.entry) }
 {
@@ -378,7 +378,7 @@ fn closed_block(tokens: Tokens<'_>) -> Result<((Vec<Stmt>, u32), Tokens<'_>), St
 
 /// A block, where so many may be opened inside each other, this one included.
 #[cycle(statement)]
-#[tactic(auto, unfolding(crate::specs::ReadingStatement::block_at))]
+#[tactic(auto, unfolding(crate::specs::Inside::ReadingStatement::block_at))]
 pub(crate) fn block<'a>(
     alloc: Global,
     tokens: Tokens<'a>,
@@ -395,7 +395,7 @@ pub(crate) fn block<'a>(
 
 /// What is behind a further name of a lock, where so many blocks may be opened, the one round it included.
 #[cycle(statement)]
-#[tactic(auto, unfolding(crate::specs::ReadingStatement::below_at, crate::specs::ReadingStatement::nothing_at))]
+#[tactic(auto, unfolding(crate::specs::Inside::ReadingStatement::below_at, crate::specs::Inside::ReadingStatement::nothing_at))]
 fn below<'a>(
     alloc: Global,
     tokens: Tokens<'a>,
@@ -421,7 +421,7 @@ fn only(alloc: Global, statement: Stmt) -> Result<Vec<Stmt>, Stop>
 
 /// A further name of a lock, which counts as a statement and as the block round it.
 #[cycle(statement)]
-#[tactic(auto, unfolding(crate::specs::ReadingNested::further_at))]
+#[tactic(auto, unfolding(crate::specs::Inside::ReadingNested::further_at))]
 fn further<'a>(
     alloc: Global,
     tokens: Tokens<'a>,

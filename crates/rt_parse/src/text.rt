@@ -1,6 +1,6 @@
 ghost use Rattle.std.specs.Prelude.{◌≡◌, ◌≤◌, length, IfOk, Err};
 ghost use Rattle.rt_ids.specs.declared.limits.TheConstants.{TEXT_BYTES};
-ghost use Rattle.rt_parse.specs.Fault.{fault_of};
+ghost use Rattle.rt_parse.specs.Inside.Fault.{fault_of};
 ghost use Rattle.rt_ids.specs.declared.refusal.Fault.{Fault};
 ghost use Rattle.rt_ids.specs.declared.refusal.Refused.TheVariants as why;
 ghost use Rattle.rt_ast.specs.Tree.{App};

@@ -1,11 +1,13 @@
 // One token.
 
-ghost use Rattle.std.specs.Prelude.{◌≡◌, ◌≤◌, nat_le, ◌&&◌};
+ghost use Rattle.std.specs.Prelude.{◌≡◌, ◌≤◌, nat_le, ◌&&◌, [], ◌∷◌};
 ghost use Rattle.rt_ids.specs.declared.limit.Limit.{Limit};
+ghost use Rattle.rt_ids.specs.declared.refusal.Refusal.TheVariants as refusal;
+ghost use Rattle.rt_parse.specs.declared.stop.Stop.TheVariants.{At};
 ghost use Rattle.rt_lex.specs.Token.{view, is_this_sign, is_this_word};
 ghost use Rattle.rt_grammar.specs.Tokens.{free, limit_if, word_of, sign_of, ident_of, number_of, name_limit, number_limit};
-ghost use Rattle.rt_parse.specs.Reading.{Gives, begins_with, token_at, wrong_at, wrong_token, limited_word_at, word_at, limited_sign_at, sign_at, limited_name_at, name_at, number_at, limited_number_at, unless_limited};
-ghost use Rattle.rt_parse.specs.ReadingExpression.{is_name};
+ghost use Rattle.rt_parse.specs.Inside.Reading.{Gives, Leaves, begins_with, token_at, wrong_at, wrong_token, limited_word_at, word_at, limited_sign_at, sign_at, limited_name_at, name_at, number_at, limited_number_at, unless_limited};
+ghost use Rattle.rt_parse.specs.Inside.ReadingExpression.{is_name};
 ghost use Rattle.rt_grammar.specs.Limits.{within, turned};
 
 use crate::stop::{Found, Stop};
@@ -70,7 +72,7 @@ pub(crate) fn wrong_token(token: Option<Token<'_>>) -> Found
 }
 
 /// A word that may pass a limit. Answers its offset.
-#[tactic(auto, unfolding(crate::specs::Reading::token_at))]
+#[tactic(auto, unfolding(crate::specs::Inside::Reading::token_at))]
 pub(crate) fn limited_word<'a>(
     mut tokens: Tokens<'a>,
     word: &[u8],
@@ -90,8 +92,44 @@ pub(crate) fn word<'a>(tokens: Tokens<'a>, word: &[u8]) -> Result<(u32, Tokens<'
     limited_word(tokens, word, None)
 }
 
+/// Whether a token is the sign of this byte.
+#[tactic(auto, using(crate::proofs::Operators::one_byte, crate::proofs::Operators::many_bytes))]
+pub(crate) fn is_byte(token: &Token<'_>, sign: u8) -> bool
+    ensures { result ≡ is_this_sign (sign ∷ []) (view token.now) }
+{
+    token.kind == Kind::Sign && token.text.len() == 1 && token.text[0] == sign
+}
+
+/// Whether a token is the sign of these two bytes.
+#[tactic(auto, using(crate::proofs::Operators::two_bytes, crate::proofs::Operators::not_two_bytes))]
+pub(crate) fn is_pair(token: &Token<'_>, first: u8, second: u8) -> bool
+    ensures { result ≡ is_this_sign (first ∷ second ∷ []) (view token.now) }
+{
+    token.kind == Kind::Sign
+        && token.text.len() == 2
+        && token.text[0] == first
+        && token.text[1] == second
+}
+
+/// Takes a sign that may pass a limit. Answers its offset.
+#[tactic(auto, unfolding(crate::specs::Inside::Reading::token_at))]
+pub(crate) fn take_sign(
+    tokens: &mut Tokens<'_>,
+    sign: &[u8],
+    limit: Option<Limit>,
+) -> Result<u32, Stop>
+    ensures { Leaves (λ x. x) result tokens.new (limited_sign_at sign.now limit tokens.old) }
+{
+    match tokens.next() {
+        Some(token) if token.is_sign(sign) => match limit {
+            None => Ok(token.at),
+            Some(limit) => Err(past_limit(token.at, limit)),
+        },
+        other => Err(Stop::At(wrong_token(other))),
+    }
+}
+
 /// A sign that may pass a limit. Answers its offset.
-#[tactic(auto, unfolding(crate::specs::Reading::token_at))]
 pub(crate) fn limited_sign<'a>(
     mut tokens: Tokens<'a>,
     sign: &[u8],
@@ -99,10 +137,8 @@ pub(crate) fn limited_sign<'a>(
 ) -> Result<(u32, Tokens<'a>), Stop>
     ensures { Gives (λ x. x) result (limited_sign_at sign.now limit tokens.entry) }
 {
-    match tokens.next() {
-        Some(token) if token.is_sign(sign) => unless_limited(token.at, limit, token.at, tokens),
-        other => Err(Stop::At(wrong_token(other))),
-    }
+    let at = take_sign(&mut tokens, sign, limit)?;
+    Ok((at, tokens))
 }
 
 pub(crate) fn sign<'a>(tokens: Tokens<'a>, sign: &[u8]) -> Result<(u32, Tokens<'a>), Stop>
@@ -111,8 +147,29 @@ pub(crate) fn sign<'a>(tokens: Tokens<'a>, sign: &[u8]) -> Result<(u32, Tokens<'
     limited_sign(tokens, sign, None)
 }
 
+/// Takes a name that may pass a limit besides its own.
+#[tactic(auto, unfolding(crate::specs::Inside::Reading::token_at))]
+pub(crate) fn take_name(
+    alloc: Global,
+    tokens: &mut Tokens<'_>,
+    limit: Option<Limit>,
+) -> Result<Ident, Stop>
+    ensures { Leaves (λ x. x) result tokens.new (limited_name_at limit tokens.old) }
+{
+    match tokens.next() {
+        Some(token) if is_name(&token) => {
+            let limit = limit_if(token.text.len() > NAME_BYTES, Limit::Name).or(limit);
+            if let Some(limit) = limit {
+                return Err(past_limit(token.at, limit));
+            }
+            let name = Name::of(alloc, token.text)?;
+            Ok(Ident { name, at: token.at })
+        }
+        other => Err(Stop::At(wrong_token(other))),
+    }
+}
+
 /// A name that may pass a limit besides its own.
-#[tactic(auto, unfolding(crate::specs::Reading::token_at))]
 pub(crate) fn limited_name<'a>(
     alloc: Global,
     mut tokens: Tokens<'a>,
@@ -120,15 +177,8 @@ pub(crate) fn limited_name<'a>(
 ) -> Result<(Ident, Tokens<'a>), Stop>
     ensures { Gives (λ x. x) result (limited_name_at limit tokens.entry) }
 {
-    match tokens.next() {
-        Some(token) if is_name(&token) => {
-            let limit = limit_if(token.text.len() > NAME_BYTES, Limit::Name).or(limit);
-            let ((), tokens) = unless_limited(token.at, limit, (), tokens)?;
-            let name = Name::of(alloc, token.text)?;
-            Ok((Ident { name, at: token.at }, tokens))
-        }
-        other => Err(Stop::At(wrong_token(other))),
-    }
+    let name = take_name(alloc, &mut tokens, limit)?;
+    Ok((name, tokens))
 }
 
 pub(crate) fn name<'a>(alloc: Global, tokens: Tokens<'a>) -> Result<(Ident, Tokens<'a>), Stop>
@@ -137,28 +187,30 @@ pub(crate) fn name<'a>(alloc: Global, tokens: Tokens<'a>) -> Result<(Ident, Toke
     limited_name(alloc, tokens, None)
 }
 
-/// A number. Its own limit is judged, and no other.
-#[tactic(auto, unfolding(crate::specs::Reading::token_at))]
-pub(crate) fn number(mut tokens: Tokens<'_>) -> Result<(Number, Tokens<'_>), Stop>
-    ensures { Gives (λ x. x) result (number_at tokens.entry) }
+/// Takes a number. Its own limit is judged, and no other.
+#[tactic(auto, unfolding(crate::specs::Inside::Reading::token_at))]
+pub(crate) fn take_number(tokens: &mut Tokens<'_>) -> Result<Number, Stop>
+    ensures { Leaves (λ x. x) result tokens.new (number_at tokens.old) }
 {
     let token = tokens.next().ok_or(Stop::At(wrong_token(None)))?;
     match token.kind {
         Kind::Num => match token.value() {
-            Some(value) => Ok((
-                Number {
-                    value,
-                    at: token.at,
-                },
-                tokens,
-            )),
-            None => Err(Stop::At(Found {
-                at: Some(token.at),
-                refusal: Refusal::Limit(Limit::Number),
-            })),
+            Some(value) => Ok(Number {
+                value,
+                at: token.at,
+            }),
+            None => Err(past_limit(token.at, Limit::Number)),
         },
         _ => Err(Stop::At(wrong_token(Some(token)))),
     }
+}
+
+/// A number. Its own limit is judged, and no other.
+pub(crate) fn number(mut tokens: Tokens<'_>) -> Result<(Number, Tokens<'_>), Stop>
+    ensures { Gives (λ x. x) result (number_at tokens.entry) }
+{
+    let number = take_number(&mut tokens)?;
+    Ok((number, tokens))
 }
 
 fn is_name(token: &Token<'_>) -> bool
@@ -180,6 +232,16 @@ pub(crate) fn begins_name(tokens: &Tokens<'_>) -> bool
     }
 }
 
+/// That what stands at this offset passes a limit.
+fn past_limit(at: u32, limit: Limit) -> Stop
+    ensures { result ≡ At (record { at = Some at; refusal = refusal.Limit limit }) }
+{
+    Stop::At(Found {
+        at: Some(at),
+        refusal: Refusal::Limit(limit),
+    })
+}
+
 /// What was read at this offset, unless it passes a limit.
 fn unless_limited<T: Drop>(
     at: u32,
@@ -191,10 +253,7 @@ fn unless_limited<T: Drop>(
 {
     match limit {
         None => Ok((read, tokens)),
-        Some(limit) => Err(Stop::At(Found {
-            at: Some(at),
-            refusal: Refusal::Limit(limit),
-        })),
+        Some(limit) => Err(past_limit(at, limit)),
     }
 }
 

@@ -2,9 +2,9 @@ use Rattle.std.proofs.Common.{◌≡◌, ◌++◌, ℕ, length, codes, List, [],
 use Rattle.std.proofs.lemmas.Result.{err_from_is_err_and}
 use Rattle.rt_lex.specs.Token.{Token, is_this_sign}
 use Rattle.rt_ast.specs.declared.ident.Ident.{Ident}
-use Rattle.rt_parse.specs.Reading.{Stops}
+use Rattle.rt_parse.specs.Inside.Reading.{Stops}
 use Rattle.rt_parse.specs.declared.stop.Stop.{Stop}
-use Rattle.rt_parse.specs.ReadingBodies.{argument_at, one_argument_at}
+use Rattle.rt_parse.specs.Inside.ReadingBodies.{argument_at, one_argument_at}
 use Rattle.rt_parse.proofs.Loops.{goes_on, stops, ended}
 use Rattle.rt_parse.proofs.Numbers.{still_stops}
 use Rattle.rt_parse.proofs.Options.{argument_is}

@@ -1,6 +1,6 @@
 use Rattle.std.proofs.Common.{length, codes, [], ◌∷◌}
 use Rattle.rt_lex.specs.Token.{is_this_sign}
-use Rattle.rt_parse.specs.ReadingBodies.{argument_at}
+use Rattle.rt_parse.specs.Inside.ReadingBodies.{argument_at}
 use Rattle.rt_parse.proofs.Loops.{IsUnderWay}
 use Rattle.rt_parse.proofs.body.more_arguments.Given as goal
 

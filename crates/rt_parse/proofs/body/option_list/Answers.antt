@@ -1,8 +1,8 @@
 use Rattle.std.proofs.Common.{codes, sym, ◌∙◌, refl}
 use Rattle.std.proofs.lemmas.Result.{err_from_is_err_and}
 use Rattle.rt_grammar.specs.Options.{no_options}
-use Rattle.rt_parse.specs.ReadingOptions.{option_at}
-use Rattle.rt_parse.specs.DeclarationView.{options_view, owner_view}
+use Rattle.rt_parse.specs.Inside.ReadingOptions.{option_at}
+use Rattle.rt_parse.specs.Inside.DeclarationView.{options_view, owner_view}
 use Rattle.rt_parse.proofs.Lists.{lists_on, item_stops, comma_stops, closes, sign_stops, item_shortens}
 use Rattle.rt_parse.proofs.ShorterDeclaration.{shorter_option, no_option}
 use Rattle.rt_parse.proofs.body.option_list.Goals as goal

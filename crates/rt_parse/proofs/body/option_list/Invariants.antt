@@ -1,7 +1,7 @@
 use Rattle.std.proofs.Common.{length, codes}
 use Rattle.rt_grammar.specs.Options.{no_options}
-use Rattle.rt_parse.specs.ReadingOptions.{option_at}
-use Rattle.rt_parse.specs.DeclarationView.{options_view, owner_view}
+use Rattle.rt_parse.specs.Inside.ReadingOptions.{option_at}
+use Rattle.rt_parse.specs.Inside.DeclarationView.{options_view, owner_view}
 use Rattle.rt_parse.proofs.Lists.{IsListing}
 use Rattle.rt_parse.proofs.body.option_list.Given as goal
 

@@ -4,10 +4,10 @@ use Rattle.std.proofs.lemmas.List.{map_push, length-map}
 use Rattle.rt_lex.specs.Token.{Token, is_this_word}
 use Rattle.rt_ast.specs.Tree.{Task}
 use Rattle.rt_ast.specs.View.{task_of}
-use Rattle.rt_parse.specs.Reading.{Stops, begins_with}
-use Rattle.rt_parse.specs.ReadingList.{adds_at}
+use Rattle.rt_parse.specs.Inside.Reading.{Stops, begins_with}
+use Rattle.rt_parse.specs.Inside.ReadingList.{adds_at}
 use Rattle.rt_parse.specs.declared.stop.Stop.{Stop}
-use Rattle.rt_parse.specs.ReadingBodies.{task_at}
+use Rattle.rt_parse.specs.Inside.ReadingBodies.{task_at}
 use Rattle.rt_parse.proofs.Loops.{goes_on, stops, ended}
 use Rattle.rt_parse.proofs.Numbers.{still_stops}
 use Rattle.rt_parse.proofs.Lists.{shorter_adds}

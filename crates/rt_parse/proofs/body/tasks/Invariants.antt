@@ -1,8 +1,8 @@
 use Rattle.std.proofs.Common.{length, codes, map, []}
 use Rattle.rt_lex.specs.Token.{is_this_word}
 use Rattle.rt_ast.specs.View.{task_of}
-use Rattle.rt_parse.specs.ReadingList.{adds_at}
-use Rattle.rt_parse.specs.ReadingBodies.{task_at}
+use Rattle.rt_parse.specs.Inside.ReadingList.{adds_at}
+use Rattle.rt_parse.specs.Inside.ReadingBodies.{task_at}
 use Rattle.rt_parse.proofs.Loops.{IsUnderWay}
 use Rattle.rt_parse.proofs.body.tasks.Given as goal
 

@@ -1,7 +1,7 @@
 use Rattle.std.proofs.Common.{◌≡◌, length, [], sym, ap, ◌∙◌, subst, arith, refl}
 use Rattle.std.proofs.lemmas.Result.{err_from_is_err_and}
-use Rattle.rt_parse.specs.Reading.{Stops}
-use Rattle.rt_parse.specs.ReadingList.{adds_at}
+use Rattle.rt_parse.specs.Inside.Reading.{Stops}
+use Rattle.rt_parse.specs.Inside.ReadingList.{adds_at}
 use Rattle.rt_parse.proofs.Lists.{lists_on, item_stops, comma_stops, closes, sign_stops, item_shortens, added, not_added, none_added}
 use Rattle.rt_parse.proofs.list.list.Goals as goal
 

@@ -1,5 +1,5 @@
 use Rattle.std.proofs.Common.{[], length}
-use Rattle.rt_parse.specs.ReadingList.{adds_at}
+use Rattle.rt_parse.specs.Inside.ReadingList.{adds_at}
 use Rattle.rt_parse.proofs.Lists.{IsListing}
 use Rattle.rt_parse.proofs.list.list.Given as goal
 

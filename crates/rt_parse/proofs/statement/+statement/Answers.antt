@@ -4,9 +4,9 @@ use Rattle.std.proofs.lemmas.List.{map_push}
 use Rattle.rt_lex.specs.Token.{Token}
 use Rattle.rt_ast.specs.Tree.{Statement}
 use Rattle.rt_ast.specs.View.{statement_of}
-use Rattle.rt_parse.specs.Reading.{Stops}
+use Rattle.rt_parse.specs.Inside.Reading.{Stops}
 use Rattle.rt_parse.specs.declared.stop.Stop.{Stop}
-use Rattle.rt_parse.specs.ReadingStatement.{one_more_at, statement_at, is_inside, block_at, inside_at, below_at, braced_at}
+use Rattle.rt_parse.specs.Inside.ReadingStatement.{one_more_at, statement_at, is_inside, block_at, inside_at, below_at, braced_at}
 use Rattle.rt_parse.proofs.Loops.{goes_on, stops, ended}
 use Rattle.rt_parse.proofs.Numbers.{still_stops}
 use Rattle.rt_parse.proofs.ShorterStatement.{shorter_one_more, shorter_block, shorter_inside}

@@ -1,6 +1,6 @@
 use Rattle.std.proofs.Common.{◌+◌, ◌*◌, length, map, []}
 use Rattle.rt_ast.specs.View.{statement_of}
-use Rattle.rt_parse.specs.ReadingStatement.{one_more_at, is_inside, block_at, inside_at}
+use Rattle.rt_parse.specs.Inside.ReadingStatement.{one_more_at, is_inside, block_at, inside_at}
 use Rattle.rt_parse.proofs.Loops.{IsUnderWay}
 use Rattle.rt_parse.proofs.statement.+statement.Given as goal
 

@@ -3,9 +3,9 @@ use Rattle.std.proofs.lemmas.Result.{err_from_is_err_and}
 use Rattle.std.proofs.lemmas.List.{map_push}
 use Rattle.rt_ast.specs.View.{expression_of}
 use Rattle.rt_ast.specs.Tree.{Expression}
-use Rattle.rt_parse.specs.Reading.{Reader}
-use Rattle.rt_parse.specs.ReadingList.{adds_at}
-use Rattle.rt_parse.specs.ReadingExpression.{expression_at}
+use Rattle.rt_parse.specs.Inside.Reading.{Reader}
+use Rattle.rt_parse.specs.Inside.ReadingList.{adds_at}
+use Rattle.rt_parse.specs.Inside.ReadingExpression.{expression_at}
 use Rattle.rt_parse.proofs.Lists.{lists_on, item_stops, comma_stops, closes, sign_stops, item_shortens, added, not_added, none_added}
 use Rattle.rt_parse.proofs.ShorterExpression.{shorter_expression}
 use Rattle.rt_parse.proofs.statement.expressions.Goals as goal

@@ -1,7 +1,7 @@
 use Rattle.std.proofs.Common.{[], length, map, codes}
 use Rattle.rt_ast.specs.View.{expression_of}
-use Rattle.rt_parse.specs.ReadingList.{adds_at}
-use Rattle.rt_parse.specs.ReadingExpression.{expression_at}
+use Rattle.rt_parse.specs.Inside.ReadingList.{adds_at}
+use Rattle.rt_parse.specs.Inside.ReadingExpression.{expression_at}
 use Rattle.rt_parse.proofs.Lists.{IsListing}
 use Rattle.rt_parse.proofs.statement.expressions.Given as goal
 

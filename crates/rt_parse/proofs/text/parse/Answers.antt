@@ -1,7 +1,7 @@
 use Rattle.std.proofs.Common.{◌≤◌, length, sym, ap, ◌∙◌, arith}
 use Rattle.rt_ids.specs.declared.limits.TheConstants.{TEXT_BYTES}
 use Rattle.rt_ast.specs.View.{app_of}
-use Rattle.rt_parse.specs.ReadingDeclaration.{text_at}
+use Rattle.rt_parse.specs.Inside.ReadingDeclaration.{text_at}
 use Rattle.rt_parse.proofs.WholeOnly.{text_only}
 use Rattle.rt_parse.proofs.WholeRefused.{read_is_text}
 use Rattle.rt_parse.proofs.Refusals.{refused, refused_first, no_text, same_fault}

@@ -5,7 +5,7 @@ use Rattle.rt_ids.specs.declared.limits.TheConstants.{TURNS}
 use Rattle.std.specs.Prelude.{nat_lt}
 use Rattle.rt_grammar.specs.Tokens.{limit_if}
 use Rattle.rt_grammar.specs.Limits.{turned}
-use Rattle.rt_parse.specs.Reading.{Gives, unless_limited, number_at}
+use Rattle.rt_parse.specs.Inside.Reading.{Gives, unless_limited, number_at}
 use Rattle.rt_parse.proofs.Numbers.{number_then, still_stops}
 use Rattle.rt_parse.proofs.tokens.last_number.Goals as goal
 

@@ -2,7 +2,7 @@ use Rattle.std.proofs.Common.{◌≡◌, not, sym, ap, ◌∙◌, subst, refl}
 use Rattle.std.proofs.lemmas.Result.{err_from_is_err_and}
 use Rattle.rt_grammar.specs.Tokens.{limit_if}
 use Rattle.rt_grammar.specs.Limits.{within}
-use Rattle.rt_parse.specs.Reading.{Gives, unless_limited, number_at}
+use Rattle.rt_parse.specs.Inside.Reading.{Gives, unless_limited, number_at}
 use Rattle.rt_parse.proofs.Numbers.{number_then, still_stops}
 use Rattle.rt_parse.proofs.tokens.number_within.Goals as goal
 

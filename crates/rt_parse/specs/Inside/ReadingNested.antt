@@ -8,9 +8,9 @@ use Rattle.rt_ast.specs.Tree.{Statement, Block, Branch, Repeat, Locked, Empty, T
 use Rattle.rt_grammar.specs.Tokens.{limit_if, first_of}
 use Rattle.rt_grammar.specs.Limits.{turned}
 use Rattle.rt_grammar.specs.Simple.{Counted}
-use Rattle.rt_parse.specs.Reading.{Reader, ◌>>=◌, begins_with, limited_word_at, word_at, sign_at, limited_name_at, name_at, number_at, limited_number_at}
-use Rattle.rt_parse.specs.ReadingExpression.{expression_at}
-use Rattle.rt_parse.specs.ReadingSimple.{counted_limit}
+use Rattle.rt_parse.specs.Inside.Reading.{Reader, ◌>>=◌, begins_with, limited_word_at, word_at, sign_at, limited_name_at, name_at, number_at, limited_number_at}
+use Rattle.rt_parse.specs.Inside.ReadingExpression.{expression_at}
+use Rattle.rt_parse.specs.Inside.ReadingSimple.{counted_limit}
 
 abbrev pub nested_limit : ℕ → Option Limit
 nested_limit left = limit_if (nat_eq left 0) limit.Nesting

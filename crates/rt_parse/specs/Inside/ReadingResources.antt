@@ -9,8 +9,8 @@ use Rattle.rt_ast.specs.declared.app.MonoTree.{MonoTree}
 use Rattle.rt_ast.specs.declared.app.SharedTree.{SharedTree}
 use Rattle.rt_ast.specs.declared.app.LocalTree.{LocalTree}
 use Rattle.rt_grammar.specs.Limits.{within, at_most}
-use Rattle.rt_parse.specs.Reading.{Reader, ◌>>=◌, begins_with, limited_word_at, word_at, sign_at, limited_name_at, name_at, number_at, limited_number_at}
-use Rattle.rt_parse.specs.ReadingList.{items_at, adds_at}
+use Rattle.rt_parse.specs.Inside.Reading.{Reader, ◌>>=◌, begins_with, limited_word_at, word_at, sign_at, limited_name_at, name_at, number_at, limited_number_at}
+use Rattle.rt_parse.specs.Inside.ReadingList.{items_at, adds_at}
 
 unfoldable pub interrupt_at : ℕ → Reader IrqTree
 interrupt_at before tokens = do

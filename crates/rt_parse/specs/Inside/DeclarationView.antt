@@ -6,7 +6,7 @@ use Rattle.rt_grammar.specs.Declaration.{Head}
 use Rattle.rt_parse.specs.declared.declaration.Opening.{Opening}
 use Rattle.rt_parse.specs.declared.body.BodyOptions.{BodyOptions}
 use Rattle.rt_parse.specs.declared.body.Declared.{Declared}
-use Rattle.rt_parse.specs.ReadingDeclaration as reading
+use Rattle.rt_parse.specs.Inside.ReadingDeclaration as reading
 use Rattle.rt_parse.specs.declared.body.Owner.{Owner}
 use Rattle.rt_parse.specs.declared.body.Owner.TheVariants as owner
 

@@ -6,10 +6,10 @@ use Rattle.rt_lex.specs.Token.{Token, is_this_word, is_this_sign}
 use Rattle.rt_ast.specs.Tree.{Statement, Block}
 use Rattle.rt_grammar.specs.Simple.{Counted}
 use Rattle.rt_grammar.specs.Statement.{block_of}
-use Rattle.rt_parse.specs.Reading.{Reader, ◌>>=◌, begins_with, wrong_at, repeat_at, limited_sign_at, sign_at}
-use Rattle.rt_parse.specs.ReadingExpression.{is_name}
-use Rattle.rt_parse.specs.ReadingSimple.{bind_at, assign_at, emit_at, pend_at, call_at}
-use Rattle.rt_parse.specs.ReadingNested.{branch_at, loop_at, further_at, lock_at}
+use Rattle.rt_parse.specs.Inside.Reading.{Reader, ◌>>=◌, begins_with, wrong_at, repeat_at, limited_sign_at, sign_at}
+use Rattle.rt_parse.specs.Inside.ReadingExpression.{is_name}
+use Rattle.rt_parse.specs.Inside.ReadingSimple.{bind_at, assign_at, emit_at, pend_at, call_at}
+use Rattle.rt_parse.specs.Inside.ReadingNested.{branch_at, loop_at, further_at, lock_at}
 
 -- a reader that is told how many blocks may be opened, and how many statements may come
 abbrev pub Blocks : Type 0

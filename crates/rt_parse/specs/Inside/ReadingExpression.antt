@@ -11,8 +11,8 @@ use Rattle.rt_ast.specs.Tree.{Expression, Num, Read}
 use Rattle.rt_grammar.specs.Tokens.{free}
 use Rattle.rt_grammar.specs.Expression.{Signs, comparisons, strengths, op_of}
 use Rattle.rt_grammar.specs.Reach.{is_of}
-use Rattle.rt_parse.specs.Reading.{Reader, ◌>>=◌, token_at, repeat_at, begins_with, wrong_at, limited_sign_at, sign_at, name_at, number_at}
-use Rattle.rt_parse.specs.ReadingDepth.{Kept, Measured, measured_joined, atomic}
+use Rattle.rt_parse.specs.Inside.Reading.{Reader, ◌>>=◌, token_at, repeat_at, begins_with, wrong_at, limited_sign_at, sign_at, name_at, number_at}
+use Rattle.rt_parse.specs.Inside.ReadingDepth.{Kept, Measured, measured_joined, atomic}
 
 unfoldable pub operator_at : Signs → Reader Op
 operator_at signs tokens = token_at (op_of signs) (λ _. free) tokens

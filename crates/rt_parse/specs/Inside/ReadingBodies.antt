@@ -9,9 +9,9 @@ use Rattle.rt_grammar.specs.Limits.{at_most}
 use Rattle.rt_grammar.specs.Simple.{Counted}
 use Rattle.rt_grammar.specs.Options.{Owner, OfTask, Options}
 use Rattle.rt_grammar.specs.Bodies.{body_of}
-use Rattle.rt_parse.specs.Reading.{Reader, ◌>>=◌, begins_with, repeat_at, limited_word_at, word_at, sign_at, limited_name_at, name_at}
-use Rattle.rt_parse.specs.ReadingStatement.{block_at}
-use Rattle.rt_parse.specs.ReadingOptions.{options_at}
+use Rattle.rt_parse.specs.Inside.Reading.{Reader, ◌>>=◌, begins_with, repeat_at, limited_word_at, word_at, sign_at, limited_name_at, name_at}
+use Rattle.rt_parse.specs.Inside.ReadingStatement.{block_at}
+use Rattle.rt_parse.specs.Inside.ReadingOptions.{options_at}
 
 -- a body's block
 abbrev pub body_block_at : Reader (Counted Block)

@@ -27,6 +27,11 @@ abbrev pub Gives : {X Y : Type 0} → (X → Y) → Result X Stop → Result Y F
 Gives view (Ok x) read = read ≡ Ok (view x)
 Gives view (Err e) read = Stops e read
 
+-- the same of a function that left these tokens
+abbrev pub Leaves : {X Y : Type 0} → (X → Y) → Result X Stop → List Token → Result (Y × List Token) Found → Type 0
+Leaves view (Ok x) behind read = read ≡ Ok (view x, behind)
+Leaves view (Err e) behind read = Stops e read
+
 infixl 10 ◌>>=◌
 abbrev pub ◌>>=◌ : {A B E : Type 0} → Result A E → (A → Result B E) → Result B E
 (Ok x) >>= f = f x

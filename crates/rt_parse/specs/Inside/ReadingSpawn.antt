@@ -4,9 +4,9 @@ use Rattle.rt_ids.specs.declared.limit.Limit.{Limit}
 use Rattle.rt_lex.specs.Token.{Token, is_this_word}
 use Rattle.rt_ast.specs.Tree.{Value, Spawn, Expression, Calc, Now, Call, Soon, After}
 use Rattle.rt_grammar.specs.Tokens.{free}
-use Rattle.rt_parse.specs.Reading.{Reader, ◌>>=◌, begins_with, limited_word_at, word_at, sign_at, name_at}
-use Rattle.rt_parse.specs.ReadingList.{items_at, adds_at}
-use Rattle.rt_parse.specs.ReadingExpression.{expression_at}
+use Rattle.rt_parse.specs.Inside.Reading.{Reader, ◌>>=◌, begins_with, limited_word_at, word_at, sign_at, name_at}
+use Rattle.rt_parse.specs.Inside.ReadingList.{items_at, adds_at}
+use Rattle.rt_parse.specs.Inside.ReadingExpression.{expression_at}
 
 unfoldable pub arguments_at : Reader (List Expression)
 arguments_at tokens = do

@@ -6,9 +6,9 @@ use Rattle.rt_ids.specs.declared.limit.Limit.TheVariants as limit
 use Rattle.rt_ast.specs.Tree.{Statement, Bind, Assign, Emit, Pend, Spawns}
 use Rattle.rt_grammar.specs.Tokens.{limit_if}
 use Rattle.rt_grammar.specs.Simple.{Counted}
-use Rattle.rt_parse.specs.Reading.{Reader, ◌>>=◌, limited_word_at, sign_at, limited_name_at, name_at}
-use Rattle.rt_parse.specs.ReadingExpression.{expression_at}
-use Rattle.rt_parse.specs.ReadingSpawn.{spawn_at, value_at}
+use Rattle.rt_parse.specs.Inside.Reading.{Reader, ◌>>=◌, limited_word_at, sign_at, limited_name_at, name_at}
+use Rattle.rt_parse.specs.Inside.ReadingExpression.{expression_at}
+use Rattle.rt_parse.specs.Inside.ReadingSpawn.{spawn_at, value_at}
 
 abbrev pub counted_limit : ℕ → Option Limit
 counted_limit room = limit_if (nat_eq room 0) limit.Statements

@@ -13,10 +13,10 @@ use Rattle.rt_grammar.specs.Limits.{within}
 use Rattle.rt_grammar.specs.Options.{OfInit, OfIdle}
 use Rattle.rt_grammar.specs.Declaration.{Head}
 use Rattle.rt_parse.specs.declared.stop.Found.{Found}
-use Rattle.rt_parse.specs.Reading.{Reader, ◌>>=◌, begins_with, wrong_at, repeat_at, word_at, sign_at, name_at, limited_number_at}
-use Rattle.rt_parse.specs.ReadingList.{adds_at, names_at}
-use Rattle.rt_parse.specs.ReadingResources.{interrupts_at, monotonic_at, shared_at, locals_at}
-use Rattle.rt_parse.specs.ReadingBodies.{thread_body_at, task_at}
+use Rattle.rt_parse.specs.Inside.Reading.{Reader, ◌>>=◌, begins_with, wrong_at, repeat_at, word_at, sign_at, name_at, limited_number_at}
+use Rattle.rt_parse.specs.Inside.ReadingList.{adds_at, names_at}
+use Rattle.rt_parse.specs.Inside.ReadingResources.{interrupts_at, monotonic_at, shared_at, locals_at}
+use Rattle.rt_parse.specs.Inside.ReadingBodies.{thread_body_at, task_at}
 
 -- the names of the dispatchers behind their comma
 unfoldable pub dispatcher_names_at : Reader (List Ident)

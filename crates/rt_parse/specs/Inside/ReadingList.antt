@@ -3,7 +3,7 @@ use Rattle.std.specs.Prelude.{ℕ, zero, suc, Bool, not, codes, List, [], ◌∷
 use Rattle.rt_lex.specs.Token.{Token, is_this_sign}
 use Rattle.rt_ast.specs.declared.ident.Ident.{Ident}
 use Rattle.rt_parse.specs.declared.stop.Found.{Found}
-use Rattle.rt_parse.specs.Reading.{Reader, ◌>>=◌, begins_with, wrong_at, sign_at, name_at}
+use Rattle.rt_parse.specs.Inside.Reading.{Reader, ◌>>=◌, begins_with, wrong_at, sign_at, name_at}
 
 -- a comma, or nothing in front of the sign that closes a list
 abbrev pub comma_at : List ℕ → List Token → Result (List Token) Found

@@ -1,0 +1,103 @@
+#!/usr/bin/env python3
+"""Writes an application text to standard output, for bench/run and bench/stack.
+
+    python3 texts.py natural BYTES       as people write: long names, comments, indentation, just so many bytes
+    python3 texts.py dense BYTES         no blank where none is needed, an expression in each statement, just so many bytes
+    python3 texts.py variables N         tasks with N variables in scope, as long for each N up to 930
+    python3 texts.py parentheses N       an expression with N open parentheses
+    python3 texts.py operands N          the same, with an operator in front of some of them
+    python3 texts.py nested N            N blocks inside each other
+    python3 texts.py statements N        a body of N statements
+"""
+
+import sys
+
+NATURAL_HEAD = """\
+// The controller of a pump: it samples the level of the tank, and drives the motor.
+app pump_controller(bits = 4, dispatchers = [SPARE_LINE]);
+
+interrupts { LEVEL_SENSOR = 3, FLOW_METER = 5, SPARE_LINE = 7 }
+
+"""
+NATURAL_TASK = """\
+// Takes one sample of channel {0}, and smooths it.
+task sample_channel_{0}(priority = 1) {{
+    let last_reading = {0};            // what the sensor gave before
+    let smoothed_level = last_reading * 3 + {0};
+    let threshold_value = 0;
+"""
+NATURAL_PART = """\
+    for round_{0} in 0..4 {{
+        // Each round halves what is left of the difference.
+        smoothed_level = (smoothed_level + last_reading) / 2;
+        if smoothed_level > 0x3ff {{
+            smoothed_level = 1023;     // no sensor gives more
+        }} else {{
+            smoothed_level = smoothed_level + round_{0};
+        }}
+    }}
+    threshold_value = last_reading + (smoothed_level >> 2);
+    if threshold_value >= 512 {{
+        emit threshold_value & 0xff;
+    }}
+"""
+NATURAL_END = "    emit smoothed_level;\n}\n\n"
+SMALL_HEAD = "app bench(bits = 4, dispatchers = [A]); interrupts { A = 3 } "
+
+
+def filled(size, head, tasks, first, part, end):
+    """A text of so many bytes: the head, so many tasks that are filled with parts, and blanks at the end."""
+    share = (size - len(head)) // tasks
+    text = [head]
+    for task in range(tasks):
+        body, count = first.format(task), 0
+        while count < 100 and len(body) + len(part.format(count)) + len(end) <= share:
+            body += part.format(count)
+            count += 1
+        text.append(body + end)
+    return "".join(text).ljust(size - 1) + "\n"
+
+
+def natural(size):
+    return filled(size, NATURAL_HEAD, 60, NATURAL_TASK, NATURAL_PART, NATURAL_END)
+
+
+def dense(size):
+    head = SMALL_HEAD.replace(" = ", "=").replace("; ", ";").replace(", ", ",").replace(" { ", "{").replace(" } ", "}")
+    return filled(size, head, 32, "task t{0}{{let x={0};let y=2;", "x=(x+y*3)<<1;" * 8, "}")
+
+
+def variables(count):
+    text = SMALL_HEAD
+    for task in range(12):
+        names = [f"v{number if number < count else 0:03}" for number in range(930)]
+        lines = [f"{'let' if number < count else '   '} {name} = 1234; " for number, name in enumerate(names)]
+        text += f"task t{task} {{ {''.join(lines)}{names[-1]} = {names[0]}; }} "
+    return text + "\n"
+
+
+def idle(body):
+    return f"app bench(bits = 4); interrupts {{ A = 3 }} idle {{ {body} }}\n"
+
+
+def parentheses(count):
+    return idle(f"emit {'(' * count}1{')' * count};")
+
+
+def operands(count):
+    opened = "".join("(1 + " if number % 5 == 0 else "(" for number in range(count))
+    return idle(f"emit {opened}1{')' * count};")
+
+
+def nested(count):
+    inner = count - 1
+    return idle(f"let x = 0; {'if x { ' * inner}x = 1; {'} ' * inner}")
+
+
+def statements(count):
+    return idle("let x = 0; " + "x = x + 1; " * (count - 1))
+
+
+if __name__ == "__main__":
+    kinds = [natural, dense, variables, parentheses, operands, nested, statements]
+    sys.stdout.write({kind.__name__: kind for kind in kinds}[sys.argv[1]](int(sys.argv[2])))
