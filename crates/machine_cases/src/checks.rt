@@ -1,4 +1,5 @@
 ghost use Rattle.std.specs.Prelude.{◌≡◌};
+ghost use Rattle.rt_code.specs.Runnable.{IsRunnable};
 
 use crate::execution::executed;
 use crate::image::{case_names, image};
@@ -7,6 +8,7 @@ use anyhow::{Context, Result};
 use rt_cases::Case;
 use rt_code::Image;
 use rt_core::Core;
+use rt_ids::Names;
 use rt_listing::listing;
 use rt_program::is_runnable;
 use std::alloc::Global;
@@ -45,44 +47,74 @@ fn has_its_text(alloc: Global, image: &Image, case: &Case) -> Result<bool> {
     Ok(text.as_slice() == case.bytes("image"))
 }
 
+/// What differs of a core that has run, and of its trace.
+fn difference(core: &Core, case: &Case, trace: &[u8]) -> &'static str {
+    if trace != case.bytes("trace") {
+        return "the trace differs";
+    }
+    if case.number("steps").map(u64::from) != Some(core.steps()) {
+        return "the number of steps differs";
+    }
+    if case.number("depth") != Some(core.depth()) {
+        return "the depth of the stack differs";
+    }
+    OK
+}
+
+/// What differs as a core runs under the script of its case, with the names of that case.
+fn run_script(alloc: Global, core: &mut Core, case: &Case, names: &Names) -> Result<&'static str>
+    requires no_steps { core.old.steps ≡ 0 }
+    requires no_ticks { core.old.core.time ≡ 0 }
+{
+    let script = case.text("script").context("no script")?;
+    let trace = play(alloc, core, names, script)?;
+    Ok(difference(core, case, trace.as_bytes()))
+}
+
 /// What differs as a core runs under the script of its case.
 fn run(alloc: Global, core: &mut Core, case: &Case) -> Result<&'static str>
     requires no_steps { core.old.steps ≡ 0 }
     requires no_ticks { core.old.core.time ≡ 0 }
 {
     let names = case_names(alloc, case)?;
-    let trace = play(
-        alloc,
-        core,
-        &names,
-        case.text("script").context("no script")?,
-    )?;
-    if trace.as_bytes() != case.bytes("trace") {
-        return Ok("the trace differs");
-    }
-    if case.number("steps").map(u64::from) != Some(core.steps()) {
-        return Ok("the number of steps differs");
-    }
-    if case.number("depth") != Some(core.depth()) {
-        return Ok("the depth of the stack differs");
-    }
-    Ok(OK)
+    run_script(alloc, core, case, &names)
 }
 
-/// Runs a new core, and then a fresh one.
-fn run_twice(alloc: Global, mut core: Core, case: &Case) -> Result<&'static str>
-    requires no_steps { core.steps ≡ 0 }
-    requires no_ticks { core.core.time ≡ 0 }
+/// What differs of a fresh core.
+fn run_fresh(alloc: Global, fresh: &mut Core, case: &Case) -> Result<&'static str>
+    requires no_steps { fresh.old.steps ≡ 0 }
+    requires no_ticks { fresh.old.core.time ≡ 0 }
 {
-    let told = run(alloc, &mut core, case)?;
-    if told != OK {
-        return Ok(told);
-    }
-    let mut fresh = core.fresh(alloc)?;
     if !has_its_text(alloc, fresh.image(), case)? {
         return Ok("the fresh core has another image");
     }
-    run(alloc, &mut fresh, case)
+    run(alloc, fresh, case)
+}
+
+/// Makes a fresh core of one that has run, and runs it.
+fn run_again(alloc: Global, core: &Core, case: &Case) -> Result<&'static str> {
+    let mut fresh = core.fresh(alloc)?;
+    run_fresh(alloc, &mut fresh, case)
+}
+
+/// Runs a new core, and then a fresh one.
+fn run_twice(alloc: Global, core: &mut Core, case: &Case) -> Result<&'static str>
+    requires no_steps { core.old.steps ≡ 0 }
+    requires no_ticks { core.old.core.time ≡ 0 }
+{
+    let told = run(alloc, core, case)?;
+    if told != OK {
+        return Ok(told);
+    }
+    run_again(alloc, core, case)
+}
+
+/// Runs the core of an image that is runnable.
+fn runnable_case(alloc: Global, image: Image, case: &Case) -> Result<&'static str>
+    requires runnable { IsRunnable image }
+{
+    let mut core = Core::new(alloc, image)?;
+    run_twice(alloc, &mut core, case)
 }
 
 fn core_case(alloc: Global, case: &Case) -> Result<&'static str> {
@@ -90,7 +122,7 @@ fn core_case(alloc: Global, case: &Case) -> Result<&'static str> {
     if !is_runnable(&image) {
         return Ok("the image is not runnable");
     }
-    run_twice(alloc, Core::new(alloc, image)?, case)
+    runnable_case(alloc, image, case)
 }
 
 fn instruction_case(alloc: Global, case: &Case) -> Result<&'static str> {
@@ -103,20 +135,26 @@ fn instruction_case(alloc: Global, case: &Case) -> Result<&'static str> {
 }
 
 fn condition_case(alloc: Global, case: &Case) -> Result<&'static str> {
-    let wanted = case.bytes("runnable") == b"yes\n".as_slice();
-    if is_runnable(&image(alloc, case)?) == wanted {
-        Ok(OK)
+    let image = image(alloc, case)?;
+    Ok(if is_runnable(&image) == (case.bytes("runnable") == b"yes\n".as_slice()) {
+        OK
     } else {
-        Ok("it is judged in another way")
-    }
+        "it is judged in another way"
+    })
 }
 
-fn listing_case(alloc: Global, case: &Case) -> Result<&'static str> {
-    if has_its_text(alloc, &image(alloc, case)?, case)? {
+/// What differs of the text of an image.
+fn text_difference(alloc: Global, image: &Image, case: &Case) -> Result<&'static str> {
+    if has_its_text(alloc, image, case)? {
         Ok(OK)
     } else {
         Ok("the text differs")
     }
+}
+
+fn listing_case(alloc: Global, case: &Case) -> Result<&'static str> {
+    let image = image(alloc, case)?;
+    text_difference(alloc, &image, case)
 }
 
 /// What is told of a case of a table: `ok`, or what differs.

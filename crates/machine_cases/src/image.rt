@@ -90,6 +90,14 @@ fn take_line(alloc: Global, rows: &mut Rows, names: &Names, line: &str) -> Resul
     Ok(())
 }
 
+/// Reads the lines of an image into its rows.
+fn take_lines(alloc: Global, rows: &mut Rows, names: &Names, listing: &str) -> Result<()> {
+    for line in listing.lines() {
+        take_line(alloc, rows, names, line)?;
+    }
+    Ok(())
+}
+
 /// The rows of a listing.
 fn read_rows(alloc: Global, names: &Names, listing: &str) -> Result<Rows> {
     let mut rows = Rows {
@@ -101,9 +109,7 @@ fn read_rows(alloc: Global, names: &Names, listing: &str) -> Result<Rows> {
         bodies: Vec::new(alloc),
         code: Vec::new(alloc),
     };
-    for line in listing.lines() {
-        take_line(alloc, &mut rows, names, line)?;
-    }
+    take_lines(alloc, &mut rows, names, listing)?;
     Ok(rows)
 }
 
@@ -131,7 +137,8 @@ pub fn case_names(alloc: Global, case: &Case) -> Result<Names> {
 
 /// The image of a case.
 pub fn image(alloc: Global, case: &Case) -> Result<Image> {
+    let listing = case.text("image").context("no image")?;
     let names = case_names(alloc, case)?;
-    let rows = read_rows(alloc, &names, case.text("image").context("no image")?)?;
+    let rows = read_rows(alloc, &names, listing)?;
     Ok(image_of(rows, names))
 }

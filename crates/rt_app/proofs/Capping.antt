@@ -1,5 +1,5 @@
 -- Costs and sizes are plain sums up to the cap.
-use Rattle.std.proofs.Common.{◌≡◌, ℕ, ◌+◌, ◌*◌, ◌-◌, ◌<◌, ◌≤◌, ◌⊎◌, zero, suc, min, max, Bool, true, false, List, [], ◌∷◌, if◌then◌else◌, refl, sym, ap, zero-mul, ⊎_elim, inl, inr, ◌∙◌, arith}
+use Rattle.std.proofs.Common.{◌≡◌, ℕ, ◌+◌, ◌*◌, ◌<◌, ◌≤◌, ◌⊎◌, zero, suc, max, Bool, true, false, List, [], ◌∷◌, if◌then◌else◌, sym, ap, zero-mul, ⊎_elim, inl, inr, ◌∙◌, arith}
 use Rattle.std.proofs.Math.Nat.{min-eq_left}
 use Rattle.std.proofs.lemmas.Bool.{cases_order}
 use Rattle.rt_app.specs.Tree.{Expression, Num, Read, Oper, Spawn, Soon, After, Value, Calc, Now, Call, Statement, Bind, Assign, Branch, Repeat, Locked, Emit, Pend, Spawns, Block, Empty, Then}

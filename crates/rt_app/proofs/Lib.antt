@@ -18,3 +18,11 @@ pub mod Rising
 pub mod SoundServices
 pub mod SoundStack
 pub mod Sound
+pub mod Laid
+pub mod LaidQueues
+pub mod Spelling
+mod RowParts
+mod RowsActions
+mod RowsMessages
+mod RowsLayout
+pub mod LaidFirst

@@ -1,11 +1,11 @@
 -- What a body lists.
-use Rattle.std.proofs.Common.{◌≡◌, ℕ, ◌==◌, Bool, true, false, List, [], ◌∷◌, Option, Some, None, find, refl, if◌then◌else◌, ◌||◌}
+use Rattle.std.proofs.Common.{◌≡◌, ℕ, ◌==◌, Bool, true, false, List, [], ◌∷◌, Some, find, refl, if◌then◌else◌, ◌||◌}
 use Rattle.std.specs.List.{list_any}
 use Rattle.rt_ids.specs.Lists.{is_some_and}
 use Rattle.rt_app.specs.Tree.{App}
 use Rattle.rt_app.specs.Bodies.{Member}
 use Rattle.rt_app.specs.Ceiling.{lists}
-use Rattle.rt_app.specs.Statements.{listing_in, is_lockable}
+use Rattle.rt_app.specs.Statements.{is_lockable}
 
 -- one that is found is there
 any_found : {A : Type 0} (test also : A → Bool) (xs : List A) → is_some_and also (find test xs) ≡ true → list_any test xs ≡ true

@@ -1,17 +1,16 @@
 -- The bodies of an accepted application, one by one.
-use Rattle.std.proofs.Common.{◌≡◌, ℕ, zero, suc, ◌+◌, ◌≤◌, max, Bool, true, false, List, [], ◌∷◌, ◌++◌, length, map, Option, Some, None, option_map, slice_get, if◌then◌else◌, refl, sym, ap, subst, ◌∙◌, arith, filter}
+use Rattle.std.proofs.Common.{◌≡◌, ℕ, zero, suc, ◌+◌, List, [], ◌∷◌, ◌++◌, Option, Some, None, option_map, slice_get, refl, sym, ap, subst, ◌∙◌, arith}
 use Rattle.std.specs.List.{AllByRecursion}
 use Rattle.std.proofs.lemmas.Option.{same_Some, none-some}
-use Rattle.rt_lemmas.proofs.Membership.{all_append, all_at, any_passes, none_of_each}
+use Rattle.rt_lemmas.proofs.Membership.{all_append, all_at, any_passes}
+use Rattle.rt_ids.proofs.Greatest.{greatest_has}
 use Rattle.rt_ids.specs.Choice.{IsIn}
-use Rattle.rt_ids.specs.Lists.{greatest}
 use Rattle.rt_ids.specs.declared.ids.BodyId.{BodyId}
 use Rattle.rt_ids.specs.declared.ids.BodyId.TheVariants as body
 use Rattle.rt_app.specs.Tree.{Body, Task, App}
 use Rattle.rt_app.specs.Bodies.{Member, thread_members, task_members, members, member_at}
-use Rattle.rt_app.specs.Ceiling.{greatest_priority}
 use Rattle.rt_app.specs.Limits.{KeepsBodyLimits, KeepsThreadLimits, KeepsTaskLimits}
-use Rattle.rt_app.specs.Accepted.{IsBodyPlaced, IsThreadPlaced, IsInitPlaced, IsTaskPlaced, IsAccepted}
+use Rattle.rt_app.specs.Accepted.{IsBodyPlaced, IsThreadPlaced, IsInitPlaced, IsAccepted}
 use Rattle.rt_app.proofs.SoundExpressions.{IsDeclared}
 
 pub in_front : {X : Type 0} (xs ys : List X) (x : X) → IsIn xs x → IsIn (xs ++ ys) x
@@ -114,26 +113,6 @@ module _ (app : App) (accepted : IsAccepted app) where
 
       task_at : (k : ℕ) (t : Task) → slice_get app.tasks k ≡ Some t → member_at app (body.Task (0 + k)) ≡ Some (task_member (0 + k) t)
       task_at k t at = let e : 0 + k ≡ k = omega arith in rw e (ap (option_map (task_member k)) at)
-
-greatest_has : {X : Type 0} (f : X → ℕ) (test : X → Bool) (xs : List X) (i : ℕ) (x : X) → slice_get xs i ≡ Some x → test x ≡ true → f x ≤ greatest (map f (filter test xs))
-greatest_has f test [] i x at is = absurd (none-some x at)
-greatest_has f test (y ∷ xs) zero x at is =
-    let same : y ≡ x = same_Some y x at in
-    subst (λ z. f x ≤ greatest (map f (if test z then z ∷ filter test xs else filter test xs))) (sym same)
-    (subst (λ b. f x ≤ greatest (map f (if b then x ∷ filter test xs else filter test xs))) (sym is) (omega arith))
-greatest_has f test (y ∷ xs) (suc i) x at is = go (test y) (greatest_has f test xs i x at is)
-  where
-    go : (b : Bool) → f x ≤ greatest (map f (filter test xs)) → f x ≤ greatest (map f (if b then y ∷ filter test xs else filter test xs))
-    go true less = omega arith
-    go false less = less
-
-pub greatest_within : {X : Type 0} (f : X → ℕ) (test : X → Bool) (most : ℕ) (xs : List X) → AllByRecursion (λ x. f x ≤ most) xs → greatest (map f (filter test xs)) ≤ most
-greatest_within f test most [] all = omega arith
-greatest_within f test most (x ∷ xs) all = go (test x) all.0 (greatest_within f test most xs all.1)
-  where
-    go : (b : Bool) → f x ≤ most → greatest (map f (filter test xs)) ≤ most → greatest (map f (if b then x ∷ filter test xs else filter test xs)) ≤ most
-    go true here there = omega arith
-    go false here there = there
 
 pub is_declared : (app : App) → IsAccepted app → (m : Member) → IsIn (members app) m → IsDeclared app m
 is_declared app accepted m at =

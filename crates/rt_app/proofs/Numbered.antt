@@ -1,5 +1,5 @@
 -- Numbers that are used for something, none twice.
-use Rattle.std.proofs.Common.{◌≡◌, ℕ, ◌==◌, ◌||◌, Bool, true, false, List, [], ◌∷◌, ◌++◌, map, Contains, refl, sym, subst, inl, inr, eq-eqb}
+use Rattle.std.proofs.Common.{◌≡◌, ℕ, ◌==◌, false, List, [], ◌∷◌, map, Contains, refl, subst, inl, inr, eq-eqb}
 use Rattle.std.specs.List.{list_any}
 use Rattle.rt_lemmas.proofs.Bools.{left_of_none, right_of_none, true_and_false}
 use Rattle.rt_lemmas.proofs.Lists.{append_none_left, append_none_right}

@@ -1,5 +1,5 @@
 -- The rules that an accepted application does not break, one by one.
-use Rattle.std.proofs.Common.{◌≡◌, List, [], ◌∷◌, ◌++◌, flat_map}
+use Rattle.std.proofs.Common.{◌≡◌, List, [], ◌++◌, flat_map}
 use Rattle.rt_lemmas.proofs.Lists.{append_none_left, append_none_right}
 use Rattle.rt_app.specs.declared.violation.Violation.{Violation}
 use Rattle.rt_app.specs.Tree.{App}
@@ -17,6 +17,7 @@ pub record Parts (app : App) : Type 0 where
   pub numbers : used_twice [] (number_uses app) ≡ []
   pub dispatchers : dispatchers app ≡ []
   pub owned : owned_twice [] (members app) ≡ []
+  pub hardware : hardware_tasks app ≡ []
   pub listed : listed app ≡ []
   pub statements : statements app ≡ []
   pub lengths : lengths app ≡ []
@@ -48,6 +49,7 @@ parts app fine =
       numbers = right (used_twice [] (interrupt_uses app)) (used_twice [] (number_uses app)) third;
       dispatchers = left (dispatchers app) on_owned fourth;
       owned = left (owned_twice [] (members app)) (hardware_tasks app) fifth;
+      hardware = right (owned_twice [] (members app)) (hardware_tasks app) fifth;
       listed = left (listed app) on_statements behind;
       statements = left (statements app) (lengths app) last;
       lengths = right (statements app) (lengths app) last;

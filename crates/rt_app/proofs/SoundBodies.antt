@@ -1,5 +1,5 @@
 -- The bodies of an accepted application are sound.
-use Rattle.std.proofs.Common.{◌≡◌, ℕ, zero, ◌+◌, ◌<◌, ◌≤◌, Contains, List, [], ◌∷◌, Some, flat_map, arith, suc, inl, inr}
+use Rattle.std.proofs.Common.{◌≡◌, ℕ, zero, ◌+◌, ◌<◌, Contains, [], Some, flat_map, arith, suc, inl, inr}
 use Rattle.std.specs.List.{range_with_len}
 use Rattle.rt_lemmas.proofs.Membership.{all_at, contains_cases, contains_none, none_of_each}
 use Rattle.rt_ids.specs.declared.ids.BodyId.{BodyId}

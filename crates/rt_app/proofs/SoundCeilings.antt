@@ -1,11 +1,11 @@
 -- Levels and ceilings of an accepted application are priorities that there are.
-use Rattle.std.proofs.Common.{◌≡◌, ◌⊎◌, ℕ, zero, suc, ◌+◌, ◌^◌, ◌<◌, ◌≤◌, ◌==◌, max, Bool, true, false, List, [], ◌∷◌, ◌++◌, Option, Some, None, option_map, slice_get, Contains, flat_map, refl, sym, ap, subst, ◌∙◌, inl, inr, arith, if◌then◌else◌}
-use Rattle.std.specs.Prelude.{◌&&◌, ◌||◌, not, nat_le}
+use Rattle.std.proofs.Common.{◌≡◌, ℕ, zero, suc, ◌^◌, ◌<◌, ◌≤◌, ◌==◌, Bool, true, false, [], ◌∷◌, Option, Some, None, option_map, slice_get, refl, subst, inl, inr, arith, if◌then◌else◌}
+use Rattle.std.specs.Prelude.{not, nat_le}
 use Rattle.std.specs.List.{AllByRecursion, list_any}
 use Rattle.std.proofs.lemmas.Bool.{eqb-true, leb-true}
 use Rattle.rt_lemmas.proofs.Bools.{and_left, and_right, or_cases, not_false}
-use Rattle.rt_lemmas.proofs.Membership.{all_append, all_at, all_has, any_one, none_of_each, contains_cases, contains_none, all_weaker}
-use Rattle.rt_ids.specs.Lists.{those_below, is_some_and, or_zero}
+use Rattle.rt_lemmas.proofs.Membership.{all_append, all_at, all_has, any_one, none_of_each, all_weaker}
+use Rattle.rt_ids.specs.Lists.{those_below, or_zero}
 use Rattle.rt_ids.specs.declared.rule.Rule.TheVariants as rule
 use Rattle.rt_ids.specs.declared.ids.BodyId.{BodyId}
 use Rattle.rt_ids.specs.declared.ids.BodyId.TheVariants as body
@@ -13,7 +13,7 @@ use Rattle.rt_ids.specs.declared.ids.Section.{Section}
 use Rattle.rt_ids.specs.declared.ids.Section.TheVariants as section
 use Rattle.rt_app.specs.declared.app.Mono.{Mono}
 use Rattle.rt_app.specs.declared.costs.TheConstants.{PRIORITIES}
-use Rattle.rt_app.specs.Tree.{Body, Task, App}
+use Rattle.rt_app.specs.Tree.{Task, App}
 use Rattle.rt_app.specs.Bodies.{Member, members, member_at}
 use Rattle.rt_app.specs.Bodies as bodies
 use Rattle.rt_app.specs.Level.{is_software, is_of_level, levels, holds}
@@ -25,7 +25,8 @@ use Rattle.rt_app.specs.Accepted.{IsAccepted}
 use Rattle.rt_app.specs.Acceptance.{IsSectionOf}
 use Rattle.rt_app.proofs.Unbroken.{not_broken, is_one_that}
 use Rattle.rt_app.proofs.Parts.{Parts}
-use Rattle.rt_app.proofs.Members.{made_of, members_all, greatest_within}
+use Rattle.rt_ids.proofs.Greatest.{greatest_within}
+use Rattle.rt_app.proofs.Members.{made_of, members_all}
 
 -- of the numbers below one that pass, each passes
 pub those_all : (P : ℕ → Type 0) (test : ℕ → Bool) (n : ℕ) → ((p : ℕ) → p < n → test p ≡ true → P p) → AllByRecursion P (those_below test n)

@@ -1,6 +1,6 @@
 -- What the expressions of a body that breaks no rule reach.
-use Rattle.std.proofs.Common.{◌≡◌, ◌⊎◌, ℕ, ◌+◌, ◌<◌, ◌≤◌, ◌==◌, max, Bool, true, false, Contains, List, [], ◌∷◌, ◌++◌, length, map, flat_map, slice_get, refl, ap, ◌∙◌, inl, inr, arith, eq-eqb}
-use Rattle.std.specs.Prelude.{◌&&◌, ◌||◌, not, is_none, Option, Some, None}
+use Rattle.std.proofs.Common.{◌≡◌, ◌⊎◌, ℕ, ◌+◌, ◌<◌, ◌≤◌, ◌==◌, Bool, true, false, Contains, List, [], ◌∷◌, ◌++◌, length, map, flat_map, slice_get, refl, ap, ◌∙◌, inl, inr, arith, eq-eqb}
+use Rattle.std.specs.Prelude.{not, is_none, Option, Some}
 use Rattle.std.specs.List.{AllByRecursion, list_any}
 use Rattle.std.proofs.lemmas.Bool.{eqb-true}
 use Rattle.rt_lemmas.proofs.Bools.{and_both, and_left, and_right, or_left, not_false}
@@ -8,18 +8,16 @@ use Rattle.rt_lemmas.proofs.Lists.{append_none_left, append_none_right}
 use Rattle.rt_lemmas.proofs.Membership.{contained_any, none_of_front, none_of_back}
 use Rattle.rt_ids.specs.Lists.{is_some_and}
 use Rattle.rt_ids.specs.declared.rule.Rule.TheVariants as rule
-use Rattle.rt_ids.specs.declared.ids.Section.TheVariants as section
-use Rattle.rt_app.specs.declared.app.Mono.{Mono}
 use Rattle.rt_app.specs.declared.expr.Atom.{Atom}
 use Rattle.rt_app.specs.declared.expr.Atom.TheVariants as atom
 use Rattle.rt_app.specs.Tree.{Expression, Num, Read, Oper, Spawn, Soon, After, Value, Calc, Now, Call, Task, App}
 use Rattle.rt_app.specs.Variables.{variables}
 use Rattle.rt_app.specs.Bodies.{Member, members}
 use Rattle.rt_app.specs.Spawned.{is_soon, target, value_spawns}
-use Rattle.rt_app.specs.Level.{is_software, is_of_level, is_armed, arms, holds}
-use Rattle.rt_app.specs.Ceiling.{greatest_priority, readies, ceiling}
+use Rattle.rt_app.specs.Level.{is_software, is_of_level, arms, holds}
+use Rattle.rt_app.specs.Ceiling.{greatest_priority, readies}
 use Rattle.rt_app.specs.Limits.{ExpressionFits, SpawnFits, ValueFits}
-use Rattle.rt_app.specs.Use.{Use, Reads, MakesSpawn, AsksTime, Placed, placed, reads, spawn_uses, value_uses}
+use Rattle.rt_app.specs.Use.{reads, spawn_uses, value_uses}
 use Rattle.rt_app.specs.Statements.{is_init, is_lockable, is_free, is_outside, takes, is_bad_spawn, breaks}
 use Rattle.rt_app.specs.Accepted.{IsMeant, AreMeant, IsSpawnPlaced, IsValuePlaced}
 use Rattle.rt_app.specs.Sound.{IsReached, AreReached, SpawnsTask, IsSoundSpawn, IsSoundValue}

@@ -1,15 +1,14 @@
 -- In an accepted application a resource that is used without a lock is listed at one priority, and a local one by one body.
-use Rattle.std.proofs.Common.{◌≡◌, ℕ, zero, suc, ◌+◌, ◌<◌, ◌≤◌, ◌==◌, Bool, true, false, List, [], ◌∷◌, ◌++◌, length, map, flat_map, find, Option, Some, None, slice_get, refl, sym, ap, subst, ◌∙◌, arith, if◌then◌else◌}
-use Rattle.std.specs.Prelude.{◌&&◌, ◌||◌, not}
+use Rattle.std.proofs.Common.{◌≡◌, ℕ, zero, suc, ◌<◌, ◌==◌, Bool, true, false, List, [], ◌∷◌, length, flat_map, Some, slice_get, refl, sym, ap, subst, ◌∙◌, arith, if◌then◌else◌}
+use Rattle.std.specs.Prelude.{◌&&◌, not}
 use Rattle.std.specs.List.{AllByRecursion, list_any}
 use Rattle.std.proofs.lemmas.Bool.{eqb-true, eq-eqb}
 use Rattle.std.proofs.lemmas.Option.{same_Some, none-some}
 use Rattle.rt_lemmas.proofs.Bools.{left_of_none, right_of_none, true_and_false, not_false}
-use Rattle.rt_lemmas.proofs.Lists.{all_map, append_none_left, append_none_right}
+use Rattle.rt_lemmas.proofs.Lists.{all_map, append_none_left, append_none_right, found}
 use Rattle.rt_lemmas.proofs.Membership.{all_at, any_one, none_of_each, all_flat_map, all_weaker}
 use Rattle.rt_ids.specs.Choice.{IsIn}
 use Rattle.rt_ids.specs.declared.rule.Rule.TheVariants as rule
-use Rattle.rt_app.specs.declared.body.Owned.{Owned}
 use Rattle.rt_app.specs.Tree.{App}
 use Rattle.rt_app.specs.Bodies.{Member, members}
 use Rattle.rt_app.specs.Declarations.{is_known, owns, owned_before, owned_twice}
@@ -20,16 +19,6 @@ use Rattle.rt_app.specs.Accepted.{IsBodyPlaced, IsAccepted}
 use Rattle.rt_app.proofs.Unbroken.{not_broken, known, of_known}
 use Rattle.rt_app.proofs.Parts.{Parts}
 use Rattle.rt_app.proofs.Members.{has_body, members_all}
-
--- one that passes is found, or one before it
-found : {X : Type 0} (test : X → Bool) (xs : List X) (i : ℕ) (x : X) → slice_get xs i ≡ Some x → test x ≡ true → (y : X) × (find test xs ≡ Some y)
-found test [] i x at is = absurd (none-some x at)
-found {X} test (y ∷ xs) i x at is = go (test y) refl i at (λ i at. found test xs i x at is)
-  where
-    go : (b : Bool) → test y ≡ b → (i : ℕ) → slice_get (y ∷ xs) i ≡ Some x → ((i : ℕ) → slice_get xs i ≡ Some x → (z : X) × (find test xs ≡ Some z)) → (z : X) × ((if b then Some y else find test xs) ≡ Some z)
-    go true e i at others = (y, refl)
-    go false e zero at others = absurd (true_and_false (test y) (ap test (same_Some y x at) ∙ is) e)
-    go false e (suc i) at others = others i at
 
 same_form : (a b : Bool) → is_same a b ≡ true → a ≡ b
 same_form true true is = refl

@@ -1,12 +1,11 @@
 -- In an accepted application an interrupt serves one thing, and each level of software tasks has a dispatcher.
-use Rattle.std.proofs.Common.{◌≡◌, ◌⊎◌, ℕ, zero, suc, ◌+◌, ◌^◌, ◌<◌, ◌≤◌, Bool, true, false, List, [], ◌∷◌, ◌++◌, length, map, flat_map, Option, Some, None, option_map, slice_get, IsSome, Contains, refl, sym, ap, subst, ◌∙◌, inl, inr, arith, if◌then◌else◌}
-use Rattle.std.specs.Prelude.{nat_lt, is_some}
+use Rattle.std.proofs.Common.{◌≡◌, ℕ, ◌+◌, ◌^◌, ◌<◌, ◌≤◌, List, [], ◌∷◌, ◌++◌, length, map, flat_map, Option, Some, None, option_map, slice_get, IsSome, Contains, refl, sym, ap, subst, ◌∙◌, inl, inr, arith, if◌then◌else◌}
+use Rattle.std.specs.Prelude.{is_some}
 use Rattle.std.specs.List.{AllByRecursion, list_any}
 use Rattle.std.proofs.lemmas.Bool.{ltb-false}
 use Rattle.std.proofs.lemmas.List.{map-append}
-use Rattle.std.proofs.lemmas.Option.{same_Some, none-some}
 use Rattle.std.proofs.lemmas.Simd.{map-map}
-use Rattle.rt_lemmas.proofs.Lists.{append_none_left, append_none_right}
+use Rattle.rt_lemmas.proofs.Lists.{some_at, mapped_at}
 use Rattle.rt_lemmas.proofs.Membership.{all_append, all_at, all_flat_map, all_weaker, all_has, contains_here, contains_there, contains_cases, contains_none}
 use Rattle.rt_ids.specs.Lists.{AreDifferent}
 use Rattle.rt_ids.specs.declared.rule.Rule.TheVariants as rule
@@ -16,9 +15,8 @@ use Rattle.rt_app.specs.declared.costs.TheConstants.{PRIORITIES}
 use Rattle.rt_app.specs.Tree.{Task, App}
 use Rattle.rt_app.specs.Level.{is_of_level, levels}
 use Rattle.rt_app.specs.Handlers.{Service, dispatcher_of, bound_service, task_services, dispatcher_service, timer_service, services}
-use Rattle.rt_app.specs.Declarations.{is_known, Used, use_of, mono_use, bound_use, interrupt_uses, number_uses}
+use Rattle.rt_app.specs.Declarations.{use_of, mono_use, bound_use, interrupt_uses, number_uses}
 use Rattle.rt_app.specs.Accepted.{IsBindingPlaced, IsMonoPlaced, IsTaskPlaced, IsAccepted}
-use Rattle.rt_app.specs.Violation.{when}
 use Rattle.rt_app.proofs.Unbroken.{not_broken, known}
 use Rattle.rt_app.proofs.Parts.{Parts}
 use Rattle.rt_app.proofs.Members.{made_of}
@@ -29,16 +27,6 @@ use Rattle.rt_app.proofs.Different.{different_none, different_cons, different_fr
 
 abbrev irqs_of : List Service → List ℕ
 irqs_of ss = map (λ s. s.irq) ss
-
-some_at : {X : Type 0} (xs : List X) (k : ℕ) → k < length xs → (x : X) × (slice_get xs k ≡ Some x)
-some_at [] k within = absurd (omega arith)
-some_at (x ∷ xs) zero within = (x, refl)
-some_at (x ∷ xs) (suc k) within = some_at xs k (omega arith)
-
-mapped_at : {X Y : Type 0} (f : X → Y) (xs : List X) (k : ℕ) (x : X) → slice_get xs k ≡ Some x → slice_get (map f xs) k ≡ Some (f x)
-mapped_at f [] k x at = absurd (none-some x at)
-mapped_at f (y ∷ xs) zero x at = ap (option_map f) at
-mapped_at f (y ∷ xs) (suc k) x at = mapped_at f xs k x at
 
 module _ (app : App) (accepted : IsAccepted app) (parts : Parts app) where
   -- the interrupts of dispatchers, of the monotonic and of hardware tasks

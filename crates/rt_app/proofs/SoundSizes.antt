@@ -1,5 +1,5 @@
 -- The bodies of an accepted application are short, and so is all its code.
-use Rattle.std.proofs.Common.{◌≡◌, ℕ, zero, suc, ◌+◌, ◌*◌, ◌≤◌, min, Bool, true, false, List, [], ◌∷◌, ◌++◌, Option, Some, None, sum_by, refl, sym, ap, subst, ◌∙◌, arith, if◌then◌else◌, append-nil}
+use Rattle.std.proofs.Common.{◌≡◌, ℕ, zero, suc, ◌+◌, ◌≤◌, Bool, false, List, [], ◌∷◌, ◌++◌, Option, Some, None, sum_by, refl, ap, arith}
 use Rattle.std.specs.Prelude.{nat_lt, ◌||◌}
 use Rattle.std.specs.List.{AllByRecursion, list_any}
 use Rattle.std.proofs.lemmas.Bool.{ltb-false}
@@ -11,11 +11,10 @@ use Rattle.rt_ids.specs.declared.rule.Rule.TheVariants as rule
 use Rattle.rt_ids.specs.declared.limits.TheConstants.{BODY_COST, CODE_SIZE}
 use Rattle.rt_app.specs.declared.app.Mono.{Mono}
 use Rattle.rt_app.specs.declared.costs.TheConstants.{PRIORITIES}
-use Rattle.rt_app.specs.Tree.{Body, Task, App}
+use Rattle.rt_app.specs.Tree.{Task, App}
 use Rattle.rt_app.specs.Bodies.{Member, task_members, thread_members, members}
 use Rattle.rt_ids.specs.declared.ids.BodyId.TheVariants as body
 use Rattle.rt_app.specs.Level.{is_of_level, levels, armed_capacities, armed_count, armed_messages, armed_tasks}
-use Rattle.rt_app.specs.Cost.{block_cost}
 use Rattle.rt_app.specs.BodyCost.{cost_measure, size_measure, body_cost, dispatcher_size, timer_size, shared_size}
 use Rattle.rt_app.specs.Steps.{block_steps}
 use Rattle.rt_app.specs.Length.{too_long}

@@ -1,21 +1,20 @@
 -- The stack of an accepted application is small, and whole pairs of words.
-use Rattle.std.proofs.Common.{◌≡◌, ◌⊎◌, ℕ, zero, suc, ◌+◌, ◌*◌, ◌/◌, ◌%◌, ◌^◌, ◌<◌, ◌≤◌, min, max, Bool, true, false, List, [], ◌∷◌, map, filter, Option, Some, None, refl, sym, ap, subst, ◌∙◌, inl, inr, arith, if◌then◌else◌}
+use Rattle.std.proofs.Common.{◌≡◌, ℕ, zero, suc, ◌+◌, ◌*◌, ◌/◌, ◌%◌, ◌^◌, ◌≤◌, min, max, Bool, true, false, List, [], ◌∷◌, map, filter, Option, Some, None, refl, arith, if◌then◌else◌}
 use Rattle.std.specs.List.{AllByRecursion, list_any}
 use Rattle.std.proofs.Math.Nat.{pow-le-pow_right}
-use Rattle.std.proofs.lemmas.Bool.{cases_lt}
 use Rattle.rt_lemmas.proofs.Membership.{all_weaker}
 use Rattle.rt_ids.specs.Lists.{greatest}
 use Rattle.rt_app.specs.declared.costs.TheConstants.{PRIORITIES}
 use Rattle.rt_app.specs.Tree.{Spawn, Soon, After, Statement, Bind, Assign, Branch, Repeat, Locked, Emit, Pend, Spawns, Block, Empty, Then, Body, Task, App}
 use Rattle.rt_app.specs.Variables.{variables, variables_in}
-use Rattle.rt_app.specs.Spawned.{is_soon, spawns}
+use Rattle.rt_app.specs.Spawned.{spawns}
 use Rattle.rt_app.specs.Level.{is_of_level}
 use Rattle.rt_app.specs.Frame.{block_depth, has_loop, statement_locks, locks, spawn_words, expression_words, even, first_spawn_slot, frame_words}
-use Rattle.rt_app.specs.Stack.{is_bound_at, frames_of, is_timed_at, has_handler, dispatcher_need, timer_need, need, level_bytes, bytes_below, thread_frame, thread_words, stack_bytes}
+use Rattle.rt_app.specs.Stack.{is_bound_at, frames_of, is_timed_at, has_handler, dispatcher_need, timer_need, need, level_bytes, bytes_below, thread_frame, stack_bytes}
 use Rattle.rt_app.specs.Limits.{statements_in, statements_of, inner_blocks, blocks_of, KeepsBodyLimits, KeepsThreadLimits, KeepsTaskLimits}
 use Rattle.rt_app.specs.Accepted.{IsAccepted}
 use Rattle.rt_app.proofs.Parts.{Parts}
-use Rattle.rt_app.proofs.Members.{greatest_within}
+use Rattle.rt_ids.proofs.Greatest.{greatest_within}
 use Rattle.rt_app.proofs.SoundCeilings.{handled_in_range}
 
 mutual

@@ -1,22 +1,20 @@
 -- The statements of a body that breaks no rule are sound.
-use Rattle.std.proofs.Common.{◌≡◌, ◌⊎◌, ℕ, zero, suc, ◌+◌, ◌<◌, ◌≤◌, ◌==◌, Bool, true, false, Contains, List, [], ◌∷◌, ◌++◌, length, map, flat_map, refl, subst, inl, inr, arith, eq-eqb}
-use Rattle.std.specs.Prelude.{◌&&◌, ◌||◌, not}
+use Rattle.std.proofs.Common.{◌≡◌, ℕ, ◌+◌, ◌<◌, ◌≤◌, ◌==◌, Bool, true, false, Contains, List, [], ◌∷◌, ◌++◌, length, flat_map, refl, subst, inl, inr, arith, eq-eqb}
 use Rattle.std.specs.List.{list_any}
 use Rattle.std.proofs.lemmas.Bool.{eqb-true}
 use Rattle.rt_lemmas.proofs.Bools.{or_left, or_right, or_cases, true_and_false}
 use Rattle.rt_lemmas.proofs.Lists.{append_none_left, append_none_right}
-use Rattle.rt_lemmas.proofs.Membership.{contains_cases, contains_here, any_contained, any_left, any_right, none_of_front, none_of_back}
+use Rattle.rt_lemmas.proofs.Membership.{contains_cases, any_contained, any_left, any_right, none_of_front, none_of_back}
 use Rattle.rt_ids.specs.Lists.{is_some_and}
 use Rattle.rt_ids.specs.declared.rule.Rule.TheVariants as rule
-use Rattle.rt_ids.specs.declared.ids.Section.TheVariants as section
 use Rattle.rt_app.specs.declared.expr.Atom.{Atom}
 use Rattle.rt_app.specs.declared.expr.Atom.TheVariants as atom
-use Rattle.rt_app.specs.Tree.{Expression, Spawn, Statement, Bind, Assign, Branch, Repeat, Locked, Emit, Pend, Spawns, Block, Empty, Then, App}
+use Rattle.rt_app.specs.Tree.{Spawn, Statement, Bind, Assign, Branch, Repeat, Locked, Emit, Pend, Spawns, Block, Empty, Then, App}
 use Rattle.rt_app.specs.Variables.{variables, variables_in}
 use Rattle.rt_app.specs.Bodies.{Member}
 use Rattle.rt_app.specs.Spawned.{statement_spawns, spawns}
 use Rattle.rt_app.specs.Level.{holds}
-use Rattle.rt_app.specs.Ceiling.{lists, ceiling}
+use Rattle.rt_app.specs.Ceiling.{lists}
 use Rattle.rt_app.specs.Limits.{StatementFits, BlockFits}
 use Rattle.rt_app.specs.Use.{reads, statement_uses, uses, statement_loops, loops}
 use Rattle.rt_app.specs.Statements.{is_init, listing_in, is_lockable, is_outside, is_misplaced_lock, is_inside_itself, is_fixed, breaks}

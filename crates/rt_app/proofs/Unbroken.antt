@@ -1,5 +1,5 @@
 -- What it means that a rule is not broken.
-use Rattle.std.proofs.Common.{◌≡◌, ◌⊎◌, ℕ, ◌<◌, ◌≤◌, ◌==◌, Bool, true, false, List, [], ◌∷◌, ◌++◌, flat_map, refl, inl, inr, arith}
+use Rattle.std.proofs.Common.{◌≡◌, ◌⊎◌, ℕ, ◌<◌, ◌≤◌, Bool, true, false, [], refl, inl, inr, arith}
 use Rattle.std.specs.Prelude.{◌&&◌, ◌||◌, not, is_none, Option, Some, None}
 use Rattle.std.proofs.lemmas.Bool.Decides.{nat_tests}
 use Rattle.rt_ids.specs.declared.rule.Rule.{Rule}

@@ -1,5 +1,5 @@
 -- What holds of every accepted application.
-use Rattle.std.specs.Prelude.{◌≡◌, ℕ, ◌+◌, ◌%◌, ◌^◌, ◌<◌, ◌≤◌, true, false, length, Contains, List, map, sum_by, slice_get, Some, IsSome}
+use Rattle.std.specs.Prelude.{◌≡◌, ℕ, ◌+◌, ◌%◌, ◌^◌, ◌<◌, ◌≤◌, true, false, length, Contains, map, sum_by, slice_get, Some, IsSome}
 use Rattle.std.specs.List.{AllByRecursion}
 use Rattle.rt_ids.specs.Lists.{AreDifferent}
 use Rattle.rt_ids.specs.Choice.{IsIn}
@@ -11,7 +11,7 @@ use Rattle.rt_ids.specs.declared.ids.Section.TheVariants as section
 use Rattle.rt_app.specs.Tree.{App}
 use Rattle.rt_app.specs.Bodies.{Member, members, member_at}
 use Rattle.rt_app.specs.Names.{names_of}
-use Rattle.rt_app.specs.Level.{levels}
+use Rattle.rt_app.specs.Level.{is_software, levels}
 use Rattle.rt_app.specs.Ceiling.{ceiling}
 use Rattle.rt_app.specs.Listing.{Listing, listings, is_lock_free}
 use Rattle.rt_app.specs.Declarations.{owns}
@@ -40,21 +40,28 @@ pub record IsSound (app : App) : Type 0 where
   pub ceilings : (s : Section) → IsSectionOf app s → ceiling app s ≤ 2 ^ app.bits
   -- a resource that is `lock_free` is listed at one priority; one that is read as `&name` is so by all that list it,
   -- and is not `lock_free`; a local one is listed by one body
-  pub lock_free : (l k : Listing) → IsIn (listings app) l → IsIn (listings app) k → l.listed.resource ≡ k.listed.resource → is_lock_free app l.listed.resource ≡ true → l.priority ≡ k.priority
-  pub alike : (l k : Listing) → IsIn (listings app) l → IsIn (listings app) k → l.listed.resource ≡ k.listed.resource → l.listed.by_ref ≡ k.listed.by_ref
-  pub read_alone : (l : Listing) → IsIn (listings app) l → l.listed.by_ref ≡ true → is_lock_free app l.listed.resource ≡ false
-  pub owners : (n i j : ℕ) (m o : Member) → slice_get (members app) i ≡ Some m → slice_get (members app) j ≡ Some o → owns n m ≡ true → owns n o ≡ true → i ≡ j
+  pub lock_free : (l k : Listing) → IsIn (listings app) l → IsIn (listings app) k
+      → l.listed.resource ≡ k.listed.resource → is_lock_free app l.listed.resource ≡ true → l.priority ≡ k.priority
+  pub alike : (l k : Listing) → IsIn (listings app) l → IsIn (listings app) k → l.listed.resource ≡ k.listed.resource
+      → l.listed.by_ref ≡ k.listed.by_ref
+  pub read_alone : (l : Listing) → IsIn (listings app) l → l.listed.by_ref ≡ true
+      → is_lock_free app l.listed.resource ≡ false
+  pub owners : (n i j : ℕ) (m o : Member) → slice_get (members app) i ≡ Some m → slice_get (members app) j ≡ Some o
+      → owns n m ≡ true → owns n o ≡ true → i ≡ j
   -- an interrupt that serves something is declared, serves that alone, and at a priority that there is; numbers are
   -- those of interrupts, and differ; each level of software tasks has a dispatcher
   pub served : AllByRecursion (λ s. (s.irq < length app.irqs) × (1 ≤ s.level) × (s.level ≤ 2 ^ app.bits)) (services app)
   pub services_differ : AreDifferent (map (λ s. s.irq) (services app))
   pub numbers : AllByRecursion (λ d. d.number < IRQ_NUMBERS) app.irqs
   pub numbers_differ : AreDifferent (map (λ d. d.number) app.irqs)
+  -- a hardware task takes no arguments, since nobody spawns it
+  pub hardware : AllByRecursion (λ t. is_software t ≡ false → t.args ≡ 0) app.tasks
   pub dispatched : (p : ℕ) → Contains (levels app) p → IsSome (dispatcher_of app p)
   -- the stack is small, and whole pairs of words
   pub stack_small : stack_bytes app ≤ 2 ^ 20
   pub stack_pairs : stack_bytes app % 8 ≡ 0
   pub names : AreNames (names_of app)
 
+-- every accepted application can be run
 abbrev pub AcceptedAreSound : Type 0
 AcceptedAreSound = (app : App) → IsAccepted app → IsSound app

@@ -1,6 +1,6 @@
--- The applications that are accepted, as they show it themselves: they break no rule and keep the limits, their names are names
--- and differ, each number in them is the place of something that is declared, a variable is in scope where it is read or assigned,
--- and the body lists the local resources that it uses, as a task of RTIC 1 does.
+-- The applications that are accepted, as they show it themselves: they break no rule and keep the limits, their names
+-- are names and differ, each number in them is the place of something that is declared, a variable is in scope where
+-- it is read or assigned, and the body lists the local resources that it uses, as a task of RTIC 1 does.
 use Rattle.std.specs.Prelude.{◌≡◌, ℕ, ◌+◌, ◌<◌, Contains, List, [], ◌∷◌, length, map, Option, Some, None}
 use Rattle.std.specs.List.{AllByRecursion, range_with_len}
 use Rattle.rt_ids.specs.Lists.{AreDifferent}
@@ -21,15 +21,19 @@ module _ (app : App) (listed : List ℕ) where
   IsMeant visible (Shared r) = r < length app.shared
   IsMeant visible (Local n) = (n < length app.locals) × Contains listed n
 
+  -- each atom of an expression is in scope or declared
   abbrev pub AreMeant : List ℕ → Expression → Type 0
   AreMeant visible (Num n) = Unit {0}
   AreMeant visible (Read atom at) = IsMeant visible atom
   AreMeant visible (Oper o left right) = AreMeant visible left × AreMeant visible right
 
+  -- the task that is spawned is declared, and the arguments are meant
   abbrev pub IsSpawnPlaced : List ℕ → Spawn → Type 0
   IsSpawnPlaced visible (Soon task args at) = (task < length app.tasks) × AllByRecursion (AreMeant visible) args
-  IsSpawnPlaced visible (After word delay task args at) = AreMeant visible delay × (task < length app.tasks) × AllByRecursion (AreMeant visible) args
+  IsSpawnPlaced visible (After word delay task args at) =
+      AreMeant visible delay × (task < length app.tasks) × AllByRecursion (AreMeant visible) args
 
+  -- of the value of a `let`
   abbrev pub IsValuePlaced : List ℕ → Value → Type 0
   IsValuePlaced visible (Calc e) = AreMeant visible e
   IsValuePlaced visible (Now at) = Unit {0}
@@ -51,7 +55,8 @@ module _ (app : App) (listed : List ℕ) where
     pub IsStatementPlaced : ℕ → List ℕ → Statement → Type 0
     IsStatementPlaced n visible (Bind x v) = (x ≡ n) × IsValuePlaced visible v
     IsStatementPlaced n visible (Assign x e at) = IsMeant visible x × AreMeant visible e
-    IsStatementPlaced n visible (Branch e first second) = AreMeant visible e × IsBlockPlaced n visible first × IsBlockPlaced (n + variables first) visible second
+    IsStatementPlaced n visible (Branch e first second) =
+        AreMeant visible e × IsBlockPlaced n visible first × IsBlockPlaced (n + variables first) visible second
     IsStatementPlaced n visible (Repeat x first last turn) = (x ≡ n) × IsBlockPlaced (n + 1) (n ∷ visible) turn
     IsStatementPlaced n visible (Locked r inner at) = (r < length app.shared) × IsBlockPlaced n visible inner
     IsStatementPlaced n visible (Emit e) = AreMeant visible e
@@ -60,7 +65,8 @@ module _ (app : App) (listed : List ℕ) where
 
     pub IsBlockPlaced : ℕ → List ℕ → Block → Type 0
     IsBlockPlaced n visible Empty = Unit {0}
-    IsBlockPlaced n visible (Then s rest) = IsStatementPlaced n visible s × IsBlockPlaced (n + variables_in s) (behind n visible s) rest
+    IsBlockPlaced n visible (Then s rest) =
+        IsStatementPlaced n visible s × IsBlockPlaced (n + variables_in s) (behind n visible s) rest
 
 module _ (app : App) where
   -- a body that takes so many arguments
@@ -72,6 +78,7 @@ module _ (app : App) where
     pub local_once : AreDifferent (map (λ o. o.local) b.local)
     pub block : IsBlockPlaced app (map (λ o. o.local) b.local) args (range_with_len 0 args) b.block
 
+  -- `idle`, where it is declared, takes no arguments
   abbrev pub IsThreadPlaced : Option Body → Type 0
   IsThreadPlaced None = Unit {0}
   IsThreadPlaced (Some b) = IsBodyPlaced 0 b
@@ -81,17 +88,21 @@ module _ (app : App) where
   IsInitPlaced None = Unit {0}
   IsInitPlaced (Some b) = IsBodyPlaced 0 b × (b.shared ≡ [])
 
+  -- the interrupt that a hardware task binds is declared
   abbrev pub IsBindingPlaced : Option ℕ → Type 0
   IsBindingPlaced None = Unit {0}
   IsBindingPlaced (Some irq) = irq < length app.irqs
 
+  -- so is the interrupt of the monotonic
   abbrev pub IsMonoPlaced : Option Mono → Type 0
   IsMonoPlaced None = Unit {0}
   IsMonoPlaced (Some mono) = mono.irq < length app.irqs
 
+  -- a task binds and uses what is declared
   abbrev pub IsTaskPlaced : Task → Type 0
   IsTaskPlaced t = IsBindingPlaced t.binds × IsBodyPlaced t.args t.body
 
+-- an application that breaks no rule, keeps the limits, and names only what is declared
 pub record IsAccepted (app : App) : Type 0 where
   pub rules : violations app ≡ []
   pub limits : KeepsLimits app

@@ -5,6 +5,7 @@ use Rattle.rt_ids.specs.declared.ids.BodyId.{BodyId}
 use Rattle.rt_ids.specs.declared.ids.BodyId.TheVariants as body
 use Rattle.rt_app.specs.Tree.{Body, Task, App}
 
+-- a body as the application has it
 pub record Member : Type 0 where
   pub id : BodyId
   pub priority : ℕ
@@ -20,7 +21,8 @@ thread_members id (Some b) = record { id = id; priority = 0; args = 0; body = b 
 -- tasks, the first of which has this number
 abbrev pub task_members : ℕ → List Task → List Member
 task_members n [] = []
-task_members n (t ∷ ts) = record { id = body.Task n; priority = t.priority; args = t.args; body = t.body } ∷ task_members (n + 1) ts
+task_members n (t ∷ ts) =
+    record { id = body.Task n; priority = t.priority; args = t.args; body = t.body } ∷ task_members (n + 1) ts
 
 -- `init`, `idle` and the tasks, where they are declared
 abbrev pub members : App → List Member
@@ -36,7 +38,9 @@ body_at app (body.Task n) = option_map (λ t. t.body) (slice_get app.tasks n)
 abbrev pub member_at : App → BodyId → Option Member
 member_at app body.Init = option_map (λ b. record { id = body.Init; priority = 0; args = 0; body = b }) app.init
 member_at app body.Idle = option_map (λ b. record { id = body.Idle; priority = 0; args = 0; body = b }) app.idle
-member_at app (body.Task n) = option_map (λ t. record { id = body.Task n; priority = t.priority; args = t.args; body = t.body }) (slice_get app.tasks n)
+member_at app (body.Task n) =
+    option_map (λ t. record { id = body.Task n; priority = t.priority; args = t.args; body = t.body })
+    (slice_get app.tasks n)
 
 -- the priority of a task, which of a software task is its level; 0 where there is none
 abbrev pub task_priority : App → ℕ → ℕ

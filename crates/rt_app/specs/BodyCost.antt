@@ -7,9 +7,11 @@ use Rattle.rt_app.specs.Level.{is_of_level, levels, tasks_of_level, armed_messag
 use Rattle.rt_ids.specs.Lists.{greatest}
 use Rattle.rt_app.specs.Cost.{Measure, capped, block_cost}
 
+-- core steps, where all messages that may be armed are
 abbrev pub cost_measure : App → Measure
 cost_measure app = record { messages = armed_messages app; is_size = false }
 
+-- instructions, which more than some messages do not make more
 abbrev pub size_measure : App → Measure
 size_measure app = record { messages = min (armed_messages app) SIZED_MESSAGES; is_size = true }
 
@@ -33,18 +35,22 @@ timer_section_cost app = TIMER_SECTION_COST + MESSAGE_COST * armed_messages app
 -- it runs one body of its level, and this sum does not stop
 abbrev pub dispatcher_cost : App → ℕ → ℕ
 dispatcher_cost app p =
-    DISPATCHER_COST + READY_TASK_COST * tasks_of_level app p + greatest (map (λ t. body_cost (cost_measure app) t.body) (filter (is_of_level p) app.tasks))
+    DISPATCHER_COST + READY_TASK_COST * tasks_of_level app p
+    + greatest (map (λ t. body_cost (cost_measure app) t.body) (filter (is_of_level p) app.tasks))
 
+-- the timer handler, more for each message and each task that may be armed
 abbrev pub timer_cost : App → ℕ
 timer_cost app = TIMER_COST + MESSAGE_COST * armed_messages app + TIMER_TASK_COST * armed_tasks app
 
+-- a dispatcher has code for each task of its level
 abbrev pub dispatcher_size : App → ℕ → ℕ
 dispatcher_size app p = DISPATCHER_COST + DISPATCHER_TASK_SIZE * tasks_of_level app p
 
 -- the timer handler stands where there is a monotonic
 abbrev pub timer_size : App → Option Mono → ℕ
 timer_size app None = 0
-timer_size app (Some mono) = TIMER_COST + MESSAGE_COST * min (armed_messages app) SIZED_MESSAGES + TIMER_TASK_SIZE * armed_tasks app
+timer_size app (Some mono) =
+    TIMER_COST + MESSAGE_COST * min (armed_messages app) SIZED_MESSAGES + TIMER_TASK_SIZE * armed_tasks app
 
 -- the code that belongs to no body
 abbrev pub shared_size : App → ℕ

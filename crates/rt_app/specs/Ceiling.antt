@@ -1,6 +1,6 @@
--- Priority ceilings (Baker, Stack-Based Scheduling of Realtime Processes, 1991; the RTIC 1 book): the greatest priority of
--- the bodies that use what a section guards. That queues are guarded so, and by which ceilings, is this project's own.
--- The code fills a table for each kind in one pass over the bodies.
+-- Priority ceilings (Baker, Stack-Based Scheduling of Realtime Processes, 1991; the RTIC 1 book): the greatest
+-- priority of the bodies that use what a section guards. That queues are guarded so, and by which ceilings, is this
+-- project's own. The code fills a table for each kind in one pass over the bodies.
 use Rattle.std.specs.Prelude.{ℕ, ◌+◌, ◌==◌, max, Bool, not, ◌&&◌, List, [], ◌∷◌, map, filter, length, slice_get, Option, Some, None, option_map, if◌then◌else◌}
 use Rattle.std.specs.List.{list_any, range_with_len}
 use Rattle.rt_ids.specs.declared.ids.Section.{Section}
@@ -13,6 +13,7 @@ use Rattle.rt_app.specs.Spawned.{is_soon, target}
 use Rattle.rt_app.specs.Level.{is_software, is_of_level, levels, holds}
 use Rattle.rt_ids.specs.Lists.{is_some_and, greatest, or_zero}
 
+-- by resource; by task, where it is a software task; by level; and of the timer queue, where there is a monotonic
 pub record Ceilings : Type 0 where
   pub shared : List ℕ
   pub free : List (Option ℕ)
@@ -23,6 +24,7 @@ pub record Ceilings : Type 0 where
 abbrev pub greatest_priority : (Member → Bool) → App → ℕ
 greatest_priority test app = greatest (map (λ m. m.priority) (filter test (members app)))
 
+-- whether a body lists a shared resource
 abbrev pub lists : ℕ → Member → Bool
 lists r m = list_any (λ l. l.resource == r) m.body.shared
 
@@ -53,7 +55,8 @@ ready_ceiling app p = max p (max (greatest_priority (holds (readies app p)) app)
 
 -- the monotonic, and the bodies that spawn after a delay
 abbrev pub timer_ceiling : App → ℕ
-timer_ceiling app = max (or_zero (option_map (λ mono. mono.priority) app.mono)) (greatest_priority (holds (λ s. not (is_soon s))) app)
+timer_ceiling app =
+    max (or_zero (option_map (λ mono. mono.priority) app.mono)) (greatest_priority (holds (λ s. not (is_soon s))) app)
 
 -- the priority that a section of this holds off, with all below it
 abbrev pub ceiling : App → Section → ℕ
@@ -65,7 +68,8 @@ ceiling app section.Timer = timer_ceiling app
 -- of the tasks from this number on
 abbrev pub free_ceilings : App → ℕ → List Task → List (Option ℕ)
 free_ceilings app n [] = []
-free_ceilings app n (t ∷ ts) = (if is_software t then Some (ceiling app (section.Free n)) else None) ∷ free_ceilings app (n + 1) ts
+free_ceilings app n (t ∷ ts) =
+    (if is_software t then Some (ceiling app (section.Free n)) else None) ∷ free_ceilings app (n + 1) ts
 
 -- the ceilings of all that there is
 abbrev pub ceilings : App → Ceilings

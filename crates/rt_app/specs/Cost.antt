@@ -1,32 +1,38 @@
--- What a body takes: its cost is the greatest number of core steps of a run of it that is not interrupted, its size the
--- number of its instructions. Both are sums over its statements, with the same numbers; they are this project's own. A sum
--- stops one above the greatest cost that a body may have, so that no number grows beyond bounds.
+-- What a body takes: its cost is the greatest number of core steps of a run of it that is not interrupted, its size
+-- the number of its instructions. Both are sums over its statements, with the same numbers; they are this project's
+-- own. A sum stops one above the greatest cost that a body may have, so that no number grows beyond bounds.
 use Rattle.std.specs.Prelude.{ℕ, ◌+◌, ◌-◌, ◌*◌, min, max, Bool, List, [], ◌∷◌, if◌then◌else◌}
 use Rattle.rt_ids.specs.declared.limits.TheConstants.{BODY_COST}
 use Rattle.rt_app.specs.declared.costs.TheConstants.{SPAWN_COST, SPAWN_AFTER_COST, MESSAGE_COST, LOOP_COST, TURN_COST}
 use Rattle.rt_app.specs.Tree.{Expression, Num, Read, Oper, Spawn, Soon, After, Value, Calc, Now, Call, Statement, Bind, Assign, Branch, Repeat, Locked, Emit, Pend, Spawns, Block, Empty, Then}
 
+-- what is counted
 pub record Measure : Type 0 where
   -- the messages that may be armed at once
   pub messages : ℕ
   -- whether code is counted, both blocks of a branch and one turn of a loop, and not steps
   pub is_size : Bool
 
+-- up to one above the greatest cost that a body may have
 abbrev pub capped : ℕ → ℕ
 capped n = min n (BODY_COST + 1)
 
+-- one for each name, number and operation
 abbrev pub expression_cost : Expression → ℕ
 expression_cost (Num n) = 1
 expression_cost (Read atom at) = 1
 expression_cost (Oper o left right) = capped (expression_cost left + expression_cost right + 1)
 
+-- of the arguments of a spawn
 abbrev pub expressions_cost : List Expression → ℕ
 expressions_cost [] = 0
 expressions_cost (e ∷ es) = capped (expression_cost e + expressions_cost es)
 
+-- a spawn after a delay takes more for each message that may be armed
 abbrev pub spawn_cost : Measure → Spawn → ℕ
 spawn_cost m (Soon task args at) = capped (SPAWN_COST + expressions_cost args)
-spawn_cost m (After word delay task args at) = capped (SPAWN_AFTER_COST + MESSAGE_COST * m.messages + expression_cost delay + expressions_cost args)
+spawn_cost m (After word delay task args at) =
+    capped (SPAWN_AFTER_COST + MESSAGE_COST * m.messages + expression_cost delay + expressions_cost args)
 
 -- of `let x =` and this value
 abbrev pub bind_cost : Measure → Value → ℕ
@@ -34,9 +40,11 @@ bind_cost m (Calc e) = capped (expression_cost e + 1)
 bind_cost m (Now at) = 2
 bind_cost m (Call s) = capped (spawn_cost m s + 1)
 
+-- steps go through one block of a branch, code has both
 abbrev pub branch_cost : Measure → ℕ → ℕ → ℕ
 branch_cost m first second = if m.is_size then first + second else max first second
 
+-- steps take each turn of a loop, code has one
 abbrev pub turns : Measure → ℕ → ℕ → ℕ
 turns m first last = if m.is_size then 1 else last - first
 
@@ -48,8 +56,10 @@ abbrev mutual
   pub statement_cost : Measure → Statement → ℕ
   statement_cost m (Bind x v) = bind_cost m v
   statement_cost m (Assign x e at) = capped (expression_cost e + 1)
-  statement_cost m (Branch e first second) = capped (expression_cost e + 2 + branch_cost m (block_cost m first) (block_cost m second))
-  statement_cost m (Repeat x first last turn) = capped (LOOP_COST + turns m first last * (block_cost m turn + TURN_COST))
+  statement_cost m (Branch e first second) =
+      capped (expression_cost e + 2 + branch_cost m (block_cost m first) (block_cost m second))
+  statement_cost m (Repeat x first last turn) =
+      capped (LOOP_COST + turns m first last * (block_cost m turn + TURN_COST))
   statement_cost m (Locked r inner at) = lock_cost (block_cost m inner)
   statement_cost m (Emit e) = capped (expression_cost e + 1)
   statement_cost m (Pend i) = 1

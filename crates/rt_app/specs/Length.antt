@@ -1,5 +1,6 @@
--- The rule on what bodies take: none has more steps than a body may, and up to none the code has more instructions than it may. So
--- each body behind the first with which the code is too long breaks the rule too; the first is the one that is refused.
+-- The rule on what bodies take: none has more steps than a body may, and up to none the code has more instructions
+-- than it may. So each body behind the first with which the code is too long breaks the rule too; the first is the
+-- one that is refused.
 use Rattle.std.specs.Prelude.{ℕ, ◌+◌, nat_lt, ◌||◌, List, [], ◌∷◌, ◌++◌}
 use Rattle.rt_ids.specs.declared.limits.TheConstants.{BODY_COST, CODE_SIZE}
 use Rattle.rt_ids.specs.declared.rule.Rule.TheVariants as rule
@@ -17,5 +18,6 @@ too_long app before (m ∷ ms) =
     when (nat_lt BODY_COST (body_cost (cost_measure app) m.body) || nat_lt CODE_SIZE behind) rule.TooLongBody m.body.at
     ++ too_long app behind ms
 
+-- every body that is too long, behind the code that belongs to no body
 abbrev pub lengths : App → List Violation
 lengths app = too_long app (shared_size app) (members app)

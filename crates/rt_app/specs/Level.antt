@@ -1,8 +1,9 @@
--- Software tasks, the levels that dispatchers serve, and the tasks whose messages can be armed (the RTIC 1 book, software
--- tasks and the monotonic). The code keeps a table by priority for the levels, and one by task for the armed tasks.
-use Rattle.std.specs.Prelude.{ℕ, zero, suc, ◌+◌, ◌==◌, Bool, not, ◌&&◌, is_none, false, List, [], ◌∷◌, ◌++◌, count_by, Option, Some, None, if◌then◌else◌}
+-- Software tasks, the levels that dispatchers serve, and the tasks whose messages can be armed (the RTIC 1 book,
+-- software tasks and the monotonic). The code keeps a table by priority for the levels, and one by task for the armed
+-- tasks.
+use Rattle.std.specs.Prelude.{ℕ, ◌+◌, ◌==◌, Bool, not, ◌&&◌, is_none, List, [], ◌∷◌, count_by, if◌then◌else◌}
 use Rattle.std.specs.List.{list_any}
-use Rattle.rt_ids.specs.Lists.{those_below, is_some_and}
+use Rattle.rt_ids.specs.Lists.{those_below}
 use Rattle.rt_app.specs.declared.costs.TheConstants.{PRIORITIES}
 use Rattle.rt_app.specs.Tree.{Task, App, Spawn}
 use Rattle.rt_app.specs.Bodies.{Member, members}
@@ -24,6 +25,7 @@ levels app = those_below (λ p. list_any (is_of_level p) app.tasks) PRIORITIES
 abbrev pub tasks_of_level : App → ℕ → ℕ
 tasks_of_level app p = count_by (is_of_level p) app.tasks
 
+-- whether a spawn is one of this task after a delay
 abbrev pub arms : ℕ → Spawn → Bool
 arms n s = not (is_soon s) && (target s == n)
 
@@ -40,6 +42,7 @@ abbrev pub armed_capacities : App → ℕ → List Task → ℕ
 armed_capacities app n [] = 0
 armed_capacities app n (t ∷ ts) = (if is_armed app n then t.capacity else 0) + armed_capacities app (n + 1) ts
 
+-- how many there are, of those from this number on
 abbrev pub armed_count : App → ℕ → List Task → ℕ
 armed_count app n [] = 0
 armed_count app n (t ∷ ts) = (if is_armed app n then 1 else 0) + armed_count app (n + 1) ts

@@ -13,6 +13,9 @@ pub mod Stack
 pub mod Waiting
 pub mod Bounds
 pub mod Handlers
+pub mod Sending
+pub mod Meaning
+pub mod Doings
 pub mod Violation
 pub mod Declarations
 pub mod Listing
@@ -25,3 +28,6 @@ pub mod Names
 pub mod Accepted
 pub mod Sound
 pub mod Acceptance
+pub mod Layout
+pub mod Holding
+pub mod Plan

@@ -43,10 +43,12 @@ ExpressionFits (Num n) = n < 2 ^ 32
 ExpressionFits (Read atom at) = Unit {0}
 ExpressionFits (Oper o left right) = ExpressionFits left × ExpressionFits right
 
+-- of the arguments of a spawn, and of its delay
 abbrev pub SpawnFits : Spawn → Type 0
 SpawnFits (Soon task args at) = AllByRecursion ExpressionFits args
 SpawnFits (After word delay task args at) = ExpressionFits delay × AllByRecursion ExpressionFits args
 
+-- of the value of a `let`
 abbrev pub ValueFits : Value → Type 0
 ValueFits (Calc e) = ExpressionFits e
 ValueFits (Now at) = Unit {0}
@@ -58,7 +60,8 @@ abbrev mutual
   StatementFits (Bind x v) = ValueFits v
   StatementFits (Assign x e at) = ExpressionFits e
   StatementFits (Branch e first second) = ExpressionFits e × BlockFits first × BlockFits second
-  StatementFits (Repeat x first last turn) = (first < 2 ^ 32) × (last < 2 ^ 32) × (last - first ≤ TURNS) × BlockFits turn
+  StatementFits (Repeat x first last turn) =
+      (first < 2 ^ 32) × (last < 2 ^ 32) × (last - first ≤ TURNS) × BlockFits turn
   StatementFits (Locked r inner at) = BlockFits inner
   StatementFits (Emit e) = ExpressionFits e
   StatementFits (Pend i) = Unit {0}
@@ -68,22 +71,26 @@ abbrev mutual
   BlockFits Empty = Unit {0}
   BlockFits (Then s rest) = StatementFits s × BlockFits rest
 
+-- few statements, blocks and expressions that are not too deep, numbers that fit
 pub record KeepsBodyLimits (b : Body) : Type 0 where
   pub statements : statements_of b.block ≤ STATEMENTS
   pub nesting : blocks_of b.block ≤ NESTING
   pub depth : block_depth b.block ≤ DEPTH
   pub numbers : BlockFits b.block
 
+-- of `init` and `idle`, where they are declared
 abbrev pub KeepsThreadLimits : Option Body → Type 0
 KeepsThreadLimits None = Unit {0}
 KeepsThreadLimits (Some b) = KeepsBodyLimits b
 
+-- few arguments, and as many messages as a task may have out
 pub record KeepsTaskLimits (t : Task) : Type 0 where
   pub args : t.args ≤ ARGUMENTS
   pub least_capacity : 1 ≤ t.capacity
   pub most_capacity : t.capacity ≤ CAPACITY
   pub body : KeepsBodyLimits t.body
 
+-- of a whole application
 pub record KeepsLimits (app : App) : Type 0 where
   pub least_bits : LEAST_BITS ≤ app.bits
   pub most_bits : app.bits ≤ MOST_BITS

@@ -1,11 +1,10 @@
--- The names that an application declares. As RTIC 1 has functions for tasks and fields for resources, of which Rust takes no two
--- of one name, names of one kind differ; it is this language's own that shared and local resources are one kind.
-use Rattle.std.specs.Prelude.{◌≡◌, ℕ, ◌≤◌, nat_le, ◌==◌, Bool, true, false, ◌&&◌, ◌||◌, codes, List, [], ◌∷◌, ◌++◌, length, map, slice_get, Some}
-use Rattle.std.specs.List.{AllByRecursion, list_all, list_any}
-use Rattle.std.specs.Str.{bytes_eq}
+-- The names that an application declares. As RTIC 1 has functions for tasks and fields for resources, of which Rust
+-- takes no two of one name, names of one kind differ; it is this language's own that shared and local resources are
+-- one kind.
+use Rattle.std.specs.Prelude.{◌++◌, map}
+use Rattle.std.specs.List.{AllByRecursion}
 use Rattle.rt_ids.specs.Word.{IsName}
 use Rattle.rt_ids.specs.Lists.{AreDifferent}
-use Rattle.rt_ids.specs.declared.limits.TheConstants.{NAME_BYTES}
 use Rattle.rt_ids.specs.Names.{Names}
 use Rattle.rt_app.specs.Tree.{App}
 
@@ -17,6 +16,7 @@ names_of app = record {
   shared = map (λ r. r.name) app.shared;
 }
 
+-- what an application declares are names, and those of one kind differ
 pub record HasNames (app : App) : Type 0 where
   pub irqs : AllByRecursion (λ d. IsName d.name) app.irqs
   pub tasks : AllByRecursion (λ t. IsName t.name) app.tasks

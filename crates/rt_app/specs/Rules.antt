@@ -7,5 +7,6 @@ use Rattle.rt_app.specs.Listing.{listed}
 use Rattle.rt_app.specs.Statements.{statements}
 use Rattle.rt_app.specs.Length.{lengths}
 
+-- every rule that an application breaks, those on declarations first
 abbrev pub violations : App → List Violation
 violations app = declarations app ++ (listed app ++ (statements app ++ lengths app))

@@ -2,6 +2,7 @@
 use Rattle.std.specs.Prelude.{ℕ, Bool, true, false, List, [], ◌∷◌, ◌++◌}
 use Rattle.rt_app.specs.Tree.{Spawn, Soon, After, Value, Calc, Now, Call, Statement, Bind, Assign, Branch, Repeat, Locked, Emit, Pend, Spawns, Block, Empty, Then}
 
+-- of the value of a `let`
 abbrev pub value_spawns : Value → List Spawn
 value_spawns (Calc e) = []
 value_spawns (Now at) = []
@@ -23,6 +24,7 @@ abbrev mutual
   spawns Empty = []
   spawns (Then s rest) = statement_spawns s ++ spawns rest
 
+-- whether the message is ready at once
 abbrev pub is_soon : Spawn → Bool
 is_soon (Soon task args at) = true
 is_soon (After word delay task args at) = false

@@ -1,5 +1,6 @@
--- How deep the one stack can get. Handlers of one level never stand on each other, so each level counts once, with the
--- greatest need of its handlers: a maximum per level, where the machine has nested frames (Baker, 1991, on sharing a stack).
+-- How deep the one stack can get. Handlers of one level never stand on each other, so each level counts once, with
+-- the greatest need of its handlers: a maximum per level, where the machine has nested frames (Baker, 1991, on
+-- sharing a stack).
 use Rattle.std.specs.Prelude.{ℕ, zero, suc, ◌+◌, ◌*◌, ◌==◌, max, Bool, not, ◌&&◌, ◌||◌, List, map, filter, Option, Some, None, if◌then◌else◌}
 use Rattle.std.specs.List.{list_any}
 use Rattle.rt_app.specs.declared.costs.TheConstants.{DISPATCHER_WORDS, TIMER_WORDS, ENTRY_BYTES, PRIORITIES}
@@ -12,9 +13,11 @@ use Rattle.rt_app.specs.Frame.{frame_words}
 abbrev pub is_bound_at : ℕ → Task → Bool
 is_bound_at p t = not (is_software t) && (t.priority == p)
 
+-- the frames of the tasks that pass, in words
 abbrev pub frames_of : (Task → Bool) → App → List ℕ
 frames_of test app = map (λ t. frame_words t.args t.body) (filter test app.tasks)
 
+-- whether the timer handler runs at this priority
 abbrev pub is_timed_at : ℕ → App → Bool
 is_timed_at p app = is_some_and (λ mono. mono.priority == p) app.mono
 
@@ -24,8 +27,10 @@ has_handler app p = list_any (λ t. t.priority == p) app.tasks || is_timed_at p 
 
 -- the words of a dispatcher, on which one of its tasks stands
 abbrev pub dispatcher_need : App → ℕ → ℕ
-dispatcher_need app p = if list_any (is_of_level p) app.tasks then DISPATCHER_WORDS + greatest (frames_of (is_of_level p) app) else 0
+dispatcher_need app p =
+    if list_any (is_of_level p) app.tasks then DISPATCHER_WORDS + greatest (frames_of (is_of_level p) app) else 0
 
+-- the words of the timer handler, where it runs at this level
 abbrev pub timer_need : App → ℕ → ℕ
 timer_need app p = if is_timed_at p app then TIMER_WORDS else 0
 
@@ -33,6 +38,7 @@ timer_need app p = if is_timed_at p app then TIMER_WORDS else 0
 abbrev pub need : App → ℕ → ℕ
 need app p = max (greatest (frames_of (is_bound_at p) app)) (max (dispatcher_need app p) (timer_need app p))
 
+-- a level takes what exception entry pushes and the greatest need of its handlers
 abbrev pub level_bytes : App → ℕ → ℕ
 level_bytes app p = if has_handler app p then ENTRY_BYTES + 4 * need app p else 0
 
@@ -41,6 +47,7 @@ unfoldable pub bytes_below : App → ℕ → ℕ
 bytes_below app zero = 0
 bytes_below app (suc p) = bytes_below app p + level_bytes app p
 
+-- of `init` or `idle`, where it is declared
 abbrev pub thread_frame : Option Body → ℕ
 thread_frame None = 0
 thread_frame (Some b) = frame_words 0 b

@@ -1,5 +1,5 @@
--- The rules on statements: shared resources (Baker, 1991; the RTIC 1 book), spawns, time, and what can be assigned to. A name
--- that is not known, which is refused as such, breaks none of them.
+-- The rules on statements: shared resources (Baker, 1991; the RTIC 1 book), spawns, time, and what can be assigned
+-- to. A name that is not known, which is refused as such, breaks none of them.
 use Rattle.std.specs.Prelude.{ℕ, ◌==◌, Bool, true, false, not, ◌&&◌, ◌||◌, List, [], ◌++◌, length, flat_map, find, slice_get, Option, is_none}
 use Rattle.std.specs.List.{list_any}
 use Rattle.rt_ids.specs.declared.ids.BodyId.{BodyId}
@@ -18,6 +18,7 @@ use Rattle.rt_app.specs.Declarations.{is_known}
 use Rattle.rt_app.specs.Listing.{is_lock_free}
 use Rattle.rt_app.specs.Use.{Use, Reads, Writes, Locks, MakesSpawn, AsksTime, Placed, uses, loops}
 
+-- whether a body is `init`, in which interrupts are masked
 abbrev pub is_init : BodyId → Bool
 is_init body.Init = true
 is_init body.Idle = false
@@ -40,12 +41,14 @@ abbrev pub is_outside : App → Member → List ℕ → Atom → Bool
 is_outside app m locked (atom.Var x) = false
 is_outside app m locked (atom.Local n) = false
 is_outside app m locked (atom.Shared r) =
-    is_known r && (not (is_init m.id) && not (is_free app m r || (is_lockable app m r && list_any (λ q. q == r) locked)))
+    is_known r
+    && (not (is_init m.id) && not (is_free app m r || (is_lockable app m r && list_any (λ q. q == r) locked)))
 
 -- `init` locks nothing, any other body what it lists to be locked
 abbrev pub is_misplaced_lock : App → Member → ℕ → Bool
 is_misplaced_lock app m r = is_known r && (is_init m.id || not (is_lockable app m r))
 
+-- a lock of a resource that is locked already
 abbrev pub is_inside_itself : List ℕ → ℕ → Bool
 is_inside_itself locked r = is_known r && list_any (λ q. q == r) locked
 
@@ -59,23 +62,31 @@ is_fixed m (atom.Shared r) = is_known r && (not (is_init m.id) && is_some_and (�
 abbrev pub takes : List Expression → Task → Bool
 takes args t = is_software t && (length args == t.args)
 
+-- a spawn of a hardware task, or with another number of arguments
 abbrev pub is_bad_spawn : App → ℕ → List Expression → Bool
 is_bad_spawn app n args = is_known n && not (is_some_and (takes args) (slice_get app.tasks n))
 
+-- the rules that a spawn breaks: one after a delay wants a monotonic
 abbrev pub spawn_breaks : App → Spawn → List Violation
 spawn_breaks app (Soon task args at) = when (is_bad_spawn app task args) rule.NotSoftware at
 spawn_breaks app (After word delay task args at) =
     when (is_none app.mono) rule.NoMonotonic word ++ when (is_bad_spawn app task args) rule.NotSoftware at
 
+-- the rules that a use breaks, where these resources are locked
 abbrev pub use_breaks : App → Member → List ℕ → Use → List Violation
 use_breaks app m locked (Reads x at) = when (is_outside app m locked x) rule.OutsideLock at
-use_breaks app m locked (Writes x at) = when (is_outside app m locked x) rule.OutsideLock at ++ when (is_fixed m x) rule.NotWritable at
-use_breaks app m locked (Locks r at) = when (is_misplaced_lock app m r) rule.OutsideLock at ++ when (is_inside_itself locked r) rule.LockedInsideItself at
+use_breaks app m locked (Writes x at) =
+    when (is_outside app m locked x) rule.OutsideLock at ++ when (is_fixed m x) rule.NotWritable at
+use_breaks app m locked (Locks r at) =
+    when (is_misplaced_lock app m r) rule.OutsideLock at
+    ++ when (is_inside_itself locked r) rule.LockedInsideItself at
 use_breaks app m locked (MakesSpawn s) = spawn_breaks app s
 use_breaks app m locked (AsksTime at) = when (is_none app.mono) rule.NoMonotonic at
 
+-- the rules that a use breaks where it stands
 abbrev pub breaks : App → Member → Placed → List Violation
 breaks app m p = use_breaks app m p.locked p.what
 
+-- every rule on statements that is broken
 abbrev pub statements : App → List Violation
 statements app = flat_map (λ m. flat_map (breaks app m) (uses [] m.body.block)) (members app)

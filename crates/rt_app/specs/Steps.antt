@@ -1,22 +1,26 @@
--- What a body takes where nothing stops the count: the sums of costs and sizes without their cap, so that sums of parts are plain
--- sums. The code counts up to a cap; the law below ties the two.
-use Rattle.std.specs.Prelude.{◌≡◌, ℕ, ◌+◌, ◌*◌, ◌≤◌, List, [], ◌∷◌}
+-- What a body takes where nothing stops the count: the sums of costs and sizes without their cap, so that sums of
+-- parts are plain sums. The code counts up to a cap; the law below ties the two.
+use Rattle.std.specs.Prelude.{◌≡◌, ℕ, ◌+◌, ◌*◌, List, [], ◌∷◌}
 use Rattle.rt_app.specs.declared.costs.TheConstants.{SPAWN_COST, SPAWN_AFTER_COST, MESSAGE_COST, LOOP_COST, TURN_COST}
 use Rattle.rt_app.specs.Tree.{Expression, Num, Read, Oper, Spawn, Soon, After, Value, Calc, Now, Call, Statement, Bind, Assign, Branch, Repeat, Locked, Emit, Pend, Spawns, Block, Empty, Then}
-use Rattle.rt_app.specs.Cost.{Measure, capped, branch_cost, turns, expression_cost, expressions_cost, spawn_cost, statement_cost, block_cost}
+use Rattle.rt_app.specs.Cost.{Measure, capped, branch_cost, turns, expression_cost, spawn_cost, statement_cost, block_cost}
 
+-- one for each name, number and operation
 abbrev pub expression_steps : Expression → ℕ
 expression_steps (Num n) = 1
 expression_steps (Read atom at) = 1
 expression_steps (Oper o left right) = expression_steps left + expression_steps right + 1
 
+-- of the arguments of a spawn
 abbrev pub expressions_steps : List Expression → ℕ
 expressions_steps [] = 0
 expressions_steps (e ∷ es) = expression_steps e + expressions_steps es
 
+-- a spawn after a delay takes more for each message that may be armed
 abbrev pub spawn_steps : Measure → Spawn → ℕ
 spawn_steps m (Soon task args at) = SPAWN_COST + expressions_steps args
-spawn_steps m (After word delay task args at) = SPAWN_AFTER_COST + MESSAGE_COST * m.messages + expression_steps delay + expressions_steps args
+spawn_steps m (After word delay task args at) =
+    SPAWN_AFTER_COST + MESSAGE_COST * m.messages + expression_steps delay + expressions_steps args
 
 -- of `let x =` and this value
 abbrev pub bind_steps : Measure → Value → ℕ
@@ -28,7 +32,8 @@ abbrev mutual
   pub statement_steps : Measure → Statement → ℕ
   statement_steps m (Bind x v) = bind_steps m v
   statement_steps m (Assign x e at) = expression_steps e + 1
-  statement_steps m (Branch e first second) = expression_steps e + 2 + branch_cost m (block_steps m first) (block_steps m second)
+  statement_steps m (Branch e first second) =
+      expression_steps e + 2 + branch_cost m (block_steps m first) (block_steps m second)
   statement_steps m (Repeat x first last turn) = LOOP_COST + turns m first last * (block_steps m turn + TURN_COST)
   statement_steps m (Locked r inner at) = 2 + block_steps m inner
   statement_steps m (Emit e) = expression_steps e + 1

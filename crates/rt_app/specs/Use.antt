@@ -1,8 +1,10 @@
--- What the statements of a body do that the rules speak of, in order of the text, with the resources that are locked round it.
+-- What the statements of a body do that the rules speak of, in order of the text, with the resources that are locked
+-- round it.
 use Rattle.std.specs.Prelude.{ℕ, List, [], ◌∷◌, ◌++◌, flat_map}
 use Rattle.rt_app.specs.declared.expr.Atom.{Atom}
 use Rattle.rt_app.specs.Tree.{Expression, Num, Read, Oper, Spawn, Soon, After, Value, Calc, Now, Call, Statement, Bind, Assign, Branch, Repeat, Locked, Emit, Pend, Spawns, Block, Empty, Then}
 
+-- a name is read or assigned, a resource is locked, a task is spawned, the time is asked
 pub data Use : Type 0 where
   Reads : Atom → (at : ℕ) → Use
   Writes : Atom → (at : ℕ) → Use
@@ -10,24 +12,30 @@ pub data Use : Type 0 where
   MakesSpawn : Spawn → Use
   AsksTime : (at : ℕ) → Use
 
+-- a use, and the resources that are locked round it
 pub record Placed : Type 0 where
   pub what : Use
   -- innermost first
   pub locked : List ℕ
 
 module _ (locked : List ℕ) where
+  -- with these resources locked
   abbrev pub placed : Use → Placed
   placed u = record { what = u; locked = locked }
 
+  -- an expression reads its names
   abbrev pub reads : Expression → List Placed
   reads (Num n) = []
   reads (Read atom at) = placed (Reads atom at) ∷ []
   reads (Oper o left right) = reads left ++ reads right
 
+  -- a spawn reads its arguments, and its delay
   abbrev pub spawn_uses : Spawn → List Placed
   spawn_uses (Soon task args at) = placed (MakesSpawn (Soon task args at)) ∷ flat_map reads args
-  spawn_uses (After word delay task args at) = placed (MakesSpawn (After word delay task args at)) ∷ (reads delay ++ flat_map reads args)
+  spawn_uses (After word delay task args at) =
+      placed (MakesSpawn (After word delay task args at)) ∷ (reads delay ++ flat_map reads args)
 
+  -- of the value of a `let`
   abbrev pub value_uses : Value → List Placed
   value_uses (Calc e) = reads e
   value_uses (Now at) = placed (AsksTime at) ∷ []

@@ -1,5 +1,5 @@
 -- The applications that the code builds, as applications of the definitions.
-use Rattle.std.specs.Prelude.{ℕ, List, [], ◌∷◌, map, option_map}
+use Rattle.std.specs.Prelude.{List, [], ◌∷◌, map, option_map}
 use Rattle.rt_app.specs.Tree as tree
 use Rattle.rt_app.specs.declared.expr.Expr.{Expr, Num, Read, Oper'}
 use Rattle.rt_app.specs.declared.stmt.Spawn.{Spawn}
@@ -11,15 +11,19 @@ use Rattle.rt_app.specs.declared.body.Body.{Body}
 use Rattle.rt_app.specs.declared.app.Task.{Task}
 use Rattle.rt_app.specs.declared.app.App.{App}
 
+-- an expression
 abbrev pub expression_of : Expr → tree.Expression
 expression_of (Num n) = tree.Num n
 expression_of (Read atom at) = tree.Read atom at
 expression_of (Oper' op p a q b) = tree.Oper op (expression_of a) (expression_of b)
 
+-- a spawn
 abbrev pub spawn_of : Spawn → tree.Spawn
 spawn_of (spawn.Soon task args at) = tree.Soon task (map expression_of args.items) at
-spawn_of (spawn.After word delay task args at) = tree.After word (expression_of delay) task (map expression_of args.items) at
+spawn_of (spawn.After word delay task args at) =
+    tree.After word (expression_of delay) task (map expression_of args.items) at
 
+-- the value of a `let`
 abbrev pub value_of : Value → tree.Value
 value_of (value.Calc e) = tree.Calc (expression_of e)
 value_of (value.Now at) = tree.Now at
@@ -40,13 +44,16 @@ abbrev mutual
   row_block end_of-Stmt = tree.Empty
   row_block (more_of-Stmt s rest) = tree.Then (statement_of s) (row_block rest)
 
+-- a block
 abbrev pub block_of : List Stmt → tree.Block
 block_of [] = tree.Empty
 block_of (s ∷ stmts) = tree.Then (statement_of s) (block_of stmts)
 
+-- a body with what it lists
 abbrev pub body_of : Body → tree.Body
 body_of b = record { shared = b.shared.items; local = b.local.items; block = block_of b.block.items; at = b.at }
 
+-- a task
 abbrev pub task_of : Task → tree.Task
 task_of t = record {
   name = t.name;
@@ -61,6 +68,7 @@ task_of t = record {
   body = body_of t.body;
 }
 
+-- a whole application
 abbrev pub app_of : App → tree.App
 app_of a = record {
   bits = a.bits;

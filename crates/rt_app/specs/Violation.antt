@@ -1,5 +1,5 @@
--- Rules that are broken, each with the offset of its place, and the first of them: the one at the smallest offset, and at one
--- offset the one of the smallest refusal number.
+-- Rules that are broken, each with the offset of its place, and the first of them: the one at the smallest offset,
+-- and at one offset the one of the smallest refusal number.
 use Rattle.std.specs.Prelude.{◌≡◌, ℕ, ◌<◌, ◌≤◌, ◌⊎◌, Bool, List, [], ◌∷◌, Contains, if◌then◌else◌}
 use Rattle.std.specs.List.{AllByRecursion}
 use Rattle.rt_ids.specs.declared.rule.Rule.{Rule}
@@ -27,9 +27,11 @@ rank rule.NotWritable = 18
 abbrev pub when : Bool → Rule → ℕ → List Violation
 when broken what at = if broken then record { at = at; rule = what } ∷ [] else []
 
+-- a violation is refused before or beside another
 abbrev pub IsNotAfter : Violation → Violation → Type 0
 IsNotAfter v w = (v.at < w.at) ⊎ ((v.at ≡ w.at) × (rank v.rule ≤ rank w.rule))
 
+-- the one that is refused
 pub record IsFirst (all : List Violation) (v : Violation) : Type 0 where
   pub is_one : Contains all v
   pub first : AllByRecursion (IsNotAfter v) all

@@ -33,25 +33,32 @@ pub record Critical : Type 0 where
 module _ (app : App) (level : ℕ) where
   -- and that stands in sections of ceilings up to this
   module _ (outer : ℕ) where
+    -- a section that guards this
     abbrev pub critical : Section → ℕ → Critical
     critical s cost = record { level = level; outer = outer; ceiling = ceiling app s; cost = cost }
 
+    -- the places that a software task's messages have left
     abbrev pub free_section : ℕ → Critical
     free_section task = critical (section.Free task) FREE_COST
 
+    -- the ready messages of a level
     abbrev pub ready_section : ℕ → ℕ → Critical
     ready_section p cost = critical (section.Ready p) cost
 
+    -- the armed messages
     abbrev pub timer_section : Critical
     timer_section = critical section.Timer (timer_section_cost app)
 
+    -- a lock round a block
     abbrev pub lock_section : ℕ → Block → Critical
     lock_section r inner = critical (section.Res r) (lock_cost (block_cost (cost_measure app) inner))
 
+    -- a spawn takes a place, and makes its message ready or arms it
     abbrev pub spawn_sections : Spawn → List Critical
     spawn_sections (Soon task args at) = free_section task ∷ ready_section (task_priority app task) READY_COST ∷ []
     spawn_sections (After word delay task args at) = free_section task ∷ timer_section ∷ []
 
+    -- of the value of a `let`
     abbrev pub value_sections : Value → List Critical
     value_sections (Calc e) = []
     value_sections (Now at) = []
@@ -75,6 +82,7 @@ module _ (app : App) (level : ℕ) where
     block_sections outer (Then s rest) = statement_sections outer s ++ block_sections outer rest
 
 module _ (app : App) where
+  -- of `idle`, where it is declared
   abbrev pub idle_sections : Option Body → List Critical
   idle_sections None = []
   idle_sections (Some b) = block_sections app 0 0 b.block
@@ -98,6 +106,7 @@ module _ (app : App) where
       (if is_software t && is_armed app n then ready_section app level 0 t.priority READY_COST ∷ [] else [])
       ++ moved_sections level (n + 1) ts
 
+  -- of the timer handler, where there is a monotonic
   abbrev pub handler_sections : Option Mono → List Critical
   handler_sections None = []
   handler_sections (Some mono) = timer_section app mono.priority 0 ∷ moved_sections mono.priority 0 app.tasks
@@ -110,5 +119,6 @@ sections app = idle_sections app app.idle ++ (tasks_sections app 0 app.tasks ++ 
 abbrev pub holds_off : ℕ → Critical → Bool
 holds_off p s = nat_lt s.level p && nat_lt s.outer p && nat_le p s.ceiling
 
+-- the greatest cost of a section that may hold off a job of this priority
 abbrev pub waiting_bound : App → ℕ → ℕ
 waiting_bound app p = greatest (map (λ s. s.cost) (filter (holds_off p) (sections app)))

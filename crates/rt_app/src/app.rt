@@ -72,8 +72,9 @@ pub struct Task {
     pub body: Body,
 }
 
-/// An application with its names resolved: an interrupt, a task or a resource is its place in the order of declaration, and
-/// a name that is not declared is 255. It carries the offset of each name and number at which a rule can be found broken.
+/// An application with its names resolved: an interrupt, a task or a resource is its place in the order of
+/// declaration, and a name that is not declared is 255. It carries the offset of each name and number at which a rule
+/// can be found broken.
 #[derive(Debug, Drop)]
 pub struct App {
     /// Implemented priority bits.

@@ -37,5 +37,10 @@ impl Model for Bounds {
 
     ghost Value = { Bounds };
 
-    ghost view = { λ b. record { bodies = b.bodies.items; waits = b.waits.items; thread_words = b.thread_words; stack_bytes = b.stack_bytes } };
+    ghost view = { λ b. record {
+      bodies = b.bodies.items;
+      waits = b.waits.items;
+      thread_words = b.thread_words;
+      stack_bytes = b.stack_bytes;
+    } };
 }

@@ -8,8 +8,8 @@ pub struct ReadyCeiling {
     pub ceiling: u8,
 }
 
-/// The ceilings of all that critical sections guard: priorities, of which a section that guards it holds off all up to and
-/// with its ceiling.
+/// The ceilings of all that critical sections guard: priorities, of which a section that guards it holds off all up
+/// to and with its ceiling.
 #[derive(Debug, Drop)]
 pub struct Ceilings {
     /// Of the shared resources, in order of declaration.
@@ -27,5 +27,10 @@ impl Model for Ceilings {
 
     ghost Value = { Ceilings };
 
-    ghost view = { λ c. record { shared = c.shared.items; free = c.free.items; ready = c.ready.items; timer = c.timer } };
+    ghost view = { λ c. record {
+      shared = c.shared.items;
+      free = c.free.items;
+      ready = c.ready.items;
+      timer = c.timer;
+    } };
 }

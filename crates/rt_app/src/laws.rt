@@ -7,8 +7,8 @@ pub fn costs_are_capped_sums()
     ensures { CapSteps }
 {}
 
-/// An application that is accepted can be run: its bodies use what they may, as they may; they are short; and nothing that
-/// serves interrupts, guards resources or holds the stack is missing or used for two things.
+/// An application that is accepted can be run: its bodies use what they may, as they may; they are short; and nothing
+/// that serves interrupts, guards resources or holds the stack is missing or used for two things.
 #[tactic(auto, using(crate::proofs::Sound::accepted_are_sound))]
 pub fn accepted_applications_are_sound()
     ensures { AcceptedAreSound }

@@ -1,4 +1,4 @@
-// Applications with their names resolved, and what they mean: rules, ceilings, costs, frames, bounds.
+// Applications with their names resolved, and what they mean: rules, ceilings, costs, frames, bounds, memory.
 #![tactic(auto)]
 
 pub mod app;
@@ -8,7 +8,9 @@ pub mod ceilings;
 pub mod costs;
 pub mod expr;
 pub mod laws;
+pub mod layout;
 pub mod names;
+pub mod plan;
 pub mod stmt;
 pub mod violation;
 
@@ -18,6 +20,8 @@ pub use bounds::{BodyBound, Bounds, Wait};
 pub use ceilings::{Ceilings, ReadyCeiling};
 pub use expr::{Atom, Expr};
 pub use laws::{accepted_applications_are_sound, costs_are_capped_sums};
+pub use layout::Layout;
+pub use plan::Plan;
 pub use stmt::{Spawn, Stmt, Value};
 pub use violation::Violation;
 

@@ -1,52 +1,69 @@
-ghost use Rattle.std.specs.Prelude.{◌≡◌, map, IfOk};
+ghost use Rattle.std.specs.Prelude.{◌≡◌, ◌≤◌, [], length, map, IfOk, OnOk};
+ghost use Rattle.std.specs.List.{AllByRecursion};
+ghost use Rattle.rt_ids.specs.Lists.{AreDifferent};
+ghost use Rattle.rt_ids.specs.Word.{IsName};
+ghost use Rattle.rt_ids.specs.declared.limits.TheConstants.{IRQS, TASKS, SHARED};
 ghost use Rattle.rt_app.specs.View.{app_of};
 ghost use Rattle.rt_app.specs.Names.{names_of};
+ghost use Rattle.rt_app.specs.Accepted.{IsAccepted};
 
 use crate::app::{App, IrqDecl, Shared, Task};
-use rt_ids::{Irq, Name, Names, NoMemory};
+use rt_ids::{Names, NoMemory};
 use std::alloc::Global;
 
-/// The interrupts' names and numbers.
-fn irq_names(alloc: Global, irqs: &[IrqDecl]) -> Result<Vec<(Name, Irq)>, NoMemory>
-    ensures { IfOk result (λ names. names.items ≡ map (λ d. (d.name, d.number)) irqs.now) }
+/// Declares the interrupts.
+fn add_irqs(alloc: Global, irqs: &[IrqDecl], names: &mut Names) -> Result<(), NoMemory>
+    requires named { AllByRecursion (λ d. IsName d.name) irqs.now }
+    requires differ { AreDifferent (map (λ d. d.name) irqs.now) }
+    requires few { length irqs.now ≤ IRQS }
+    requires none { names.old.irqs ≡ [] }
+    ensures { OnOk result (names.new ≡ record names.old { irqs = map (λ d. (d.name, d.number)) irqs.now }) }
 {
-    let mut names = Vec::new(alloc);
     for d in irqs {
-        names.push((Name::of(alloc, d.name.bytes())?, d.number))?;
+        names.add_irq(alloc, d.name.bytes(), d.number)?;
     }
-    Ok(names)
+    Ok(())
 }
 
-/// The tasks' names.
-fn task_names(alloc: Global, tasks: &[Task]) -> Result<Vec<Name>, NoMemory>
-    ensures { IfOk result (λ names. names.items ≡ map (λ t. t.name) tasks.now) }
+/// Declares the tasks.
+fn add_tasks(alloc: Global, tasks: &[Task], names: &mut Names) -> Result<(), NoMemory>
+    requires named { AllByRecursion (λ t. IsName t.name) tasks.now }
+    requires differ { AreDifferent (map (λ t. t.name) tasks.now) }
+    requires few { length tasks.now ≤ TASKS }
+    requires none { names.old.tasks ≡ [] }
+    ensures { OnOk result (names.new ≡ record names.old { tasks = map (λ t. t.name) tasks.now }) }
 {
-    let mut names = Vec::new(alloc);
     for t in tasks {
-        names.push(Name::of(alloc, t.name.bytes())?)?;
+        names.add_task(alloc, t.name.bytes())?;
     }
-    Ok(names)
+    Ok(())
 }
 
-/// The shared resources' names.
-fn shared_names(alloc: Global, shared: &[Shared]) -> Result<Vec<Name>, NoMemory>
-    ensures { IfOk result (λ names. names.items ≡ map (λ r. r.name) shared.now) }
+/// Declares the shared resources.
+fn add_resources(alloc: Global, shared: &[Shared], names: &mut Names) -> Result<(), NoMemory>
+    requires named { AllByRecursion (λ r. IsName r.name) shared.now }
+    requires differ { AreDifferent (map (λ r. r.name) shared.now) }
+    requires few { length shared.now ≤ SHARED }
+    requires none { names.old.shared ≡ [] }
+    ensures { OnOk result (names.new ≡ record names.old { shared = map (λ r. r.name) shared.now }) }
 {
-    let mut names = Vec::new(alloc);
     for r in shared {
-        names.push(Name::of(alloc, r.name.bytes())?)?;
+        names.add_resource(alloc, r.name.bytes())?;
     }
-    Ok(names)
+    Ok(())
 }
 
 impl App {
-    /// The names of the interrupts, the tasks and the shared resources, in order of declaration.
+    /// The names of the interrupts, the tasks and the shared resources, in order of declaration. The application is
+    /// one that is accepted, so they are names and differ.
     pub fn names(&self, alloc: Global) -> Result<Names, NoMemory>
+        requires { IsAccepted (app_of self.now) }
         ensures { IfOk result (λ names. names ≡ names_of (app_of self.now)) }
     {
-        let irqs = irq_names(alloc, &self.irqs)?;
-        let tasks = task_names(alloc, &self.tasks)?;
-        let shared = shared_names(alloc, &self.shared)?;
-        Ok(Names::new(irqs, tasks, shared))
+        let mut names = Names::new(alloc);
+        add_irqs(alloc, &self.irqs, &mut names)?;
+        add_tasks(alloc, &self.tasks, &mut names)?;
+        add_resources(alloc, &self.shared, &mut names)?;
+        Ok(names)
     }
 }

@@ -46,7 +46,8 @@ pub enum Stmt {
 impl Stmt {
     /// The choice between two blocks by a value.
     pub fn branch(condition: Expr, first: Vec<Stmt>, second: Vec<Stmt>) -> Stmt
-        ensures { statement_of result ≡ tree.Branch (expression_of condition) (block_of first.items) (block_of second.items) }
+        ensures { statement_of result
+            ≡ tree.Branch (expression_of condition) (block_of first.items) (block_of second.items) }
     {
         Stmt::Branch(condition, first, second)
     }

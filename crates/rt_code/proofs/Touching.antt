@@ -25,7 +25,7 @@ slice_get-set_other (x ∷ xs) (suc c) v zero h = refl
 slice_get-set_other (x ∷ xs) (suc c) v (suc k) h = slice_get-set_other xs c v k (λ e. h (ap suc e))
 
 -- the same word of two lists
-index_same : (xs ys : List ℕ) (i : ℕ) → slice_get xs i ≡ slice_get ys i → slice_index xs i ≡ slice_index ys i
+pub index_same : (xs ys : List ℕ) (i : ℕ) → slice_get xs i ≡ slice_get ys i → slice_index xs i ≡ slice_index ys i
 index_same xs ys i h = sym (unwrap_or-slice_get xs i 0) ∙ ap (λ o. unwrap_or o 0) h ∙ unwrap_or-slice_get ys i 0
 
 first_test : (a b : Bool) → (a && b) ≡ true → a ≡ true
@@ -88,7 +88,7 @@ abbrev pub aside : Effect → Effect
 aside (Traps t) = Traps t
 aside (Leads p asked) = Leads (with_memory p []) asked
 
-access_same : (i : Instr) (p : Processor) (cells : List ℕ) → access_of i (with_memory p cells) ≡ access_of i p
+pub access_same : (i : Instr) (p : Processor) (cells : List ℕ) → access_of i (with_memory p cells) ≡ access_of i p
 access_same (instr.Load d c) p cells = refl
 access_same (instr.Store c s) p cells = refl
 access_same (instr.LoadAt d c s) p cells = refl
@@ -240,3 +240,28 @@ done_sized i time p = refl
 pub slots_sized : (i : Instr) (time : ℕ) (p : Processor) → length (slots_after (effect i time p) p.slots) ≡ length p.slots
 slots_sized i time p =
     sized_if (are_there (cells_of i p) p.cells) (are_there (slots_of i) p.slots) (done i time p) p.slots (done_sized i time p)
+
+kept_sized_if : (b s : Bool) (e : Effect) (cells : List ℕ) → length (cells_after e cells) ≡ length cells → length (cells_after (tested e b s) cells) ≡ length cells
+kept_sized_if true true e cells h = h
+kept_sized_if true false e cells h = refl
+kept_sized_if false s e cells h = refl
+
+done_kept_sized : (i : Instr) (time : ℕ) (p : Processor) → length (cells_after (done i time p) p.cells) ≡ length p.cells
+done_kept_sized (instr.Store c s) time p = length-set p.cells c _
+done_kept_sized (instr.StoreAt c s a) time p = length-set p.cells _ _
+done_kept_sized (instr.JumpZ s l) time p = ap length (jump_keeps (slot p s == 0) p l)
+done_kept_sized (instr.Unmask s) time p = ap length (unmask_keeps (nat_le (slot p s) 1) (slot p s == 1) p)
+done_kept_sized i time p = refl
+
+-- an instruction keeps the size of memory
+pub cells_sized : (i : Instr) (time : ℕ) (p : Processor) → length (cells_after (effect i time p) p.cells) ≡ length p.cells
+cells_sized i time p =
+    kept_sized_if (are_there (cells_of i p) p.cells) (are_there (slots_of i) p.slots) (done i time p) p.cells (done_kept_sized i time p)
+
+-- the access goes by the slots alone
+pub access_masked : (i : Instr) (p : Processor) (basepri : ℕ) (primask : Bool) → access_of i (record p { basepri = basepri; primask = primask }) ≡ access_of i p
+access_masked (instr.Load d c) p basepri primask = refl
+access_masked (instr.Store c s) p basepri primask = refl
+access_masked (instr.LoadAt d c s) p basepri primask = refl
+access_masked (instr.StoreAt c s a) p basepri primask = refl
+access_masked i p basepri primask = refl

@@ -1,4 +1,5 @@
 pub mod Image
+pub mod Stack
 pub mod Processor
 pub mod Access
 pub mod Operands
@@ -7,7 +8,14 @@ pub mod Laws
 pub mod Trap
 pub mod Runnable
 pub mod Cells
-pub mod Naming
+pub mod Tables
 pub mod Listable
 pub mod Lines
+pub mod Owning
+pub mod Acting
+pub mod Masking
+pub mod Standing
+pub mod Leading
+pub mod StandingSteps
+pub mod StandingLaws
 pub mod Inside

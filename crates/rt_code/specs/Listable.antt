@@ -3,13 +3,13 @@
 use Rattle.std.specs.Prelude.{◌≢◌, ℕ, ◌<◌, List, length, map, codes, Option, Some, None, IsSome, [], ◌∷◌}
 use Rattle.std.specs.List.{Contains, AllByRecursion}
 use Rattle.rt_ids.specs.Lists.{AreDifferent}
-use Rattle.rt_ids.specs.Names.{Names}
+use Rattle.rt_ids.specs.Names.{Names, AreNames}
 use Rattle.rt_ids.specs.declared.ids.BodyId.{BodyId}
 use Rattle.rt_ids.specs.declared.ids.BodyId.TheVariants as body
 use Rattle.rt_ids.specs.declared.ids.Section.{Section}
 use Rattle.rt_ids.specs.declared.ids.Section.TheVariants as section
 use Rattle.rt_code.specs.Image.{Image}
-use Rattle.rt_code.specs.Naming.{irq_named}
+use Rattle.rt_ids.specs.Naming.{irq_named}
 use Rattle.rt_code.specs.declared.instr.Instr.{Instr}
 use Rattle.rt_code.specs.declared.instr.Instr.TheVariants as instr
 use Rattle.rt_code.specs.declared.instr.Note.{Note}
@@ -38,6 +38,10 @@ pub record AreWritable (names : Names) : Type 0 where
   pub irqs_differ : AreDifferent (map (λ irq. irq.0) names.irqs)
   pub tasks_differ : AreDifferent names.tasks
   pub shared_differ : AreDifferent names.shared
+
+-- what the type of names keeps is enough
+abbrev pub NamesAreWritable : Type 0
+NamesAreWritable = (names : Names) → AreNames names → AreWritable names
 
 abbrev pub HasIrq : Names → ℕ → Type 0
 HasIrq names irq = IsSome (irq_named names irq)

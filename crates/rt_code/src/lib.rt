@@ -10,5 +10,5 @@ pub mod processor;
 pub use execution::execute;
 pub use image::{BodyRow, ENTRY_WORDS, Handler, Image, IrqRow};
 pub use instr::{Instr, Note};
-pub use laws::effect_is_done;
+pub use laws::{effect_is_done, names_are_writable};
 pub use processor::{Registers, Request, Trap};

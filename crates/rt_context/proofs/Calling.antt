@@ -10,7 +10,7 @@ use Rattle.rt_stack.specs.Top.{with_top}
 use Rattle.rt_code.specs.declared.image.BodyRow.{BodyRow}
 use Rattle.rt_stack.proofs.Frames.{top-behind, below-behind, with_top-same}
 use Rattle.rt_context.specs.declared.frames.Frames.TheInside.{Inside}
-use Rattle.rt_context.specs.Stack.{words_of, last_slot, arguments_fit}
+use Rattle.rt_code.specs.Stack.{words_of, last_slot, arguments_fit}
 use Rattle.rt_context.specs.Frames.{Frames, words_below}
 use Rattle.rt_context.specs.Moves.{has_room, may_call, call_fits, called}
 use Rattle.rt_ids.specs.Lists.{is_empty}

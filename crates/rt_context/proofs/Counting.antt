@@ -1,7 +1,7 @@
 -- How many words frames take.
 use Rattle.std.proofs.Common.{◌≡◌, ℕ, ◌≤◌, ◌*◌, List, [], ◌∷◌, ◌++◌, length, refl, sym, ap, arith, length-append, sum_by}
 use Rattle.std.proofs.lemmas.List.Sums.{sum_by-cons}
-use Rattle.rt_context.specs.Stack.{words_of}
+use Rattle.rt_code.specs.Stack.{words_of}
 use Rattle.rt_context.specs.Frames.{Saved, Frames, exception_frame, words_below, words, saved_words, used, depth}
 use Rattle.rt_context.proofs.Spelling.{length-exception_frame}
 

@@ -6,7 +6,7 @@ use Rattle.rt_stack.specs.Region.{Region, top, popped}
 use Rattle.rt_stack.specs.Region.{used as used_words, below as below_top}
 use Rattle.rt_context.specs.declared.exception.TheConstants.{LINK, RETURN_ADDRESS}
 use Rattle.rt_context.specs.declared.frames.Frames.TheInside.{Inside}
-use Rattle.rt_context.specs.Stack.{words_of, interrupted}
+use Rattle.rt_code.specs.Stack.{words_of, interrupted}
 use Rattle.rt_context.specs.Frames.{Saved, Frames, exception_frame, words_below, words}
 use Rattle.rt_context.specs.Moves.{resumed, left, back}
 use Rattle.rt_context.specs.Inside.Parts.{frames, caller_size, HasReturn, Spells, IsSpelled}

@@ -4,7 +4,7 @@ use Rattle.std.proofs.lemmas.Bool.Decides.{nat_tests}
 use Rattle.rt_stack.specs.Region.{Fits, top, below, popped}
 use Rattle.rt_stack.specs.Region.{used as used_words}
 use Rattle.rt_context.specs.declared.frames.Frames.TheInside.{Inside}
-use Rattle.rt_context.specs.Stack.{words_of}
+use Rattle.rt_code.specs.Stack.{words_of}
 use Rattle.rt_context.specs.Frames.{Frames, words_below, used}
 use Rattle.rt_context.specs.Moves.{has_room}
 use Rattle.rt_context.specs.Inside.Parts.{frames, Spells, IsSpelled}

@@ -4,7 +4,7 @@
 -- its image. That LR holds the size of the interrupted frame in place of EXC_RETURN, and that the stack grows to higher
 -- places, are this model's own. The code keeps the words and a few sizes, and reads the rest back from the words.
 use Rattle.std.specs.Prelude.{ℕ, ◌-◌, ◌*◌, List, [], ◌∷◌, ◌++◌, length, replicate, Option}
-use Rattle.rt_context.specs.Stack as stack
+use Rattle.rt_code.specs.Stack as stack
 
 -- what an entered handler interrupted
 pub record Saved : Type 0 where

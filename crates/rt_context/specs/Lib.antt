@@ -1,4 +1,3 @@
-pub mod Stack
 pub mod Frames
 pub mod Moves
 pub mod Laws

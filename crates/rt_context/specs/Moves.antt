@@ -1,7 +1,7 @@
 -- What exception entry and return, and a call of a body and its return, do to the frames.
 use Rattle.std.specs.Prelude.{ℕ, Bool, ◌&&◌, List, [], ◌∷◌, replicate, Option, Some, None, option_map}
 use Rattle.rt_code.specs.declared.image.BodyRow.{BodyRow}
-use Rattle.rt_context.specs.Stack as stack
+use Rattle.rt_code.specs.Stack as stack
 use Rattle.rt_context.specs.Frames.{Saved, Frames, used}
 
 -- the thread's frame of so many words alone

@@ -1,5 +1,5 @@
 -- What statements need of a frame, put together, and the words of a frame from it.
-use Rattle.std.proofs.Common.{◌≡◌, ℕ, ◌+◌, ◌<◌, max, Bool, true, false, ◌||◌, List, [], ◌∷◌, ◌++◌, map, take, get_or, length, refl, sym, ap, ◌∙◌, arith}
+use Rattle.std.proofs.Common.{◌≡◌, ℕ, ◌+◌, ◌<◌, max, Bool, true, false, ◌||◌, List, ◌++◌, map, take, get_or, length, refl, sym, ap, ◌∙◌, arith}
 use Rattle.std.proofs.lemmas.List.{map-append}
 use Rattle.rt_lemmas.proofs.Bools.{or_regrouped}
 use Rattle.rt_app.specs.Tree.{Expression, Spawn, Statement, Branch, Repeat, Locked, Block, Empty, Then}
@@ -7,6 +7,7 @@ use Rattle.rt_app.specs.View.{expression_of, statement_of, block_of}
 use Rattle.rt_app.specs.declared.expr.Expr.{Expr}
 use Rattle.rt_app.specs.declared.stmt.Stmt.{Stmt}
 use Rattle.rt_ids.specs.Lists.{greatest}
+use Rattle.rt_ids.proofs.Greatest.{greatest_append}
 use Rattle.rt_app.specs.Spawned.{statement_spawns, spawns}
 use Rattle.rt_app.specs.Frame.{depth, is_loop, spawn_words}
 use Rattle.rt_frames.specs.declared.frame.Parts.{Parts}
@@ -19,10 +20,6 @@ parts v d l k s = record { variables = v; depth = d; has_loop = l; locks = k; sp
 
 same : (v w d e : ℕ) (l m : Bool) (k j s t : ℕ) → v ≡ w → d ≡ e → l ≡ m → k ≡ j → s ≡ t → parts v d l k s ≡ parts w e m j t
 same v w d e l m k j s t p q r u x = rw (p, q, r, u, x) refl
-
-pub greatest_append : (xs ys : List ℕ) → greatest (xs ++ ys) ≡ max (greatest xs) (greatest ys)
-greatest_append [] ys = omega arith
-greatest_append (x ∷ xs) ys = omega (arith, greatest_append xs ys)
 
 words_append : (ss ts : List Spawn) → greatest (map spawn_words (ss ++ ts)) ≡ max (greatest (map spawn_words ss)) (greatest (map spawn_words ts))
 words_append ss ts = ap greatest (map-append spawn_words ss ts) ∙ greatest_append (map spawn_words ss) (map spawn_words ts)

@@ -15,7 +15,7 @@ use Rattle.rt_app.specs.Stack.{is_bound_at, has_handler, timer_need, need, level
 use Rattle.rt_frames.specs.Inside.Flags.{flagged, HasFlags, timer_numbers}
 use Rattle.rt_frames.specs.Inside.Needs.{need_at}
 use Rattle.rt_frames.proofs.Flagging.{flagged_at, flagged_both}
-use Rattle.rt_frames.proofs.Frames.{greatest_append}
+use Rattle.rt_ids.proofs.Greatest.{greatest_append}
 
 any_priority : (p : ℕ) (ts : List Task) → list_any (λ n. n == p) (map (λ t. t.priority) ts) ≡ list_any (λ t. t.priority == p) ts
 any_priority p [] = refl

@@ -9,3 +9,4 @@ pub mod Waits
 pub mod Tables
 pub mod Sections
 pub mod Within
+pub mod Listed

@@ -25,7 +25,7 @@ use Rattle.rt_app.specs.Waiting.{Critical, spawn_sections, value_sections, state
 use Rattle.rt_frames.specs.Inside.Flags.{HasFlags}
 use Rattle.rt_frames.specs.Inside.Waits.{shared_at, free_at, ready_at, if_reaches, spawn_wait, value_wait, statement_wait, block_wait, idle_wait, dispatcher_wait, task_wait, tasks_wait, move_wait, moves_wait, timer_wait, wait_within}
 use Rattle.rt_frames.specs.Inside.Bounded.{wait_of}
-use Rattle.rt_frames.proofs.Frames.{greatest_append}
+use Rattle.rt_ids.proofs.Greatest.{greatest_append}
 use Rattle.rt_frames.proofs.Tables.{shared_at_is, free_at_is, ready_at_is, timer_at_is}
 
 -- a number where a test holds, and else 0

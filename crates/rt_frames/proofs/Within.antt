@@ -1,5 +1,5 @@
 -- Within the limits no number of a frame or of the stack reaches the greatest one of 32 bits.
-use Rattle.std.proofs.Common.{◌≡◌, ℕ, zero, suc, ◌+◌, ◌*◌, ◌≤◌, max, Bool, true, false, List, [], ◌∷◌, ◌++◌, map, filter, cond, Option, Some, None, refl, ap, ◌∙◌, arith}
+use Rattle.std.proofs.Common.{◌≡◌, ℕ, zero, suc, ◌+◌, ◌*◌, ◌≤◌, min, max, if◌then◌else◌, Bool, true, false, List, [], ◌∷◌, ◌++◌, map, filter, cond, Option, Some, None, refl, ap, ◌∙◌, arith}
 use Rattle.std.specs.List.{AllByRecursion, list_any}
 use Rattle.std.proofs.lemmas.List.{map-append}
 use Rattle.rt_ids.specs.declared.ids.BodyId.{BodyId}
@@ -15,7 +15,9 @@ use Rattle.rt_app.specs.Bounds.{Bounds, body_bound, bounds}
 use Rattle.rt_app.specs.Waiting.{waiting_bound}
 use Rattle.rt_ids.specs.Lists.{greatest}
 use Rattle.rt_app.specs.Level.{is_of_level}
-use Rattle.rt_app.specs.Frame.{block_depth, has_loop, statement_locks, locks, spawn_words, frame_words}
+use Rattle.rt_app.specs.Frame.{block_depth, has_loop, statement_locks, locks, spawn_words, frame_words, expression_words, first_expression_slot, first_lock_slot, first_spawn_slot}
+use Rattle.rt_frames.specs.declared.frame.Parts.{Parts}
+use Rattle.rt_frames.specs.Inside.FrameParts.{block_parts}
 use Rattle.rt_app.specs.Variables.{variables_in, variables}
 use Rattle.rt_app.specs.Limits.{statements_in, statements_of, inner_blocks, blocks_of, KeepsBodyLimits, KeepsThreadLimits, KeepsTaskLimits, KeepsLimits}
 use Rattle.rt_app.specs.Stack.{is_bound_at, frames_of, is_timed_at, has_handler, need, level_bytes, bytes_below, thread_frame, thread_words, stack_bytes, handler_levels}
@@ -66,15 +68,15 @@ mutual
   variables_few Empty = omega arith
   variables_few (Then s rest) = omega (arith, variables_in_few s, variables_few rest)
 
-frame_few : (args : ℕ) (b : Body) → KeepsBodyLimits b → args ≤ 4 → frame_words args b ≤ 1100
+pub frame_few : (args : ℕ) (b : Body) → KeepsBodyLimits b → args ≤ 4 → frame_words args b ≤ 1100
 frame_few args b h few =
     omega (arith, variables_few b.block, h.statements, h.nesting, h.depth, locks_few b.block, words_few (spawns b.block), choice_few (has_loop b.block) (block_depth b.block))
 
-thread_few : (o : Option Body) → KeepsThreadLimits o → thread_frame o ≤ 1100
+pub thread_few : (o : Option Body) → KeepsThreadLimits o → thread_frame o ≤ 1100
 thread_few None h = omega arith
 thread_few (Some b) h = frame_few 0 b h (omega arith)
 
-task_few : (t : Task) → KeepsTaskLimits t → frame_words t.args t.body ≤ 1100
+pub task_few : (t : Task) → KeepsTaskLimits t → frame_words t.args t.body ≤ 1100
 task_few t h = frame_few t.args t.body h.body h.args
 
 thread_words_few : (app : App) → KeepsLimits app → thread_words app ≤ 1100
@@ -115,7 +117,7 @@ bytes_few app h (suc n) = more (bytes_below app n) (level_bytes app n) n (bytes_
 stack_few : (app : App) → KeepsLimits app → stack_bytes app ≤ 2000000
 stack_few app h = omega (arith, thread_words_few app h, bytes_few app h 256)
 
-whole : (n : ℕ) → n ≤ 1100 → saturated n ≡ n
+pub whole : (n : ℕ) → n ≤ 1100 → saturated n ≡ n
 whole n h = omega arith
 
 abbrev bound_with : BodyBound → ℕ → BodyBound
@@ -162,3 +164,50 @@ bounds_are app m bodies waits words bytes limits measure e f g h =
     same_bounds bodies (bounds app).bodies waits (bounds app).waits words (thread_words app) bytes (stack_bytes app)
     (e ∙ ap (λ n. map (member_bound n) (members app)) measure ∙ bodies_are app limits) f
     (g ∙ whole (thread_words app) (thread_words_few app limits)) (h ∙ small (stack_bytes app) (stack_few app limits))
+
+-- the parts of a frame of a body within the limits
+pub record FewSlots (b : Body) : Type 0 where
+  pub variables : variables b.block ≤ 1000
+  pub depth : block_depth b.block ≤ 16
+  pub locks : locks b.block ≤ 16
+
+pub slots_few : (b : Body) → KeepsBodyLimits b → FewSlots b
+slots_few b h = record {
+  variables = omega (arith, variables_few b.block, h.statements);
+  depth = h.depth;
+  locks = omega (arith, locks_few b.block, h.nesting);
+}
+
+-- the parts that the code finds are those of the body, whose sums do not stop
+abbrev pub Found : Body → Block → Parts → Type 0
+Found b found p = (found ≡ b.block) × (p ≡ block_parts found)
+
+found_few : (b : Body) (found : Block) (p : Parts) → KeepsBodyLimits b → Found b found p → (p.variables ≡ variables b.block) × (p.depth ≡ block_depth b.block) × (p.has_loop ≡ has_loop b.block) × (p.locks ≡ locks b.block)
+found_few b found p h (is, parts_is) =
+    let few = slots_few b h in
+    let all : p ≡ block_parts b.block = parts_is ∙ ap block_parts is in
+    (ap (λ p. p.variables) all ∙ whole (variables b.block) (omega (arith, few.variables)), ap (λ p. p.depth) all ∙ whole (block_depth b.block) (omega (arith, few.depth)), ap (λ p. p.has_loop) all, ap (λ p. p.locks) all ∙ whole (locks b.block) (omega (arith, few.locks)))
+
+pub first_expression : (args : ℕ) (b : Body) (found : Block) (p : Parts) (from first : ℕ) → args ≤ 4 → KeepsBodyLimits b → Found b found p → from ≡ args → first ≡ min (from + p.variables) 4294967295
+    → first ≡ first_expression_slot args b
+first_expression args b found p from first small h is same sum =
+    let few = slots_few b h in
+    let parts = found_few b found p h is in
+    omega (arith, few.variables, parts.0)
+
+pub first_mask : (args : ℕ) (b : Body) (found : Block) (p : Parts) (first words masks : ℕ) → args ≤ 4 → KeepsBodyLimits b → Found b found p → first ≡ first_expression_slot args b
+    → words ≡ max p.depth (if p.has_loop then 1 else 0) → masks ≡ min (first + words) 4294967295 → masks ≡ first_lock_slot args b
+first_mask args b found p first words masks small h is at words_is sum =
+    let few = slots_few b h in
+    let parts = found_few b found p h is in
+    let same : words ≡ expression_words b.block = words_is ∙ ap (λ d. max d (if p.has_loop then 1 else 0)) parts.1 ∙ ap (λ l. max (block_depth b.block) (if l then 1 else 0)) parts.2 in
+    let most = choice_few (has_loop b.block) (block_depth b.block) in
+    omega (arith, few.variables, few.depth)
+
+pub first_spawn : (args : ℕ) (b : Body) (found : Block) (p : Parts) (masks spawns : ℕ) → args ≤ 4 → KeepsBodyLimits b → Found b found p → masks ≡ first_lock_slot args b
+    → spawns ≡ min (masks + p.locks) 4294967295 → spawns ≡ first_spawn_slot args b
+first_spawn args b found p masks spawns small h is at sum =
+    let few = slots_few b h in
+    let parts = found_few b found p h is in
+    let most = choice_few (has_loop b.block) (block_depth b.block) in
+    omega (arith, few.variables, few.depth, few.locks, parts.3)

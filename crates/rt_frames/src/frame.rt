@@ -1,8 +1,10 @@
-ghost use Rattle.std.specs.Prelude.{◌≡◌, ◌+◌, map, max, option_map, true, if◌then◌else◌};
+ghost use Rattle.std.specs.Prelude.{◌≡◌, ◌+◌, ◌≤◌, map, max, option_map, true, if◌then◌else◌};
 ghost use Rattle.rt_app.specs.View.{expression_of, spawn_of, value_of, statement_of, block_of, body_of, app_of};
 ghost use Rattle.rt_ids.specs.Lists.{greatest};
 ghost use Rattle.rt_app.specs.Frame as frame;
 ghost use Rattle.rt_app.specs.Stack as stack;
+ghost use Rattle.rt_app.specs.Limits.{KeepsBodyLimits};
+ghost use Rattle.rt_ids.specs.declared.limits.TheConstants.{ARGUMENTS};
 ghost use Rattle.rt_frames.specs.Inside.Saturated.{saturated};
 ghost use Rattle.rt_frames.specs.Inside.FrameParts.{both, expression_parts, spawn_parts, value_parts, statement_parts};
 ghost use Rattle.rt_frames.specs.Inside.FrameParts.{block_parts};
@@ -176,6 +178,37 @@ fn expression_words(parts: &Parts) -> u32
     parts.depth.max(u32::from(parts.has_loop))
 }
 
+/// Where the parts of a body's frame begin: in front stand its variables, the arguments first.
+#[derive(Clone, Copy, Debug, PartialEq, Eq)]
+pub struct Slots {
+    /// The first slot where expressions are evaluated.
+    pub expressions: u32,
+    /// The first slot that keeps a mask.
+    pub masks: u32,
+    /// The first slot of a spawn.
+    pub spawns: u32,
+}
+
+impl Slots {
+    /// Those of a body with so many arguments.
+    pub fn of(args: u8, body: &Body) -> Slots
+        requires few { args ≤ ARGUMENTS }
+        requires limits { KeepsBodyLimits (body_of body.now) }
+        ensures expressions { result.expressions ≡ frame.first_expression_slot args (body_of body.now) }
+        ensures masks { result.masks ≡ frame.first_lock_slot args (body_of body.now) }
+        ensures spawns { result.spawns ≡ frame.first_spawn_slot args (body_of body.now) }
+    {
+        let parts = block(&body.block);
+        let expressions = u32::from(args).saturating_add(parts.variables);
+        let masks = expressions.saturating_add(expression_words(&parts));
+        Slots {
+            expressions,
+            masks,
+            spawns: masks.saturating_add(parts.locks),
+        }
+    }
+}
+
 /// The words of a body's frame, with so many arguments, up to the greatest number of 32 bits.
 pub(crate) fn frame_words(args: u8, body: &Body) -> u32
     ensures { result ≡ saturated (frame.frame_words args (body_of body.now)) }
@@ -189,7 +222,7 @@ pub(crate) fn frame_words(args: u8, body: &Body) -> u32
 }
 
 /// The words of the frame of `init` or `idle`, and none where it is not declared.
-fn thread_frame(body: &Option<Body>) -> u32
+pub(crate) fn thread_frame(body: &Option<Body>) -> u32
     ensures { result ≡ saturated (stack.thread_frame (option_map body_of body.now)) }
 {
     match body {

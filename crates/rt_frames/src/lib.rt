@@ -10,8 +10,11 @@ pub mod level;
 pub mod measure;
 pub mod stack;
 pub mod waiting;
+pub mod words;
 
 pub use bound::bounds;
 pub use cost::{body_cost, body_size, shared_size};
+pub use frame::Slots;
 pub use level::level_count;
 pub use measure::Measure;
+pub use words::body_frames;

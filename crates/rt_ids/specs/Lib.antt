@@ -2,6 +2,7 @@ pub mod Lists
 pub mod Byte
 pub mod Word
 pub mod Names
+pub mod Naming
 pub mod Status
 pub mod Event
 pub mod Operation
@@ -14,3 +15,4 @@ pub mod Action
 pub mod Doing
 pub mod Entry
 pub mod Storage
+pub mod Inside

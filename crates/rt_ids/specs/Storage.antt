@@ -1,7 +1,6 @@
 -- How an application's values lie in the cells of memory, and what the masks of its sections are: all that is asked of an
 -- application where code is said to do what its body means. The code has a layout with numbers of cells.
-use Rattle.std.specs.Prelude.{ℕ, Bool, List}
-use Rattle.rt_ids.specs.declared.ids.BodyId.{BodyId}
+use Rattle.std.specs.Prelude.{ℕ, Bool, List, Option}
 use Rattle.rt_ids.specs.declared.ids.Section.{Section}
 use Rattle.rt_ids.specs.Holder.{Holder}
 use Rattle.rt_ids.specs.Content.{Content}
@@ -34,3 +33,5 @@ pub record Storage : Type 1 where
   pub is_kept : Runner → Holder → Bool
   -- what a runner may read at any time, since nobody writes it: a resource that is listed as `&name`
   pub is_constant : Runner → Holder → Bool
+  -- the number of the monotonic's interrupt, where there is a monotonic
+  pub timer : Option ℕ

@@ -16,6 +16,7 @@ pub mod priority;
 pub mod refusal;
 pub mod rule;
 pub mod status;
+pub mod word;
 
 pub use cell::CellRow;
 pub use ids::{BodyId, ResId, Section, TaskId};
@@ -31,3 +32,4 @@ pub use priority::Prio;
 pub use refusal::{Fault, Refusal, Refused};
 pub use rule::Rule;
 pub use status::Status;
+pub use word::{is_identifier, is_letter, is_name, is_name_byte, is_word};

@@ -9,6 +9,12 @@ pub const SCRIPT_BYTES: u32 = 1_048_576;
 /// Events of a script, once its counts are expanded.
 pub const SCRIPT_EVENTS: u32 = 1_000_000;
 
+/// Devices that a script may name: their numbers are 0 to 15.
+pub const DEVICES: u8 = 16;
+
+/// Bytes of a trace text.
+pub const TRACE_BYTES: u32 = 268_435_456;
+
 /// Interrupt numbers that there are: 0 to 239.
 pub const IRQ_NUMBERS: u16 = 240;
 
@@ -44,6 +50,9 @@ pub const DEPTH: u32 = 16;
 
 /// Turns of a `for`.
 pub const TURNS: u32 = 1_000;
+
+/// Ticks that a delay counts at most.
+pub const LONGEST_DELAY: u32 = 2_147_483_647;
 
 /// Bytes of a name.
 pub const NAME_BYTES: usize = 32;

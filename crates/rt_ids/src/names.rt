@@ -1,55 +1,231 @@
-ghost use Rattle.std.specs.Prelude.{◌≡◌};
+ghost use Rattle.std.specs.Prelude.{◌≡◌, ◌<◌, ◌==◌, [], None, length, position, slice_get, option_map, IfOk, OnOk, OnErr};
+ghost use Rattle.rt_ids.specs.declared.limits.TheConstants.{IRQS, TASKS, SHARED};
+ghost use Rattle.rt_ids.specs.Names.{AreNames, no_names, irq_of, task_of, resource_of, with_irq, with_task, with_resource};
+ghost use Rattle.rt_ids.specs.Naming as naming;
+ghost use Rattle.rt_ids.specs.Word.{IsName};
 
+use crate::ids::{ResId, TaskId};
 use crate::irq::Irq;
-use crate::name::Name;
+use crate::memory::NoMemory;
+use indexmap::{IndexMap, IndexSet};
+use std::alloc::Global;
 use std::marker::Model;
 
-/// The names that an application declares, in order of declaration. Contracts see a record of three lists.
+/// The names that an application declares, in order of declaration. Contracts see a record of three lists: each is of
+/// names, none of them stands in it twice, and it is no longer than the limits allow.
 #[derive(Debug, Drop)]
 pub struct Names {
-    irqs: Vec<(Name, Irq)>,
-    tasks: Vec<Name>,
-    shared: Vec<Name>,
+    irqs: IndexMap<Vec<u8>, Irq>,
+    tasks: IndexSet<Vec<u8>>,
+    shared: IndexSet<Vec<u8>>,
 }
 
 impl Model for Names {
-    ghost use Rattle.rt_ids.specs.Names.{Names};
+    ghost use Rattle.rt_ids.specs.Names.{Names, AreNames};
+    ghost use Rattle.rt_ids.specs.Inside.Kept.{kept};
 
     ghost Value = { Names };
 
-    ghost view = { λ names. record { irqs = names.irqs.items; tasks = names.tasks.items; shared = names.shared.items } };
+    ghost view = { λ names. kept names.irqs.entries names.tasks.keys names.shared.keys };
+
+    ghost invariant = { λ names. AreNames (kept names.irqs.entries names.tasks.keys names.shared.keys) };
 }
 
 impl Names {
-    /// The names of these interrupts, tasks and shared resources.
-    pub fn new(irqs: Vec<(Name, Irq)>, tasks: Vec<Name>, shared: Vec<Name>) -> Names
-        ensures { result ≡ record { irqs = irqs.items; tasks = tasks.items; shared = shared.items } }
+    /// No names.
+    pub fn new(alloc: Global) -> Names
+        ensures { result ≡ no_names }
     {
         Names {
-            irqs,
-            tasks,
-            shared,
+            irqs: IndexMap::new(alloc),
+            tasks: IndexSet::new(alloc),
+            shared: IndexSet::new(alloc),
         }
     }
 
-    /// The declared interrupts, each with its number.
-    pub fn irqs(&self) -> &[(Name, Irq)]
-        ensures { result.now ≡ self.now.irqs }
+    /// Declares an interrupt more.
+    pub fn add_irq(&mut self, alloc: Global, name: &[u8], number: Irq) -> Result<(), NoMemory>
+        requires named { IsName name.now }
+        requires unknown { irq_of self.old name.now ≡ None }
+        requires room { length self.old.irqs < IRQS }
+        ensures added { OnOk result (self.new ≡ with_irq self.old name.now number) }
+        ensures unchanged { OnErr result (self.new ≡ self.old) }
     {
-        &self.irqs
+        self.irqs.insert(Vec::from_slice(alloc, name)?, number)?;
+        Ok(())
     }
 
-    /// The tasks: the one of `TaskId(n)` is at place n.
-    pub fn tasks(&self) -> &[Name]
-        ensures { result.now ≡ self.now.tasks }
+    /// Declares a task more.
+    pub fn add_task(&mut self, alloc: Global, name: &[u8]) -> Result<(), NoMemory>
+        requires named { IsName name.now }
+        requires unknown { task_of self.old name.now ≡ None }
+        requires room { length self.old.tasks < TASKS }
+        ensures added { OnOk result (self.new ≡ with_task self.old name.now) }
+        ensures unchanged { OnErr result (self.new ≡ self.old) }
     {
-        &self.tasks
+        self.tasks.insert(Vec::from_slice(alloc, name)?)?;
+        Ok(())
     }
 
-    /// The shared resources: the one of `ResId(n)` is at place n.
-    pub fn shared(&self) -> &[Name]
-        ensures { result.now ≡ self.now.shared }
+    /// Declares a shared resource more.
+    pub fn add_resource(&mut self, alloc: Global, name: &[u8]) -> Result<(), NoMemory>
+        requires named { IsName name.now }
+        requires unknown { resource_of self.old name.now ≡ None }
+        requires room { length self.old.shared < SHARED }
+        ensures added { OnOk result (self.new ≡ with_resource self.old name.now) }
+        ensures unchanged { OnErr result (self.new ≡ self.old) }
     {
-        &self.shared
+        self.shared.insert(Vec::from_slice(alloc, name)?)?;
+        Ok(())
     }
+
+    /// How many interrupts are declared, at most 240.
+    pub fn irq_count(&self) -> usize
+        ensures count { result ≡ length self.now.irqs }
+        ensures names { AreNames self.now }
+    {
+        self.irqs.len()
+    }
+
+    /// How many tasks there are, at most 64.
+    pub fn task_count(&self) -> usize
+        ensures count { result ≡ length self.now.tasks }
+        ensures names { AreNames self.now }
+    {
+        self.tasks.len()
+    }
+
+    /// How many shared resources there are, at most 64.
+    pub fn resource_count(&self) -> usize
+        ensures count { result ≡ length self.now.shared }
+        ensures names { AreNames self.now }
+    {
+        self.shared.len()
+    }
+
+    /// The interrupt at a place in the order of declaration, with its number.
+    pub fn irq_at(&self, place: usize) -> Option<(&[u8], Irq)>
+        ensures { option_map (λ irq. (irq.0.now, irq.1)) result ≡ slice_get self.now.irqs place }
+    {
+        match self.irqs.get_index(place) {
+            Some((name, number)) => Some((name.as_slice(), *number)),
+            None => None,
+        }
+    }
+
+    /// The name of a task.
+    pub fn task_at(&self, task: TaskId) -> Option<&[u8]>
+        ensures { option_map (λ name. name.now) result ≡ slice_get self.now.tasks task }
+    {
+        match self.tasks.get_index(usize::from(task.0)) {
+            Some(name) => Some(name.as_slice()),
+            None => None,
+        }
+    }
+
+    /// The name of a shared resource.
+    pub fn resource_at(&self, resource: ResId) -> Option<&[u8]>
+        ensures { option_map (λ name. name.now) result ≡ slice_get self.now.shared resource }
+    {
+        match self.shared.get_index(usize::from(resource.0)) {
+            Some(name) => Some(name.as_slice()),
+            None => None,
+        }
+    }
+
+    /// The number of the interrupt of this name, where it is declared.
+    pub fn irq_named(&self, name: &[u8]) -> Option<Irq>
+        ensures { result ≡ irq_of self.now name.now }
+    {
+        self.irqs.get(name).copied()
+    }
+
+    /// The task of this name, where there is one.
+    pub fn task_named(&self, name: &[u8]) -> Option<TaskId>
+        ensures { result ≡ task_of self.now name.now }
+    {
+        match self.tasks.get_index_of(name) {
+            Some(place) => Some(TaskId(place as u8)),
+            None => None,
+        }
+    }
+
+    /// The shared resource of this name, where there is one.
+    pub fn resource_named(&self, name: &[u8]) -> Option<ResId>
+        ensures { result ≡ resource_of self.now name.now }
+    {
+        match self.shared.get_index_of(name) {
+            Some(place) => Some(ResId(place as u8)),
+            None => None,
+        }
+    }
+
+    /// The name of the first declared interrupt of this number, where there is one.
+    pub fn irq_name(&self, number: Irq) -> Option<&[u8]>
+        ensures { option_map (λ name. name.now) result ≡ option_map (λ irq. irq.0) (naming.irq_named self.now number) }
+    {
+        let place = place_of(self.irqs.values().as_slice(), number)?;
+        let (name, _) = self.irqs.get_index(place)?;
+        Some(name.as_slice())
+    }
+
+    /// The same names, in memory of their own.
+    pub fn copy(&self, alloc: Global) -> Result<Names, NoMemory>
+        ensures { IfOk result (λ names. names ≡ self.now) }
+    {
+        let mut names = Names::new(alloc);
+        copy_irqs(alloc, self, &mut names)?;
+        copy_tasks(alloc, self, &mut names)?;
+        copy_resources(alloc, self, &mut names)?;
+        Ok(names)
+    }
+}
+
+/// The first place of an interrupt.
+fn place_of(irqs: &[Irq], irq: Irq) -> Option<usize>
+    ensures { result ≡ position (λ n. n == irq) irqs.now }
+{
+    irqs.iter().position(|n| *n == irq)
+}
+
+/// Declares the same interrupts.
+fn copy_irqs(alloc: Global, from: &Names, to: &mut Names) -> Result<(), NoMemory>
+    requires { to.old.irqs ≡ [] }
+    ensures { OnOk result (to.new ≡ record to.old { irqs = from.now.irqs }) }
+{
+    for place in 0..from.irq_count() {
+        let Some(irq) = from.irq_at(place) else {
+            unreachable!()
+        };
+        to.add_irq(alloc, irq.0, irq.1)?;
+    }
+    Ok(())
+}
+
+/// Declares the same tasks.
+fn copy_tasks(alloc: Global, from: &Names, to: &mut Names) -> Result<(), NoMemory>
+    requires { to.old.tasks ≡ [] }
+    ensures { OnOk result (to.new ≡ record to.old { tasks = from.now.tasks }) }
+{
+    for place in 0..from.task_count() as u8 {
+        let Some(name) = from.task_at(TaskId(place)) else {
+            unreachable!()
+        };
+        to.add_task(alloc, name)?;
+    }
+    Ok(())
+}
+
+/// Declares the same shared resources.
+fn copy_resources(alloc: Global, from: &Names, to: &mut Names) -> Result<(), NoMemory>
+    requires { to.old.shared ≡ [] }
+    ensures { OnOk result (to.new ≡ record to.old { shared = from.now.shared }) }
+{
+    for place in 0..from.resource_count() as u8 {
+        let Some(name) = from.resource_at(ResId(place)) else {
+            unreachable!()
+        };
+        to.add_resource(alloc, name)?;
+    }
+    Ok(())
 }

@@ -6,3 +6,4 @@ pub mod Texts
 pub mod Options
 pub mod Results
 pub mod Membership
+pub mod Places

@@ -1,8 +1,8 @@
 -- On lists.
-use Rattle.std.proofs.Common.{ℕ, ◌+◌, ◌≡◌, ◌==◌, ◌≤◌, Bool, true, false, cond, ◌||◌, List, [], ◌∷◌, length, map, Option, Some, None, refl, sym, ap, ◌∙◌, subst, arith, zero, suc, ◌<◌, ◌++◌, get_or, drop, flat_map, append-nil, find, take, add-one, not, if◌then◌else◌, nat_lt, position, IfSome, reverse, length-take, IsSome}
-use Rattle.std.specs.List.{AllByRecursion, list_any, list_all, prefix_len, position_or_len, slice_get}
+use Rattle.std.proofs.Common.{ℕ, ◌+◌, ◌≡◌, ◌==◌, ◌≤◌, Bool, true, false, cond, ◌||◌, List, [], ◌∷◌, length, map, Option, Some, None, refl, sym, ap, ◌∙◌, subst, arith, zero, suc, ◌<◌, ◌++◌, get_or, drop, flat_map, append-nil, find, take, add-one, if◌then◌else◌, nat_lt, position, IfSome, reverse, length-take, IsSome}
+use Rattle.std.specs.List.{AllByRecursion, list_any, list_all, position_or_len, slice_get}
 use Rattle.std.proofs.lemmas.Bool.Decides.{Decides-and, nat_tests}
-use Rattle.std.proofs.lemmas.List.{length-map, at_drop_more, length-drop, drop-drop, take_more, reverse-append, map_push, take-append-le, drop-append-le}
+use Rattle.std.proofs.lemmas.List.{at_drop_more, length-drop, drop-drop, take_more, reverse-append, map_push, take-append-le, drop-append-le}
 use Rattle.std.proofs.lemmas.List.Sums.{position_or_len_is}
 use Rattle.std.specs.Bool.{Decides}
 use Rattle.std.specs.Option.{option_map}
@@ -10,18 +10,19 @@ use Rattle.std.proofs.Math.Seq.{drop-cons}
 use Rattle.std.proofs.lemmas.List.Folds.{list_any-append}
 use Rattle.std.specs.Prelude.{fold}
 use Rattle.std.proofs.lemmas.Bool.{ltb-true}
-use Rattle.rt_lemmas.proofs.Bools.{or_turned}
+use Rattle.rt_lemmas.proofs.Bools.{or_turned, true_and_false}
 use Rattle.std.proofs.lemmas.List.Concat.{flat_map-append}
-use Rattle.std.proofs.lemmas.Option.{same_Some, none-some, slice_get-get_or, slice_get_within, get_or_from_slice_get}
+use Rattle.std.proofs.lemmas.Option.{slice_get_read, same_Some, none-some, slice_get-get_or, slice_get_within, get_or_from_slice_get}
 
 -- what each view has, from what each element has
 pub all_map : {X Y : Type 0} (f : X → Y) (P : X → Type 0) (Q : Y → Type 0) → ((x : X) → P x → Q (f x)) → (xs : List X) → AllByRecursion P xs → AllByRecursion Q (map f xs)
 all_map f P Q step [] all = tt
 all_map f P Q step (x ∷ xs) all = (step x all.0, all_map f P Q step xs all.1)
 
-pub all_push : {A : Type 0} (P : A → Type 0) (xs : List A) (x : A) → AllByRecursion P xs → P x → AllByRecursion P (xs ++ x ∷ [])
-all_push P [] x all h = (h, tt)
-all_push P (y ∷ xs) x (first, all) h = (first, all_push P xs x all h)
+-- and what each element has, from what its view has
+pub all_unmap : {X Y : Type 0} (f : X → Y) (Q : Y → Type 0) (xs : List X) → AllByRecursion Q (map f xs) → AllByRecursion (λ x. Q (f x)) xs
+all_unmap f Q [] all = tt
+all_unmap f Q (x ∷ xs) all = (all.0, all_unmap f Q xs all.1)
 
 -- what holds of all of two lists, one behind the other, and what holds of all of each
 pub all_append : {A : Type 0} (P : A → Type 0) (xs ys : List A) → AllByRecursion P xs → AllByRecursion P ys → AllByRecursion P (xs ++ ys)
@@ -94,18 +95,6 @@ position_within p xs = go (position_or_len p xs) (nat_lt (position_or_len p xs) 
     go : (k : ℕ) (b : Bool) → nat_lt k (length xs) ≡ b → IfSome (cond b (Some k) None) (λ i. i < length xs)
     go k true test = ltb-true k (length xs) test
     go k false test = tt
-
-pub prefix_len-map : {A B : Type 0} (f : A → B) (p : B → Bool) (xs : List A) → prefix_len p (map f xs) ≡ prefix_len (λ x. p (f x)) xs
-prefix_len-map f p [] = refl
-prefix_len-map f p (x ∷ xs) = ap (λ n. cond (p (f x)) (1 + n) 0) (prefix_len-map f p xs)
-
-pub position-map : {A B : Type 0} (f : A → B) (p : B → Bool) (xs : List A) → position p (map f xs) ≡ position (λ x. p (f x)) xs
-position-map f p xs =
-    rw (prefix_len-map f (λ x. not (p x)) xs, length-map xs f) refl
-
-pub list_any-map : {A B : Type 0} (f : A → B) (p : B → Bool) (xs : List A) → list_any p (map f xs) ≡ list_any (λ x. p (f x)) xs
-list_any-map f p [] = refl
-list_any-map f p (x ∷ xs) = ap (λ b. p (f x) || b) (list_any-map f p xs)
 
 pub list_any-reverse : {A : Type 0} (p : A → Bool) (xs : List A) → list_any p (reverse xs) ≡ list_any p xs
 list_any-reverse p [] = refl
@@ -209,3 +198,27 @@ fold_leaves f see leaves s (a ∷ items) = fold_leaves f see leaves (f s a) item
 pub drop-append : (xs ys : List ℕ) → drop (length xs) (xs ++ ys) ≡ ys
 drop-append [] ys = refl
 drop-append (x ∷ xs) ys = drop-append xs ys
+
+-- a place within a list is taken, and by the view of what stands there
+pub some_at : {X : Type 0} (xs : List X) (k : ℕ) → k < length xs → (x : X) × (slice_get xs k ≡ Some x)
+some_at [] k within = absurd (omega arith)
+some_at (x ∷ xs) zero within = (x, refl)
+some_at (x ∷ xs) (suc k) within = some_at xs k (omega arith)
+
+pub mapped_at : {X Y : Type 0} (f : X → Y) (xs : List X) (k : ℕ) (x : X) → slice_get xs k ≡ Some x → slice_get (map f xs) k ≡ Some (f x)
+mapped_at f [] k x at = absurd (none-some x at)
+mapped_at f (y ∷ xs) zero x at = ap (option_map f) at
+mapped_at f (y ∷ xs) (suc k) x at = mapped_at f xs k x at
+
+pub mapped_read : {X Y : Type 0} (f : X → Y) (xs : List X) (k : ℕ) (x : X) → k < length xs → x ≡ get_or xs k x → slice_get (map f xs) k ≡ Some (f x)
+mapped_read f xs k x within is = mapped_at f xs k x (slice_get_read xs (length xs) k x refl within is)
+
+-- one that passes is found, or one before it
+pub found : {X : Type 0} (test : X → Bool) (xs : List X) (i : ℕ) (x : X) → slice_get xs i ≡ Some x → test x ≡ true → (y : X) × (find test xs ≡ Some y)
+found test [] i x at is = absurd (none-some x at)
+found {X} test (y ∷ xs) i x at is = go (test y) refl i at (λ i at. found test xs i x at is)
+  where
+    go : (b : Bool) → test y ≡ b → (i : ℕ) → slice_get (y ∷ xs) i ≡ Some x → ((i : ℕ) → slice_get xs i ≡ Some x → (z : X) × (find test xs ≡ Some z)) → (z : X) × ((if b then Some y else find test xs) ≡ Some z)
+    go true e i at others = (y, refl)
+    go false e zero at others = absurd (true_and_false (test y) (ap test (same_Some y x at) ∙ is) e)
+    go false e (suc i) at others = others i at

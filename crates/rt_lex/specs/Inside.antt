@@ -1,3 +1,2 @@
 -- What private contracts alone speak of.
 pub mod Ahead
-pub mod Initial

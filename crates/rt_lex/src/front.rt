@@ -1,15 +1,14 @@
 // What a text begins with: a blank, a comment, or the longest token that fits.
 
-ghost use Rattle.std.specs.Prelude.{◌≡◌, not, ◌==◌, ◌∷◌, List, ℕ, take, take_while, bytes_eq};
+ghost use Rattle.std.specs.Prelude.{◌≡◌, not, ◌==◌, ◌∷◌, List, ℕ, take, take_while};
 ghost use Rattle.rt_lex.specs.Bytes.{is_blank, is_hex_digit};
-ghost use Rattle.rt_ids.specs.Byte.{is_digit, is_letter, is_name_byte};
+ghost use Rattle.rt_ids.specs.Byte.{is_digit, is_name_byte};
 ghost use Rattle.rt_lex.specs.Spelling.{is_long_sign, is_short_sign};
-ghost use Rattle.rt_ids.specs.Word.{is_word};
-ghost use Rattle.rt_lex.specs.Inside.Initial.{is_one_of, words_from};
 ghost use Rattle.rt_lex.specs.Front.{comment, hex_digits, front_of, name_front, number_front, sign_front};
 ghost use Rattle.rt_lex.specs.FrontView.{front_view};
 
 use crate::token::Kind;
+use rt_ids::{is_letter, is_name_byte, is_word};
 
 /// So many bytes, which are a token of this kind; of no kind where they are a blank or a comment.
 #[derive(Clone, Copy)]
@@ -22,69 +21,6 @@ fn is_blank(b: u8) -> bool
     ensures { result ≡ is_blank b }
 {
     b == b' ' || b == b'\t' || b == b'\n' || b == b'\r'
-}
-
-fn is_letter(b: u8) -> bool
-    ensures { result ≡ is_letter b }
-{
-    b.is_ascii_lowercase() || b.is_ascii_uppercase() || b == b'_'
-}
-
-fn is_name_byte(b: u8) -> bool
-    ensures { result ≡ is_name_byte b }
-{
-    is_letter(b) || b.is_ascii_digit()
-}
-
-fn spells(text: &[u8], word: &[u8]) -> bool
-    ensures { result ≡ bytes_eq text.now word.now }
-{
-    text == word
-}
-
-/// Whether it is a word of the language, of those that begin with its first byte.
-fn is_word(text: &[u8]) -> bool
-    ensures { result ≡ is_word text.now }
-{
-    let Some(first) = text.first() else {
-        return false;
-    };
-    match *first {
-        b'a' => spells(text, b"app"),
-        b'b' => spells(text, b"bits") || spells(text, b"binds"),
-        b'c' => spells(text, b"capacity"),
-        b'd' => spells(text, b"dispatchers"),
-        b'e' => spells(text, b"else") || spells(text, b"emit"),
-        b'f' => spells(text, b"for"),
-        b'i' => is_word_from_i(text),
-        b'l' => is_word_from_l(text),
-        b'm' => spells(text, b"monotonic"),
-        b'n' => spells(text, b"now"),
-        b'p' => spells(text, b"priority") || spells(text, b"pend"),
-        b's' => spells(text, b"shared") || spells(text, b"spawn") || spells(text, b"spawn_after"),
-        b't' => spells(text, b"task"),
-        b'w' => spells(text, b"with"),
-        _ => false,
-    }
-}
-
-fn is_word_from_i(text: &[u8]) -> bool
-    ensures { result ≡ is_one_of (words_from 105) text.now }
-{
-    spells(text, b"interrupts")
-        || spells(text, b"init")
-        || spells(text, b"idle")
-        || spells(text, b"if")
-        || spells(text, b"in")
-}
-
-fn is_word_from_l(text: &[u8]) -> bool
-    ensures { result ≡ is_one_of (words_from 108) text.now }
-{
-    spells(text, b"local")
-        || spells(text, b"lock_free")
-        || spells(text, b"let")
-        || spells(text, b"lock")
 }
 
 fn is_long_sign(text: &[u8]) -> bool

@@ -2,7 +2,8 @@
 -- the grammar, once it holds of those that it is made of.
 use Rattle.std.proofs.Common.{◌≡◌, ℕ, zero, suc, ◌<◌, ◌≤◌, Bool, true, List, [], ◌∷◌, ◌++◌, length, None, Some, refl, sym, subst, inl, inr, length-append, arith}
 use Rattle.std.specs.List.{AllByRecursion}
-use Rattle.rt_lemmas.proofs.Lists.{all_push, all_front, all_behind}
+use Rattle.rt_lemmas.proofs.Lists.{all_front, all_behind}
+use Rattle.rt_ids.proofs.Lists.{all_push}
 use Rattle.rt_lex.specs.Token.{Token}
 use Rattle.rt_lex.specs.Split.{has_kind, IsLongest}
 use Rattle.rt_grammar.specs.Mark.{Mark, Takes, Ends, IsWithin}

@@ -5,7 +5,7 @@ use Rattle.rt_ids.specs.Names.{Names}
 use Rattle.rt_ids.specs.declared.ids.Section.{Section}
 use Rattle.rt_ids.specs.declared.op.Op.{Op}
 use Rattle.rt_ids.specs.declared.op.Op.TheVariants as op
-use Rattle.rt_code.specs.Naming.{task_name, section_name}
+use Rattle.rt_ids.specs.Naming.{task_name, section_name}
 use Rattle.rt_code.specs.Listable.{AreWritable, HasTask, HasSection, HasInstr, HasNote}
 use Rattle.rt_code.specs.declared.instr.Instr.{Instr}
 use Rattle.rt_code.specs.declared.instr.Instr.TheVariants as instr

@@ -4,7 +4,7 @@ use Rattle.std.specs.Str.Parse.{digits_value}
 use Rattle.rt_ids.specs.Names.{Names}
 use Rattle.rt_ids.specs.declared.cell.CellRow.{CellRow}
 use Rattle.rt_code.specs.Image.{Image}
-use Rattle.rt_code.specs.Naming.{task_name}
+use Rattle.rt_ids.specs.Naming.{task_name}
 use Rattle.rt_code.specs.Listable.{IsWord, IsPlain, AreWritable, HasTask, HasInstr, HasNote}
 use Rattle.rt_code.specs.declared.image.IrqRow.{IrqRow}
 use Rattle.rt_code.specs.declared.image.Handler.{Handler}

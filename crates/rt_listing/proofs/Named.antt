@@ -15,7 +15,7 @@ use Rattle.rt_ids.specs.declared.ids.BodyId.{BodyId}
 use Rattle.rt_ids.specs.declared.ids.BodyId.TheVariants as body
 use Rattle.rt_ids.specs.declared.ids.Section.{Section}
 use Rattle.rt_ids.specs.declared.ids.Section.TheVariants as section
-use Rattle.rt_code.specs.Naming.{irq_name, task_name, section_name, body_name}
+use Rattle.rt_ids.specs.Naming.{irq_name, task_name, section_name, body_name}
 use Rattle.rt_code.specs.Listable.{IsPlain, AreWritable, HasIrq, HasTask, HasSection, HasBody}
 use Rattle.rt_ids.specs.Lists.{AreDifferent}
 use Rattle.rt_listing.specs.Numbers.{AreShort, section_numbers}

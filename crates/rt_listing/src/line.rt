@@ -1,6 +1,6 @@
 ghost use Rattle.std.specs.Prelude.{◌≡◌, ◌∷◌, ◌++◌, flat_map, OnOk, Some};
-ghost use Rattle.rt_code.specs.Naming.{section_name};
-ghost use Rattle.rt_code.specs.Naming as name;
+ghost use Rattle.rt_ids.specs.Naming.{section_name};
+ghost use Rattle.rt_ids.specs.Naming as name;
 ghost use Rattle.rt_listing.specs.Words.{spaced, instr_text, note_words, note_text};
 ghost use Rattle.rt_listing.specs.Words as word;
 ghost use Rattle.rt_listing.specs.Numbers.{IsShort, AreShort, instr_numbers, section_numbers, note_numbers};

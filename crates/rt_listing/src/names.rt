@@ -1,5 +1,5 @@
 ghost use Rattle.std.specs.Prelude.{◌≡◌};
-ghost use Rattle.rt_code.specs.Naming as spec;
+ghost use Rattle.rt_ids.specs.Naming as spec;
 
 use rt_ids::{BodyId, Irq, Names, ResId, TaskId};
 
@@ -7,30 +7,21 @@ use rt_ids::{BodyId, Irq, Names, ResId, TaskId};
 pub(crate) fn irq_name(names: &Names, irq: Irq) -> &[u8]
     ensures { result.now ≡ spec.irq_name names.now irq }
 {
-    match names.irqs().iter().find(|(_, number)| *number == irq) {
-        Some((name, _)) => name.bytes(),
-        None => b"",
-    }
+    names.irq_name(irq).unwrap_or(b"")
 }
 
 /// The name of a task.
 pub(crate) fn task_name(names: &Names, task: TaskId) -> &[u8]
     ensures { result.now ≡ spec.task_name names.now task }
 {
-    match names.tasks().get(usize::from(task.0)) {
-        Some(name) => name.bytes(),
-        None => b"",
-    }
+    names.task_at(task).unwrap_or(b"")
 }
 
 /// The name of a shared resource.
 pub(crate) fn resource_name(names: &Names, resource: ResId) -> &[u8]
     ensures { result.now ≡ spec.resource_name names.now resource }
 {
-    match names.shared().get(usize::from(resource.0)) {
-        Some(name) => name.bytes(),
-        None => b"",
-    }
+    names.resource_at(resource).unwrap_or(b"")
 }
 
 /// The name of a body: that of its task, or the word of the other bodies.

@@ -1,40 +1,8 @@
 ghost use Rattle.std.specs.Prelude.{◌≡◌, IfOk};
 
 use rt_code::{Image, IrqRow};
-use rt_ids::{CellRow, Irq, Name, Names, NoMemory};
+use rt_ids::{CellRow, Name, NoMemory};
 use std::alloc::Global;
-
-/// These names.
-fn names(alloc: Global, from: &[Name]) -> Result<Vec<Name>, NoMemory>
-    ensures { IfOk result (λ copies. copies.items ≡ from.now) }
-{
-    let mut copies = Vec::new(alloc);
-    for name in from {
-        copies.push(Name::of(alloc, name.bytes())?)?;
-    }
-    Ok(copies)
-}
-
-/// These interrupts with their names.
-fn named_irqs(alloc: Global, from: &[(Name, Irq)]) -> Result<Vec<(Name, Irq)>, NoMemory>
-    ensures { IfOk result (λ copies. copies.items ≡ from.now) }
-{
-    let mut copies = Vec::new(alloc);
-    for (name, irq) in from {
-        copies.push((Name::of(alloc, name.bytes())?, *irq))?;
-    }
-    Ok(copies)
-}
-
-/// The names that are declared.
-fn declared(alloc: Global, from: &Names) -> Result<Names, NoMemory>
-    ensures { IfOk result (λ copy. copy ≡ from.now) }
-{
-    let irqs = named_irqs(alloc, from.irqs())?;
-    let tasks = names(alloc, from.tasks())?;
-    let shared = names(alloc, from.shared())?;
-    Ok(Names::new(irqs, tasks, shared))
-}
 
 /// These cells.
 fn cells(alloc: Global, from: &[CellRow]) -> Result<Vec<CellRow>, NoMemory>
@@ -73,7 +41,7 @@ pub(crate) fn image(alloc: Global, from: &Image) -> Result<Image, NoMemory>
     let irqs = irq_rows(alloc, &from.irqs)?;
     let bodies = Vec::from_slice(alloc, &from.bodies)?;
     let code = Vec::from_slice(alloc, &from.code)?;
-    let names = declared(alloc, &from.names)?;
+    let names = from.names.copy(alloc)?;
     Ok(Image {
         bits: from.bits,
         stack_bytes: from.stack_bytes,

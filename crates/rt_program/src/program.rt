@@ -1,6 +1,6 @@
 ghost use Rattle.std.specs.Prelude.{◌≡◌, IfOk, slice_get};
 ghost use Rattle.rt_code.specs.Cells.{resource_cell};
-ghost use Rattle.rt_program.specs.Tables.{handler_of, argument_count};
+ghost use Rattle.rt_code.specs.Tables.{handler_of, argument_count};
 
 use crate::{copy, tables};
 use rt_code::{BodyRow, Handler, Image, Instr, Note};
@@ -38,7 +38,7 @@ impl Program {
         ensures { IfOk result (λ program. program ≡ image) }
     {
         let handlers = tables::handlers(alloc, &image.irqs)?;
-        let resources = tables::named_cells(alloc, &image.cells, image.names.shared())?;
+        let resources = tables::named_cells(alloc, &image.cells, &image.names)?;
         let arguments = tables::argument_counts(alloc, &image.bodies)?;
         Ok(Program {
             image,

@@ -3,12 +3,12 @@ ghost use Rattle.std.specs.Option.{option_copied};
 ghost use Rattle.rt_ids.specs.declared.limits.TheConstants.{IRQ_NUMBERS};
 ghost use Rattle.rt_program.specs.declared.tables.TheConstants.{TASK_NUMBERS};
 ghost use Rattle.rt_code.specs.Cells.{cell_named};
-ghost use Rattle.rt_program.specs.Tables.{handler_in, arguments_in};
+ghost use Rattle.rt_code.specs.Tables.{handler_in, arguments_in};
 ghost use Rattle.rt_program.specs.Inside.Found.{IsTable};
 
 use rt_code::{BodyRow, Handler, IrqRow};
 use rt_ids::limits::IRQ_NUMBERS;
-use rt_ids::{CellRow, Name, NoMemory};
+use rt_ids::{CellRow, Names, NoMemory, ResId};
 use std::alloc::Global;
 
 /// Task numbers that there are: all those of 8 bits.
@@ -43,28 +43,28 @@ pub(crate) fn handlers(alloc: Global, irqs: &[IrqRow]) -> Result<Vec<Option<Hand
 }
 
 /// The number of the first cell of a name.
-fn named_cell(cells: &[CellRow], name: &Name) -> Option<usize>
+fn named_cell(cells: &[CellRow], name: &[u8]) -> Option<usize>
     ensures { result ≡ cell_named cells.now name.now }
 {
-    cells
-        .iter()
-        .position(|cell| cell.name.bytes() == name.bytes())
+    cells.iter().position(|cell| cell.name.bytes() == name)
 }
 
-/// The number of the first cell of each name.
+/// The number of the first cell of the name of each shared resource.
 pub(crate) fn named_cells(
     alloc: Global,
     cells: &[CellRow],
-    names: &[Name],
+    names: &Names,
 ) -> Result<Vec<Option<usize>>, NoMemory>
-    ensures { IfOk result (λ table. table.items ≡ map (cell_named cells.now) names.now) }
+    ensures { IfOk result (λ table. table.items ≡ map (cell_named cells.now) names.now.shared) }
 {
-    Ok(
-        names
-            .iter()
-            .map(|name| named_cell(cells, name))
-            .collect(alloc)?,
-    )
+    let mut table = Vec::new(alloc);
+    for place in 0..names.resource_count() as u8 {
+        let Some(name) = names.resource_at(ResId(place)) else {
+            unreachable!()
+        };
+        table.push(named_cell(cells, name))?;
+    }
+    Ok(table)
 }
 
 /// How many arguments the body of the task of a number takes, and 0 where it has none.

@@ -14,7 +14,7 @@ const THREAD: [Instr; 5] = [
     Instr::Jump(2),
 ];
 
-/// The thread waits, and the handler at the third address does arithmetic, shows a value, and jumps back.
+/// The thread waits, and the handler of the third address does arithmetic, shows a value, and jumps back.
 const HANDLER: [Instr; 11] = [
     Instr::Serve,
     Instr::Wait,
@@ -29,12 +29,55 @@ const HANDLER: [Instr; 11] = [
     Instr::Jump(3),
 ];
 
-/// An image of this code with these declared interrupts.
-fn image(alloc: Global, irqs: Vec<IrqRow>, code: &[Instr]) -> Result<Image, NoMemory> {
-    let mut lines: Vec<(Instr, Option<Note>)> = Vec::with_capacity(alloc, code.len())?;
+/// The declared interrupts of an image.
+#[derive(Clone, Copy)]
+pub struct Irqs {
+    /// How many are declared, from the number 0 on.
+    pub count: u16,
+    /// Whether the one of the number 1 is not enabled; all others are.
+    pub is_second_off: bool,
+}
+
+/// The row of an interrupt, which the third address handles where it is enabled.
+fn row(alloc: Global, number: Irq, is_enabled: bool) -> Result<IrqRow, NoMemory> {
+    let name = Name::of(alloc, b"TIMER")?;
+    let handler = Handler {
+        value: 16,
+        entry: 2,
+        frame: FRAME,
+    };
+    Ok(IrqRow {
+        name,
+        number,
+        handler: is_enabled.then_some(handler),
+    })
+}
+
+/// The rows of declared interrupts.
+fn rows(alloc: Global, irqs: Irqs) -> Result<Vec<IrqRow>, NoMemory> {
+    let mut rows = Vec::new(alloc);
+    for place in 0..irqs.count {
+        if let Some(number) = Irq::new(place) {
+            let is_off = place == 1 && irqs.is_second_off;
+            rows.push(row(alloc, number, !is_off)?)?;
+        }
+    }
+    Ok(rows)
+}
+
+/// Instructions without notes.
+fn lines(alloc: Global, code: &[Instr]) -> Result<Vec<(Instr, Option<Note>)>, NoMemory> {
+    let mut lines = Vec::new(alloc);
     for instr in code {
         lines.push((*instr, None))?;
     }
+    Ok(lines)
+}
+
+/// An image of this code with these declared interrupts.
+fn image(alloc: Global, irqs: Irqs, code: &[Instr]) -> Result<Image, NoMemory> {
+    let irqs = rows(alloc, irqs)?;
+    let code = lines(alloc, code)?;
     Ok(Image {
         bits: 4,
         stack_bytes: 64,
@@ -42,29 +85,17 @@ fn image(alloc: Global, irqs: Vec<IrqRow>, code: &[Instr]) -> Result<Image, NoMe
         cells: Vec::new(alloc),
         irqs,
         bodies: Vec::new(alloc),
-        code: lines,
-        names: Names::new(Vec::new(alloc), Vec::new(alloc), Vec::new(alloc)),
+        code,
+        names: Names::new(alloc),
     })
 }
 
 /// The image whose thread spins.
-pub fn thread(alloc: Global) -> Result<Image, NoMemory> {
-    image(alloc, Vec::new(alloc), &THREAD)
+pub fn thread(alloc: Global, irqs: Irqs) -> Result<Image, NoMemory> {
+    image(alloc, irqs, &THREAD)
 }
 
 /// The image whose handler of the interrupt 0 spins.
-pub fn handler(alloc: Global) -> Result<Image, NoMemory> {
-    let mut irqs = Vec::with_capacity(alloc, 1)?;
-    if let Some(number) = Irq::new(0) {
-        irqs.push(IrqRow {
-            name: Name::of(alloc, b"TIMER")?,
-            number,
-            handler: Some(Handler {
-                value: 16,
-                entry: 2,
-                frame: FRAME,
-            }),
-        })?;
-    }
+pub fn handler(alloc: Global, irqs: Irqs) -> Result<Image, NoMemory> {
     image(alloc, irqs, &HANDLER)
 }

@@ -4,7 +4,7 @@ use Rattle.rt_ids.specs.declared.limits.TheConstants.{IRQ_NUMBERS}
 use Rattle.rt_program.specs.declared.tables.TheConstants.{TASK_NUMBERS}
 use Rattle.rt_program.specs.declared.program.Program.TheInside.{Inside}
 use Rattle.rt_code.specs.Cells.{cell_named}
-use Rattle.rt_program.specs.Tables.{handler_in, arguments_in}
+use Rattle.rt_code.specs.Tables.{handler_in, arguments_in}
 use Rattle.rt_program.specs.Inside.Found.{IsTable}
 
 pub record HasTables (p : Inside) : Type 0 where

@@ -1,6 +1,7 @@
 use Rattle.std.proofs.Common.{map, ◌≡◌, ◌++◌, ◌∷◌, [], refl, ap, sym, ◌∙◌, take}
 use Rattle.std.proofs.lemmas.List.{map_push}
-use Rattle.rt_lemmas.proofs.Lists.{all_push, map_next}
+use Rattle.rt_lemmas.proofs.Lists.{map_next}
+use Rattle.rt_ids.proofs.Lists.{all_push}
 use Rattle.rt_first.specs.TreeView.{irq_view}
 use Rattle.rt_first.specs.declared.tree.IrqTree as code
 use Rattle.rt_first.specs.FirstForm.{IrqTree, irq_tree}

@@ -1,5 +1,5 @@
 use Rattle.std.proofs.Common.{◌≡◌, length}
-use Rattle.rt_program.specs.Tables.{arguments_in}
+use Rattle.rt_code.specs.Tables.{arguments_in}
 use Rattle.rt_program.specs.Inside.Found.{IsTable}
 use Rattle.rt_program.proofs.tables.argument_counts.Given as goal
 

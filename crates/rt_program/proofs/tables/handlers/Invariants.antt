@@ -1,5 +1,5 @@
 use Rattle.std.proofs.Common.{◌≡◌, length}
-use Rattle.rt_program.specs.Tables.{handler_in}
+use Rattle.rt_code.specs.Tables.{handler_in}
 use Rattle.rt_program.specs.Inside.Found.{IsTable}
 use Rattle.rt_program.proofs.tables.handlers.Given as goal
 

@@ -1,5 +1,5 @@
 use Rattle.std.proofs.Common.{rules}
-use Rattle.rt_lemmas.proofs.Lists.{position-map}
+use Rattle.rt_ids.proofs.Lists.{position-map}
 use Rattle.rt_resolve.proofs.lookup.task_named.Goals as goal
 
 pub returns : goal.returns

@@ -1,7 +1,7 @@
 use Rattle.std.proofs.Common.{Bor, rules, tests}
 use Rattle.std.proofs.lemmas.Iterator.{YieldsList-from_slice}
 use Rattle.std.proofs.lemmas.Iterator.Search.{any_from_yields_List}
-use Rattle.rt_lemmas.proofs.Lists.{list_any-map}
+use Rattle.rt_ids.proofs.Lists.{list_any-map}
 use Rattle.rt_ast.specs.declared.ident.Ident.{Ident}
 use Rattle.rt_resolve.specs.Scope.{is_named}
 use Rattle.rt_resolve.proofs.twice.is_among.Goals as goal

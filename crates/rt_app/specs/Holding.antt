@@ -1,0 +1,104 @@
+-- How what resources and queues hold is spelled in memory, who keeps what without a section, and all of it as the storage that code
+-- stands over. That a job reaches a resource in its critical section alone is RTIC's (the RTIC 1 book, resources); how queues lie in
+-- cells is this project's own. What the cells of the timer queue spell comes with its code.
+use Rattle.std.specs.Prelude.{◌≡◌, ℕ, ◌+◌, ◌-◌, ◌*◌, ◌%◌, ◌==◌, ◌<◌, ◌≤◌, nat_lt, Bool, true, false, not, ◌&&◌, List, length, map, slice_get, Some, option_map, Contains, IsSome}
+use Rattle.std.specs.List.{AllByRecursion, list_any, range_with_len}
+use Rattle.rt_ids.specs.Lists.{is_some_and, or_zero, then_from}
+use Rattle.rt_ids.specs.Holder.{Holder, Guarded, Own}
+use Rattle.rt_ids.specs.Content.{Content, Number, Messages, Message, Values}
+use Rattle.rt_ids.specs.Entry.{Entry}
+use Rattle.rt_ids.specs.Priority.{hardware}
+use Rattle.rt_ids.specs.Storage.{Storage, Runner, Starting, AtLevel}
+use Rattle.rt_ids.specs.declared.ids.Section.TheVariants as section
+use Rattle.rt_app.specs.Tree.{App}
+use Rattle.rt_app.specs.Bodies.{Member, members}
+use Rattle.rt_app.specs.Level.{is_software, is_of_level, levels}
+use Rattle.rt_app.specs.Ceiling.{ceiling, lists}
+use Rattle.rt_app.specs.Declarations.{owns}
+use Rattle.rt_app.specs.Statements.{is_init}
+use Rattle.rt_app.specs.Listing.{is_lock_free, listings}
+use Rattle.rt_app.specs.Handlers.{irq_number}
+use Rattle.rt_app.specs.Sending.{capacity_of}
+use Rattle.rt_app.specs.Layout.{resource_at, local_at, free_at, inputs_at, ready_at, ready_room, home_of}
+
+-- a message as one word of a queue's cell: its task, and its place below 16
+abbrev pub message_word : Entry → ℕ
+message_word e = 16 * e.task + e.place
+
+abbrev pub arguments_of : App → ℕ → ℕ
+arguments_of app n = or_zero (option_map (λ t. t.args) (slice_get app.tasks n))
+
+module _ (app : App) (cells : ℕ → ℕ) where
+  -- the message of a place, with the arguments in its cells
+  abbrev pub message_at : Entry → Message
+  message_at e =
+      let first : ℕ = inputs_at app e.task + e.place * arguments_of app e.task in
+      record { task = e.task; args = map cells (range_with_len first (arguments_of app e.task)) }
+
+  -- the free places of a task, the one that is taken next first; as many more are out as it has
+  pub record SpellsFree (n : ℕ) (entries : List Entry) (content : Content) : Type 0 where
+    pub out : content ≡ Number (capacity_of app n - length entries)
+    pub room : length entries ≤ capacity_of app n
+    pub places : AllByRecursion (λ e. (e.task ≡ n) × (e.place < capacity_of app n)) entries
+    pub count : cells (free_at app n) ≡ length entries
+    pub stack : (i : ℕ) (e : Entry) → slice_get entries i ≡ Some e → cells (free_at app n + (length entries - i)) ≡ e.place
+
+  -- the ready messages of a level, the oldest first
+  pub record SpellsReady (p : ℕ) (entries : List Entry) (content : Content) : Type 0 where
+    pub messages : content ≡ Messages (map message_at entries)
+    pub room : length entries ≤ ready_room app p
+    pub places : AllByRecursion (λ e. (is_some_and (is_of_level p) (slice_get app.tasks e.task) ≡ true) × (e.place < capacity_of app e.task)) entries
+    pub head : cells (ready_at app p) ≤ ready_room app p - 1
+    pub count : cells (ready_at app p + 1) ≡ length entries
+    pub ring : (i : ℕ) (e : Entry) → slice_get entries i ≡ Some e
+        → cells (ready_at app p + 2 + (cells (ready_at app p) + i) % ready_room app p) ≡ message_word e
+
+  -- what the cells of a holder spell, where the messages of these places stand in its queue
+  abbrev pub Spells : Holder → List Entry → Content → Type 0
+  Spells (Guarded (section.Res r)) entries content = content ≡ Number (cells (resource_at app r))
+  Spells (Own n) entries content = content ≡ Number (cells (local_at app n))
+  Spells (Guarded (section.Free n)) entries content = SpellsFree n entries content
+  Spells (Guarded (section.Ready p)) entries content = SpellsReady p entries content
+  Spells (Guarded section.Timer) entries content = Unit {0}
+
+module _ (app : App) where
+  -- whether a body that runs at a level, `init` aside, passes
+  abbrev pub is_some_at : (Member → Bool) → ℕ → Bool
+  is_some_at test p = list_any (λ m. not (is_init m.id) && ((m.priority == p) && test m)) (members app)
+
+  -- What a runner keeps from its start to its end: `init` every resource and the local ones that it lists, a level the local
+  -- resources and the `lock_free` ones that its bodies list. At most one job of a level has started at a time.
+  abbrev pub is_kept : Runner → Holder → Bool
+  is_kept Starting (Guarded (section.Res r)) = nat_lt r (length app.shared)
+  is_kept Starting (Own n) = list_any (λ m. is_init m.id && owns n m) (members app)
+  is_kept (AtLevel p) (Guarded (section.Res r)) = is_lock_free app r && is_some_at (lists r) p
+  is_kept (AtLevel p) (Own n) = is_some_at (owns n) p
+  is_kept runner holder = false
+
+  -- once `init` has ended nobody changes a resource that is listed as `&name`
+  abbrev pub is_constant : Runner → Holder → Bool
+  is_constant (AtLevel p) (Guarded (section.Res r)) = list_any (λ l. (l.listed.resource == r) && l.listed.by_ref) (listings app)
+  is_constant runner holder = false
+
+  -- A holder of the application: what it keeps has cells. A hardware task has no places.
+  abbrev pub IsHeld : Holder → Type 0
+  IsHeld (Guarded (section.Res r)) = r < length app.shared
+  IsHeld (Guarded (section.Free n)) = is_some_and is_software (slice_get app.tasks n) ≡ true
+  IsHeld (Guarded (section.Ready p)) = Contains (levels app) p
+  IsHeld (Guarded section.Timer) = IsSome app.mono
+  IsHeld (Own n) = n < length app.locals
+
+  unfoldable pub storage : Storage
+  storage = record {
+    home = home_of app;
+    Spells = λ holder cells entries content. IsHeld holder × Spells app cells holder entries content;
+    ceiling = ceiling app;
+    value = hardware app.bits;
+    is_kept = is_kept;
+    is_constant = is_constant;
+    timer = then_from app.mono (λ mono. irq_number app mono.irq);
+  }
+
+  -- what is not away is spelled
+  abbrev pub Holds : (Holder → Bool) → (ℕ → ℕ) → (Holder → List Entry) → Values → Type 0
+  Holds away cells queues values = (h : Holder) → IsHeld h → away h ≡ false → Spells app cells h (queues h) (values h)

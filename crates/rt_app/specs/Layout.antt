@@ -1,0 +1,122 @@
+-- Where everything that code keeps lies in memory: one list of cells, so that no cell belongs to two things. First come the shared
+-- resources, a cell each, then the local ones, then for each software task its free places and the arguments of each of its places,
+-- then for each level of software tasks its ready queue. The order is this project's own. The code keeps the numbers of first cells.
+use Rattle.std.specs.Prelude.{ℕ, ◌+◌, Bool, ◌&&◌, nat_lt, List, [], ◌∷◌, ◌++◌, codes, decimal, length, map, flat_map, filter, sum_by, take, slice_index_or, if◌then◌else◌}
+use Rattle.std.specs.List.{range_with_len}
+use Rattle.rt_ids.specs.Holder.{Guarded, Own}
+use Rattle.rt_ids.specs.Storage.{Home, At, In, Nowhere}
+use Rattle.rt_ids.specs.declared.cell.CellRow.{CellRow}
+use Rattle.rt_ids.specs.declared.ids.Section.TheVariants as section
+use Rattle.rt_app.specs.declared.app.Shared.{Shared}
+use Rattle.rt_app.specs.declared.app.Local.{Local}
+use Rattle.rt_app.specs.Tree.{Task, App}
+use Rattle.rt_app.specs.Level.{is_software, is_of_level, levels}
+use Rattle.rt_app.specs.Sending.{capacity_of}
+
+pub record Cell : Type 0 where
+  -- a resource's own name, or one with a dot
+  pub name : List ℕ
+  -- its value after reset
+  pub first : ℕ
+  -- what it belongs to
+  pub home : Home
+
+-- resources, the first of which has this number
+abbrev pub resource_cells : ℕ → List Shared → List Cell
+resource_cells r [] = []
+resource_cells r (s ∷ more) =
+    record { name = s.name; first = s.first; home = At (Guarded (section.Res r)) } ∷ resource_cells (r + 1) more
+
+abbrev pub local_cells : ℕ → List Local → List Cell
+local_cells n [] = []
+local_cells n (l ∷ more) = record { name = codes "local." ++ l.name; first = l.first; home = At (Own n) } ∷ local_cells (n + 1) more
+
+-- The free places of a task lie as a stack: how many there are, and then their numbers. At first all are free.
+abbrev pub free_cells : ℕ → Task → List Cell
+free_cells n t =
+    let front : List ℕ = codes "free." ++ t.name ++ codes "." in
+    record { name = front ++ codes "count"; first = t.capacity; home = At (Guarded (section.Free n)) }
+    ∷ map (λ k. record { name = front ++ decimal k; first = k; home = At (Guarded (section.Free n)) }) (range_with_len 0 t.capacity)
+
+-- the arguments of a place
+abbrev pub place_cells : ℕ → Task → ℕ → List Cell
+place_cells n t place =
+    let front : List ℕ = codes "input." ++ t.name ++ codes "." ++ decimal place ++ codes "." in
+    map (λ k. record { name = front ++ decimal k; first = 0; home = In (record { task = n; place = place }) }) (range_with_len 0 t.args)
+
+-- of tasks, the first of which has this number; a hardware task has none
+abbrev pub task_cells : ℕ → List Task → List Cell
+task_cells n [] = []
+task_cells n (t ∷ more) =
+    (if is_software t then free_cells n t ++ flat_map (place_cells n t) (range_with_len 0 t.capacity) else []) ++ task_cells (n + 1) more
+
+-- the messages of a level that may be ready at once
+abbrev pub ready_room : App → ℕ → ℕ
+ready_room app p = sum_by (λ t. t.capacity) (filter (is_of_level p) app.tasks)
+
+-- A ready queue lies as a ring: the place of its oldest message, how many there are, and then the messages.
+abbrev pub ready_cells : App → ℕ → List Cell
+ready_cells app p =
+    let front : List ℕ = codes "ready." ++ decimal p ++ codes "." in
+    let cell : List ℕ → Cell = λ name. record { name = front ++ name; first = 0; home = At (Guarded (section.Ready p)) } in
+    cell (codes "head") ∷ cell (codes "count") ∷ map (λ k. cell (codes "at." ++ decimal k)) (range_with_len 0 (ready_room app p))
+
+-- all cells, by number
+abbrev pub memory : App → List Cell
+memory app =
+    resource_cells 0 app.shared
+    ++ (local_cells 0 app.locals ++ (task_cells 0 app.tasks ++ flat_map (ready_cells app) (levels app)))
+
+-- The numbers of first cells: of a resource, of a local resource, of the free places of a task, of the arguments of its places, of
+-- the ready queue of a level.
+abbrev pub resource_at : App → ℕ → ℕ
+resource_at app r = r
+
+abbrev pub local_at : App → ℕ → ℕ
+local_at app n = length app.shared + n
+
+abbrev pub free_at : App → ℕ → ℕ
+free_at app n = length app.shared + length app.locals + length (task_cells 0 (take n app.tasks))
+
+abbrev pub inputs_at : App → ℕ → ℕ
+inputs_at app n = free_at app n + 1 + capacity_of app n
+
+abbrev pub ready_at : App → ℕ → ℕ
+ready_at app p =
+    length app.shared + length app.locals + length (task_cells 0 app.tasks)
+    + length (flat_map (ready_cells app) (filter (λ q. nat_lt q p) (levels app)))
+
+-- what the cell of this number belongs to
+abbrev pub home_of : App → ℕ → Home
+home_of app c = slice_index_or (map (λ cell. cell.home) (memory app)) c Nowhere
+
+-- the cells as a core takes them, and the numbers of the first cells that code for queues needs, 0 where there is none
+pub record Layout : Type 0 where
+  pub cells : List CellRow
+  -- by task
+  pub inputs : List ℕ
+  pub free : List ℕ
+  -- by rising level of software tasks
+  pub ready : List ℕ
+  pub timer : ℕ
+
+abbrev pub row_of : Cell → CellRow
+row_of cell = record { name = cell.name; first = cell.first }
+
+-- one that has input cells
+abbrev pub has_inputs : Task → Bool
+has_inputs t = is_software t && nat_lt 0 t.args
+
+-- of tasks that pass
+abbrev pub numbers_of : (Task → Bool) → (ℕ → ℕ) → ℕ → List Task → List ℕ
+numbers_of test at n [] = []
+numbers_of test at n (t ∷ more) = (if test t then at n else 0) ∷ numbers_of test at (n + 1) more
+
+abbrev pub layout : App → Layout
+layout app = record {
+  cells = map row_of (memory app);
+  inputs = numbers_of has_inputs (inputs_at app) 0 app.tasks;
+  free = numbers_of is_software (free_at app) 0 app.tasks;
+  ready = map (ready_at app) (levels app);
+  timer = 0;
+}

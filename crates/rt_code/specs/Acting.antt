@@ -1,0 +1,115 @@
+-- How code does an action: what the job has left to do must begin with it, and what follows goes by the values behind it, whatever
+-- others did to what is not the job's. Places of messages move from list to list, and are nowhere copied.
+use Rattle.std.specs.Prelude.{◌≡◌, ℕ, ◌+◌, ◌≤◌, true, List, [], ◌∷◌, ◌++◌, length, take, drop, slice_get, Option, Some, if◌then◌else◌}
+use Rattle.rt_ids.specs.Holder.{Holder, Guarded, is_same_holder}
+use Rattle.rt_ids.specs.Content.{Message, Values, delays, least_instant}
+use Rattle.rt_ids.specs.Entry.{Entry}
+use Rattle.rt_ids.specs.Action.{Action, Takes, Refuses, Readies, Starts, Frees, Arms, Fires, SetsAlarm, effect}
+use Rattle.rt_ids.specs.Doing.{Doing, does}
+use Rattle.rt_ids.specs.Storage.{Storage, Runner}
+use Rattle.rt_ids.specs.declared.ids.Section.{Section}
+use Rattle.rt_ids.specs.declared.ids.Section.TheVariants as section
+use Rattle.rt_code.specs.Owning.{Spot, is_open, Agree}
+use Rattle.rt_code.specs.Tables.{arguments_in}
+use Rattle.rt_code.specs.declared.image.BodyRow.{BodyRow}
+use Rattle.rt_code.specs.declared.instr.Note.{Note}
+use Rattle.rt_code.specs.declared.instr.Note.TheVariants as note
+
+-- the queue of one section becomes this
+abbrev pub with_queue : (Holder → List Entry) → Section → List Entry → Holder → List Entry
+with_queue queues x entries holder = if is_same_holder (Guarded x) holder then entries else queues holder
+
+module _ (st : Storage) (bodies : List BodyRow) (who : Runner) where
+  -- The next action is this one, and then the job goes on, by the answer and by the values behind it.
+  pub record Acts (action : Action) (answer : ℕ) (s : Spot) (later : Spot → Type 0) : Type 0 where
+    pub values : Values
+    pub follows : ℕ → Values → Doing Values
+    pub is : s.rest ≡ does action values follows
+    pub on : (vs : Values) → Agree st who s.held vs values → later (record s { rest = follows answer (effect action vs) })
+
+  -- The alarm becomes the least armed instant, for the monotonic's interrupt, or none where nothing is armed.
+  pub record SetsTheAlarm (instant : Option ℕ) (s : Spot) (later : Spot → Type 0) : Type 0 where
+    pub acts : Acts SetsAlarm 0 s later
+    pub inside : is_open s.held section.Timer ≡ true
+    pub least : least_instant (delays (acts.values (Guarded section.Timer))) ≡ instant
+
+  -- a place of a task is taken into the hands
+  pub record TakesPlace (t : ℕ) (s : Spot) (later : Spot → Type 0) : Type 0 where
+    pub entry : Entry
+    pub others : List Entry
+    pub inside : is_open s.held (section.Free t) ≡ true
+    pub first : s.queues (Guarded (section.Free t)) ≡ entry ∷ others
+    pub of_task : entry.task ≡ t
+    pub acts : Acts (Takes t) 0 (record s { places = entry ∷ s.places; queues = with_queue s.queues (section.Free t) others }) later
+
+  pub record FindsNone (t : ℕ) (s : Spot) (later : Spot → Type 0) : Type 0 where
+    pub inside : is_open s.held (section.Free t) ≡ true
+    pub acts : Acts (Refuses t) 0 s later
+
+  -- what is in the hands goes last into the ready queue of a level, or is armed for the instant in a slot
+  pub record MakesReady (t : ℕ) (s : Spot) (later : Spot → Type 0) : Type 0 where
+    pub level : ℕ
+    pub message : Message
+    pub entry : Entry
+    pub others : List Entry
+    pub inside : is_open s.held (section.Ready level) ≡ true
+    pub in_hands : s.places ≡ entry ∷ others
+    pub of_task : (entry.task ≡ t) × (message.task ≡ t)
+    pub acts : Acts (Readies level message) 0 (record s { places = others; queues = with_queue s.queues (section.Ready level) (s.queues (Guarded (section.Ready level)) ++ entry ∷ []) }) later
+
+  pub record ArmsMessage (t slot : ℕ) (s : Spot) (later : Spot → Type 0) : Type 0 where
+    pub instant : ℕ
+    pub message : Message
+    pub entry : Entry
+    pub others : List Entry
+    pub inside : is_open s.held section.Timer ≡ true
+    pub in_hands : s.places ≡ entry ∷ others
+    pub of_task : (entry.task ≡ t) × (message.task ≡ t)
+    pub shown : slice_get s.slots slot ≡ Some instant
+    pub acts : Acts (Arms instant message) 0 (record s { places = others; queues = with_queue s.queues section.Timer (s.queues (Guarded section.Timer) ++ entry ∷ []) }) later
+
+  -- the oldest ready message of a level starts, with its arguments in the slots from one on
+  pub record StartsMessage (t from : ℕ) (s : Spot) (later : Spot → Type 0) : Type 0 where
+    pub level : ℕ
+    pub message : Message
+    pub entry : Entry
+    pub others : List Entry
+    pub inside : is_open s.held (section.Ready level) ≡ true
+    pub first : s.queues (Guarded (section.Ready level)) ≡ entry ∷ others
+    pub of_task : (entry.task ≡ t) × (message.task ≡ t)
+    pub fits : from + arguments_in bodies t ≤ length s.slots
+    pub shown : message.args ≡ take (arguments_in bodies t) (drop from s.slots)
+    pub acts : Acts (Starts level message) 0 (record s { places = entry ∷ s.places; queues = with_queue s.queues (section.Ready level) others }) later
+
+  -- an armed message, whose instant has come, comes into the hands; the others stay in order
+  pub record FiresMessage (t : ℕ) (s : Spot) (later : Spot → Type 0) : Type 0 where
+    pub message : Message
+    pub entry : Entry
+    pub before : List Entry
+    pub behind : List Entry
+    pub inside : is_open s.held section.Timer ≡ true
+    pub stands : s.queues (Guarded section.Timer) ≡ before ++ entry ∷ behind
+    pub of_task : (entry.task ≡ t) × (message.task ≡ t)
+    pub acts : Acts (Fires message) 0 (record s { places = entry ∷ s.places; queues = with_queue s.queues section.Timer (before ++ behind) }) later
+
+  -- the place in the hands is free again, and is taken next
+  pub record GivesPlaceBack (t : ℕ) (s : Spot) (later : Spot → Type 0) : Type 0 where
+    pub entry : Entry
+    pub others : List Entry
+    pub inside : is_open s.held (section.Free t) ≡ true
+    pub in_hands : s.places ≡ entry ∷ others
+    pub of_task : entry.task ≡ t
+    pub acts : Acts (Frees t) 0 (record s { places = others; queues = with_queue s.queues (section.Free t) (entry ∷ s.queues (Guarded (section.Free t))) }) later
+
+  -- what a note on a plain instruction says is done; those of sections and ends stand on instructions of their own
+  abbrev pub Noted : Note → Spot → (Spot → Type 0) → Type 0
+  Noted (note.Placed t) s later = TakesPlace t s later
+  Noted (note.Full t) s later = FindsNone t s later
+  Noted (note.Ready t) s later = MakesReady t s later
+  Noted (note.Start t from) s later = StartsMessage t from s later
+  Noted (note.Free t) s later = GivesPlaceBack t s later
+  Noted (note.Arm t slot) s later = ArmsMessage t slot s later
+  Noted (note.Fire t) s later = FiresMessage t s later
+  Noted (note.Enter x) s later = ⊥
+  Noted (note.Leave x) s later = ⊥
+  Noted (note.End b) s later = ⊥

@@ -1,0 +1,104 @@
+-- How code goes into a section and comes out of it. A section holds off all priorities up to its ceiling: by nothing where what runs
+-- does already, by BASEPRI, or by PRIMASK where the value of the ceiling is 0, which as BASEPRI would mask nothing (the RTIC 1 book,
+-- critical sections; ARMv7-M Architecture Reference Manual, section B1.4.3). What the mask was is kept in a slot, and put back.
+use Rattle.std.specs.Prelude.{◌≡◌, ℕ, suc, ◌-◌, ◌<◌, ◌≤◌, max, false, List, ◌∷◌, length, map, drop, slice_index, slice_set, Contains}
+use Rattle.std.specs.List.{AllByRecursion}
+use Rattle.rt_ids.specs.Lists.{greatest}
+use Rattle.rt_ids.specs.Holder.{Holder, Guarded}
+use Rattle.rt_ids.specs.Content.{Values}
+use Rattle.rt_ids.specs.Entry.{Entry}
+use Rattle.rt_ids.specs.Action.{Enters, Leaves}
+use Rattle.rt_ids.specs.Doing.{Doing, does}
+use Rattle.rt_ids.specs.Storage.{Storage, Runner, Starting, AtLevel}
+use Rattle.rt_ids.specs.declared.ids.Section.{Section}
+use Rattle.rt_code.specs.Owning.{Kind, Marked, Raised, Masked, Held, Spot, is_open, saved_slot, saved_slots, mine, Agree, LeavesMine}
+use Rattle.rt_code.specs.declared.instr.Instr.{Instr}
+use Rattle.rt_code.specs.declared.instr.Instr.TheVariants as instr
+
+-- the instructions that open and close a section of this kind; BASEPRI becomes the value of its ceiling
+abbrev pub opening : ℕ → Kind → Instr
+opening value Marked = instr.Mark
+opening value (Raised slot) = instr.Raise slot value
+opening value (Masked slot) = instr.Mask slot
+
+abbrev pub closing : Kind → Instr
+closing Marked = instr.Mark
+closing (Raised slot) = instr.Restore slot
+closing (Masked slot) = instr.Unmask slot
+
+-- the slots with what a mask was, where one is kept
+abbrev pub saving : Kind → ℕ → List ℕ → List ℕ
+saving Marked value slots = slots
+saving (Raised slot) value slots = slice_set slots slot value
+saving (Masked slot) value slots = slice_set slots slot value
+
+module _ (st : Storage) (who : Runner) where
+  -- the mask that a ceiling asks for, at a level that what runs holds off already
+  abbrev pub IsMask : ℕ → ℕ → Kind → Type 0
+  IsMask ceiling level Marked = ceiling ≤ level
+  IsMask ceiling level (Raised slot) = (level < ceiling) × (0 < st.value ceiling)
+  IsMask ceiling level (Masked slot) = (level < ceiling) × (st.value ceiling ≡ 0)
+
+  -- `init` holds off all; another runner all up to the greatest of its level and the ceilings of its open sections
+  abbrev pub IsKindFor : Runner → List Held → Section → Kind → Type 0
+  IsKindFor Starting held x kind = kind ≡ Marked
+  IsKindFor (AtLevel p) held x kind = IsMask (st.ceiling x) (max p (greatest (map (λ h. st.ceiling h.section) held))) kind
+
+  -- the ceiling is at least the level of what runs; for `init`, which nobody interrupts, nothing is asked
+  abbrev pub IsWithin : Runner → Section → Type 0
+  IsWithin Starting x = Unit {0}
+  IsWithin (AtLevel p) x = p ≤ st.ceiling x
+
+  -- nobody that may have started keeps what the section guards, or may read it without the section
+  abbrev pub NobodyKeeps : Runner → Section → Type 0
+  NobodyKeeps Starting x = st.is_kept Starting (Guarded x) ≡ false
+  NobodyKeeps (AtLevel p) x =
+      (q : ℕ) → (st.is_kept (AtLevel q) (Guarded x) ≡ false) × (st.is_constant (AtLevel q) (Guarded x) ≡ false)
+
+  -- behind the opening of a section, with memory and queues as they then are
+  abbrev pub inside : Section → Kind → ℕ → ℕ → Doing Values → List ℕ → (Holder → List Entry) → Spot → Spot
+  inside x kind saved cost rest cells queues s = record s {
+    held = record { section = x; kind = kind } ∷ s.held;
+    lefts = (cost - 1) ∷ s.lefts;
+    slots = saving kind saved s.slots;
+    address = suc s.address;
+    cells = cells;
+    queues = queues;
+    rest = rest;
+  }
+
+  -- What it guards is taken over as the others left it, with no place of a message twice among the job's own.
+  pub record TakesOver (x : Section) (s : Spot) (values vs : Values) (cells : List ℕ) (queues : Holder → List Entry) : Type 0 where
+    pub agree : Agree st who s.held vs values
+    pub same : LeavesMine st who s cells queues
+    pub spelled : st.Spells (Guarded x) (slice_index cells) (queues (Guarded x)) (vs (Guarded x))
+    pub once : (e : Entry) → mine (inside x Marked 0 0 s.rest cells queues s) e ≤ 1
+
+  pub record GoesIn (x : Section) (i : Instr) (s : Spot) (later : Spot → Type 0) : Type 0 where
+    pub cost : ℕ
+    pub values : Values
+    pub follows : ℕ → Values → Doing Values
+    pub is : s.rest ≡ does (Enters x cost) values follows
+    pub kind : Kind
+    pub mask : IsKindFor who s.held x kind
+    pub opens : i ≡ opening (st.value (st.ceiling x)) kind
+    -- the slot that keeps the mask is in the frame, and keeps no other
+    pub slot : AllByRecursion (λ d. (d < length s.slots) × (¬ Contains (saved_slots s.held) d)) (saved_slot kind)
+    pub within : IsWithin who x
+    pub once : is_open s.held x ≡ false
+    pub shared : NobodyKeeps who x
+    pub on : (saved : ℕ) (vs : Values) (cells : List ℕ) (queues : Holder → List Entry) → TakesOver x s values vs cells queues
+        → later (inside x kind saved cost (follows 0 vs) cells queues s)
+
+  -- What it guards is given back as it then is: its cells spell its value.
+  pub record ComesOut (x : Section) (i : Instr) (s : Spot) (later : Spot → Type 0) : Type 0 where
+    pub values : Values
+    pub follows : ℕ → Values → Doing Values
+    pub is : s.rest ≡ does (Leaves x) values follows
+    pub kind : Kind
+    pub outer : List Held
+    pub innermost : s.held ≡ record { section = x; kind = kind } ∷ outer
+    pub closes : i ≡ closing kind
+    pub spelled : st.Spells (Guarded x) (slice_index s.cells) (s.queues (Guarded x)) (values (Guarded x))
+    pub on : (vs : Values) → Agree st who outer vs values
+        → later (record s { held = outer; lefts = drop 1 s.lefts; address = suc s.address; rest = follows 0 vs })

@@ -1,0 +1,91 @@
+-- What a job owns while it runs: the resources and queues whose sections it has open, what its runner keeps, and the places of
+-- messages in its hands (Baker, Stack-Based Scheduling of Realtime Processes, 1991: a job's open sections; the RTIC 1 book, local
+-- resources). A job touches cells of these alone; the rest of memory is others'.
+use Rattle.std.specs.Prelude.{◌≡◌, ℕ, ◌+◌, ◌<◌, ◌||◌, Bool, true, List, [], ◌∷◌, length, slice_index, flat_map, sum_by, Option, Some, None}
+use Rattle.std.specs.List.{list_any}
+use Rattle.rt_ids.specs.Holder.{Holder, Guarded, Own, is_same_section}
+use Rattle.rt_ids.specs.Content.{Values}
+use Rattle.rt_ids.specs.Entry.{Entry, count}
+use Rattle.rt_ids.specs.Doing.{Doing}
+use Rattle.rt_ids.specs.Storage.{Storage, Runner, Home, At, In, Nowhere}
+use Rattle.rt_ids.specs.declared.ids.Section.{Section}
+use Rattle.rt_code.specs.Access.{Access, Loads, Stores}
+
+-- how a section holds others off: a mark alone, since what runs does already; or BASEPRI or PRIMASK, whose value before is in a slot
+pub data Kind : Type 0 where
+  Marked : Kind
+  Raised : (slot : ℕ) → Kind
+  Masked : (slot : ℕ) → Kind
+
+-- an open section
+pub record Held : Type 0 where
+  pub section : Section
+  pub kind : Kind
+
+-- where a job is: its own part of the core and of memory, and what it has left to do
+pub record Spot : Type 0 where
+  -- its open sections, innermost first
+  pub held : List Held
+  -- At most so many more steps are needed: to the leaving of each open section, innermost first, and at last to the job's end.
+  pub lefts : List ℕ
+  -- the places of messages in its hands, the last taken first
+  pub places : List Entry
+  pub slots : List ℕ
+  -- where a called body runs, the frame of the handler that called it
+  pub caller : Option (List ℕ)
+  pub address : ℕ
+  pub cells : List ℕ
+  -- the places of the messages in each queue
+  pub queues : Holder → List Entry
+  pub rest : Doing Values
+
+abbrev pub is_open : List Held → Section → Bool
+is_open held x = list_any (λ h. is_same_section h.section x) held
+
+-- the slots that hold what masks were before the open sections
+abbrev pub saved_slot : Kind → List ℕ
+saved_slot Marked = []
+saved_slot (Raised slot) = slot ∷ []
+saved_slot (Masked slot) = slot ∷ []
+
+abbrev pub saved_slots : List Held → List ℕ
+saved_slots held = flat_map (λ h. saved_slot h.kind) held
+
+-- how often an entry is in the job's hands or in a queue whose section it has open
+abbrev pub mine : Spot → Entry → ℕ
+mine s e = count e s.places + sum_by (λ h. count e (s.queues (Guarded h.section))) s.held
+
+module _ (st : Storage) (who : Runner) where
+  -- what it may change, with these sections open
+  abbrev pub owns : List Held → Holder → Bool
+  owns held (Guarded x) = is_open held x || st.is_kept who (Guarded x)
+  owns held (Own n) = st.is_kept who (Own n)
+
+  -- what it may read
+  abbrev pub reads : List Held → Holder → Bool
+  reads held holder = owns held holder || st.is_constant who holder
+
+  abbrev pub MayLoad : Spot → Home → Type 0
+  MayLoad s (At holder) = reads s.held holder ≡ true
+  MayLoad s (In e) = 0 < mine s e
+  MayLoad s Nowhere = ⊥
+
+  abbrev pub MayStore : Spot → Home → Type 0
+  MayStore s (At holder) = owns s.held holder ≡ true
+  MayStore s (In e) = 0 < count e s.places
+  MayStore s Nowhere = ⊥
+
+  abbrev pub MayAccess : Spot → Option Access → Type 0
+  MayAccess s None = Unit {0}
+  MayAccess s (Some (Loads cell)) = MayLoad s (st.home cell)
+  MayAccess s (Some (Stores cell)) = MayStore s (st.home cell)
+
+  -- these values are the same in all that it may read
+  abbrev pub Agree : List Held → Values → Values → Type 0
+  Agree held vs ws = (holder : Holder) → reads held holder ≡ true → vs holder ≡ ws holder
+
+  -- Memory and queues as others may have left them: as before in what is the job's own.
+  pub record LeavesMine (s : Spot) (cells : List ℕ) (queues : Holder → List Entry) : Type 0 where
+    pub long : length cells ≡ length s.cells
+    pub touched : (cell : ℕ) → MayLoad s (st.home cell) → slice_index cells cell ≡ slice_index s.cells cell
+    pub queued : (holder : Holder) → owns s.held holder ≡ true → queues holder ≡ s.queues holder

@@ -1,0 +1,142 @@
+-- Code that stands: from where a job is, instruction after instruction does what the job has left to do, action by action and in time,
+-- whatever others do to what is not its own. It is said by what each instruction does (`effect`), once for all code, and not by how
+-- code is generated: a job is thought of in its own frame, its own sections and its own part of memory, as a task of RTIC 1 is.
+use Rattle.std.specs.Prelude.{◌≡◌, ℕ, zero, suc, ◌-◌, ◌^◌, ◌<◌, Bool, true, false, ◌||◌, List, [], ◌∷◌, length, map, slice_get, slice_index, Option, Some, None}
+use Rattle.std.specs.List.{AllByRecursion}
+use Rattle.rt_ids.specs.Holder.{Holder}
+use Rattle.rt_ids.specs.Content.{Values}
+use Rattle.rt_ids.specs.Entry.{Entry}
+use Rattle.rt_ids.specs.Action.{Action, Emits, Posts, Clocks, Ends, Returns}
+use Rattle.rt_ids.specs.Doing.{Doing, does}
+use Rattle.rt_ids.specs.Storage.{Storage, Runner, Starting, AtLevel}
+use Rattle.rt_ids.specs.declared.ids.BodyId.{BodyId}
+use Rattle.rt_ids.specs.declared.ids.BodyId.TheVariants as body
+use Rattle.rt_code.specs.Access.{access_of}
+use Rattle.rt_code.specs.Acting.{Acts, SetsTheAlarm, Noted}
+use Rattle.rt_code.specs.Effect as instruction
+use Rattle.rt_code.specs.Masking.{GoesIn, ComesOut}
+use Rattle.rt_code.specs.Owning.{Held, Spot, saved_slots, MayAccess}
+use Rattle.rt_code.specs.Processor.{Processor, Effect, Traps, Leads}
+use Rattle.rt_code.specs.Stack as stack
+use Rattle.rt_code.specs.declared.image.BodyRow.{BodyRow}
+use Rattle.rt_code.specs.declared.instr.Instr.{Instr}
+use Rattle.rt_code.specs.declared.instr.Instr.TheVariants as instr
+use Rattle.rt_code.specs.declared.instr.Note.{Note}
+use Rattle.rt_code.specs.declared.instr.Note.TheVariants as note
+use Rattle.rt_code.specs.declared.processor.Request.{Request}
+use Rattle.rt_code.specs.declared.processor.Request.TheVariants as request
+
+abbrev pub processor_of : Spot → ℕ → Bool → Processor
+processor_of s basepri primask =
+    record { address = s.address; basepri = basepri; primask = primask; slots = s.slots; cells = s.cells }
+
+-- where a job is behind an instruction of its own
+abbrev pub moved : Spot → Processor → Spot
+moved s p = record s { address = p.address; slots = p.slots; cells = p.cells }
+
+-- what its open sections saved is not touched
+abbrev pub KeepsSaved : List Held → List ℕ → List ℕ → Type 0
+KeepsSaved held slots after = AllByRecursion (λ d. slice_index after d ≡ slice_index slots d) (saved_slots held)
+
+-- a step is left to the job and to each of its open sections; and a step less
+abbrev pub HaveLeft : List ℕ → Type 0
+HaveLeft lefts = AllByRecursion (λ n. 0 < n) lefts
+
+abbrev pub passed : Spot → Spot
+passed s = record s { lefts = map (λ n. n - 1) s.lefts }
+
+-- code for a runner, beside the rows of the bodies that it may call, where the thread goes on at an address once `init` or `idle` ends
+module _ (st : Storage) (code : List (Instr × Option Note)) (bodies : List BodyRow) (thread : ℕ) (who : Runner) where
+  -- A job's last action, or that of a body of the thread: it has no section open and nothing in its hands, and gives back what its
+  -- runner keeps.
+  pub record Finishes (action : Action) (s : Spot) : Type 0 where
+    pub values : Values
+    pub follows : ℕ → Values → Doing Values
+    pub is : s.rest ≡ does action values follows
+    pub closed : s.held ≡ []
+    pub empty : s.places ≡ []
+    pub own_frame : s.caller ≡ None
+    pub spelled : (h : Holder) → st.is_kept who h ≡ true → st.Spells h (slice_index s.cells) (s.queues h) (values h)
+
+  -- a body that a handler calls runs in a frame of its own, with no section open; the handler's frame keeps the address behind the call
+  pub record Calls (row from : ℕ) (s : Spot) (later : Spot → Type 0) : Type 0 where
+    pub called : BodyRow
+    pub is_there : slice_get bodies row ≡ Some called
+    pub closed : s.held ≡ []
+    pub may_call : (s.caller ≡ None) × (0 < length s.slots)
+    pub fits : stack.arguments_fit s.slots called from ≡ true
+    pub on : let frame : List ℕ = stack.caller_frame s.slots (suc s.address) in
+        later (record s { address = called.entry; slots = stack.body_frame frame called from; caller = Some frame })
+
+  -- and its end leads back there
+  pub record ComesBack (t : ℕ) (s : Spot) (later : Spot → Type 0) : Type 0 where
+    pub frame : List ℕ
+    pub caller : s.caller ≡ Some frame
+    pub closed : s.held ≡ []
+    pub acts : Acts st bodies who (Ends (body.Task t)) 0 (record s { address = stack.return_address frame; slots = frame; caller = None }) later
+
+  -- `init` ends by serving interrupts, and the thread goes on at its address; `idle` by going to the same again
+  abbrev pub EndsBody : BodyId → Instr → Spot → (Spot → Type 0) → Type 0
+  EndsBody body.Init i s later = (i ≡ instr.Serve) × (who ≡ Starting) × (suc s.address ≡ thread) × Finishes (Ends body.Init) s
+  EndsBody body.Idle i s later = (i ≡ instr.Jump thread) × (who ≡ AtLevel 0) × Finishes (Ends body.Idle) s
+  EndsBody (body.Task t) i s later = (i ≡ instr.Back) × ComesBack t s later
+
+  -- what an instruction asks of the core; one that asks nothing is silent, or does what its note says
+  abbrev pub Asks : Request → Option Note → Spot → (Spot → Type 0) → Type 0
+  Asks request.Nothing None s later = later s
+  Asks request.Nothing (Some told) s later = Noted st bodies who told s later
+  Asks (request.Emit value) None s later = Acts st bodies who (Emits value) 0 s later
+  Asks (request.Post irq) None s later = Acts st bodies who (Posts irq) 0 s later
+  Asks (request.Clock time) None s later = Acts st bodies who Clocks time s later
+  Asks (request.Alarm instant irq) None s later = (st.timer ≡ Some irq) × SetsTheAlarm st bodies who (Some instant) s later
+  Asks request.NoAlarm None s later = SetsTheAlarm st bodies who None s later
+  Asks (request.Call row from) None s later = Calls row from s later
+  Asks request.Return None s later = Finishes Returns s
+  Asks request.Back None s later = ⊥
+  Asks asked (Some told) s later = ⊥
+
+  -- it does not trap, and leaves the masks and what sections saved
+  abbrev pub Goes : Option Note → ℕ → Bool → Spot → (Spot → Type 0) → Effect → Type 0
+  Goes told basepri primask s later (Traps trap) = ⊥
+  Goes told basepri primask s later (Leads p asked) =
+      (p.basepri ≡ basepri) × (p.primask ≡ primask) × KeepsSaved s.held s.slots p.slots × Asks asked told (moved s p) later
+
+  -- whatever the masks and the time, it touches what the job may touch
+  pub record Does (i : Instr) (told : Option Note) (s : Spot) (later : Spot → Type 0) : Type 0 where
+    pub touches : MayAccess st who s (access_of i (processor_of s 0 false))
+    pub goes : (time basepri : ℕ) (primask : Bool) → time < 2 ^ 31
+        → Goes told basepri primask s later (instruction.effect i time (processor_of s basepri primask))
+
+  -- an instruction with its note: the sections' and the ends' own, and any other
+  abbrev pub Fits : Instr → Option Note → Spot → (Spot → Type 0) → Type 0
+  Fits i (Some (note.Enter x)) s later = GoesIn st who x i s later
+  Fits i (Some (note.Leave x)) s later = ComesOut st who x i s later
+  Fits i (Some (note.End b)) s later = EndsBody b i s later
+  Fits i told s later = Does i told s later
+
+  abbrev pub LineFits : Option (Instr × Option Note) → Spot → (Spot → Type 0) → Type 0
+  LineFits None s later = ⊥
+  LineFits (Some line) s later = Fits line.0 line.1 s later
+
+  -- Within so many steps of its own the job comes to its end: each step is its line's, and each is within what is left.
+  unfoldable pub Stands : ℕ → Spot → Type 0
+  Stands zero s = ⊥
+  Stands (suc n) s = HaveLeft s.lefts × LineFits (slice_get code s.address) (passed s) (Stands n)
+
+  -- Code at an address is a whole body or handler: from a frame of so many words, whatever it holds, and from what its runner keeps,
+  -- it does what is to be done, within its cost.
+  abbrev pub StandsFrom : ℕ → ℕ → ℕ → ℕ → (Values → Doing Values) → Type 0
+  StandsFrom memory words entry cost doing =
+      (slots cells : List ℕ) (queues : Holder → List Entry) (vs : Values) → length slots ≡ words → length cells ≡ memory
+      → ((h : Holder) → (st.is_kept who h || st.is_constant who h) ≡ true → st.Spells h (slice_index cells) (queues h) (vs h))
+      → Stands cost (record {
+        held = [];
+        lefts = cost ∷ [];
+        places = [];
+        slots = slots;
+        caller = None;
+        address = entry;
+        cells = cells;
+        queues = queues;
+        rest = doing vs;
+      })

@@ -1,0 +1,3 @@
+-- What private contracts alone speak of.
+pub mod Initial
+pub mod Kept
