@@ -4,7 +4,7 @@ use Rattle.rt_ids.specs.Lists.{is_empty}
 use Rattle.rt_code.specs.Image.{Image}
 use Rattle.rt_code.specs.declared.image.BodyRow.{BodyRow}
 use Rattle.rt_code.specs.declared.processor.Trap.TheVariants as trap
-use Rattle.rt_context.specs.Stack.{arguments_fit}
+use Rattle.rt_code.specs.Stack.{arguments_fit}
 use Rattle.rt_context.specs.Frames.{Frames}
 use Rattle.rt_context.specs.Moves as moves
 use Rattle.rt_core.specs.Core.{Context, Core, frames_of, saved}

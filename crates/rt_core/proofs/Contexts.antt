@@ -3,7 +3,7 @@ use Rattle.std.proofs.Common.{◌≡◌, ℕ, ◌+◌, ◌*◌, List, [], ◌∷
 use Rattle.std.proofs.lemmas.List.Sums.{sum_by-cons}
 use Rattle.rt_code.specs.Image.{Image, entry_words}
 use Rattle.rt_context.specs.Frames.{Saved, Frames}
-use Rattle.rt_context.specs.Stack.{words_of}
+use Rattle.rt_code.specs.Stack.{words_of}
 use Rattle.rt_context.specs.Frames as frame
 use Rattle.rt_nvic.specs.Nvic.{Nvic, value_of_first}
 use Rattle.rt_core.specs.Core.{Context, Core, context_words, used, depth, saved, exception_number, frames_of}

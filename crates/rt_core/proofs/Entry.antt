@@ -12,7 +12,7 @@ use Rattle.rt_context.specs.Frames.{Saved, Frames}
 use Rattle.rt_context.specs.Frames as frame
 use Rattle.rt_context.specs.Moves as moves
 use Rattle.rt_nvic.specs.Nvic.{Nvic}
-use Rattle.rt_program.specs.Tables.{handler_of}
+use Rattle.rt_code.specs.Tables.{handler_of}
 use Rattle.rt_core.specs.Core.{Context, Core, exception_number, frames_of, depth}
 use Rattle.rt_core.specs.Priority.{running_value, base_value, mask_value, value_or_none, execution, can_preempt, pick}
 use Rattle.rt_trace.specs.declared.item.What.TheVariants as what

@@ -14,7 +14,7 @@ use Rattle.rt_code.specs.declared.processor.Request.{Request}
 use Rattle.rt_code.specs.declared.processor.Request.TheVariants as request
 use Rattle.rt_code.specs.declared.processor.Trap.TheVariants as trap
 use Rattle.rt_code.proofs.Touching.{cells_after}
-use Rattle.rt_context.specs.Stack.{interrupted}
+use Rattle.rt_code.specs.Stack.{interrupted}
 use Rattle.rt_trace.specs.declared.item.What.{What}
 use Rattle.rt_trace.specs.declared.item.What.TheVariants as what
 use Rattle.rt_trace.specs.Label.{Label, Rang}
@@ -24,7 +24,7 @@ use Rattle.rt_core.specs.Core.{Core, Context, depth}
 use Rattle.rt_core.specs.Priority.{pick}
 use Rattle.rt_core.specs.Outcome.{Outcome, Trapped, Done, settle}
 use Rattle.rt_core.specs.Note.{shown_by, slots_from}
-use Rattle.rt_program.specs.Tables.{argument_count}
+use Rattle.rt_code.specs.Tables.{argument_count}
 use Rattle.rt_core.specs.Stepping as stepping
 use Rattle.rt_core.specs.Transfer as transfer
 use Rattle.rt_core.specs.Trace.{ring, happen, core_after}

@@ -16,3 +16,6 @@ pub mod Storing
 pub mod Loading
 pub mod Showing
 pub mod Room
+mod Leading
+pub mod Standing
+pub mod Following

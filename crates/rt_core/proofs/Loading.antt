@@ -14,8 +14,8 @@ use Rattle.rt_code.specs.declared.processor.Request.{Request}
 use Rattle.rt_code.specs.declared.processor.Request.TheVariants as request
 use Rattle.rt_code.specs.declared.processor.Trap.TheVariants as trap
 use Rattle.rt_code.proofs.Touching.{with_memory, aside, effect_alike, access_alike, stores_alike, HaveLoad}
-use Rattle.rt_context.specs.Stack.{interrupted}
-use Rattle.rt_program.specs.Tables.{argument_count}
+use Rattle.rt_code.specs.Stack.{interrupted}
+use Rattle.rt_code.specs.Tables.{argument_count}
 use Rattle.rt_trace.specs.declared.item.What.{What}
 use Rattle.rt_trace.specs.declared.item.What.TheVariants as what
 use Rattle.rt_core.specs.Access.{access_by, access_by_line}

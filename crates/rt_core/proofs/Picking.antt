@@ -9,7 +9,7 @@ use Rattle.rt_ids.proofs.Best.{best_is_best}
 use Rattle.rt_code.specs.Image.{Image}
 use Rattle.rt_code.specs.Runnable.{IsRunnable}
 use Rattle.rt_code.specs.declared.image.IrqRow.{IrqRow}
-use Rattle.rt_program.specs.Tables.{handler_of}
+use Rattle.rt_code.specs.Tables.{handler_of}
 use Rattle.rt_ids.specs.Lists.{then_from}
 use Rattle.rt_core.specs.Taken.{NoLater, TakesTheFirst}
 use Rattle.rt_core.specs.Core.{Core}

@@ -18,7 +18,7 @@ use Rattle.rt_code.specs.declared.processor.Request.{Request}
 use Rattle.rt_code.specs.declared.processor.Request.TheVariants as request
 use Rattle.rt_code.specs.declared.processor.Trap.TheVariants as trap
 use Rattle.rt_code.proofs.Touching.{slots_after, slots_sized}
-use Rattle.rt_context.specs.Stack.{words_of, interrupted, last_slot, caller_frame, arguments_fit}
+use Rattle.rt_code.specs.Stack.{words_of, interrupted, last_slot, caller_frame, arguments_fit}
 use Rattle.rt_trace.specs.Label.{Label, Rang}
 use Rattle.rt_trace.specs.declared.item.What.{What}
 use Rattle.rt_trace.specs.declared.item.What.TheVariants as what

@@ -5,7 +5,7 @@ use Rattle.std.proofs.lemmas.List.Folds.{find_at}
 use Rattle.rt_code.specs.Image.{Image}
 use Rattle.rt_code.specs.Runnable.{IsRunnable}
 use Rattle.rt_code.specs.declared.image.BodyRow.{BodyRow}
-use Rattle.rt_program.specs.Tables.{argument_count}
+use Rattle.rt_code.specs.Tables.{argument_count}
 
 pub arguments_few : (img : Image) → IsRunnable img → (task : ℕ) → argument_count img task < 5
 arguments_few img runnable task = one (find (λ row. row.task == task) img.bodies) refl

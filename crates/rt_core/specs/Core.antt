@@ -7,7 +7,7 @@ use Rattle.std.specs.Prelude.{ℕ, ◌+◌, ◌*◌, ◌/◌, Bool, true, false,
 use Rattle.rt_ids.specs.declared.limits.TheConstants.{IRQ_NUMBERS}
 use Rattle.rt_code.specs.Image.{Image, entry_words}
 use Rattle.rt_code.specs.Processor.{Processor}
-use Rattle.rt_context.specs.Stack as stack
+use Rattle.rt_code.specs.Stack as stack
 use Rattle.rt_context.specs.Frames.{Saved, Frames, words}
 use Rattle.rt_core.specs.declared.alarm.Alarm.{Alarm}
 

@@ -10,4 +10,7 @@ pub mod Taken
 pub mod Access
 pub mod Touching
 pub mod Laws
+pub mod Masks
+pub mod Leading
+pub mod Standing
 pub mod Inside

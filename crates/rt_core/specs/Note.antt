@@ -11,7 +11,7 @@ use Rattle.rt_trace.specs.declared.item.What.{What}
 use Rattle.rt_trace.specs.declared.item.What.TheVariants as what
 use Rattle.rt_core.specs.Core.{Core}
 use Rattle.rt_code.specs.Cells.{resource_value}
-use Rattle.rt_program.specs.Tables.{argument_count}
+use Rattle.rt_code.specs.Tables.{argument_count}
 
 -- the value that a leave shows: a resource's, and none of another section
 abbrev pub left_value : Image → Core → Section → Option ℕ

@@ -6,7 +6,7 @@ use Rattle.rt_code.specs.Image.{Image, entry_words}
 use Rattle.rt_code.specs.declared.image.Handler.{Handler}
 use Rattle.rt_code.specs.declared.image.BodyRow.{BodyRow}
 use Rattle.rt_code.specs.declared.processor.Trap.TheVariants as trap
-use Rattle.rt_context.specs.Stack as stack
+use Rattle.rt_code.specs.Stack as stack
 use Rattle.rt_trace.specs.declared.item.What.TheVariants as what
 use Rattle.rt_core.specs.Core.{Core, Context, used, depth}
 use Rattle.rt_core.specs.Outcome.{Outcome, Trapped, Done}

@@ -1,1 +1,11 @@
 pub mod LabelsShown
+pub mod Values
+pub mod Rows
+pub mod Short
+pub mod Words
+pub mod Numerals
+pub mod Tables
+pub mod LinesRead
+pub mod Decoded
+pub mod Spelled
+pub mod OneWay

@@ -1,4 +1,5 @@
-ghost use Rattle.std.specs.Prelude.{◌≡◌, ◌≤◌, ◌==◌, length};
+ghost use Rattle.std.specs.Prelude.{◌≡◌, ◌≤◌, ◌<◌, ◌^◌, ◌==◌, length};
+ghost use Rattle.std.specs.List.{AllByRecursion};
 
 use rt_ids::limits::ARGUMENTS;
 use std::marker::Model;
@@ -58,8 +59,18 @@ impl Args {
 
     /// The values, in order.
     pub fn values(&self) -> &[u32]
-        ensures { result.now ≡ self.now }
+        ensures value { result.now ≡ self.now }
+        ensures words { AllByRecursion (λ value. value < 2 ^ 32) self.now }
+        ensures few { length self.now ≤ 4 }
     {
-        &self.values[..self.len()]
+        words(&self.values[..self.len()])
     }
+}
+
+/// These values, each of 32 bits.
+fn words(values: &[u32]) -> &[u32]
+    ensures value { result.now ≡ values.now }
+    ensures words { AllByRecursion (λ value. value < 2 ^ 32) values.now }
+{
+    values
 }

@@ -4,7 +4,23 @@
 pub mod args;
 pub mod item;
 pub mod labels;
+pub mod laws;
+mod lined;
+mod names;
+mod operand;
+mod reading;
+pub mod refusal;
+mod row;
+mod text;
+pub mod trace;
+mod verb;
 
 pub use args::Args;
 pub use item::{Item, What};
 pub use labels::labels_show_their_events;
+pub use laws::{lines_are_read, read_lines_are_lines, texts_are_read_one_way};
+pub use lined::has_line;
+pub use reading::read_trace;
+pub use refusal::TraceRefused;
+pub use text::line;
+pub use trace::Trace;

@@ -3,7 +3,7 @@ use Rattle.std.specs.Prelude.{◌≡◌, ℕ, ◌<◌, ◌≤◌, length, None, 
 use Rattle.rt_ids.specs.declared.limits.TheConstants.{IRQ_NUMBERS}
 use Rattle.rt_code.specs.Image.{Image}
 use Rattle.rt_nvic.specs.Nvic.{Nvic, priority_of}
-use Rattle.rt_program.specs.Tables.{handler_of}
+use Rattle.rt_code.specs.Tables.{handler_of}
 
 -- those below this number are enabled as the image says, and no other
 pub record HasPrioritiesBelow (number : ℕ) (img : Image) (n : Nvic) : Type 0 where

@@ -7,7 +7,7 @@ use Rattle.rt_code.specs.Processor.{processor}
 use Rattle.rt_code.specs.Runnable.{IsRunnable}
 use Rattle.rt_context.specs.Frames.{Saved}
 use Rattle.rt_nvic.specs.Nvic.{Nvic, priority_of}
-use Rattle.rt_program.specs.Tables.{handler_of}
+use Rattle.rt_code.specs.Tables.{handler_of}
 use Rattle.rt_core.specs.Core.{Context, Core, frames_of}
 use Rattle.rt_core.specs.Priority.{running_value}
 use Rattle.rt_core.specs.Machine.{Machine}

@@ -3,7 +3,7 @@ use Rattle.rt_ids.specs.declared.limits.TheConstants.{IRQ_NUMBERS}
 use Rattle.rt_code.specs.declared.processor.Trap.TheVariants as trap
 use Rattle.rt_context.specs.Frames.{Frames}
 use Rattle.rt_context.specs.Moves as moves
-use Rattle.rt_program.specs.Tables.{handler_of}
+use Rattle.rt_code.specs.Tables.{handler_of}
 use Rattle.rt_trace.specs.declared.item.What.TheVariants as what
 use Rattle.rt_core.specs.declared.machine.Core.TheInside.{Inside}
 use Rattle.rt_core.specs.Core.{Core, exception_number}

@@ -1,0 +1,101 @@
+-- What a core step does where code that stands runs: the step of the core, and what stands behind it. Who follows a
+-- job on the core goes by these cases, and unfolds no instruction. They are read off the definitions of standing code
+-- and of a core step; the cases are this project's own.
+use Rattle.std.specs.Prelude.{◌≡◌, ℕ, suc, ◌^◌, ◌<◌, true, false, List, ◌∷◌, Option, Some, None}
+use Rattle.rt_ids.specs.Lists.{is_empty}
+use Rattle.rt_ids.specs.Action.{Action, Emits, Posts, Clocks, Ends, Returns}
+use Rattle.rt_ids.specs.Storage.{Storage, Runner, Starting, AtLevel}
+use Rattle.rt_ids.specs.declared.ids.BodyId.TheVariants as body
+use Rattle.rt_ids.specs.declared.ids.Section.{Section}
+use Rattle.rt_code.specs.Acting.{Acts, SetsTheAlarm, Noted}
+use Rattle.rt_code.specs.Image.{Image}
+use Rattle.rt_code.specs.Masking.{GoesIn, ComesOut}
+use Rattle.rt_code.specs.Owning.{Spot, MayAccess}
+use Rattle.rt_code.specs.Processor.{Processor}
+use Rattle.rt_code.specs.Standing.{Finishes, Calls, ComesBack, HaveLeft, Stands, moved, passed}
+use Rattle.rt_code.specs.declared.instr.Instr.{Instr}
+use Rattle.rt_code.specs.declared.instr.Note.{Note}
+use Rattle.rt_trace.specs.declared.item.What.{What}
+use Rattle.rt_trace.specs.declared.item.What.TheVariants as what
+use Rattle.rt_core.specs.Access.{access}
+use Rattle.rt_core.specs.Core.{Core, Context}
+use Rattle.rt_core.specs.Leading.{IsAt, GoesPlainly, with_processor, at_address, served, in_frame, in_context, item_of}
+use Rattle.rt_core.specs.Masks.{CanPutBack, opened, closed}
+use Rattle.rt_core.specs.Note.{left_value}
+use Rattle.rt_core.specs.Outcome.{settle}
+use Rattle.rt_core.specs.Priority.{pick}
+use Rattle.rt_core.specs.Stepping.{step}
+use Rattle.rt_core.specs.Transfer.{pended, called, has_room, set_alarm}
+
+module _ (img : Image) (st : Storage) (thread : ℕ) (who : Runner) (c : Core) (s : Spot) (later : Spot → Type 0) where
+  abbrev pub Gives : Core → Option What → Type 0
+  Gives after shown = step img c ≡ (after, shown)
+
+  -- the job's next action, behind an instruction that leads to this processor
+  abbrev pub ActsBehind : Processor → Action → ℕ → Type 0
+  ActsBehind p action answer = Acts st img.bodies who action answer (moved (passed s) p) later
+
+  abbrev pub EndsHere : Action → Type 0
+  EndsHere action = Finishes st img.code img.bodies thread who action (passed s)
+
+  -- By what instruction the core steps. A plain one leads the processor to another state, a step nearer to each end.
+  pub data StepsBy : Type 0 where
+    -- nothing that is seen
+    BySilence : (p : Processor) → GoesPlainly s c.processor p → Gives (with_processor c p) None
+        → later (moved (passed s) p) → StepsBy
+    -- a move of a place, or none found
+    ByNote : (p : Processor) → GoesPlainly s c.processor p → (told : Note)
+        → (noted : Noted st img.bodies who told (moved (passed s) p) later)
+        → Gives (with_processor c p) (Some (item_of st img.bodies who later told (moved (passed s) p) noted)) → StepsBy
+    ByEmit : (p : Processor) → GoesPlainly s c.processor p → (value : ℕ)
+        → Gives (with_processor c p) (Some (what.Emit value)) → ActsBehind p (Emits value) 0 → StepsBy
+    ByPost : (p : Processor) → GoesPlainly s c.processor p → (irq : ℕ)
+        → Gives (pended (with_processor c p) irq) (Some (what.Post irq)) → ActsBehind p (Posts irq) 0 → StepsBy
+    ByClock : (p : Processor) → GoesPlainly s c.processor p
+        → Gives (with_processor c p) (Some (what.Clock c.time)) → ActsBehind p Clocks c.time → StepsBy
+    ByAlarm : (p : Processor) → GoesPlainly s c.processor p → (instant irq : ℕ) → st.timer ≡ Some irq
+        → step img c ≡ settle (set_alarm (with_processor c p) instant irq)
+        → SetsTheAlarm st img.bodies who (Some instant) (moved (passed s) p) later → StepsBy
+    ByNoAlarm : (p : Processor) → GoesPlainly s c.processor p
+        → Gives (record c { processor = p; alarm = None }) (Some what.AlarmSet)
+        → SetsTheAlarm st img.bodies who None (moved (passed s) p) later → StepsBy
+    -- a section opens: its mask is set, and what it was is saved
+    ByEnter : (x : Section) (i : Instr) → (goes : GoesIn st who x i (passed s) later)
+        → Gives (with_processor c (opened c.processor (st.value (st.ceiling x)) goes.kind)) (Some (what.Enter x))
+        → StepsBy
+    -- a section closes: its mask is put back
+    ByLeave : (x : Section) (i : Instr) → (comes : ComesOut st who x i (passed s) later)
+        → (CanPutBack comes.kind c.processor.slots
+        → Gives (with_processor c (closed c.processor comes.kind)) (Some (what.Leave x (left_value img c x))))
+        → StepsBy
+    -- a handler calls a body, where the body's frame has room
+    ByCall : (row from : ℕ) → (calls : Calls st img.code img.bodies thread who row from (passed s) later)
+        → (is_empty c.below ≡ false → has_room img c calls.called.frame ≡ true
+        → Gives (called c calls.called from) None)
+        → StepsBy
+    -- and the body's end leads back to the handler
+    ByBack : (t : ℕ) → (back : ComesBack st img.code img.bodies thread who t (passed s) later)
+        → Gives (in_frame c back.frame) (Some (what.End (body.Task t))) → StepsBy
+    -- the thread goes on at its address, at the end of `init` with interrupts served
+    ByEndOfInit : who ≡ Starting → EndsHere (Ends body.Init)
+        → Gives (served c thread) (Some (what.End body.Init)) → StepsBy
+    ByEndOfIdle : who ≡ AtLevel 0 → EndsHere (Ends body.Idle)
+        → Gives (at_address c thread) (Some (what.End body.Idle)) → StepsBy
+    -- a handler returns, and what it interrupted runs on
+    ByReturn : EndsHere Returns
+        → ((x : Context) (others : List Context) → c.below ≡ x ∷ others
+        → Gives (in_context c x others) (Some (what.Ret x.irq)))
+        → StepsBy
+
+  -- Nothing is out of its time, the step touches what the job may touch, and it is one of these.
+  pub record StepsAsStands : Type 0 where
+    pub left : HaveLeft s.lefts
+    pub touches : MayAccess st who s (access img c)
+    pub by : StepsBy
+
+-- Where code stands that the core is at, a step of the core itself is one of these, and the code stands behind it.
+abbrev pub StandingLeads : Storage → Type 0
+StandingLeads st = (img : Image) (thread : ℕ) (who : Runner) (c : Core) (s : Spot) (n : ℕ)
+    → c.stopped ≡ false → pick img c ≡ None → c.time < 2 ^ 31 → IsAt c s
+    → Stands st img.code img.bodies thread who (suc n) s
+    → StepsAsStands img st thread who c s (Stands st img.code img.bodies thread who n)

@@ -1,0 +1,10 @@
+// The lines and words of a text, and the numbers that words spell.
+#![tactic(auto)]
+
+pub mod number;
+pub mod part;
+pub mod word;
+
+pub use number::{number_below, short_number};
+pub use part::{cut, first_line, next_word};
+pub use word::next_spaced_word;

@@ -1,0 +1,5 @@
+pub mod Script
+pub mod Wording
+pub mod Text
+pub mod Inside
+pub mod Laws

@@ -1,0 +1,7 @@
+-- A trace: items, and how many core steps there are in all, where that is told.
+use Rattle.std.specs.Prelude.{ℕ, List, Option}
+use Rattle.rt_trace.specs.declared.item.Item.{Item}
+
+pub record Trace : Type 0 where
+  pub items : List Item
+  pub total : Option ℕ

@@ -1,0 +1,17 @@
+ghost use Rattle.rt_trace.specs.Laws.{AreReadOneWay, LinesAreRead, ReadLinesAreLines};
+
+/// Each item that has a line is what its line says.
+#[tactic(auto, using(crate::proofs::LinesRead::lines_read))]
+pub fn lines_are_read()
+    ensures { LinesAreRead }
+{}
+
+/// A line that says an item is that item's.
+pub fn read_lines_are_lines()
+    ensures { ReadLinesAreLines }
+{}
+
+/// Each text that is not too long is a trace's or has a first wrong line, not both, and in one way.
+pub fn texts_are_read_one_way()
+    ensures { AreReadOneWay }
+{}

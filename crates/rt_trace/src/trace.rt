@@ -1,0 +1,59 @@
+ghost use Rattle.std.specs.Prelude.{◌≡◌, [], ◌∷◌, ◌++◌, Some, OnOk};
+
+use crate::item::Item;
+use rt_ids::NoMemory;
+use std::marker::Model;
+
+/// A trace: items, and how many core steps there are in all, where that is told. Contracts see a record of the list
+/// and the number.
+#[derive(Debug, Drop)]
+pub struct Trace {
+    items: Vec<Item>,
+    total: Option<u64>,
+}
+
+impl Model for Trace {
+    ghost use Rattle.rt_trace.specs.Trace.{Trace};
+
+    ghost Value = { Trace };
+
+    ghost view = { λ trace. record { items = trace.items.items; total = trace.total } };
+}
+
+impl Trace {
+    /// A trace of these items, and this total.
+    pub fn new(items: Vec<Item>, total: Option<u64>) -> Trace
+        ensures { result ≡ record { items = items.items; total = total } }
+    {
+        Trace { items, total }
+    }
+
+    /// The items, in order.
+    pub fn items(&self) -> &[Item]
+        ensures { result.now ≡ self.now.items }
+    {
+        self.items.as_slice()
+    }
+
+    /// The number of core steps in all, where it is told.
+    pub fn total(&self) -> Option<u64>
+        ensures { result ≡ self.now.total }
+    {
+        self.total
+    }
+
+    /// Adds an item.
+    pub(crate) fn push(&mut self, item: Item) -> Result<(), NoMemory>
+        ensures { OnOk result (self.new ≡ record { items = self.old.items ++ item ∷ []; total = self.old.total }) }
+    {
+        self.items.extend_from_slice(&[item])?;
+        Ok(())
+    }
+
+    /// Tells the total.
+    pub(crate) fn tell(&mut self, total: u64)
+        ensures { self.new ≡ record { items = self.old.items; total = Some total } }
+    {
+        self.total = Some(total);
+    }
+}
