@@ -1,0 +1,5 @@
+pub mod Rows
+pub mod Few
+pub mod Growing
+pub mod Laying
+pub mod Laid

@@ -1,0 +1,64 @@
+-- A layout that grows by the queues of a task, and by the ready queue of a level.
+use Rattle.std.specs.Prelude.{ℕ, ◌+◌, nat_lt, List, [], ◌∷◌, ◌++◌, length, map, flat_map, slice_index, if◌then◌else◌}
+use Rattle.std.specs.List.{fold}
+use Rattle.rt_ids.specs.Lists.{those_below}
+use Rattle.rt_ids.specs.declared.cell.CellRow.{CellRow}
+use Rattle.rt_app.specs.Tree.{Task, App}
+use Rattle.rt_app.specs.Level.{is_software}
+use Rattle.rt_app.specs.Layout.{Layout}
+use Rattle.rt_layout.specs.Inside.Rows.{resource_row, local_row, queue_rows, ready_rows}
+
+abbrev pub none : Layout
+none = record { cells = []; inputs = []; free = []; ready = []; timer = 0 }
+
+abbrev pub with_resources : Layout → App → Layout
+with_resources l app = record {
+  cells = l.cells ++ map resource_row app.shared ++ map local_row app.locals;
+  inputs = l.inputs;
+  free = l.free;
+  ready = l.ready;
+  timer = l.timer;
+}
+
+-- of a software task
+abbrev pub with_queues : Layout → Task → Layout
+with_queues l t = record {
+  cells = l.cells ++ queue_rows t;
+  inputs = l.inputs ++ (if nat_lt 0 t.args then length l.cells + 1 + t.capacity else 0) ∷ [];
+  free = l.free ++ length l.cells ∷ [];
+  ready = l.ready;
+  timer = l.timer;
+}
+
+-- of any other
+abbrev pub skipped : Layout → Layout
+skipped l = record {
+  cells = l.cells;
+  inputs = l.inputs ++ 0 ∷ [];
+  free = l.free ++ 0 ∷ [];
+  ready = l.ready;
+  timer = l.timer;
+}
+
+abbrev pub with_task : Layout → Task → Layout
+with_task l t = if is_software t then with_queues l t else skipped l
+
+-- with room for so many messages
+abbrev pub with_level : Layout → ℕ → ℕ → Layout
+with_level l p room = record {
+  cells = l.cells ++ ready_rows p room;
+  inputs = l.inputs;
+  free = l.free;
+  ready = l.ready ++ length l.cells ∷ [];
+  timer = l.timer;
+}
+
+-- the levels below a number that have room
+abbrev pub roomy : List ℕ → ℕ → List ℕ
+roomy rooms n = those_below (λ p. nat_lt 0 (slice_index rooms p)) n
+
+abbrev pub with_levels : List ℕ → Layout → ℕ → Layout
+with_levels rooms l n = fold (λ l p. with_level l p (slice_index rooms p)) l (roomy rooms n)
+
+abbrev pub levels_rows : List ℕ → ℕ → List CellRow
+levels_rows rooms n = flat_map (λ p. ready_rows p (slice_index rooms p)) (roomy rooms n)

@@ -1,0 +1,51 @@
+-- The rows of cells as the code appends them, without what they belong to.
+use Rattle.std.specs.Prelude.{ℕ, List, [], ◌∷◌, ◌++◌, codes, decimal, map, flat_map, if◌then◌else◌}
+use Rattle.std.specs.List.{range_with_len}
+use Rattle.rt_ids.specs.declared.cell.CellRow.{CellRow}
+use Rattle.rt_app.specs.declared.app.Shared.{Shared}
+use Rattle.rt_app.specs.declared.app.Local.{Local}
+use Rattle.rt_app.specs.Tree.{Task}
+use Rattle.rt_app.specs.Level.{is_software}
+
+abbrev pub row : List ℕ → ℕ → CellRow
+row name first = record { name = name; first = first }
+
+abbrev pub resource_row : Shared → CellRow
+resource_row s = row s.name s.first
+
+abbrev pub local_row : Local → CellRow
+local_row l = row (codes "local." ++ l.name) l.first
+
+-- so many that hold 0, and so many that hold their numbers
+abbrev pub zero_rows : List ℕ → ℕ → List CellRow
+zero_rows front count = map (λ k. row (front ++ decimal k) 0) (range_with_len 0 count)
+
+abbrev pub place_rows : List ℕ → ℕ → List CellRow
+place_rows front count = map (λ k. row (front ++ decimal k) k) (range_with_len 0 count)
+
+abbrev pub task_front : List ℕ → Task → List ℕ
+task_front word t = word ++ t.name ++ codes "."
+
+abbrev pub free_rows : Task → List CellRow
+free_rows t =
+    row (task_front (codes "free.") t ++ codes "count") t.capacity
+    ∷ place_rows (task_front (codes "free.") t) t.capacity
+
+abbrev pub input_rows : Task → ℕ → List CellRow
+input_rows t place = zero_rows (codes "input." ++ t.name ++ codes "." ++ decimal place ++ codes ".") t.args
+
+abbrev pub queue_rows : Task → List CellRow
+queue_rows t = free_rows t ++ flat_map (input_rows t) (range_with_len 0 t.capacity)
+
+abbrev pub task_rows : Task → List CellRow
+task_rows t = if is_software t then queue_rows t else []
+
+abbrev pub ready_front : ℕ → List ℕ
+ready_front p = codes "ready." ++ decimal p ++ codes "."
+
+-- of a level, with room for so many messages
+abbrev pub ready_rows : ℕ → ℕ → List CellRow
+ready_rows p room =
+    row (ready_front p ++ codes "head") 0
+    ∷ row (ready_front p ++ codes "count") 0
+    ∷ zero_rows (ready_front p ++ codes "at.") room
