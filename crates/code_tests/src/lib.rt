@@ -1,0 +1,5 @@
+// Tests of generated code: that of an application against the code of an independent implementation.
+#![tactic(auto)]
+
+#[cfg(test)]
+mod hardware;

@@ -1,0 +1,125 @@
+ghost use Rattle.std.specs.Prelude.{◌≡◌, ◌+◌, OnOk};
+ghost use Rattle.rt_app.specs.View.{expression_of, value_of, statement_of, block_of};
+ghost use Rattle.rt_gen_body.specs.Inside.Code as spec;
+ghost use Rattle.rt_gen_body.specs.Inside.Lines.{next_address, Appends};
+
+use crate::guard::Guard;
+use crate::lines::Lines;
+use rt_app::{Atom, Expr, IrqDecl, Value};
+use rt_code::Instr;
+use rt_ids::NoMemory;
+
+/// What the code of a body is generated with.
+#[derive(Clone, Copy, Debug)]
+pub(crate) struct Generator<'a> {
+    /// Of each shared resource.
+    pub(crate) guards: &'a [Guard],
+    pub(crate) irqs: &'a [IrqDecl],
+    /// The cell of the first local resource; the shared ones stand before it.
+    pub(crate) locals: u16,
+    /// The first slot where expressions are evaluated.
+    pub(crate) expressions: u32,
+}
+
+/// The next slot.
+pub(crate) fn next_slot(slot: u32) -> u32
+    ensures { result ≡ spec.next_slot slot }
+{
+    slot.saturating_add(1)
+}
+
+impl<'a> Generator<'a> {
+    ghost use Rattle.rt_gen_body.specs.Inside.Generating.{context};
+
+    /// The cell of a local resource.
+    fn local_cell(&self, local: u8) -> u32
+        ensures { result ≡ (context self.now).locals + local }
+    {
+        u32::from(self.locals) + u32::from(local)
+    }
+
+    /// The instruction that brings the value of a name into a slot.
+    fn load(&self, atom: Atom, slot: u32) -> Instr
+        ensures { result ≡ spec.load (context self.now) atom slot }
+    {
+        match atom {
+            Atom::Var(variable) => Instr::Copy(slot, u32::from(variable)),
+            Atom::Shared(resource) => Instr::Load(slot, u32::from(resource.0)),
+            Atom::Local(local) => Instr::Load(slot, self.local_cell(local)),
+        }
+    }
+
+    /// The instruction that brings a slot's value into a name.
+    pub(crate) fn store(&self, atom: Atom, slot: u32) -> Instr
+        ensures { result ≡ spec.store (context self.now) atom slot }
+    {
+        match atom {
+            Atom::Var(variable) => Instr::Copy(u32::from(variable), slot),
+            Atom::Shared(resource) => Instr::Store(u32::from(resource.0), slot),
+            Atom::Local(local) => Instr::Store(self.local_cell(local), slot),
+        }
+    }
+
+    /// The value of an expression comes into a slot; the slots from another on are free.
+    fn expression(
+        &self,
+        expr: &Expr,
+        slot: u32,
+        free: u32,
+        code: &mut Lines,
+    ) -> Result<(), NoMemory>
+        ensures { OnOk result (Appends code.old code.new (spec.expression_code (context self.now) (expression_of expr.now) slot free)) }
+    {
+        match expr {
+            Expr::Num(number) => code.push(Instr::Set(slot, *number)),
+            Expr::Read(atom, _at) => code.push(self.load(*atom, slot)),
+            Expr::Oper(op, left, right) => {
+                self.expression(left, slot, free, code)?;
+                self.expression(right, free, next_slot(free), code)?;
+                code.push(Instr::Calc(*op, slot, slot, free))
+            }
+        }
+    }
+
+    /// The value of an expression comes into the first slot for expressions.
+    pub(crate) fn value(&self, expr: &Expr, code: &mut Lines) -> Result<(), NoMemory>
+        ensures { OnOk result (Appends code.old code.new (spec.value_code (context self.now) (expression_of expr.now))) }
+    {
+        self.expression(expr, self.expressions, next_slot(self.expressions), code)
+    }
+
+    /// The binding of a variable to a value. A spawn has no code yet.
+    pub(crate) fn bind(
+        &self,
+        variable: u16,
+        value: &Value,
+        code: &mut Lines,
+    ) -> Result<(), NoMemory>
+        ensures { OnOk result (Appends code.old code.new (spec.bind_code (context self.now) variable (value_of value.now))) }
+    {
+        match value {
+            Value::Calc(expr) => {
+                self.value(expr, code)?;
+                code.push(Instr::Copy(u32::from(variable), self.expressions))
+            }
+            Value::Now(_at) => code.push(Instr::Clock(u32::from(variable))),
+            Value::Call(_spawn) => Ok(()),
+        }
+    }
+
+    /// An assignment, to whatever its name stands for.
+    pub(crate) fn assign(&self, atom: Atom, expr: &Expr, code: &mut Lines) -> Result<(), NoMemory>
+        ensures { OnOk result (Appends code.old code.new (spec.assign_code (context self.now) atom (expression_of expr.now))) }
+    {
+        self.value(expr, code)?;
+        code.push(self.store(atom, self.expressions))
+    }
+
+    /// The value of an expression is emitted.
+    pub(crate) fn emit(&self, expr: &Expr, code: &mut Lines) -> Result<(), NoMemory>
+        ensures { OnOk result (Appends code.old code.new (spec.emit_code (context self.now) (expression_of expr.now))) }
+    {
+        self.value(expr, code)?;
+        code.push(Instr::Emit(self.expressions))
+    }
+}

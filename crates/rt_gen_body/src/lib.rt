@@ -1,0 +1,10 @@
+// From bodies to code.
+#![tactic(auto)]
+
+pub mod body;
+pub mod generator;
+pub mod guard;
+pub mod lines;
+pub mod statement;
+
+pub use body::gen_body;

@@ -1,0 +1,81 @@
+ghost use Rattle.std.specs.Prelude.{◌≡◌, ◌<◌, [], ◌∷◌, length, slice_set, Option, IfOk, OnOk};
+ghost use Rattle.rt_gen_body.specs.Inside.Code.{plain, noted};
+ghost use Rattle.rt_gen_body.specs.Inside.Lines.{next_address, Appends};
+
+use rt_code::{Instr, Note};
+use rt_ids::NoMemory;
+use std::alloc::Global;
+use std::marker::Model;
+
+/// The lines of a body as they are generated, from the address of the first one on.
+#[derive(Debug, Drop)]
+pub(crate) struct Lines {
+    entry: u32,
+    lines: Vec<(Instr, Option<Note>)>,
+}
+
+impl Model for Lines {
+    ghost use Rattle.rt_gen_body.specs.Inside.Lines.{Lines};
+
+    ghost Value = { Lines };
+
+    ghost view = { λ code. record { entry = code.entry; lines = code.lines.items } };
+}
+
+impl Lines {
+    /// No lines, the first of which will stand at this address.
+    pub(crate) fn new(alloc: Global, entry: u32) -> Lines
+        ensures { result ≡ record { entry = entry; lines = [] } }
+    {
+        Lines {
+            entry,
+            lines: Vec::new(alloc),
+        }
+    }
+
+    /// How many lines there are.
+    pub(crate) fn len(&self) -> usize
+        ensures { result ≡ length self.now.lines }
+    {
+        self.lines.len()
+    }
+
+    /// The address of the next line. Where it has no 32 bits there is no memory for so much code either.
+    pub(crate) fn next_address(&self) -> Result<u32, NoMemory>
+        ensures { IfOk result (λ at. at ≡ next_address self.now) }
+    {
+        let count = u32::try_from(self.lines.len()).ok().ok_or(NoMemory)?;
+        self.entry.checked_add(count).ok_or(NoMemory)
+    }
+
+    /// One more, without a note.
+    pub(crate) fn push(&mut self, instr: Instr) -> Result<(), NoMemory>
+        ensures { OnOk result (Appends self.old self.new (plain instr ∷ [])) }
+    {
+        self.lines.push((instr, None))?;
+        Ok(())
+    }
+
+    /// One more, with a note.
+    pub(crate) fn push_noted(&mut self, instr: Instr, note: Note) -> Result<(), NoMemory>
+        ensures { OnOk result (Appends self.old self.new (noted instr note ∷ [])) }
+    {
+        self.lines.push((instr, Some(note)))?;
+        Ok(())
+    }
+
+    /// Another instruction in place of one that stands there without a note.
+    pub(crate) fn replace(&mut self, place: usize, instr: Instr)
+        requires { place < length self.old.lines }
+        ensures { self.new ≡ record self.old { lines = slice_set self.old.lines place (plain instr) } }
+    {
+        self.lines[place] = (instr, None);
+    }
+
+    /// The lines.
+    pub(crate) fn as_slice(&self) -> &[(Instr, Option<Note>)]
+        ensures { result.now ≡ self.now.lines }
+    {
+        self.lines.as_slice()
+    }
+}

@@ -1,0 +1,252 @@
+ghost use Rattle.std.specs.Prelude.{◌≡◌, ◌<◌, ◌+◌, ◌∷◌, [], ◌++◌, ℕ, OnOk, IfOk, length, slice_index};
+ghost use Rattle.rt_app.specs.View.{expression_of, statement_of, block_of};
+ghost use Rattle.rt_gen_body.specs.Inside.Code as spec;
+ghost use Rattle.rt_gen_body.specs.Inside.Lines.{next_address, Appends, EndsWith};
+ghost use Rattle.rt_gen_body.specs.Inside.Generating.{context};
+
+use crate::generator::{Generator, next_slot};
+use crate::guard::Guard;
+use crate::lines::Lines;
+use rt_app::{Expr, Stmt};
+use rt_code::{Instr, Note};
+use rt_ids::{Irq, NoMemory, Op, ResId, Section};
+
+/// A loop's variable, its first number, and the one that it does not reach.
+#[derive(Clone, Copy, Debug)]
+struct Bounds {
+    variable: u32,
+    first: u32,
+    last: u32,
+}
+
+/// The instruction that opens a section, at a static level, with a slot for what the mask was.
+fn opening(guard: Guard, level: u8, slot: u32) -> Instr
+    ensures { (c : spec.Context) → result ≡ spec.opening_of c guard level slot }
+{
+    if guard.ceiling <= level {
+        Instr::Mark
+    } else if guard.value == 0 {
+        Instr::Mask(slot)
+    } else {
+        Instr::Raise(slot, u32::from(guard.value))
+    }
+}
+
+/// The instruction that closes it.
+fn closing(guard: Guard, level: u8, slot: u32) -> Instr
+    ensures { (c : spec.Context) → result ≡ spec.closing_of c guard level slot }
+{
+    if guard.ceiling <= level {
+        Instr::Mark
+    } else if guard.value == 0 {
+        Instr::Unmask(slot)
+    } else {
+        Instr::Restore(slot)
+    }
+}
+
+/// How a resource's section masks; one that is not declared masks nothing.
+fn guard_of(generator: &Generator<'_>, resource: ResId) -> Guard
+    ensures { result ≡ spec.guard_of (context generator.now) resource }
+{
+    match generator.guards.get(usize::from(resource.0)) {
+        Some(guard) => *guard,
+        None => Guard {
+            ceiling: 0,
+            value: 0,
+        },
+    }
+}
+
+/// The number of a declared interrupt, by its place; one that is not declared has none, and 0 stands for it.
+fn irq_number(generator: &Generator<'_>, irq: u8) -> Irq
+    ensures { result ≡ slice_index (context generator.now).numbers irq }
+{
+    match generator.irqs.get(usize::from(irq)) {
+        Some(declared) => declared.number,
+        None => Irq::new(0).unwrap(),
+    }
+}
+
+impl<'a> Generator<'a> {
+    /// A choice without a second block, whose test has been made.
+    #[cycle(block)]
+    fn choose_one(
+        &self,
+        level: u8,
+        lock: u32,
+        first: &[Stmt],
+        code: &mut Lines,
+    ) -> Result<(), NoMemory>
+        ensures { let block = λ (at : ℕ). spec.block_code (context self.now) level lock at (block_of first.now) in
+            OnOk result (Appends code.old code.new (spec.one_code (context self.now) (next_address code.old) block)) }
+    {
+        let over = code.len();
+        code.push(Instr::JumpZ(self.expressions, 0))?;
+        self.block(level, lock, first, code)?;
+        let end = code.next_address()?;
+        code.replace(over, Instr::JumpZ(self.expressions, end));
+        Ok(())
+    }
+
+    /// The first of two blocks, whose test has been made, and a jump over the second, which is told where it stands.
+    #[cycle(block)]
+    fn choose_first(
+        &self,
+        level: u8,
+        lock: u32,
+        first: &[Stmt],
+        code: &mut Lines,
+    ) -> Result<usize, NoMemory>
+        ensures place { let block = spec.block_code (context self.now) level lock (next_address code.old + 1) (block_of first.now) in
+            IfOk result (λ over. over ≡ length code.old.lines + 1 + length block) }
+        ensures lines { let block = spec.block_code (context self.now) level lock (next_address code.old + 1) (block_of first.now) in
+            OnOk result (Appends code.old code.new (spec.first_code (context self.now) (next_address code.old) block)) }
+    {
+        let over = code.len();
+        code.push(Instr::JumpZ(self.expressions, 0))?;
+        self.block(level, lock, first, code)?;
+        let end = code.len();
+        code.push(Instr::Jump(0))?;
+        let to = code.next_address()?;
+        code.replace(over, Instr::JumpZ(self.expressions, to));
+        Ok(end)
+    }
+
+    /// The second of two blocks, behind which the jump at a place is to lead.
+    #[cycle(block)]
+    fn choose_second(
+        &self,
+        level: u8,
+        lock: u32,
+        second: &[Stmt],
+        over: usize,
+        code: &mut Lines,
+    ) -> Result<(), NoMemory>
+        requires { over < length code.old.lines }
+        ensures { let block = spec.block_code (context self.now) level lock (next_address code.old) (block_of second.now) in
+            OnOk result (EndsWith code.old code.new over block) }
+    {
+        self.block(level, lock, second, code)?;
+        let end = code.next_address()?;
+        code.replace(over, Instr::Jump(end));
+        Ok(())
+    }
+
+    /// A block as a section of a resource.
+    #[cycle(block)]
+    fn lock(
+        &self,
+        level: u8,
+        lock: u32,
+        resource: ResId,
+        inner: &[Stmt],
+        code: &mut Lines,
+    ) -> Result<(), NoMemory>
+        ensures { let block = λ (inside slot at : ℕ). spec.block_code (context self.now) inside slot at (block_of inner.now) in
+            OnOk result (Appends code.old code.new (spec.lock_code (context self.now) level lock (next_address code.old) resource block)) }
+    {
+        let guard = guard_of(self, resource);
+        code.push_noted(
+            opening(guard, level, lock),
+            Note::Enter(Section::Res(resource)),
+        )?;
+        self.block(level.max(guard.ceiling), next_slot(lock), inner, code)?;
+        code.push_noted(
+            closing(guard, level, lock),
+            Note::Leave(Section::Res(resource)),
+        )
+    }
+
+    /// The lines before a loop's turns, up to the jump that ends it.
+    fn loop_head(&self, bounds: &Bounds, code: &mut Lines) -> Result<(), NoMemory>
+        ensures { OnOk result (Appends code.old code.new (spec.loop_front (context self.now) bounds.now.variable bounds.now.first bounds.now.last)) }
+    {
+        code.push(Instr::Set(bounds.variable, bounds.first))?;
+        code.push(Instr::Set(self.expressions, bounds.last))?;
+        code.push(Instr::Calc(Op::Lt, self.expressions, bounds.variable, self.expressions))
+    }
+
+    /// The lines behind a turn, which lead to the loop's test, behind its first line at an address.
+    fn loop_tail(&self, variable: u32, entry: u32, code: &mut Lines) -> Result<(), NoMemory>
+        ensures { OnOk result (Appends code.old code.new (spec.loop_back (context self.now) variable (entry + 1))) }
+    {
+        let head = entry.checked_add(1).ok_or(NoMemory)?;
+        code.push(Instr::Set(self.expressions, 1))?;
+        code.push(Instr::Calc(Op::Add, variable, variable, self.expressions))?;
+        code.push(Instr::Jump(head))
+    }
+
+    /// A loop of a variable, from a number up to another.
+    #[cycle(block)]
+    fn repeat(
+        &self,
+        level: u8,
+        lock: u32,
+        bounds: &Bounds,
+        turn: &[Stmt],
+        code: &mut Lines,
+    ) -> Result<(), NoMemory>
+        ensures { let block = spec.block_code (context self.now) level lock (next_address code.old + 4) (block_of turn.now) in
+            OnOk result (Appends code.old code.new (spec.loop_code (context self.now) (next_address code.old) bounds.now.variable bounds.now.first bounds.now.last block)) }
+    {
+        let entry = code.next_address()?;
+        self.loop_head(bounds, code)?;
+        let over = code.len();
+        code.push(Instr::JumpZ(self.expressions, 0))?;
+        self.block(level, lock, turn, code)?;
+        self.loop_tail(bounds.variable, entry, code)?;
+        let end = code.next_address()?;
+        code.replace(over, Instr::JumpZ(self.expressions, end));
+        Ok(())
+    }
+
+    /// A statement, at a static level, with a slot for the mask of the next section.
+    #[cycle(block)]
+    fn statement(&self, level: u8, lock: u32, stmt: &Stmt, code: &mut Lines) -> Result<(), NoMemory>
+        ensures { OnOk result (Appends code.old code.new (spec.statement_code (context self.now) level lock (next_address code.old) (statement_of stmt.now))) }
+    {
+        match stmt {
+            Stmt::Bind(variable, value) => self.bind(*variable, value, code),
+            Stmt::Assign(atom, expr, _at) => self.assign(*atom, expr, code),
+            Stmt::Branch(test, first, second) => {
+                self.value(test, code)?;
+                if second.is_empty() {
+                    self.choose_one(level, lock, first, code)
+                } else {
+                    let over = self.choose_first(level, lock, first, code)?;
+                    self.choose_second(level, lock, second, over, code)
+                }
+            }
+            Stmt::Repeat(variable, first, last, turn) => {
+                let bounds = Bounds {
+                    variable: u32::from(*variable),
+                    first: *first,
+                    last: *last,
+                };
+                self.repeat(level, lock, &bounds, turn, code)
+            }
+            Stmt::Locked(resource, inner, _at) => self.lock(level, lock, *resource, inner, code),
+            Stmt::Emit(expr) => self.emit(expr, code),
+            Stmt::Pend(irq) => code.push(Instr::Post(irq_number(self, *irq))),
+            Stmt::Call(_spawn) => Ok(()),
+        }
+    }
+
+    /// The statements of a block, one behind the other.
+    #[cycle(block)]
+    pub(crate) fn block(
+        &self,
+        level: u8,
+        lock: u32,
+        stmts: &[Stmt],
+        code: &mut Lines,
+    ) -> Result<(), NoMemory>
+        ensures { OnOk result (Appends code.old code.new (spec.block_code (context self.now) level lock (next_address code.old) (block_of stmts.now))) }
+    {
+        for stmt in stmts {
+            self.statement(level, lock, stmt, code)?;
+        }
+        Ok(())
+    }
+}
