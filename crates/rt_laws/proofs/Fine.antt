@@ -1,0 +1,261 @@
+-- What is left to do is well formed, whatever the values are on the way: sections nest and are entered within their
+-- ceilings, an entry that may hold a priority off costs no more than the waiting bound, and each end is its job's own.
+use Rattle.std.proofs.Common.{◌≡◌, ℕ, zero, suc, ◌≤◌, ◌<◌, ◌^◌, ◌==◌, Bool, true, false, if◌then◌else◌, List, [], ◌∷◌, ◌++◌, drop, take, slice_get, IfSome, ◌+◌, ◌-◌, refl, sym, ap, subst, ◌∙◌, arith}
+use Rattle.std.specs.List.{AllByRecursion, position_or_len}
+use Rattle.std.proofs.lemmas.Bool.{eqb-true}
+use Rattle.rt_lemmas.proofs.Membership.{all_append}
+use Rattle.rt_ids.specs.Lists.{is_some_and}
+use Rattle.rt_ids.specs.Choice.{IsIn}
+use Rattle.rt_ids.specs.Holder.{Guarded, is_same_section}
+use Rattle.rt_ids.specs.Content.{Message, Armed, Content, Values, Number, Messages, number, messages, delays, put_at, has_instant, least_instant, least}
+use Rattle.rt_ids.specs.Action.{Action, Enters, Leaves, Takes, Refuses, Frees, Readies, Starts, Arms, Fires, Ends, Returns, effect}
+use Rattle.rt_ids.specs.Doing.{Doing, over, does}
+use Rattle.rt_ids.specs.declared.ids.BodyId.TheVariants as body
+use Rattle.rt_ids.specs.declared.ids.Section.{Section}
+use Rattle.rt_ids.specs.declared.ids.Section.TheVariants as section
+use Rattle.rt_app.specs.Tree.{App}
+use Rattle.rt_app.specs.Level.{is_software, is_of_level, is_armed}
+use Rattle.rt_app.specs.Ceiling.{ceiling}
+use Rattle.rt_app.specs.Waiting.{waiting_bound}
+use Rattle.rt_app.specs.Sending.{Rest, act, act_all, capacity_of}
+use Rattle.rt_laws.specs.State.{Role, Init, Idle, Serving, reached}
+use Rattle.rt_laws.specs.Queues.{queue_of, InQueue, KeepsOrder}
+use Rattle.rt_laws.specs.Level.{greatest_ceiling}
+
+-- a message to a task of a level; a message to a task that may be armed
+abbrev pub OfLevel : App → ℕ → Message → Type 0
+OfLevel app p m = is_some_and (is_of_level p) (slice_get app.tasks m.task) ≡ true
+
+abbrev pub IsTimed : App → Message → Type 0
+IsTimed app m = (is_armed app m.task ≡ true) × (is_some_and is_software (slice_get app.tasks m.task) ≡ true)
+
+-- one that is armed
+abbrev pub IsTimedOne : App → Armed → Type 0
+IsTimedOne app a = IsTimed app a.message
+
+-- each queue holds messages to its own tasks, and no more places are out than a task has
+pub record Queued (app : App) (vs : Values) : Type 0 where
+  pub ready : (p : ℕ) → AllByRecursion (OfLevel app p) (messages (vs (Guarded (section.Ready p))))
+  pub timer : AllByRecursion (IsTimedOne app) (delays (vs (Guarded section.Timer)))
+  pub out : (n : ℕ) → number (vs (Guarded (section.Free n))) ≤ capacity_of app n
+
+-- a section of a queue
+abbrev pub IsQueue : Section → Type 0
+IsQueue (section.Res r) = ⊥
+IsQueue x = Unit {0}
+
+-- queues hold the same
+abbrev pub SameQueues : Values → Values → Type 0
+SameQueues vs ws = (x : Section) → IsQueue x → vs (Guarded x) ≡ ws (Guarded x)
+
+-- a section that a job of a priority may enter: `init` runs with interrupts masked, and may enter any
+abbrev pub Within : Role → ℕ → ℕ → Type 0
+Within Init q c = Unit {0}
+Within role q c = q ≤ c
+
+abbrev pub held_after : List Section → Action → List Section
+held_after held (Enters x cost) = x ∷ held
+held_after held (Leaves x) = drop 1 held
+held_after held action = held
+
+module _ (app : App) (role : Role) (q : ℕ) where
+  -- of the priorities that the entry holds off, and no section round it does
+  abbrev pub IsCounted : ℕ → ℕ → ℕ → Type 0
+  IsCounted outer c cost = (p : ℕ) → q < p → p ≤ 2 ^ app.bits → outer < p → p ≤ c → cost ≤ waiting_bound app p
+
+  pub record EntersFine (held : List Section) (x : Section) (cost : ℕ) : Type 0 where
+    pub within : Within role q (ceiling app x)
+    pub once : ¬ IsIn held x
+    pub counted : IsCounted (greatest_ceiling app held) (ceiling app x) cost
+
+  abbrev pub ActsFine : List Section → Action → Type 0
+  ActsFine held (Enters x cost) = EntersFine held x cost
+  ActsFine held (Leaves x) = (others : List Section) × (held ≡ x ∷ others)
+  ActsFine held (Readies p m) = OfLevel app p m
+  ActsFine held (Arms i m) = IsTimed app m
+  ActsFine held (Ends body.Init) = (role ≡ Init) × (held ≡ [])
+  ActsFine held (Ends body.Idle) = (role ≡ Idle) × (held ≡ [])
+  ActsFine held Returns = (irq : ℕ) × (role ≡ Serving irq)
+  ActsFine held action = Unit {0}
+
+  -- behind an action with this answer and these values
+  abbrev pub IsFine : ℕ → List Section → Values → Doing Values → Type 0
+  IsFine answered held base over = Unit {0}
+  IsFine answered held base (does action made next) =
+      Queued app made × ActsFine held action × InQueue held action × SameQueues made base
+      × KeepsOrder app answered made action
+      × ((n : ℕ) (vs : Values) → Queued app vs → IsFine n (held_after held action) vs (next n vs))
+
+  abbrev pub FineRest : List Section → Rest → Type 0
+  FineRest held rest = (n : ℕ) (vs : Values) → Queued app vs → IsFine n held vs (rest vs)
+
+  -- an action of which nothing is asked by the values
+  abbrev pub IsPlain : List Section → Action → Type 0
+  IsPlain held action = InQueue held action × ((n : ℕ) (vs : Values) → KeepsOrder app n vs action)
+
+  pub first_fine : (held : List Section) (action : Action) (rest : Rest) → ActsFine held action → InQueue held action
+      → FineRest (held_after held action) rest → (n : ℕ) (vs : Values) → Queued app vs → KeepsOrder app n vs action
+      → IsFine n held vs (act action rest vs)
+  first_fine held action rest fine inside later n vs queued order =
+      (queued, fine, inside, (λ x queue. refl), order, λ k ws good. later k ws good)
+
+  pub act_fine : (held : List Section) (action : Action) (rest : Rest) → ActsFine held action → IsPlain held action
+      → FineRest (held_after held action) rest → FineRest held (act action rest)
+  act_fine held action rest fine plain later n vs queued =
+      first_fine held action rest fine plain.0 later n vs queued (plain.1 n vs)
+
+  abbrev pub held_behind : List Section → List Action → List Section
+  held_behind held [] = held
+  held_behind held (action ∷ actions) = held_behind (held_after held action) actions
+
+  abbrev pub AllFine : List Section → List Action → Type 0
+  AllFine held [] = Unit {0}
+  AllFine held (action ∷ actions) =
+      ActsFine held action × IsPlain held action × AllFine (held_after held action) actions
+
+  pub acts_fine : (held : List Section) (actions : List Action) (rest : Rest) → AllFine held actions
+      → FineRest (held_behind held actions) rest → FineRest held (act_all actions rest)
+  acts_fine held [] rest fine later = later
+  acts_fine held (action ∷ actions) rest fine later =
+      act_fine held action (act_all actions rest) fine.0 fine.1
+      (acts_fine (held_after held action) actions rest fine.2 later)
+
+  -- values that are the same in the queues
+  pub rebase : (n : ℕ) (held : List Section) (base other : Values) (rest : Doing Values) → IsFine n held base rest
+      → SameQueues base other → IsFine n held other rest
+  rebase n held base other over fine same = tt
+  rebase n held base other (does action made next) fine same =
+      (fine.0, fine.1, fine.2, (λ x queue. fine.3 x queue ∙ same x queue), fine.4, fine.5)
+
+  -- what is reached is the same in the queues
+  pub reached_same : (n : ℕ) (held : List Section) (rest : Doing Values) (vs : Values) → IsFine n held vs rest
+      → SameQueues (reached rest vs) vs
+  reached_same n held over vs fine x queue = refl
+  reached_same n held (does action made next) vs fine x queue = fine.3 x queue
+
+  pub reached_queued : (n : ℕ) (held : List Section) (rest : Doing Values) (vs base : Values) → IsFine n held base rest
+      → Queued app vs → Queued app (reached rest vs)
+  reached_queued n held over vs base fine queued = queued
+  reached_queued n held (does action made next) vs base fine queued = fine.0
+
+pub all_take : {X : Type 0} (P : X → Type 0) (n : ℕ) (xs : List X) → AllByRecursion P xs → AllByRecursion P (take n xs)
+all_take P zero xs all = tt
+all_take P (suc n) [] all = tt
+all_take P (suc n) (x ∷ xs) all = (all.0, all_take P n xs all.1)
+
+pub all_drop : {X : Type 0} (P : X → Type 0) (n : ℕ) (xs : List X) → AllByRecursion P xs → AllByRecursion P (drop n xs)
+all_drop P zero xs all = all
+all_drop P (suc n) [] all = tt
+all_drop P (suc n) (x ∷ xs) all = all_drop P n xs all.1
+
+module _ (app : App) (vs : Values) (queued : Queued app vs) where
+  ready_put : (p r : ℕ) (ms : List Message) → AllByRecursion (OfLevel app p) ms
+      → AllByRecursion (OfLevel app r) (messages (if p == r then Messages ms else vs (Guarded (section.Ready r))))
+  ready_put p r ms all = go (p == r) refl
+    where
+      go : (b : Bool) → (p == r) ≡ b
+          → AllByRecursion (OfLevel app r) (messages (if b then Messages ms else vs (Guarded (section.Ready r))))
+      go true same = subst (λ k. AllByRecursion (OfLevel app k) ms) (eqb-true p r same) all
+      go false other = queued.ready r
+
+  out_put : (n r out : ℕ) → out ≤ capacity_of app n
+      → number (if n == r then Number out else vs (Guarded (section.Free r))) ≤ capacity_of app r
+  out_put n r out few = go (n == r) refl
+    where
+      go : (b : Bool) → (n == r) ≡ b
+          → number (if b then Number out else vs (Guarded (section.Free r))) ≤ capacity_of app r
+      go true same = subst (λ k. out ≤ capacity_of app k) (eqb-true n r same) few
+      go false other = queued.out r
+
+  -- what an action changes keeps them so
+  pub queued_effect : (role : Role) (q : ℕ) (held : List Section) (action : Action) → ActsFine app role q held action
+      → (time : ℕ) → KeepsOrder app time vs action → Queued app (effect action vs)
+  queued_effect role q held (Takes n) fine time order = record {
+    ready = queued.ready;
+    timer = queued.timer;
+    out = λ r. out_put n r (number (vs (Guarded (section.Free n))) + 1) (omega arith);
+  }
+  queued_effect role q held (Frees n) fine time order = record {
+    ready = queued.ready;
+    timer = queued.timer;
+    out = λ r. out_put n r (number (vs (Guarded (section.Free n))) - 1)
+        (less (number (vs (Guarded (section.Free n)))) (capacity_of app n) (queued.out n));
+  }
+    where
+      less : (k c : ℕ) → k ≤ c → k - 1 ≤ c
+      less k c h = omega arith
+  queued_effect role q held (Readies p m) fine time order = record {
+    ready = λ r. ready_put p r (messages (vs (Guarded (section.Ready p))) ++ m ∷ [])
+        (all_append (OfLevel app p) (messages (vs (Guarded (section.Ready p)))) (m ∷ []) (queued.ready p) (fine, tt));
+    timer = queued.timer;
+    out = queued.out;
+  }
+  queued_effect role q held (Starts p m) fine time order = record {
+    ready = λ r. ready_put p r (drop 1 (messages (vs (Guarded (section.Ready p)))))
+        (all_drop (OfLevel app p) 1 (messages (vs (Guarded (section.Ready p)))) (queued.ready p));
+    timer = queued.timer;
+    out = queued.out;
+  }
+  queued_effect role q held (Arms i m) fine time order = record {
+    ready = queued.ready;
+    timer = all_append (IsTimedOne app) (delays (vs (Guarded section.Timer)))
+        (record { instant = i; message = m } ∷ []) queued.timer (fine, tt);
+    out = queued.out;
+  }
+  queued_effect role q held (Fires m) fine time order =
+      let armed : List Armed = delays (vs (Guarded section.Timer)) in
+      let n : ℕ = position_or_len (has_instant (least_instant armed)) armed in
+      record {
+        ready = queued.ready;
+        timer = all_append (IsTimedOne app) (take n armed) (drop (suc n) armed)
+            (all_take (IsTimedOne app) n armed queued.timer)
+            (all_drop (IsTimedOne app) (suc n) armed queued.timer);
+        out = queued.out;
+      }
+  queued_effect role q held action fine time order =
+      record { ready = queued.ready; timer = queued.timer; out = queued.out }
+
+-- what is put at one section is elsewhere not seen
+same_section : (x y : Section) → is_same_section x y ≡ true → x ≡ y
+same_section (section.Res a) (section.Res b) h = ap section.Res (eqb-true a b h)
+same_section (section.Free a) (section.Free b) h = ap section.Free (eqb-true a b h)
+same_section (section.Ready a) (section.Ready b) h = ap section.Ready (eqb-true a b h)
+same_section section.Timer section.Timer h = refl
+same_section x y h = cc
+
+put_beside : (x y : Section) (content : Content) (vs : Values) → ¬ (x ≡ y)
+    → put_at vs (Guarded x) content (Guarded y) ≡ vs (Guarded y)
+put_beside x y content vs differs = go (is_same_section x y) refl
+  where
+    go : (b : Bool) → is_same_section x y ≡ b → (if b then content else vs (Guarded y)) ≡ vs (Guarded y)
+    go true same = absurd (differs (same_section x y same))
+    go false other = refl
+
+-- an action changes no queue but the one whose section is open
+pub effect_beside : (action : Action) (vs : Values) (held : List Section) (y : Section) → InQueue held action
+    → ¬ IsIn held y
+    → effect action vs (Guarded y) ≡ vs (Guarded y)
+effect_beside (Takes n) vs held y inside out =
+    put_beside (section.Free n) y _ vs (λ same. out (subst (IsIn held) same inside))
+effect_beside (Frees n) vs held y inside out =
+    put_beside (section.Free n) y _ vs (λ same. out (subst (IsIn held) same inside))
+effect_beside (Readies p m) vs held y inside out =
+    put_beside (section.Ready p) y _ vs (λ same. out (subst (IsIn held) same inside))
+effect_beside (Starts p m) vs held y inside out =
+    put_beside (section.Ready p) y _ vs (λ same. out (subst (IsIn held) same inside))
+effect_beside (Arms i m) vs held y inside out =
+    put_beside section.Timer y _ vs (λ same. out (subst (IsIn held) same inside))
+effect_beside (Fires m) vs held y inside out =
+    put_beside section.Timer y _ vs (λ same. out (subst (IsIn held) same inside))
+effect_beside action vs held y inside out = refl
+
+-- what is asked goes by the one queue, and by the time
+pub order_kept : (app : App) (time later : ℕ) (vs ws : Values) (action : Action) → time ≤ later
+    → IfSome (queue_of action) (λ x. ws (Guarded x) ≡ vs (Guarded x)) → KeepsOrder app time vs action
+    → KeepsOrder app later ws action
+order_kept app time later vs ws (Takes n) le same order = subst (λ c. number c < capacity_of app n) (sym same) order
+order_kept app time later vs ws (Refuses n) le same order = ap number same ∙ order
+order_kept app time later vs ws (Starts p m) le same order = (order.0, ap messages same ∙ order.1)
+order_kept app time later vs ws (Fires m) le same order =
+    let due = order.3 in (order.0, ap (λ c. least (delays c)) same ∙ order.1, order.2, omega arith)
+order_kept app time later vs ws action le same order = tt

@@ -1,0 +1,318 @@
+-- A job waits for one outermost section of one lower job.
+use Rattle.std.proofs.Common.{◌≡◌, ℕ, ◌-◌, ◌≤◌, ◌<◌, ◌^◌, ◌==◌, nat_lt, Bool, true, false, if◌then◌else◌, List, [], ◌∷◌, ◌++◌, length, take, slice_index_or, Option, Some, None, IfSome, refl, sym, ap, subst, ◌∙◌, arith, eq-eqb}
+use Rattle.std.specs.List.{AllByRecursion}
+use Rattle.std.proofs.lemmas.Bool.{ltb-true, ltb-false, lt-ltb}
+use Rattle.rt_lemmas.proofs.Bools.{true_and_false}
+use Rattle.rt_lemmas.proofs.Lists.{find_has}
+use Rattle.rt_ids.specs.declared.ids.BodyId.TheVariants as body
+use Rattle.rt_trace.specs.Label.{Label, Arrived, Ticked, Rang, Stepped}
+use Rattle.rt_trace.specs.declared.item.What.{What}
+use Rattle.rt_trace.specs.declared.item.What.TheVariants as what
+use Rattle.rt_app.specs.Tree.{App}
+use Rattle.rt_app.specs.Waiting.{waiting_bound}
+use Rattle.rt_app.specs.Accepted.{IsAccepted}
+use Rattle.rt_app.specs.Handlers.{Service, services}
+use Rattle.rt_app.proofs.Sound.{accepted_are_sound}
+use Rattle.rt_laws.specs.Services.{service_at, priority_of, timer_number}
+use Rattle.rt_laws.specs.State.{Role, Init, Idle, Waiting, Serving, Job, State}
+use Rattle.rt_laws.specs.Level.{level, greatest_ceiling}
+use Rattle.rt_laws.specs.Allowed.{after}
+use Rattle.rt_laws.specs.Run.{RunsOn}
+use Rattle.rt_laws.specs.Sight.{Seen, Sight, sees}
+use Rattle.rt_laws.specs.Waiting.{stepper, steppers, lower, is_take, outermost, LieInOneSection, is_pending}
+use Rattle.rt_laws.proofs.Outermost.{none_outermost, below_outermost, both_outermost, outermost_all, Behind}
+use Rattle.rt_laws.proofs.Well.{alone_at_bottom, JobWell, IsAbove, StackWell, StateWell, IsThread, Moves, GoesOn, Restarts, ComesBack}
+use Rattle.rt_laws.proofs.Pending.{still_set, still_beside, held_off, goes_first}
+use Rattle.rt_laws.proofs.Happens.{Happens, Quietly, ByTake, ByStep, happens, after_well}
+
+-- Down to the first job below a priority: no section of it holds the priority off, or the outermost that does was
+-- entered in this step and has at most so many steps left.
+abbrev pub Low : App → ℕ → ℕ → ℕ → List Job → List Seen → Type 0
+Low app p entered left [] seens = Unit {0}
+Low app p entered left (job ∷ others) [] = Unit {0}
+Low app p entered left (job ∷ others) (seen ∷ seens) =
+    (job.priority < p → Behind entered left (outermost app p job.sections job.lefts)
+    (outermost app p seen.inside seen.since))
+    × (p ≤ job.priority → Low app p entered left others seens)
+
+-- these steps lie in the section that was entered then, and are no more than this
+abbrev Lie : App → ℕ → ℕ → ℕ → List Seen → Type 0
+Lie app p entered left steps =
+    AllByRecursion (λ job. outermost app p job.inside job.since ≡ Some entered) steps × (length steps ≤ left)
+
+behind_more : (entered n m : ℕ) (o since : Option ℕ) → Behind entered n o since → n ≤ m → Behind entered m o since
+behind_more entered n m None since h less = tt
+behind_more entered n m (Some k) since h less = let few = h.1 in (h.0, omega arith)
+
+behind_none : (entered n : ℕ) (o since : Option ℕ) → o ≡ None → Behind entered n o since
+behind_none entered n o since none = subst (λ u. Behind entered n u since) (sym none) tt
+
+-- it stays pending until its take
+pending_stays : (app : App) (irq : ℕ) (v : Sight) (label : Label)
+    → ((j d : ℕ) → label ≡ Stepped (Some (what.Take j d)) → ¬ (j ≡ irq)) → is_pending v irq ≡ true
+    → is_pending (sees app v label) irq ≡ true
+pending_stays app irq v (Arrived i) other h = still_set v.pending i irq h
+pending_stays app irq v Ticked other h = h
+pending_stays app irq v Rang other h = still_set v.pending (timer_number app) irq h
+pending_stays app irq v (Stepped None) other h = h
+pending_stays app irq v (Stepped (Some (what.Take j d))) other h = still_beside v.pending j irq false (other j d refl) h
+pending_stays app irq v (Stepped (Some (what.Post i))) other h = still_set v.pending i irq h
+pending_stays app irq v (Stepped (Some what.Alarm)) other h = still_set v.pending (timer_number app) irq h
+pending_stays app irq v (Stepped (Some (what.End body.Init))) other h = h
+pending_stays app irq v (Stepped (Some w)) other h = h
+
+-- the steppers behind a label that does not end them
+pub steppers_on : (app : App) (ends : Label → Bool) (v : Sight) (label : Label) (labels : List Label)
+    (steps : List Seen) → ends label ≡ false → stepper v label ≡ steps
+    → steppers app ends v (label ∷ labels) ≡ steps ++ steppers app ends (sees app v label) labels
+steppers_on app ends v label labels steps goes_on is =
+    ap (λ b. if b then [] else stepper v label ++ steppers app ends (sees app v label) labels) goes_on
+    ∙ ap (λ xs. xs ++ steppers app ends (sees app v label) labels) is
+
+pub steppers_ended : (app : App) (ends : Label → Bool) (v : Sight) (label : Label) (labels : List Label)
+    → ends label ≡ true → steppers app ends v (label ∷ labels) ≡ []
+steppers_ended app ends v label labels ended =
+    ap (λ b. if b then [] else stepper v label ++ steppers app ends (sees app v label) labels) ended
+
+pub not_lower : (p : ℕ) (seen : Seen) (steps : List Seen) → p ≤ seen.priority → lower p (seen ∷ steps) ≡ lower p steps
+not_lower p seen steps above = by (nat_lt seen.priority p) refl
+  where
+    by : (b : Bool) → nat_lt seen.priority p ≡ b → (if b then seen ∷ lower p steps else lower p steps) ≡ lower p steps
+    by true below = (let less = ltb-true seen.priority p below in absurd (omega arith))
+    by false test = refl
+
+is_lower : (p : ℕ) (seen : Seen) (steps : List Seen) → seen.priority < p → lower p (seen ∷ steps) ≡ seen ∷ lower p steps
+is_lower p seen steps below = ap (λ b. if b then seen ∷ lower p steps else lower p steps) (lt-ltb seen.priority p below)
+
+abbrev pub first_of : List Seen → List Seen
+first_of views = take 1 views
+
+module _ (app : App) (p : ℕ) (positive : 0 < p) where
+  -- where the level is below it no section holds it off
+  low_below : (entered left : ℕ) (js : List Job) (vs : List Seen) → level app js < p → Low app p entered left js vs
+  low_below entered left [] vs below = tt
+  low_below entered left (job ∷ others) [] below = tt
+  low_below entered left (job ∷ others) (seen ∷ seens) below =
+      let closed : greatest_ceiling app job.sections < p = omega arith in (
+        λ lower. behind_none entered left (outermost app p job.sections job.lefts)
+            (outermost app p seen.inside seen.since) (below_outermost app p job.sections job.lefts closed),
+        λ above. absurd (omega arith),
+      )
+
+  low_start : (js : List Job) (vs : List Seen) → StackWell app js vs → p ≤ 2 ^ app.bits
+      → (entered : ℕ) × Low app p entered (waiting_bound app p) js vs
+  low_start [] vs stack top = (0, tt)
+  low_start (job ∷ others) [] stack top = (0, tt)
+  low_start (job ∷ others) (seen ∷ seens) stack top =
+      by (nat_lt job.priority p) refl (low_start others seens stack.2 top)
+    where
+      well : JobWell app job seen
+      well = stack.0
+
+      first : job.priority < p → (o : Option ℕ) → outermost app p job.sections job.lefts ≡ o
+          → IfSome o (λ left. left ≤ waiting_bound app p)
+          → (entered : ℕ) × Behind entered (waiting_bound app p) o (outermost app p seen.inside seen.since)
+      first below None is bounded = (0, tt)
+      first below (Some n) is bounded =
+          let other = both_outermost app p job.sections job.lefts seen.since n well.long is in
+          (other.0, (ap (λ xs. outermost app p xs seen.since) well.inside ∙ other.1, bounded))
+
+      by : (b : Bool) → nat_lt job.priority p ≡ b → (entered : ℕ) × Low app p entered (waiting_bound app p) others seens
+          → (entered : ℕ) × Low app p entered (waiting_bound app p) (job ∷ others) (seen ∷ seens)
+      by true test deeper =
+          let below : job.priority < p = ltb-true job.priority p test in
+          let here = first below (outermost app p job.sections job.lefts) refl (well.bounded p below top) in
+          (here.0, ((λ lower. here.1), (λ above. absurd (omega arith))))
+      by false test deeper =
+          let above : p ≤ job.priority = ltb-false job.priority p test in
+          (deeper.0, ((λ lower. absurd (omega arith)), (λ higher. deeper.1)))
+
+  -- what a step of the running job is for those that wait
+  module _ (entered left : ℕ) (seen : Seen) (jobs : List Job) (views : List Seen) where
+    data Took : Type 0 where
+      Higher : p ≤ seen.priority → Low app p entered left jobs views → Took
+      Lower : seen.priority < p → outermost app p seen.inside seen.since ≡ Some entered → 0 < left
+          → Low app p entered (left - 1) jobs views → Took
+
+  level_below : (role : Role) (q : ℕ) (others : List Job) → IsAbove app role q others → q < p → level app others < p
+  level_below Init q others above less = subst (λ js. level app js < p) (sym above) positive
+  level_below Idle q others above less = subst (λ js. level app js < p) (sym above.0) positive
+  level_below Waiting q others above less = subst (λ js. level app js < p) (sym above.0) positive
+  level_below (Serving irq) q others above less = let under = above.1 in omega arith
+
+  module _ (entered left : ℕ) (job : Job) (others : List Job) (seen : Seen) (seens : List Seen)
+      (well : JobWell app job seen) (above : IsAbove app job.role job.priority others)
+      (low : Low app p entered left (job ∷ others) (seen ∷ seens)) where
+    -- a job that begins anew is outside all sections, and none is below it
+    anew : (n : ℕ) (new : Job) (shown : Seen) → IsThread job.role → new.sections ≡ []
+        → Low app p entered n (new ∷ others) (shown ∷ seens)
+    anew n new shown thread closed = (
+      λ lower. behind_none entered n (outermost app p new.sections new.lefts)
+          (outermost app p shown.inside shown.since) (ap (λ xs. outermost app p xs new.lefts) closed),
+      λ higher. subst (λ js. Low app p entered n js seens)
+          (sym (alone_at_bottom app job.role job.priority others thread above)) tt,
+    )
+
+    higher_after : p ≤ job.priority → (given : Option What) (jobs : List Job) (views : List Seen)
+        → Moves app job seen others seens given jobs views → Low app p entered left jobs views
+    higher_after over given jobs views (GoesOn new shown js vs role_is priority_is nearer) =
+        subst (λ xs. Low app p entered left xs views) (sym js)
+        (subst (λ xs. Low app p entered left (new ∷ others) xs) (sym vs) (
+          λ lower. absurd (omega arith),
+          λ higher. low.1 over,
+        ))
+    higher_after over given jobs views (Restarts new shown js vs thread closed) =
+        subst (λ xs. Low app p entered left xs views) (sym js)
+        (subst (λ xs. Low app p entered left (new ∷ others) xs) (sym vs) (anew left new shown thread closed))
+    higher_after over given jobs views (ComesBack irq js vs role_is item) =
+        subst (λ xs. Low app p entered left xs views) (sym js)
+        (subst (λ xs. Low app p entered left others xs) (sym vs) (low.1 over))
+
+    lower_after : job.priority < p → (n : ℕ) → outermost app p job.sections job.lefts ≡ Some n
+        → outermost app p seen.inside seen.since ≡ Some entered → n ≤ left
+        → (given : Option What) (jobs : List Job) (views : List Seen)
+        → Moves app job seen others seens given jobs views → Low app p entered (left - 1) jobs views
+    lower_after under n is since few given jobs views (GoesOn new shown js vs role_is priority_is nearer) =
+        subst (λ xs. Low app p entered (left - 1) xs views) (sym js)
+        (subst (λ xs. Low app p entered (left - 1) (new ∷ others) xs) (sym vs) (
+          λ lower. behind_more entered (n - 1) (left - 1) (outermost app p new.sections new.lefts)
+              (outermost app p shown.inside shown.since) (nearer p n entered is since) (omega arith),
+          λ higher. absurd (omega arith),
+        ))
+    lower_after under n is since few given jobs views (Restarts new shown js vs thread closed) =
+        subst (λ xs. Low app p entered (left - 1) xs views) (sym js)
+        (subst (λ xs. Low app p entered (left - 1) (new ∷ others) xs) (sym vs)
+        (anew (left - 1) new shown thread closed))
+    lower_after under n is since few given jobs views (ComesBack irq js vs role_is item) =
+        subst (λ xs. Low app p entered (left - 1) xs views) (sym js)
+        (subst (λ xs. Low app p entered (left - 1) others xs) (sym vs)
+        (low_below entered (left - 1) others seens (level_below job.role job.priority others above under)))
+
+    -- a lower job that may step while this priority is held off is in the section
+    took : p ≤ level app (job ∷ others) → AllByRecursion (λ n. 0 < n) job.lefts
+        → (given : Option What) (jobs : List Job) (views : List Seen) → Moves app job seen others seens given jobs views
+        → Took entered left seen jobs views
+    took held may given jobs views moves = by (nat_lt job.priority p) refl
+      where
+        below : job.priority < p → (o : Option ℕ) → outermost app p job.sections job.lefts ≡ o
+            → Behind entered left o (outermost app p seen.inside seen.since) → Took entered left seen jobs views
+        below under None is behind =
+            let closed : greatest_ceiling app job.sections < p =
+            none_outermost app p job.sections job.lefts well.lefts positive is in
+            let deeper : level app others < p = level_below job.role job.priority others above under in
+            absurd (omega arith)
+        below under (Some n) is behind =
+            let some : 0 < n = subst (λ o. IfSome o (λ n. 0 < n)) is
+            (outermost_all app p (λ n. 0 < n) job.sections job.lefts may) in
+            let few : n ≤ left = behind.1 in
+            let same = well.priority in
+            Lower (omega arith) behind.0 (omega arith) (lower_after under n is behind.0 few given jobs views moves)
+
+        by : (b : Bool) → nat_lt job.priority p ≡ b → Took entered left seen jobs views
+        by true test = (let under : job.priority < p = ltb-true job.priority p test in
+            below under (outermost app p job.sections job.lefts) refl (low.0 under))
+        by false test =
+            let over : p ≤ job.priority = ltb-false job.priority p test in
+            let same = well.priority in
+            Higher (omega arith) (higher_after over given jobs views moves)
+
+module _ (app : App) (accepted : IsAccepted app) (irq : ℕ) (x : Service) (served : service_at app irq ≡ Some x) where
+  abbrev p : ℕ
+  p = x.level
+
+  in_range : (1 ≤ p) × (p ≤ 2 ^ app.bits)
+  in_range = let h = find_has (λ (s : Service). (s.irq < length app.irqs) × (1 ≤ s.level) × (s.level ≤ 2 ^ app.bits))
+      _ (services app) x (accepted_are_sound app accepted).served served in (h.1, h.2)
+
+  abbrev waiting : Sight → List Label → List Seen
+  waiting v labels = lower p (steppers app (is_take irq) v labels)
+
+  lie_more : (entered left : ℕ) (seen : Seen) (steps : List Seen)
+      → outermost app p seen.inside seen.since ≡ Some entered → 0 < left → Lie app p entered (left - 1) steps
+      → Lie app p entered left (seen ∷ steps)
+  lie_more entered left seen steps is some lie = let few = lie.1 in ((is, lie.0), omega arith)
+
+  waits : (labels : List Label) (s : State) (v : Sight) (entered left : ℕ) → StateWell app s v → RunsOn app s labels
+      → is_pending v irq ≡ true → Low app p entered left s.jobs v.jobs
+      → Lie app p entered left (waiting v labels)
+  waits [] s v entered left well runs pending low = (tt, omega arith)
+  waits (label ∷ labels) s v entered left well runs pending low =
+      let comes = happens app accepted s v well label runs.0 in
+      by comes (λ left. waits labels (after app s label) (sees app v label) entered left
+      (after_well app accepted s v well label comes) runs.1)
+    where
+      by : Happens app s v label (after app s label) (sees app v label)
+          → ((left : ℕ) → is_pending (sees app v label) irq ≡ true
+          → Low app p entered left (after app s label).jobs (sees app v label).jobs
+          → Lie app p entered left (waiting (sees app v label) labels))
+          → Lie app p entered left (waiting v (label ∷ labels))
+      by (Quietly good jobs views none no_take return) next =
+          subst (λ steps. Lie app p entered left (lower p steps))
+          (sym (steppers_on app (is_take irq) v label labels [] (no_take irq) none))
+          (next left
+          (pending_stays app irq v label
+          (λ j d is same. true_and_false (is_take irq label) (ap (is_take irq) is ∙ eq-eqb j irq same)
+          (no_take irq)) pending)
+          (subst (λ js. Low app p entered left js (sees app v label).jobs) (sym jobs)
+          (subst (λ vs. Low app p entered left s.jobs vs) (sym views) low)))
+      by (ByTake j d job is good jobs views role priority best) next = one (j == irq) refl
+        where
+          one : (b : Bool) → (j == irq) ≡ b → Lie app p entered left (waiting v (label ∷ labels))
+          one true own =
+              subst (λ steps. Lie app p entered left (lower p steps))
+              (sym (steppers_ended app (is_take irq) v label labels (ap (is_take irq) is ∙ own))) (tt, omega arith)
+          one false other =
+              let first : p ≤ priority_of app j =
+              goes_first app s irq j x served
+              (ap (λ ps. slice_index_or ps irq false) (sym well.pending) ∙ pending) best in
+              subst (λ steps. Lie app p entered left (lower p steps))
+              (sym (steppers_on app (is_take irq) v label labels [] (ap (is_take irq) is ∙ other)
+              (ap (stepper v) is)))
+              (next left
+              (pending_stays app irq v label
+              (λ k e also same. true_and_false (j == irq)
+              (sym (ap (is_take irq) is) ∙ ap (is_take irq) also ∙ eq-eqb k irq same) other) pending)
+              (subst (λ js. Low app p entered left js (sees app v label).jobs) (sym jobs)
+              (subst (λ vs. Low app p entered left (job ∷ s.jobs) vs) (sym views) (
+                λ lower. absurd (omega arith),
+                λ higher. low,
+              ))))
+      by (ByStep shown step steps no_take return) next =
+          two (took app p in_range.0 entered left step.job step.others step.seen step.seens step.well step.above
+          (subst (λ js. Low app p entered left js (step.seen ∷ step.seens)) step.jobs_are
+          (subst (λ vs. Low app p entered left s.jobs vs) step.views_are low))
+          (subst (λ js. p ≤ level app js) step.jobs_are
+          (held_off app s irq x served (ap (λ ps. slice_index_or ps irq false) (sym well.pending) ∙ pending)
+          step.quiet))
+          step.may shown (after app s label).jobs (sees app v label).jobs step.led.moves)
+        where
+          stays : is_pending (sees app v label) irq ≡ true
+          stays = pending_stays app irq v label
+              (λ j d is same. true_and_false (is_take irq label) (ap (is_take irq) is ∙ eq-eqb j irq same)
+              (no_take irq)) pending
+
+          who : stepper v label ≡ step.seen ∷ []
+          who = steps ∙ ap first_of step.views_are
+
+          two : Took app p in_range.0 entered left step.seen (after app s label).jobs (sees app v label).jobs
+              → Lie app p entered left (waiting v (label ∷ labels))
+          two (Higher over low_next) =
+              subst (λ steps. Lie app p entered left (lower p steps))
+              (sym (steppers_on app (is_take irq) v label labels (step.seen ∷ []) (no_take irq) who))
+              (subst (Lie app p entered left)
+              (sym (not_lower p step.seen (steppers app (is_take irq) (sees app v label) labels) over))
+              (next left stays low_next))
+          two (Lower under is some low_next) =
+              subst (λ steps. Lie app p entered left (lower p steps))
+              (sym (steppers_on app (is_take irq) v label labels (step.seen ∷ []) (no_take irq) who))
+              (subst (Lie app p entered left)
+              (sym (is_lower p step.seen (steppers app (is_take irq) (sees app v label) labels) under))
+              (lie_more entered left step.seen (waiting (sees app v label) labels) is some
+              (next (left - 1) stays low_next)))
+
+  pub waits_well : (labels : List Label) (s : State) (v : Sight) → StateWell app s v → RunsOn app s labels
+      → is_pending v irq ≡ true → LieInOneSection app p (waiting v labels)
+  waits_well labels s v well runs pending =
+      let start = low_start app p in_range.0 s.jobs v.jobs well.stack in_range.1 in
+      let lie = waits labels s v start.0 (waiting_bound app p) well runs pending start.1 in
+      record { entered = start.0; inside = lie.0; few = lie.1 }

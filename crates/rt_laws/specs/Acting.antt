@@ -1,0 +1,66 @@
+-- What the running job's next action changes: the other column of the table of Baker's machine, a line an action. What
+-- is not named stays. Behind an action the job's rest runs on to the next action at once; the code runs instructions,
+-- and can be interrupted between any two.
+use Rattle.std.specs.Prelude.{ℕ, ◌-◌, true, if◌then◌else◌, List, ◌∷◌, map, drop, slice_set, Option, Some, None}
+use Rattle.rt_ids.specs.Content.{Values}
+use Rattle.rt_ids.specs.Action.{Action, Enters, Leaves, Posts, Clocks, SetsAlarm, Ends, Returns, effect}
+use Rattle.rt_ids.specs.Doing.{Doing, over, does}
+use Rattle.rt_ids.specs.declared.ids.BodyId.TheVariants as body
+use Rattle.rt_app.specs.Tree.{App, Body}
+use Rattle.rt_app.specs.Doings.{idle_doing}
+use Rattle.rt_app.specs.BodyCost.{cost_measure, cost_of}
+use Rattle.rt_laws.specs.Services.{timer_number}
+use Rattle.rt_laws.specs.State.{Job, State, Idle, Waiting, begun, reached}
+use Rattle.rt_laws.specs.Giving.{next_instant, is_due}
+
+-- an interrupt is pending from now on
+abbrev pub pended : ℕ → State → State
+pended irq s = record s { pending = slice_set s.pending irq true }
+
+-- a step of its body, and of each open section, is spent
+abbrev pub spent : Job → Job
+spent job = record job { left = job.left - 1; lefts = map (λ n. n - 1) job.lefts }
+
+-- the alarm is set to this instant, or to none; where it is due it comes at once
+abbrev pub alarm_set : App → Option ℕ → State → State
+alarm_set app instant s =
+    if is_due s.time instant then pended (timer_number app) (record s { alarm = None })
+    else record s { alarm = instant }
+
+-- the thread as it begins `idle`, and where it waits since that is absent
+abbrev pub idling : App → Values → Option Body → Job
+idling app vs None = begun Waiting 0 0 over
+idling app vs (Some b) = begun Idle 0 (cost_of (cost_measure app) app.idle) (idle_doing app vs)
+
+-- the clock answers the time
+abbrev pub answer : State → Action → ℕ
+answer s Clocks = s.time
+answer s action = 0
+
+module _ (app : App) (s : State) (job : Job) (others : List Job) where
+  -- the running job is this one from now on, and the values are those that its rest has made
+  abbrev pub runs_on : Job → Values → State
+  runs_on j vs = record s { jobs = j ∷ others; values = reached j.rest vs }
+
+  -- behind an action, with these values, it has this left to do
+  abbrev pub changed : Action → Values → Doing Values → State
+  changed (Enters x cost) vs rest =
+      runs_on (record (spent job) {
+        rest = rest;
+        sections = x ∷ job.sections;
+        lefts =
+            (cost - 1) ∷ (spent job).lefts;
+      }) vs
+  changed (Leaves x) vs rest =
+      runs_on (record (spent job) { rest = rest; sections = drop 1 job.sections; lefts = drop 1 (spent job).lefts }) vs
+  changed (Posts irq) vs rest = pended irq (runs_on (record (spent job) { rest = rest }) vs)
+  changed SetsAlarm vs rest = alarm_set app (next_instant s) (runs_on (record (spent job) { rest = rest }) vs)
+  changed (Ends body.Init) vs rest = runs_on (idling app vs app.idle) vs
+  changed (Ends body.Idle) vs rest = runs_on (idling app vs app.idle) vs
+  changed Returns vs rest = record s { jobs = others }
+  changed action vs rest = runs_on (record (spent job) { rest = rest }) vs
+
+  abbrev pub acted : Doing Values → State
+  acted over = s
+  acted (does action made next) =
+      changed action (effect action s.values) (next (answer s action) (effect action s.values))

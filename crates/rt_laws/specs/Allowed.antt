@@ -1,0 +1,68 @@
+-- What Baker's machine allows next, and what that changes (Stack-Based Scheduling of Realtime Processes, 1991). A job
+-- starts only where its priority is above the level, and while a job may start none takes a step. A machine does one
+-- thing after another, as `Label` has them.
+use Rattle.std.specs.Prelude.{◌≡◌, ℕ, suc, ◌<◌, true, false, List, [], ◌∷◌, slice_set, Option, Some, None}
+use Rattle.std.specs.List.{AllByRecursion}
+use Rattle.rt_trace.specs.Label.{Label, Arrived, Ticked, Rang, Stepped}
+use Rattle.rt_trace.specs.declared.item.What.TheVariants as what
+use Rattle.rt_app.specs.Tree.{App}
+use Rattle.rt_app.specs.Handlers.{Service}
+use Rattle.rt_app.specs.Doings.{handler_doing}
+use Rattle.rt_laws.specs.Services.{is_declared, service_at, timer_number, handler_cost}
+use Rattle.rt_laws.specs.State.{Role, Waiting, Serving, Job, State, begun, reached}
+use Rattle.rt_laws.specs.Level.{candidate}
+use Rattle.rt_laws.specs.Giving.{is_due, gives}
+use Rattle.rt_laws.specs.Acting.{pended, spent, acted}
+
+-- its cost has a step left; the thread that waits has no cost
+abbrev pub HasStep : Role → ℕ → Type 0
+HasStep Waiting left = Unit {0}
+HasStep role left = 0 < left
+
+-- the running job may take a step: its body has one left, and so has each open section
+abbrev pub MayStep : List Job → Type 0
+MayStep [] = ⊥
+MayStep (job ∷ others) = HasStep job.role job.left × AllByRecursion (λ n. 0 < n) job.lefts
+
+-- a job may take a step: no alarm is owed, no interrupt is to be taken, and the running job may
+pub record Turn (app : App) (s : State) : Type 0 where
+  pub not_owing : s.owing ≡ false
+  pub quiet : candidate app s ≡ None
+  pub step : MayStep s.jobs
+
+abbrev pub May : App → State → Label → Type 0
+May app s (Arrived irq) = (s.owing ≡ false) × (is_declared app irq ≡ true)
+May app s Ticked = s.owing ≡ false
+May app s Rang = s.owing ≡ true
+May app s (Stepped None) = Turn app s
+May app s (Stepped (Some (what.Take irq depth))) = (s.owing ≡ false) × (candidate app s ≡ Some irq)
+May app s (Stepped (Some w)) = Turn app s × (gives s ≡ Some w)
+
+-- the handler of an interrupt starts as a job
+abbrev pub started : App → State → ℕ → Option Service → State
+started app s irq None = s
+started app s irq (Some v) =
+    let rest = handler_doing app v.handler s.values in
+    record s {
+      jobs = begun (Serving irq) v.level (handler_cost app v.handler) rest ∷ s.jobs;
+      values =
+          reached rest s.values;
+    }
+
+-- the running job, which is the last started, takes a silent step, or does its next action
+abbrev pub stepped : State → List Job → State
+stepped s [] = s
+stepped s (job ∷ others) = record s { jobs = spent job ∷ others }
+
+abbrev pub given : App → State → List Job → State
+given app s [] = s
+given app s (job ∷ others) = acted app s job others job.rest
+
+abbrev pub after : App → State → Label → State
+after app s (Arrived irq) = pended irq s
+after app s Ticked = record s { time = suc s.time; owing = is_due (suc s.time) s.alarm }
+after app s Rang = pended (timer_number app) (record s { alarm = None; owing = false })
+after app s (Stepped None) = stepped s s.jobs
+after app s (Stepped (Some (what.Take irq depth))) =
+    started app (record s { pending = slice_set s.pending irq false }) irq (service_at app irq)
+after app s (Stepped (Some w)) = given app s s.jobs

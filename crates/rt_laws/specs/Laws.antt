@@ -1,0 +1,43 @@
+-- What holds of every run of Baker's machine on an accepted application.
+use Rattle.std.specs.Prelude.{◌<◌, List, [], ◌∷◌}
+use Rattle.std.specs.List.{AllByRecursion}
+use Rattle.rt_trace.specs.Label.{Label}
+use Rattle.rt_trace.specs.Trace.{Trace}
+use Rattle.rt_app.specs.Tree.{App}
+use Rattle.rt_app.specs.Accepted.{IsAccepted}
+use Rattle.rt_laws.specs.State.{Job, first}
+use Rattle.rt_laws.specs.Run.{RunsOn, Judged}
+use Rattle.rt_laws.specs.ByItems.{after_all}
+use Rattle.rt_laws.specs.Queues.{KeepsQueues}
+use Rattle.rt_laws.specs.Properties.{SectionsNest, KeepsLaws}
+
+-- sections are exclusive, no job finds one taken, and none waits for more than one section of one lower job
+abbrev pub RunsKeepLaws : Type 0
+RunsKeepLaws = (app : App) → IsAccepted app → (labels : List Label) → RunsOn app (first app) labels
+    → KeepsLaws app labels
+
+-- so does every trace that is judged right
+abbrev pub JudgedTracesKeepLaws : Type 0
+JudgedTracesKeepLaws =
+    (app : App) (trace : Trace) → IsAccepted app → (judged : Judged app trace) → KeepsLaws app judged.run.labels
+
+-- each leave is of the innermost section of the running job, which is what one takes it for
+abbrev pub RunsNestSections : Type 0
+RunsNestSections = (app : App) → IsAccepted app → (labels : List Label) → RunsOn app (first app) labels
+    → SectionsNest app labels
+
+-- The running job, which is the last started, has a greater priority than every other.
+abbrev pub IsHighestFirst : List Job → Type 0
+IsHighestFirst [] = Unit {0}
+IsHighestFirst (job ∷ others) = AllByRecursion (λ other. other.priority < job.priority) others
+
+abbrev pub TheHighestRuns : Type 0
+TheHighestRuns =
+    (app : App) → IsAccepted app → (labels : List Label) → RunsOn app (first app) labels
+    → IsHighestFirst (after_all app (first app) labels).jobs
+
+-- each queue is kept in order: see `Queues`
+abbrev pub RunsKeepQueues : Type 0
+RunsKeepQueues =
+    (app : App) → IsAccepted app → (labels : List Label) → RunsOn app (first app) labels
+    → KeepsQueues app (after_all app (first app) labels)

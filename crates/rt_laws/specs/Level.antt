@@ -1,0 +1,43 @@
+-- The level, which Baker calls the system ceiling, and the interrupt that is to be taken (Stack-Based Scheduling of
+-- Realtime Processes, 1991; ties go by the number, as in the ARMv7-M Architecture Reference Manual, section B1.5.4).
+-- The code of the core compares priority values with masks.
+use Rattle.std.specs.Prelude.{◌≡◌, ℕ, ◌==◌, ◌<◌, ◌≤◌, ◌⊎◌, max, Bool, false, ◌&&◌, ◌||◌, nat_lt, List, map, slice_index_or, Option}
+use Rattle.rt_ids.specs.Lists.{greatest}
+use Rattle.rt_ids.specs.Choice.{best, IsBest}
+use Rattle.rt_ids.specs.declared.ids.Section.{Section}
+use Rattle.rt_app.specs.Tree.{App}
+use Rattle.rt_app.specs.Ceiling.{ceiling}
+use Rattle.rt_laws.specs.Services.{priority_of}
+use Rattle.rt_laws.specs.State.{Job, State}
+
+-- the greatest ceiling of these sections, and 0 where there is none
+abbrev pub greatest_ceiling : App → List Section → ℕ
+greatest_ceiling app xs = greatest (map (ceiling app) xs)
+
+-- the greatest of the priorities of all started jobs and of the ceilings of all their open sections
+abbrev pub level : App → List Job → ℕ
+level app jobs = greatest (map (λ job. max job.priority (greatest_ceiling app job.sections)) jobs)
+
+-- a pending interrupt of a priority above the level; one that is not enabled has the priority 0
+abbrev pub may_start : App → State → ℕ → Bool
+may_start app s irq = slice_index_or s.pending irq false && nat_lt (level app s.jobs) (priority_of app irq)
+
+-- of a greater priority, and of equal ones with the lower number
+abbrev pub goes_before : App → ℕ → ℕ → Bool
+goes_before app irq other =
+    nat_lt (priority_of app other) (priority_of app irq)
+    || ((priority_of app irq == priority_of app other) && nat_lt irq other)
+
+-- the interrupt that is to be taken, where there is one
+abbrev pub candidate : App → State → Option ℕ
+candidate app s = best (may_start app s) (goes_before app) (map (λ d. d.number) app.irqs)
+
+-- of a greater priority, or of an equal one and no greater number
+abbrev pub IsNoLater : App → ℕ → ℕ → Type 0
+IsNoLater app irq other =
+    (priority_of app other < priority_of app irq) ⊎ ((priority_of app irq ≡ priority_of app other) × (irq ≤ other))
+
+-- of those that may start it is the one of greatest priority, and of equal ones the one with the lowest number
+abbrev pub CandidateIsHighest : Type 0
+CandidateIsHighest = (app : App) (s : State)
+    → IsBest (may_start app s) (IsNoLater app) (map (λ d. d.number) app.irqs) (candidate app s)

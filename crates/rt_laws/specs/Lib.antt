@@ -1,0 +1,14 @@
+pub mod Services
+pub mod State
+pub mod Level
+pub mod Giving
+pub mod Acting
+pub mod Allowed
+pub mod Run
+pub mod ByItems
+pub mod Sight
+pub mod Waiting
+pub mod Properties
+pub mod Silent
+pub mod Queues
+pub mod Laws

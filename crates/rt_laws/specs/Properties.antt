@@ -1,0 +1,52 @@
+-- The three properties that Baker proves of his protocol (Stack-Based Scheduling of Realtime Processes, 1991), of
+-- what a run shows, from the first label to the last: sections exclude each other, no job finds a section taken, and
+-- a job waits for one section of one lower job at most.
+use Rattle.std.specs.Prelude.{◌≡◌, ℕ, List, [], ◌∷◌, slice_get, take, Some}
+use Rattle.std.specs.List.{AllByRecursion}
+use Rattle.rt_ids.specs.Choice.{IsIn}
+use Rattle.rt_ids.specs.declared.ids.Section.{Section}
+use Rattle.rt_trace.specs.Label.{Label, Stepped}
+use Rattle.rt_trace.specs.declared.item.What.TheVariants as what
+use Rattle.rt_app.specs.Tree.{App}
+use Rattle.rt_laws.specs.Sight.{Seen, Sight, first_sight, sees}
+use Rattle.rt_laws.specs.Waiting.{WaitsWell, ServesWell}
+
+-- at each label, by what is seen before it and by the labels behind it
+abbrev pub AtEach : (Sight → Label → List Label → Type 0) → App → Sight → List Label → Type 0
+AtEach P app v [] = Unit {0}
+AtEach P app v (label ∷ labels) = P v label labels × AtEach P app (sees app v label) labels
+
+-- two jobs that are inside one section are one job
+abbrev pub AreExclusive : List Seen → Type 0
+AreExclusive jobs =
+    (i j : ℕ) (a b : Seen) (x : Section) → slice_get jobs i ≡ Some a → slice_get jobs j ≡ Some b → IsIn a.inside x
+    → IsIn b.inside x → i ≡ j
+
+-- where a section is entered no job is inside it
+abbrev pub FindsFree : Sight → Label → Type 0
+FindsFree v (Stepped (Some (what.Enter x))) = AllByRecursion (λ job. ¬ IsIn job.inside x) v.jobs
+FindsFree v label = Unit {0}
+
+abbrev pub Exclusive : App → List Label → Type 0
+Exclusive app labels = AtEach (λ v label behind. AreExclusive (sees app v label).jobs) app (first_sight app) labels
+
+abbrev pub NeverWaits : App → List Label → Type 0
+NeverWaits app labels = AtEach (λ v label behind. FindsFree v label) app (first_sight app) labels
+
+abbrev pub OneSection : App → List Label → Type 0
+OneSection app labels = AtEach (λ v label behind. WaitsWell app v label behind × ServesWell app v label behind) app
+    (first_sight app) labels
+
+-- what is left is what the running job entered last, as the reading of a leave has it
+abbrev pub LeavesInnermost : Sight → Label → Type 0
+LeavesInnermost v (Stepped (Some (what.Leave x value))) =
+    AllByRecursion (λ job. slice_get job.inside 0 ≡ Some x) (take 1 v.jobs)
+LeavesInnermost v label = Unit {0}
+
+abbrev pub SectionsNest : App → List Label → Type 0
+SectionsNest app labels = AtEach (λ v label behind. LeavesInnermost v label) app (first_sight app) labels
+
+pub record KeepsLaws (app : App) (labels : List Label) : Type 0 where
+  pub exclusive : Exclusive app labels
+  pub never_waits : NeverWaits app labels
+  pub one_section : OneSection app labels

@@ -1,0 +1,52 @@
+-- What holds of the actions of queues beside their being next, in every run: a place is taken where one is left, and
+-- refused where none is; messages start in the order in which they became ready; of armed messages the one of the
+-- least instant fires, of equal ones the first armed, and not before its instant. The actions were chosen as the
+-- section of the queue was entered; this says that nothing has changed since.
+use Rattle.std.specs.Prelude.{◌≡◌, ℕ, ◌<◌, ◌≤◌, List, [], ◌∷◌, Option, Some, None, IfSome}
+use Rattle.rt_ids.specs.Choice.{IsIn}
+use Rattle.rt_ids.specs.Holder.{Guarded}
+use Rattle.rt_ids.specs.Content.{Message, Armed, Values, number, messages, delays, least}
+use Rattle.rt_ids.specs.Action.{Action, Takes, Refuses, Readies, Starts, Frees, Arms, Fires}
+use Rattle.rt_ids.specs.Doing.{Doing, over, does}
+use Rattle.rt_ids.specs.declared.ids.Section.{Section}
+use Rattle.rt_ids.specs.declared.ids.Section.TheVariants as section
+use Rattle.rt_app.specs.Tree.{App}
+use Rattle.rt_app.specs.Sending.{capacity_of}
+use Rattle.rt_laws.specs.State.{Job, State}
+
+-- the section of the queue that an action looks at or changes
+abbrev pub queue_of : Action → Option Section
+queue_of (Takes n) = Some (section.Free n)
+queue_of (Refuses n) = Some (section.Free n)
+queue_of (Frees n) = Some (section.Free n)
+queue_of (Readies p m) = Some (section.Ready p)
+queue_of (Starts p m) = Some (section.Ready p)
+queue_of (Arms i m) = Some section.Timer
+queue_of (Fires m) = Some section.Timer
+queue_of action = None
+
+-- it is done inside that section
+abbrev pub InQueue : List Section → Action → Type 0
+InQueue sections action = IfSome (queue_of action) (λ x. IsIn sections x)
+
+-- at a time, with these contents
+abbrev pub KeepsOrder : App → ℕ → Values → Action → Type 0
+KeepsOrder app time vs (Takes n) = number (vs (Guarded (section.Free n))) < capacity_of app n
+KeepsOrder app time vs (Refuses n) = number (vs (Guarded (section.Free n))) ≡ capacity_of app n
+KeepsOrder app time vs (Starts p m) = (more : List Message) × (messages (vs (Guarded (section.Ready p))) ≡ m ∷ more)
+KeepsOrder app time vs (Fires m) =
+    (a : Armed) × (least (delays (vs (Guarded section.Timer))) ≡ Some a) × (a.message ≡ m) × (a.instant ≤ time)
+KeepsOrder app time vs action = Unit {0}
+
+abbrev pub NextKeepsOrder : App → ℕ → Values → List Section → Doing Values → Type 0
+NextKeepsOrder app time vs sections over = Unit {0}
+NextKeepsOrder app time vs sections (does action made next) = InQueue sections action × KeepsOrder app time vs action
+
+-- the next action of the running job, and of every other, which others have stopped
+abbrev pub AllKeepOrder : App → ℕ → Values → List Job → Type 0
+AllKeepOrder app time vs [] = Unit {0}
+AllKeepOrder app time vs (job ∷ others) =
+    NextKeepsOrder app time vs job.sections job.rest × AllKeepOrder app time vs others
+
+abbrev pub KeepsQueues : App → State → Type 0
+KeepsQueues app s = AllKeepOrder app s.time s.values s.jobs

@@ -1,0 +1,44 @@
+-- Runs of Baker's machine, and the traces that are runs of it. Step numbers stand apart from what happens: the items
+-- of labels are numbered by the core steps before each (`items_of`), so a trace says how many silent steps come
+-- before each item.
+use Rattle.std.specs.Prelude.{◌≡◌, ℕ, ◌≤◌, List, [], ◌∷◌, Option, Some, None}
+use Rattle.std.specs.List.{AllByRecursion}
+use Rattle.rt_trace.specs.Label.{Label, items_of, steps_of}
+use Rattle.rt_trace.specs.Trace.{Trace}
+use Rattle.rt_trace.specs.declared.item.Item.{Item}
+use Rattle.rt_trace.specs.declared.item.What.{What}
+use Rattle.rt_trace.specs.declared.item.What.TheVariants as what
+use Rattle.rt_app.specs.Tree.{App}
+use Rattle.rt_app.specs.Stack.{stack_bytes}
+use Rattle.rt_laws.specs.State.{State, first}
+use Rattle.rt_laws.specs.Allowed.{May, after}
+
+-- from a state on, each of these is allowed behind those before it
+abbrev pub RunsOn : App → State → List Label → Type 0
+RunsOn app s [] = Unit {0}
+RunsOn app s (label ∷ labels) = May app s label × RunsOn app (after app s label) labels
+
+-- The items are a run of Baker's machine on the application, with so many core steps in all. (`RunsByItems` tells it
+-- item by item.)
+pub record Run (app : App) (items : List Item) (total : ℕ) : Type 0 where
+  pub labels : List Label
+  pub shows : items_of 0 labels ≡ items
+  pub steps : steps_of labels ≡ total
+  pub allowed : RunsOn app (first app) labels
+
+-- the stack bytes in use behind an entry are within the bound
+abbrev pub IsWithinStack : App → What → Type 0
+IsWithinStack app (what.Take irq depth) = depth ≤ stack_bytes app
+IsWithinStack app w = Unit {0}
+
+-- the total is as it is told; where it is not, the trace may end with its last item, which says no more
+abbrev pub IsTold : Option ℕ → ℕ → Type 0
+IsTold None total = Unit {0}
+IsTold (Some told) total = told ≡ total
+
+-- a trace is judged right: it is a run, of as many steps as it tells, and within the stack bound
+pub record Judged (app : App) (trace : Trace) : Type 0 where
+  pub total : ℕ
+  pub told : IsTold trace.total total
+  pub run : Run app trace.items total
+  pub depths : AllByRecursion (λ item. IsWithinStack app item.what) trace.items

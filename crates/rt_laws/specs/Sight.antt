@@ -1,0 +1,72 @@
+-- What one sees of the jobs by what a machine shows alone: the stack of jobs by takes and returns, who is inside what
+-- by enters and leaves, and which interrupts are pending. Beside what is shown it takes the static priorities of the
+-- application, and nothing of a machine's state: no levels, no costs. The names of sections are the application's.
+use Rattle.std.specs.Prelude.{ℕ, suc, ◌^◌, Bool, true, false, List, [], ◌∷◌, drop, replicate, slice_set, Some, None}
+use Rattle.rt_ids.specs.declared.ids.BodyId.TheVariants as body
+use Rattle.rt_ids.specs.declared.ids.Section.{Section}
+use Rattle.rt_ids.specs.declared.limits.TheConstants.{IRQ_NUMBERS}
+use Rattle.rt_trace.specs.Label.{Label, Arrived, Ticked, Rang, Stepped}
+use Rattle.rt_trace.specs.declared.item.What.{What}
+use Rattle.rt_trace.specs.declared.item.What.TheVariants as what
+use Rattle.rt_app.specs.Tree.{App}
+use Rattle.rt_laws.specs.Services.{priority_of, timer_number}
+
+-- a job as it is seen
+pub record Seen : Type 0 where
+  pub priority : ℕ
+  -- the sections that it is inside, innermost first, and the core step in which it entered each, which names this one
+  -- section of this one job
+  pub inside : List Section
+  pub since : List ℕ
+
+pub record Sight : Type 0 where
+  -- the last taken first, the thread last; the first of them runs
+  pub jobs : List Seen
+  -- by interrupt number
+  pub pending : List Bool
+  -- the core steps until now
+  pub steps : ℕ
+
+-- a job that is inside nothing
+abbrev pub outside : ℕ → Seen
+outside priority = record { priority = priority; inside = []; since = [] }
+
+-- The thread begins as `init`, which has the greatest priority: interrupts are masked.
+abbrev pub first_sight : App → Sight
+first_sight app = record { jobs = outside (2 ^ app.bits) ∷ []; pending = replicate IRQ_NUMBERS false; steps = 0 }
+
+-- the running job becomes another
+abbrev pub on_running : (Seen → Seen) → List Seen → List Seen
+on_running f [] = []
+on_running f (job ∷ others) = f job ∷ others
+
+abbrev pub is_pended : ℕ → Sight → Sight
+is_pended irq v = record v { pending = slice_set v.pending irq true }
+
+-- a section is entered in this step; sections nest, so the one that is left is the innermost
+abbrev pub entering : Section → ℕ → Seen → Seen
+entering x step job = record job { inside = x ∷ job.inside; since = step ∷ job.since }
+
+abbrev pub leaving : Seen → Seen
+leaving job = record job { inside = drop 1 job.inside; since = drop 1 job.since }
+
+module _ (app : App) where
+  -- what the item of a step tells
+  abbrev pub told : Sight → What → Sight
+  told v (what.Take irq depth) =
+      record v { pending = slice_set v.pending irq false; jobs = outside (priority_of app irq) ∷ v.jobs }
+  told v (what.Ret irq) = record v { jobs = drop 1 v.jobs }
+  told v (what.Enter x) = record v { jobs = on_running (entering x v.steps) v.jobs }
+  told v (what.Leave x value) = record v { jobs = on_running leaving v.jobs }
+  told v (what.Post irq) = is_pended irq v
+  told v what.Alarm = is_pended (timer_number app) v
+  -- `init` ends, and the thread goes on below all tasks
+  told v (what.End body.Init) = record v { jobs = on_running (λ job. record job { priority = 0 }) v.jobs }
+  told v w = v
+
+  abbrev pub sees : Sight → Label → Sight
+  sees v (Arrived irq) = is_pended irq v
+  sees v Ticked = v
+  sees v Rang = is_pended (timer_number app) v
+  sees v (Stepped None) = record v { steps = suc v.steps }
+  sees v (Stepped (Some w)) = record (told v w) { steps = suc v.steps }

@@ -1,0 +1,75 @@
+-- How a job waits for jobs of lower priority: for one section of one of them, and only before it starts (Baker,
+-- Stack-Based Scheduling of Realtime Processes, 1991, on blocking: a job is blocked for at most one outermost section
+-- of one job, and not once it has started). Said of what is seen alone: who takes the steps between the moment an
+-- interrupt becomes pending and its take. The steps of `init` are never those of a lower job, since it has the
+-- greatest priority; so what passes before its end does not count.
+use Rattle.std.specs.Prelude.{◌≡◌, ℕ, ◌≤◌, ◌==◌, nat_lt, nat_le, Bool, true, false, if◌then◌else◌, List, [], ◌∷◌, ◌++◌, length, take, filter, slice_index_or, Option, Some, None}
+use Rattle.std.specs.List.{AllByRecursion}
+use Rattle.rt_ids.specs.declared.ids.Section.{Section}
+use Rattle.rt_trace.specs.Label.{Label, Stepped}
+use Rattle.rt_trace.specs.declared.item.What.TheVariants as what
+use Rattle.rt_app.specs.Tree.{App}
+use Rattle.rt_app.specs.Ceiling.{ceiling}
+use Rattle.rt_app.specs.Handlers.{Service}
+use Rattle.rt_app.specs.Waiting.{waiting_bound}
+use Rattle.rt_laws.specs.Services.{service_at, priority_of}
+use Rattle.rt_laws.specs.Sight.{Seen, Sight, sees}
+
+-- who takes a step, as it is before the step; a take is no step of a job
+abbrev pub stepper : Sight → Label → List Seen
+stepper v (Stepped (Some (what.Take irq depth))) = []
+stepper v (Stepped shown) = take 1 v.jobs
+stepper v label = []
+
+-- who takes the steps of these labels, up to the one that ends them
+abbrev pub steppers : App → (Label → Bool) → Sight → List Label → List Seen
+steppers app ends v [] = []
+steppers app ends v (label ∷ labels) =
+    if ends label then [] else stepper v label ++ steppers app ends (sees app v label) labels
+
+-- of these those of a priority below this one
+abbrev pub lower : ℕ → List Seen → List Seen
+lower p jobs = filter (λ job. nat_lt job.priority p) jobs
+
+abbrev pub is_take : ℕ → Label → Bool
+is_take irq (Stepped (Some (what.Take taken depth))) = taken == irq
+is_take irq label = false
+
+abbrev pub is_return : ℕ → Label → Bool
+is_return irq (Stepped (Some (what.Ret left))) = left == irq
+is_return irq label = false
+
+-- the one further out, where there is one
+abbrev pub outer_or : ℕ → Bool → Option ℕ → Option ℕ
+outer_or n holds (Some m) = Some m
+outer_or n true None = Some n
+outer_or n false None = None
+
+-- of sections, innermost first, each with a number, the number of the outermost that holds this priority off
+abbrev pub outermost : App → ℕ → List Section → List ℕ → Option ℕ
+outermost app p (x ∷ xs) (n ∷ ns) = outer_or n (nat_le p (ceiling app x)) (outermost app p xs ns)
+outermost app p xs ns = None
+
+-- these steps lie in one section, named by the step in which it was entered, which is outermost among those of its
+-- job that hold the priority off; and they are no more than the waiting bound
+pub record LieInOneSection (app : App) (p : ℕ) (steps : List Seen) : Type 0 where
+  pub entered : ℕ
+  pub inside : AllByRecursion (λ job. outermost app p job.inside job.since ≡ Some entered) steps
+  pub few : length steps ≤ waiting_bound app p
+
+abbrev pub is_pending : Sight → ℕ → Bool
+is_pending v irq = slice_index_or v.pending irq false
+
+-- each enabled interrupt that becomes pending here and was not: the steps that lower jobs take until its take
+abbrev pub WaitsWell : App → Sight → Label → List Label → Type 0
+WaitsWell app v label labels =
+    (irq : ℕ) (s : Service) → service_at app irq ≡ Some s → is_pending v irq ≡ false
+    → is_pending (sees app v label) irq ≡ true
+    → LieInOneSection app s.level (lower s.level (steppers app (is_take irq) (sees app v label) labels))
+
+-- from a take to its return no job of lower priority takes a step
+abbrev pub ServesWell : App → Sight → Label → List Label → Type 0
+ServesWell app v (Stepped (Some (what.Take irq depth))) labels =
+    lower (priority_of app irq) (steppers app (is_return irq)
+    (sees app v (Stepped (Some (what.Take irq depth)))) labels) ≡ []
+ServesWell app v label labels = Unit {0}

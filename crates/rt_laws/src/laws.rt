@@ -1,0 +1,61 @@
+ghost use Rattle.rt_laws.specs.ByItems.{FrontsAreRuns, RunsAreByItems};
+ghost use Rattle.rt_laws.specs.Laws.{
+  JudgedTracesKeepLaws,
+  RunsKeepLaws,
+  RunsKeepQueues,
+  RunsNestSections,
+  TheHighestRuns,
+};
+ghost use Rattle.rt_laws.specs.Level.{CandidateIsHighest};
+ghost use Rattle.rt_laws.specs.Silent.{SilentStepsByCost};
+
+/// The interrupt that is to be taken is the one of greatest priority that may start, and of equal ones the one with the
+/// lowest number.
+#[tactic(auto, using(crate::proofs::Candidate::candidate_is_highest))]
+pub fn candidates_are_highest()
+    ensures { CandidateIsHighest }
+{}
+
+/// Every run of an accepted application keeps sections exclusive, finds no section taken, and lets no interrupt wait
+/// for more than one outermost section of one lower job, within the waiting bound.
+pub fn runs_keep_laws()
+    ensures { RunsKeepLaws }
+{}
+
+/// So does every trace that is judged right.
+pub fn judged_traces_keep_laws()
+    ensures { JudgedTracesKeepLaws }
+{}
+
+/// A run told item by item, with as many silent steps before each as the step numbers say, is a run, and the other way
+/// round.
+#[tactic(auto, using(crate::proofs::ByItems::runs_are_by_items))]
+pub fn runs_are_by_items()
+    ensures { RunsAreByItems }
+{}
+
+/// The running job, which is the last started, is the one of the greatest priority.
+pub fn the_highest_runs()
+    ensures { TheHighestRuns }
+{}
+
+/// Each section that is left is the one that the running job entered last.
+pub fn runs_nest_sections()
+    ensures { RunsNestSections }
+{}
+
+/// In every run a place is taken where one is left and refused where none is, messages start in the order in which they
+/// became ready, and of armed messages the least fires, not before its instant.
+pub fn runs_keep_queues()
+    ensures { RunsKeepQueues }
+{}
+
+/// How many silent steps may pass, and what they lead to, is told from the costs at once.
+pub fn silent_steps_are_told_by_cost()
+    ensures { SilentStepsByCost }
+{}
+
+/// The front of a run is a run.
+pub fn fronts_are_runs()
+    ensures { FrontsAreRuns }
+{}

@@ -1,0 +1,11 @@
+// Baker's machine on an application, and the laws of its runs: sections are exclusive, no job finds one taken, and none
+// waits for more than one section of one lower job.
+#![tactic(auto)]
+
+pub mod laws;
+
+pub use laws::{
+    candidates_are_highest, fronts_are_runs, judged_traces_keep_laws, runs_are_by_items,
+    runs_keep_laws, runs_keep_queues, runs_nest_sections, silent_steps_are_told_by_cost,
+    the_highest_runs,
+};
