@@ -1,5 +1,6 @@
 -- Sections and ends of bodies, by their instructions.
-use Rattle.std.proofs.Common.{◌≡◌, ℕ, suc, ◌+◌, ◌-◌, ◌<◌, true, false, Option, Some, None, List, [], ◌∷◌, length, map, drop, slice_get, slice_index, Contains, refl, ap, sym, ◌∙◌, subst, arith}
+use Rattle.std.proofs.Common.{◌≡◌, ℕ, suc, ◌+◌, ◌-◌, ◌<◌, true, false, Option, Some, None, List, [], ◌∷◌, length, map}
+use Rattle.std.proofs.Common.{drop, slice_get, slice_index, Contains, refl, ap, sym, ◌∙◌, subst, arith}
 use Rattle.std.specs.List.{AllByRecursion}
 use Rattle.rt_ids.specs.Holder.{Holder, Guarded}
 use Rattle.rt_ids.specs.Content.{Values}
@@ -21,7 +22,8 @@ use Rattle.rt_gen_body.specs.Inside.Code.{Line, plain, noted}
 use Rattle.rt_gen_body.proofs.Spots.{left_at, left_passed, Lasts, Here, spot, kept_same}
 use Rattle.rt_gen_body.proofs.Steps.{S, by_line}
 
-module _ (st : Storage) (code : List Line) (bodies : List BodyRow) (thread : ℕ) (who : Runner) (caller : Option (List ℕ)) where
+module _ (st : Storage) (code : List Line) (bodies : List BodyRow) (thread : ℕ) (who : Runner)
+    (caller : Option (List ℕ)) where
   -- inside a section, whose own deadline is its cost from here
   abbrev pub within_section : Section → Kind → ℕ → ℕ → Doing Values → List ℕ → (Holder → List Entry) → Here → Here
   within_section x kind saved cost rest cells queues h = record {
@@ -35,16 +37,20 @@ module _ (st : Storage) (code : List Line) (bodies : List BodyRow) (thread : ℕ
     rest = rest;
   }
 
-  pub enters : (n : ℕ) (h : Here) (x : Section) (kind : Kind) (cost : ℕ) (rest : Values → Doing Values) (values : Values)
-      → slice_get code h.at ≡ Some (noted (opening (st.value (st.ceiling x)) kind) (note.Enter x)) → Lasts (suc h.done) h.deadlines
+  pub enters : (n : ℕ) (h : Here) (x : Section) (kind : Kind) (cost : ℕ) (rest : Values → Doing Values)
+      (values : Values)
+      → slice_get code h.at ≡ Some (noted (opening (st.value (st.ceiling x)) kind) (note.Enter x))
+      → Lasts (suc h.done) h.deadlines
       → h.rest ≡ does (Enters x cost) values (λ answer. rest) → IsKindFor st who who h.held x kind
       → AllByRecursion (λ d. (d < length h.slots) × (¬ Contains (saved_slots h.held) d)) (saved_slot kind)
       → IsWithin st who who x → is_open h.held x ≡ false → NobodyKeeps st who who x
-      → ((saved : ℕ) (vs : Values) (cells : List ℕ) (queues : Holder → List Entry) → TakesOver st who x (passed (spot caller h)) values vs cells queues
+      → ((saved : ℕ) (vs : Values) (cells : List ℕ) (queues : Holder → List Entry)
+      → TakesOver st who x (passed (spot caller h)) values vs cells queues
       → S st code bodies thread who caller n (within_section x kind saved cost (rest vs) cells queues h))
       → S st code bodies thread who caller (suc n) h
   enters n h x kind cost rest values here lasts is mask slot within once shared on =
-      by_line st code bodies thread who caller n h (opening (st.value (st.ceiling x)) kind) (Some (note.Enter x)) here lasts
+      by_line st code bodies thread who caller n h (opening (st.value (st.ceiling x)) kind)
+      (Some (note.Enter x)) here lasts
       (record {
         cost = cost;
         values = values;
@@ -59,19 +65,29 @@ module _ (st : Storage) (code : List Line) (bodies : List BodyRow) (thread : ℕ
         shared = shared;
         on = λ saved vs cells queues taken.
             let e : cost - 1 ≡ (h.done + cost) - suc h.done = omega arith in
-            subst (λ (lefts : List ℕ). Stands st code bodies thread who n (record (inside st who x kind saved cost (rest vs) cells queues (passed (spot caller h))) { lefts = lefts }))
-            (sym (ap (λ m. m ∷ map (λ k. k - 1) (left_at h.done h.deadlines)) e ∙ ap (λ ms. ((h.done + cost) - suc h.done) ∷ ms) (left_passed h.done h.deadlines)))
+            subst (λ (lefts : List ℕ). Stands st code bodies thread who n
+            (record (inside st who x kind saved cost (rest vs) cells queues
+            (passed (spot caller h))) { lefts = lefts }))
+            (sym (ap (λ m. m ∷ map (λ k. k - 1) (left_at h.done h.deadlines)) e
+            ∙ ap (λ ms. ((h.done + cost) - suc h.done) ∷ ms) (left_passed h.done h.deadlines)))
             (on saved vs cells queues taken);
       })
 
   -- out of it: the deadlines are those around it
-  pub leaves : (n : ℕ) (h : Here) (x : Section) (kind : Kind) (outer : List Held) (deadline : ℕ) (around : List ℕ) (rest : Values → Doing Values) (values : Values)
+  pub leaves : (n : ℕ) (h : Here) (x : Section) (kind : Kind) (outer : List Held) (deadline : ℕ) (around : List ℕ)
+      (rest : Values → Doing Values) (values : Values)
       → slice_get code h.at ≡ Some (noted (closing kind) (note.Leave x)) → Lasts (suc h.done) h.deadlines
       → h.held ≡ record { section = x; kind = kind } ∷ outer → h.deadlines ≡ deadline ∷ around
       → h.rest ≡ does (Leaves x) values (λ answer. rest)
       → st.Spells (Guarded x) (slice_index h.cells) (h.queues (Guarded x)) (values (Guarded x))
       → ((vs : Values) → Agree st who outer vs values
-      → S st code bodies thread who caller n (record h { held = outer; done = suc h.done; deadlines = around; at = suc h.at; rest = rest vs }))
+      → S st code bodies thread who caller n (record h {
+        held = outer;
+        done = suc h.done;
+        deadlines = around;
+        at = suc h.at;
+        rest = rest vs;
+      }))
       → S st code bodies thread who caller (suc n) h
   leaves n h x kind outer deadline around rest values here lasts innermost last is spelled on =
       by_line st code bodies thread who caller n h (closing kind) (Some (note.Leave x)) here lasts
@@ -85,7 +101,8 @@ module _ (st : Storage) (code : List Line) (bodies : List BodyRow) (thread : ℕ
         closes = refl;
         spelled = spelled;
         on = λ vs agree.
-            subst (λ (lefts : List ℕ). Stands st code bodies thread who n (record (spot caller (record h { held = outer; at = suc h.at; rest = rest vs })) { lefts = lefts }))
+            subst (λ (lefts : List ℕ). Stands st code bodies thread who n
+            (record (spot caller (record h { held = outer; at = suc h.at; rest = rest vs })) { lefts = lefts }))
             (ap (λ ds. left_at (suc h.done) (drop 1 ds)) (sym last) ∙ dropped h.done h.deadlines)
             (on vs agree);
       })
@@ -96,7 +113,8 @@ module _ (st : Storage) (code : List Line) (bodies : List BodyRow) (thread : ℕ
 
   -- what its runner keeps is given back, and its values are these
   abbrev pub GivesBack : Here → Values → Type 0
-  GivesBack h values = (holder : Holder) → st.is_kept who holder ≡ true → st.Spells holder (slice_index h.cells) (h.queues holder) (values holder)
+  GivesBack h values = (holder : Holder) → st.is_kept who holder ≡ true
+      → st.Spells holder (slice_index h.cells) (h.queues holder) (values holder)
 
   finishes : (h : Here) (action : Action) (rest : Values → Doing Values) (values : Values) → h.held ≡ [] → caller ≡ None
       → h.rest ≡ does action values (λ answer. rest) → GivesBack h values
@@ -111,7 +129,8 @@ module _ (st : Storage) (code : List Line) (bodies : List BodyRow) (thread : ℕ
     spelled = back;
   }
 
-  pub returns : (n : ℕ) (h : Here) (rest : Values → Doing Values) (values : Values) → slice_get code h.at ≡ Some (plain instr.Ret) → Lasts (suc h.done) h.deadlines
+  pub returns : (n : ℕ) (h : Here) (rest : Values → Doing Values) (values : Values)
+      → slice_get code h.at ≡ Some (plain instr.Ret) → Lasts (suc h.done) h.deadlines
       → h.held ≡ [] → caller ≡ None → h.rest ≡ does Returns values (λ answer. rest) → GivesBack h values
       → S st code bodies thread who caller (suc n) h
   returns n h rest values here lasts closed own is back =
@@ -119,20 +138,25 @@ module _ (st : Storage) (code : List Line) (bodies : List BodyRow) (thread : ℕ
       (record {
         touches = tt;
         goes = λ time b m fast.
-            subst (λ (e : Effect). Goes st code bodies thread who None b m (passed (spot caller h)) (Stands st code bodies thread who n) e)
+            subst (λ (e : Effect). Goes st code bodies thread who None b m (passed (spot caller h))
+            (Stands st code bodies thread who n) e)
             (sym (effect_is_done instr.Ret time (processor_of (spot caller h) b m) refl refl))
             (refl, refl, kept_same h.held h.slots, finishes h Returns rest values closed own is back);
       })
 
-  pub ends_init : (n : ℕ) (h : Here) (rest : Values → Doing Values) (values : Values) → slice_get code h.at ≡ Some (noted instr.Serve (note.End body.Init)) → Lasts (suc h.done) h.deadlines
-      → who ≡ Starting → suc h.at ≡ thread → h.held ≡ [] → caller ≡ None → h.rest ≡ does (Ends body.Init) values (λ answer. rest) → GivesBack h values
+  pub ends_init : (n : ℕ) (h : Here) (rest : Values → Doing Values) (values : Values)
+      → slice_get code h.at ≡ Some (noted instr.Serve (note.End body.Init)) → Lasts (suc h.done) h.deadlines
+      → who ≡ Starting → suc h.at ≡ thread → h.held ≡ [] → caller ≡ None
+      → h.rest ≡ does (Ends body.Init) values (λ answer. rest) → GivesBack h values
       → S st code bodies thread who caller (suc n) h
   ends_init n h rest values here lasts starts next closed own is back =
       by_line st code bodies thread who caller n h instr.Serve (Some (note.End body.Init)) here lasts
       (refl, starts, next, finishes h (Ends body.Init) rest values closed own is back)
 
-  pub ends_idle : (n : ℕ) (h : Here) (rest : Values → Doing Values) (values : Values) → slice_get code h.at ≡ Some (noted (instr.Jump thread) (note.End body.Idle)) → Lasts (suc h.done) h.deadlines
-      → who ≡ AtLevel 0 → h.held ≡ [] → caller ≡ None → h.rest ≡ does (Ends body.Idle) values (λ answer. rest) → GivesBack h values
+  pub ends_idle : (n : ℕ) (h : Here) (rest : Values → Doing Values) (values : Values)
+      → slice_get code h.at ≡ Some (noted (instr.Jump thread) (note.End body.Idle)) → Lasts (suc h.done) h.deadlines
+      → who ≡ AtLevel 0 → h.held ≡ [] → caller ≡ None → h.rest ≡ does (Ends body.Idle) values (λ answer. rest)
+      → GivesBack h values
       → S st code bodies thread who caller (suc n) h
   ends_idle n h rest values here lasts idles closed own is back =
       by_line st code bodies thread who caller n h (instr.Jump thread) (Some (note.End body.Idle)) here lasts

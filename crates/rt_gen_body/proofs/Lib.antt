@@ -19,3 +19,6 @@ pub mod Promises
 pub mod Stored
 pub mod Emitted
 pub mod Generated
+pub mod Nameable
+pub mod Sizes
+pub mod Appended

@@ -1,5 +1,6 @@
 -- What holds before and behind each statement of a body, and how an expression's value comes.
-use Rattle.std.proofs.Common.{◌≡◌, ℕ, ◌+◌, ◌-◌, ◌^◌, ◌<◌, ◌≤◌, Option, List, length, map, slice_index, Contains, ◌∙◌, arith}
+use Rattle.std.proofs.Common.{◌≡◌, ℕ, ◌+◌, ◌-◌, ◌^◌, ◌<◌, ◌≤◌, Option, List, length, map, slice_index, Contains, ◌∙◌}
+use Rattle.std.proofs.Common.{arith}
 use Rattle.rt_ids.specs.Holder.{Holder}
 use Rattle.rt_ids.specs.Content.{Values}
 use Rattle.rt_ids.specs.Entry.{Entry}
@@ -29,10 +30,15 @@ use Rattle.rt_gen_body.proofs.Facts.{LevelIs, Facts}
 abbrev pub listed_by : Member → List ℕ
 listed_by m = map (λ o. o.local) m.body.local
 
-module _ (st : Storage) (code : List Line) (bodies : List BodyRow) (thread : ℕ) (who : Runner) (caller : Option (List ℕ)) (app : App) (m : Member) (memory words top : ℕ) (lays : LaysOut st (length app.shared) (length app.locals) memory) (c : Context) (facts : Facts st who app m c) where
+module _ (st : Storage) (code : List Line) (bodies : List BodyRow) (thread : ℕ) (who : Runner)
+    (caller : Option (List ℕ)) (app : App) (m : Member) (memory words top : ℕ)
+    (lays : LaysOut st (length app.shared) (length app.locals) memory) (c : Context)
+    (facts : Facts st who app m c) where
   -- before a statement
-  pub record Ready (held : List Held) (slots cells : List ℕ) (visible vars : List ℕ) (vs : Values) (locked : List ℕ) (level lock : ℕ) : Type 0 where
-    pub known : KnowsValues st who (length app.shared) (length app.locals) memory held slots cells c.expressions visible vars vs
+  pub record Ready (held : List Held) (slots cells : List ℕ) (visible vars : List ℕ) (vs : Values) (locked : List ℕ)
+      (level lock : ℕ) : Type 0 where
+    pub known : KnowsValues st who (length app.shared)
+        (length app.locals) memory held slots cells c.expressions visible vars vs
     pub frame : length slots ≡ words
     pub variables : length vars ≡ c.expressions
     pub saved : SavedBetween top lock held
@@ -47,8 +53,10 @@ module _ (st : Storage) (code : List Line) (bodies : List BodyRow) (thread : ℕ
     pub word : words < 2 ^ 32
 
   -- behind it: slots, cells, variables and values as they then are; loops' variables are in their slots as before
-  pub record Settled (held : List Held) (before : List ℕ) (visible fixed vars : List ℕ) (vs : Values) (slots cells : List ℕ) : Type 0 where
-    pub known : KnowsValues st who (length app.shared) (length app.locals) memory held slots cells c.expressions visible vars vs
+  pub record Settled (held : List Held) (before : List ℕ) (visible fixed vars : List ℕ) (vs : Values)
+      (slots cells : List ℕ) : Type 0 where
+    pub known : KnowsValues st who (length app.shared)
+        (length app.locals) memory held slots cells c.expressions visible vars vs
     pub frame : length slots ≡ words
     pub variables : length vars ≡ c.expressions
     pub kept : (x : ℕ) → Contains fixed x → slice_index slots x ≡ slice_index before x
@@ -56,41 +64,72 @@ module _ (st : Storage) (code : List Line) (bodies : List BodyRow) (thread : ℕ
   -- with at least so many steps left for what follows
   abbrev pub Behind : ℕ → Here → (cost size : ℕ) → (visible fixed : List ℕ) → (List ℕ → Values → Doing Values) → Type 0
   Behind n h cost size visible fixed later =
-      (k done at : ℕ) (slots cells vars : List ℕ) (queues : Holder → List Entry) (vs : Values) → n ≤ k → done ≤ h.done + cost → at ≡ h.at + size
+      (k done at : ℕ) (slots cells vars : List ℕ) (queues : Holder → List Entry) (vs : Values) → n ≤ k
+      → done ≤ h.done + cost → at ≡ h.at + size
       → Settled h.held h.slots visible fixed vars vs slots cells
-      → S st code bodies thread who caller k (record h { done = done; slots = slots; at = at; cells = cells; queues = queues; rest = later vars vs })
+      → S st code bodies thread who caller k (record h {
+        done = done;
+        slots = slots;
+        at = at;
+        cells = cells;
+        queues = queues;
+        rest = later vars vs;
+      })
 
-  readable_atom : (x : Atom) (h : Here) (visible vars : List ℕ) (vs : Values) (locked : List ℕ) (level lock : ℕ) → Ready h.held h.slots h.cells visible vars vs locked level lock
-      → IsReached app m locked x → IsMeant app (listed_by m) visible x → IsReadable st who (length app.shared) (length app.locals) h.held visible c.expressions x
+  readable_atom : (x : Atom) (h : Here) (visible vars : List ℕ) (vs : Values) (locked : List ℕ) (level lock : ℕ)
+      → Ready h.held h.slots h.cells visible vars vs locked level lock
+      → IsReached app m locked x → IsMeant app (listed_by m) visible x
+      → IsReadable st who (length app.shared) (length app.locals) h.held visible c.expressions x
   readable_atom (atom.Var x) h visible vars vs locked level lock ready reached meant = (meant, ready.known.low x meant)
-  readable_atom (atom.Shared r) h visible vars vs locked level lock ready reached meant = (meant, facts.resource_read h.held locked r ready.are reached)
-  readable_atom (atom.Local n) h visible vars vs locked level lock ready reached meant = (meant.0, facts.local_read h.held locked n reached)
+  readable_atom (atom.Shared r) h visible vars vs locked level lock ready reached meant =
+      (meant, facts.resource_read h.held locked r ready.are reached)
+  readable_atom (atom.Local n) h visible vars vs locked level lock ready reached meant =
+      (meant.0, facts.local_read h.held locked n reached)
 
-  readable : (e : Expression) (h : Here) (visible vars : List ℕ) (vs : Values) (locked : List ℕ) (level lock : ℕ) → Ready h.held h.slots h.cells visible vars vs locked level lock
-      → AreReached app m locked e → AreMeant app (listed_by m) visible e → AreReadable st who (length app.shared) (length app.locals) h.held visible c.expressions e
+  readable : (e : Expression) (h : Here) (visible vars : List ℕ) (vs : Values) (locked : List ℕ) (level lock : ℕ)
+      → Ready h.held h.slots h.cells visible vars vs locked level lock
+      → AreReached app m locked e → AreMeant app (listed_by m) visible e
+      → AreReadable st who (length app.shared) (length app.locals) h.held visible c.expressions e
   readable (Num n) h visible vars vs locked level lock ready reached meant = tt
-  readable (Read x at) h visible vars vs locked level lock ready reached meant = readable_atom x h visible vars vs locked level lock ready reached meant
-  readable (Oper o left right) h visible vars vs locked level lock ready reached meant =
-      (readable left h visible vars vs locked level lock ready reached.0 meant.0, readable right h visible vars vs locked level lock ready reached.1 meant.1)
+  readable (Read x at) h visible vars vs locked level lock ready reached meant =
+      readable_atom x h visible vars vs locked level lock ready reached meant
+  readable (Oper o left right) h visible vars vs locked level lock ready reached meant = (
+    readable left h visible vars vs locked level lock ready reached.0 meant.0,
+    readable right h visible vars vs locked level lock ready reached.1 meant.1,
+  )
 
   -- an expression's value comes into the first slot for expressions, and nothing else that matters changes
   pub record Valued (h : Here) (visible fixed vars : List ℕ) (vs : Values) (value : ℕ) (slots : List ℕ) : Type 0 where
     pub settled : Settled h.held h.slots visible fixed vars vs slots h.cells
     pub result : slice_index slots c.expressions ≡ value
 
-  pub value_comes : (e : Expression) (n k : ℕ) (h : Here) (visible fixed vars : List ℕ) (vs : Values) (locked : List ℕ) (level lock : ℕ)
-      → expression_steps e + n ≤ k → HasCode code h.at (value_code c e) → Lasts (h.done + expression_steps e) h.deadlines
-      → Ready h.held h.slots h.cells visible vars vs locked level lock → Fits lock → c.expressions + depth e ≤ top → ((x : ℕ) → Contains fixed x → x < c.expressions)
+  pub value_comes : (e : Expression) (n k : ℕ) (h : Here) (visible fixed vars : List ℕ) (vs : Values) (locked : List ℕ)
+      (level lock : ℕ)
+      → expression_steps e + n ≤ k → HasCode code h.at (value_code c e)
+      → Lasts (h.done + expression_steps e) h.deadlines
+      → Ready h.held h.slots h.cells visible vars vs locked level lock → Fits lock → c.expressions + depth e ≤ top
+      → ((x : ℕ) → Contains fixed x → x < c.expressions)
       → AreReached app m locked e → AreMeant app (listed_by m) visible e
-      → ((j done at : ℕ) (slots : List ℕ) → n ≤ j → done ≡ h.done + expression_steps e → at ≡ h.at + length (value_code c e)
-      → Valued h visible fixed vars vs (value_in vars vs e) slots → S st code bodies thread who caller j (record h { done = done; slots = slots; at = at }))
+      → ((j done at : ℕ) (slots : List ℕ) → n ≤ j → done ≡ h.done + expression_steps e
+      → at ≡ h.at + length (value_code c e)
+      → Valued h visible fixed vars vs (value_in vars vs e) slots
+      → S st code bodies thread who caller j (record h { done = done; slots = slots; at = at }))
       → S st code bodies thread who caller k h
   value_comes e n k h visible fixed vars vs locked level lock fuel has lasts ready fits deep small reached meant on =
       let some = one_deep e in
       let next : next_slot c.expressions ≡ c.expressions + 1 = omega (arith, fits.low, fits.high, fits.word) in
-      evaluates st code bodies thread who caller (length app.shared) (length app.locals) memory lays c e (k - expression_steps e) k h
-      c.expressions (next_slot c.expressions) top lock c.expressions visible vars vs (omega arith) facts.locals has lasts
-      (record { low = omega arith; below = omega arith; depth = omega arith; within = omega (arith, ready.frame, fits.low, fits.high); word = omega (arith, fits.low, fits.high, fits.word); saved = ready.saved })
+      evaluates st code bodies thread who caller (length app.shared) (length app.locals) memory lays c e
+      (k - expression_steps e) k h
+      c.expressions (next_slot c.expressions) top lock c.expressions visible vars vs
+      (omega arith) facts.locals has lasts
+      (record {
+        low = omega arith;
+        below = omega arith;
+        depth = omega arith;
+        within = omega (arith, ready.frame, fits.low, fits.high);
+        word = omega (arith, fits.low, fits.high, fits.word);
+        saved = ready.saved;
+      })
       (omega arith) (readable e h visible vars vs locked level lock ready reached meant) ready.known
       (λ done at slots done_is at_is value.
       on (k - expression_steps e) done at slots (omega arith) done_is at_is

@@ -1,5 +1,7 @@
--- Where a job is while it runs the code of a body, by deadlines: after so many steps of its own it has to each deadline what is left.
-use Rattle.std.proofs.Common.{◌≡◌, ◌≢◌, ℕ, suc, ◌-◌, ◌<◌, ◌≤◌, Option, List, [], ◌∷◌, map, slice_index, slice_set, Contains, refl, ap, ◌∙◌, arith, get_or-set_other}
+-- Where a job is while it runs the code of a body, by deadlines: after so many steps of its own it has to each deadline
+-- what is left.
+use Rattle.std.proofs.Common.{◌≡◌, ◌≢◌, ℕ, suc, ◌-◌, ◌<◌, ◌≤◌, Option, List, [], ◌∷◌, map, slice_index, slice_set}
+use Rattle.std.proofs.Common.{Contains, refl, ap, ◌∙◌, arith, get_or-set_other}
 use Rattle.std.specs.List.{AllByRecursion}
 use Rattle.rt_ids.specs.Holder.{Holder}
 use Rattle.rt_ids.specs.Content.{Values}
@@ -68,7 +70,8 @@ kept_all (e ∷ saved) slots low high d v below (first, rest) =
     (get_or-set_other slots d e v 0 other, kept_all saved slots low high d v below rest)
 
 -- a slot below them may be written
-pub kept_below : (held : List Held) (slots : List ℕ) (low high d v : ℕ) → d < low → SavedBetween low high held → KeepsSaved held slots (slice_set slots d v)
+pub kept_below : (held : List Held) (slots : List ℕ) (low high d v : ℕ) → d < low → SavedBetween low high held
+    → KeepsSaved held slots (slice_set slots d v)
 kept_below held slots low high d v below between = kept_all (saved_slots held) slots low high d v below between
 
 same_all : (saved slots : List ℕ) → AllByRecursion (λ e. slice_index slots e ≡ slice_index slots e) saved

@@ -1,4 +1,5 @@
--- The storage of an application: what its holders' cells spell depends on their own cells, and its resources lie as code has them.
+-- The storage of an application: what its holders' cells spell depends on their own cells, and its resources lie as
+-- code has them.
 use Rattle.std.proofs.Common.{length}
 use Rattle.rt_app.specs.Tree.{App}
 use Rattle.rt_app.specs.Layout.{memory}
@@ -10,7 +11,8 @@ use Rattle.rt_gen_body.proofs.Owning.{LaysOut}
 
 pub stored : (app : App) → SpellsByItsOwn (storage app)
 unfolding storage
-stored app h before after entries content left spells = (spells.0, spells_by_its_own app h before after entries content spells.0 left spells.1)
+stored app h before after entries content left spells =
+    (spells.0, spells_by_its_own app h before after entries content spells.0 left spells.1)
 
 pub stored_resources : (app : App) → LaysOut (storage app) (length app.shared) (length app.locals) (length (memory app))
 unfolding storage

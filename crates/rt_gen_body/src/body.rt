@@ -1,13 +1,16 @@
-ghost use Rattle.std.specs.Prelude.{◌≡◌, ◌+◌, ◌^◌, ◌≤◌, ◌∷◌, [], ◌++◌, map, length, take, true, IfOk, OnOk, OnErr};
+ghost use Rattle.std.specs.Prelude.{◌≡◌, ◌+◌, ◌^◌, ◌≤◌, ◌∷◌, [], ◌++◌, map, length, take, drop, true};
+ghost use Rattle.std.specs.Prelude.{IfOk, OnOk, OnErr};
 ghost use Rattle.std.specs.List.{AllByRecursion};
 ghost use Rattle.rt_app.specs.Accepted.{IsAccepted};
-ghost use Rattle.rt_app.specs.Bodies.{member_at};
+ghost use Rattle.rt_app.specs.Bodies.{body_at, member_at};
+ghost use Rattle.rt_app.specs.BodyCost.{size_measure, cost_of};
 ghost use Rattle.rt_app.specs.Frame.{first_lock_slot};
 ghost use Rattle.rt_app.specs.Handlers.{has_no_software, has_no_monotonic};
 ghost use Rattle.rt_app.specs.Limits.{KeepsBodyLimits};
+ghost use Rattle.rt_app.specs.Names.{names_of};
 ghost use Rattle.rt_app.specs.Plan.{IsPlan};
 ghost use Rattle.rt_app.specs.View.{app_of, body_of};
-ghost use Rattle.rt_gen_body.specs.Bodies.{IsBodyOf, BodyStands};
+ghost use Rattle.rt_gen_body.specs.Bodies.{IsBodyOf, BodyStands, IsNameable};
 ghost use Rattle.rt_gen_body.specs.Inside.Code.{guarded, guards_of, end_code, blocks_of, code_of};
 ghost use Rattle.rt_gen_body.specs.Inside.Lines.{next_address, Appends};
 ghost use Rattle.rt_gen_body.specs.Inside.Generating.{slots_code};
@@ -135,10 +138,11 @@ fn next_entry(code: &[(Instr, Option<Note>)]) -> Result<u32, NoMemory>
     u32::try_from(code.len()).ok().ok_or(NoMemory)
 }
 
-/// Appends the code of a body of an application to code, and answers the address where it begins. In code of an
-/// application without software tasks and without a monotonic it stands there, whatever is appended later: `init`
-/// leads to what stands behind it, `idle` back to its first instruction, and a task returns. An error leaves the code
-/// as it was.
+/// Appends the code of a body of an application to code, and answers the address where it begins. Its lines name only
+/// what the application declares, and there are no more of them than the rule on sizes counts for the body: one for
+/// `init` or `idle` where it is not declared. In code of an application without software tasks and without a monotonic
+/// it stands there, whatever is appended later: `init` leads to what stands behind it, `idle` back to its first
+/// instruction, and a task returns. An error leaves the code as it was.
 pub fn gen_body(
     alloc: Global,
     plan: &Plan<'_>,
@@ -150,7 +154,12 @@ pub fn gen_body(
     requires of_app { IsBodyOf (app_of plan.now.app.now) id }
     ensures entry { IfOk result (λ entry. entry ≡ length code.old.items) }
     ensures kept { IfOk result (λ entry. take entry code.new.items ≡ code.old.items) }
-    ensures stands { has_no_software (app_of plan.now.app.now) ≡ true → has_no_monotonic (app_of plan.now.app.now) ≡ true
+    ensures lines { IfOk result (λ entry. AllByRecursion (IsNameable (names_of (app_of plan.now.app.now)))
+        (drop entry code.new.items)) }
+    ensures size { OnOk result (length code.new.items ≤ length code.old.items
+        + cost_of (size_measure (app_of plan.now.app.now)) (body_at (app_of plan.now.app.now) id)) }
+    ensures stands { has_no_software (app_of plan.now.app.now) ≡ true
+        → has_no_monotonic (app_of plan.now.app.now) ≡ true
         → IfOk result (λ entry. BodyStands (app_of plan.now.app.now) id code.new.items entry) }
     ensures left { OnErr result (code.new.items ≡ code.old.items) }
 {

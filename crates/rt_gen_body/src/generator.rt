@@ -68,7 +68,8 @@ impl<'a> Generator<'a> {
         free: u32,
         code: &mut Lines,
     ) -> Result<(), NoMemory>
-        ensures { OnOk result (Appends code.old code.new (spec.expression_code (context self.now) (expression_of expr.now) slot free)) }
+        ensures { OnOk result (Appends code.old code.new
+            (spec.expression_code (context self.now) (expression_of expr.now) slot free)) }
     {
         match expr {
             Expr::Num(number) => code.push(Instr::Set(slot, *number)),
@@ -83,7 +84,8 @@ impl<'a> Generator<'a> {
 
     /// The value of an expression comes into the first slot for expressions.
     pub(crate) fn value(&self, expr: &Expr, code: &mut Lines) -> Result<(), NoMemory>
-        ensures { OnOk result (Appends code.old code.new (spec.value_code (context self.now) (expression_of expr.now))) }
+        ensures { OnOk result (Appends code.old code.new
+            (spec.value_code (context self.now) (expression_of expr.now))) }
     {
         self.expression(expr, self.expressions, next_slot(self.expressions), code)
     }
@@ -95,7 +97,8 @@ impl<'a> Generator<'a> {
         value: &Value,
         code: &mut Lines,
     ) -> Result<(), NoMemory>
-        ensures { OnOk result (Appends code.old code.new (spec.bind_code (context self.now) variable (value_of value.now))) }
+        ensures { OnOk result (Appends code.old code.new
+            (spec.bind_code (context self.now) variable (value_of value.now))) }
     {
         match value {
             Value::Calc(expr) => {
@@ -109,7 +112,8 @@ impl<'a> Generator<'a> {
 
     /// An assignment, to whatever its name stands for.
     pub(crate) fn assign(&self, atom: Atom, expr: &Expr, code: &mut Lines) -> Result<(), NoMemory>
-        ensures { OnOk result (Appends code.old code.new (spec.assign_code (context self.now) atom (expression_of expr.now))) }
+        ensures { OnOk result (Appends code.old code.new
+            (spec.assign_code (context self.now) atom (expression_of expr.now))) }
     {
         self.value(expr, code)?;
         code.push(self.store(atom, self.expressions))

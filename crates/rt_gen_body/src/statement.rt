@@ -98,9 +98,11 @@ impl<'a> Generator<'a> {
         first: &[Stmt],
         code: &mut Lines,
     ) -> Result<usize, NoMemory>
-        ensures place { let block = spec.block_code (context self.now) level lock (next_address code.old + 1) (block_of first.now) in
+        ensures place { let at = next_address code.old + 1 in
+            let block = spec.block_code (context self.now) level lock at (block_of first.now) in
             IfOk result (λ over. over ≡ length code.old.lines + 1 + length block) }
-        ensures lines { let block = spec.block_code (context self.now) level lock (next_address code.old + 1) (block_of first.now) in
+        ensures lines { let at = next_address code.old + 1 in
+            let block = spec.block_code (context self.now) level lock at (block_of first.now) in
             OnOk result (Appends code.old code.new (spec.first_code (context self.now) (next_address code.old) block)) }
     {
         let over = code.len();
@@ -124,7 +126,8 @@ impl<'a> Generator<'a> {
         code: &mut Lines,
     ) -> Result<(), NoMemory>
         requires { over < length code.old.lines }
-        ensures { let block = spec.block_code (context self.now) level lock (next_address code.old) (block_of second.now) in
+        ensures { let at = next_address code.old in
+            let block = spec.block_code (context self.now) level lock at (block_of second.now) in
             OnOk result (EndsWith code.old code.new over block) }
     {
         self.block(level, lock, second, code)?;
@@ -143,8 +146,10 @@ impl<'a> Generator<'a> {
         inner: &[Stmt],
         code: &mut Lines,
     ) -> Result<(), NoMemory>
-        ensures { let block = λ (inside slot at : ℕ). spec.block_code (context self.now) inside slot at (block_of inner.now) in
-            OnOk result (Appends code.old code.new (spec.lock_code (context self.now) level lock (next_address code.old) resource block)) }
+        ensures { let block = λ (inside slot at : ℕ).
+            spec.block_code (context self.now) inside slot at (block_of inner.now) in
+            OnOk result (Appends code.old code.new
+            (spec.lock_code (context self.now) level lock (next_address code.old) resource block)) }
     {
         let guard = guard_of(self, resource);
         code.push_noted(
@@ -160,7 +165,8 @@ impl<'a> Generator<'a> {
 
     /// The lines before a loop's turns, up to the jump that ends it.
     fn loop_head(&self, bounds: &Bounds, code: &mut Lines) -> Result<(), NoMemory>
-        ensures { OnOk result (Appends code.old code.new (spec.loop_front (context self.now) bounds.now.variable bounds.now.first bounds.now.last)) }
+        ensures { OnOk result (Appends code.old code.new
+            (spec.loop_front (context self.now) bounds.now.variable bounds.now.first bounds.now.last)) }
     {
         code.push(Instr::Set(bounds.variable, bounds.first))?;
         code.push(Instr::Set(self.expressions, bounds.last))?;
@@ -187,8 +193,10 @@ impl<'a> Generator<'a> {
         turn: &[Stmt],
         code: &mut Lines,
     ) -> Result<(), NoMemory>
-        ensures { let block = spec.block_code (context self.now) level lock (next_address code.old + 4) (block_of turn.now) in
-            OnOk result (Appends code.old code.new (spec.loop_code (context self.now) (next_address code.old) bounds.now.variable bounds.now.first bounds.now.last block)) }
+        ensures { let at = next_address code.old in
+            let block = spec.block_code (context self.now) level lock (at + 4) (block_of turn.now) in
+            OnOk result (Appends code.old code.new
+            (spec.loop_code (context self.now) at bounds.now.variable bounds.now.first bounds.now.last block)) }
     {
         let entry = code.next_address()?;
         self.loop_head(bounds, code)?;
@@ -204,7 +212,8 @@ impl<'a> Generator<'a> {
     /// A statement, at a static level, with a slot for the mask of the next section.
     #[cycle(block)]
     fn statement(&self, level: u8, lock: u32, stmt: &Stmt, code: &mut Lines) -> Result<(), NoMemory>
-        ensures { OnOk result (Appends code.old code.new (spec.statement_code (context self.now) level lock (next_address code.old) (statement_of stmt.now))) }
+        ensures { OnOk result (Appends code.old code.new
+            (spec.statement_code (context self.now) level lock (next_address code.old) (statement_of stmt.now))) }
     {
         match stmt {
             Stmt::Bind(variable, value) => self.bind(*variable, value, code),
@@ -242,7 +251,8 @@ impl<'a> Generator<'a> {
         stmts: &[Stmt],
         code: &mut Lines,
     ) -> Result<(), NoMemory>
-        ensures { OnOk result (Appends code.old code.new (spec.block_code (context self.now) level lock (next_address code.old) (block_of stmts.now))) }
+        ensures { OnOk result (Appends code.old code.new
+            (spec.block_code (context self.now) level lock (next_address code.old) (block_of stmts.now))) }
     {
         for stmt in stmts {
             self.statement(level, lock, stmt, code)?;

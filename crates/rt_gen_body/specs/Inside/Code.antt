@@ -1,6 +1,7 @@
--- The code that is generated for the blocks of a body, instruction by instruction. What it means is not told here but by the promise
--- that it stands.
-use Rattle.std.specs.Prelude.{ℕ, ◌+◌, ◌-◌, ◌^◌, ◌==◌, min, max, nat_le, List, [], ◌∷◌, ◌++◌, length, map, slice_index, slice_index_or, Option, Some, None, if◌then◌else◌}
+-- The code that is generated for the blocks of a body, instruction by instruction. What it means is not told here but
+-- by the promise that it stands.
+use Rattle.std.specs.Prelude.{ℕ, ◌+◌, ◌-◌, ◌^◌, ◌==◌, min, max, nat_le, List, [], ◌∷◌, ◌++◌, length, map}
+use Rattle.std.specs.Prelude.{slice_index, slice_index_or, Option, Some, None, if◌then◌else◌}
 use Rattle.std.specs.List.{range_with_len}
 use Rattle.rt_ids.specs.Priority.{hardware}
 use Rattle.rt_ids.specs.declared.ids.BodyId.{BodyId}
@@ -61,7 +62,8 @@ module _ (c : Context) where
   expression_code (Num n) slot free = plain (instr.Set slot n) ∷ []
   expression_code (Read x at) slot free = plain (load x slot) ∷ []
   expression_code (Oper o left right) slot free =
-      expression_code left slot free ++ (expression_code right free (next_slot free) ++ plain (instr.Calc o slot slot free) ∷ [])
+      expression_code left slot free
+      ++ (expression_code right free (next_slot free) ++ plain (instr.Calc o slot slot free) ∷ [])
 
   abbrev pub value_code : Expression → List Line
   value_code e = expression_code e c.expressions (next_slot c.expressions)
@@ -98,7 +100,8 @@ module _ (c : Context) where
       let then_code : List Line = first (at + 1) in
       let else_at : ℕ = at + 1 + length then_code + 1 in
       let else_code : List Line = second else_at in
-      plain (instr.JumpZ c.expressions else_at) ∷ (then_code ++ plain (instr.Jump (else_at + length else_code)) ∷ else_code)
+      plain (instr.JumpZ c.expressions else_at)
+      ∷ (then_code ++ plain (instr.Jump (else_at + length else_code)) ∷ else_code)
 
   abbrev pub branch_code : ℕ → (ℕ → List Line) → (ℕ → List Line) → Block → List Line
   branch_code at first second Empty = one_code at first
@@ -106,12 +109,14 @@ module _ (c : Context) where
 
   -- the first of two blocks, with jumps that lead behind it and that are still to lead behind the second
   abbrev pub first_code : ℕ → List Line → List Line
-  first_code at block = plain (instr.JumpZ c.expressions (at + 1 + length block + 1)) ∷ (block ++ plain (instr.Jump 0) ∷ [])
+  first_code at block =
+      plain (instr.JumpZ c.expressions (at + 1 + length block + 1)) ∷ (block ++ plain (instr.Jump 0) ∷ [])
 
   -- the lines before and behind the turns of a loop
   abbrev pub loop_front : ℕ → ℕ → ℕ → List Line
   loop_front x first last =
-      plain (instr.Set x first) ∷ plain (instr.Set c.expressions last) ∷ plain (instr.Calc op.Lt c.expressions x c.expressions) ∷ []
+      plain (instr.Set x first) ∷ plain (instr.Set c.expressions last)
+      ∷ plain (instr.Calc op.Lt c.expressions x c.expressions) ∷ []
 
   abbrev pub loop_back : ℕ → ℕ → List Line
   loop_back x head =
@@ -120,13 +125,15 @@ module _ (c : Context) where
   -- a loop, whose turn's code begins four instructions behind the loop's address
   abbrev pub loop_code : ℕ → ℕ → ℕ → ℕ → List Line → List Line
   loop_code at x first last turn =
-      loop_front x first last ++ plain (instr.JumpZ c.expressions (at + 4 + length turn + 3)) ∷ (turn ++ loop_back x (at + 1))
+      loop_front x first last
+      ++ plain (instr.JumpZ c.expressions (at + 4 + length turn + 3)) ∷ (turn ++ loop_back x (at + 1))
 
   -- a section of a resource, whose block has code at a level, with a slot and an address
   abbrev pub lock_code : ℕ → ℕ → ℕ → ℕ → (ℕ → ℕ → ℕ → List Line) → List Line
   lock_code level lock at r block =
       noted (opening_of (guard_of r) level lock) (note.Enter (section.Res r))
-      ∷ (block (max level (guard_of r).ceiling) (next_slot lock) (at + 1) ++ noted (closing_of (guard_of r) level lock) (note.Leave (section.Res r)) ∷ [])
+      ∷ (block (max level (guard_of r).ceiling) (next_slot lock) (at + 1)
+      ++ noted (closing_of (guard_of r) level lock) (note.Leave (section.Res r)) ∷ [])
 
   -- at a static level, with a slot for the mask of the next section, from an address on
   abbrev mutual
@@ -135,10 +142,13 @@ module _ (c : Context) where
     statement_code level lock at (Assign x e place) = assign_code x e
     statement_code level lock at (Branch e first second) =
         let test : List Line = value_code e in
-        test ++ branch_code (at + length test) (λ a. block_code level lock a first) (λ a. block_code level lock a second) second
+        test
+        ++ branch_code (at + length test) (λ a. block_code level lock a first)
+        (λ a. block_code level lock a second) second
     statement_code level lock at (Repeat x first last turn) =
         loop_code at x first last (block_code level lock (at + 4) turn)
-    statement_code level lock at (Locked r inner place) = lock_code level lock at r (λ inside slot a. block_code inside slot a inner)
+    statement_code level lock at (Locked r inner place) =
+        lock_code level lock at r (λ inside slot a. block_code inside slot a inner)
     statement_code level lock at (Emit e) = emit_code e
     statement_code level lock at (Pend i) = plain (instr.Post (slice_index c.numbers i)) ∷ []
     statement_code level lock at (Spawns s) = []
@@ -177,7 +187,8 @@ end_code (body.Task n) entry = plain instr.Ret
 -- a body that is not declared has no blocks, and its end alone
 abbrev pub blocks_of : App → Option Member → ℕ → List Line
 blocks_of app None entry = []
-blocks_of app (Some m) entry = block_code (context_of app m) m.priority (first_lock_slot m.args m.body) entry m.body.block
+blocks_of app (Some m) entry =
+    block_code (context_of app m) m.priority (first_lock_slot m.args m.body) entry m.body.block
 
 abbrev pub code_of : App → BodyId → Option Member → ℕ → List Line
 code_of app id member entry = blocks_of app member entry ++ end_code id entry ∷ []

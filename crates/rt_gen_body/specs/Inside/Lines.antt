@@ -19,4 +19,7 @@ Appends before after lines = after ≡ record before { lines = before.lines ++ l
 -- it is longer by these lines, and the jump at a place leads behind them
 abbrev pub EndsWith : Lines → Lines → ℕ → List Line → Type 0
 EndsWith before after over lines =
-    after ≡ record before { lines = slice_set (before.lines ++ lines) over (plain (instr.Jump (next_address before + length lines))) }
+    after
+    ≡ record before {
+      lines = slice_set (before.lines ++ lines) over (plain (instr.Jump (next_address before + length lines)));
+    }

@@ -5,10 +5,13 @@ use Rattle.rt_gen_body.proofs.body.generate.Goals as goal
 
 pub guards-requires-clause-greatest : goal.guards-requires-clause-greatest
 guards-requires-clause-greatest c =
-    small_ceilings c.args.plan.now c.requires.accepted c.requires.planned c.plan.inside.0.0.now.bits c.deref.result.now (ap (λ (p : Plan). p.app.now.bits) c.plan.view_is)
+    small_ceilings c.args.plan.now c.requires.accepted c.requires.planned c.plan.inside.0.0.now.bits c.deref.result.now
+    (ap (λ (p : Plan). p.app.now.bits) c.plan.view_is)
     (c.deref.ensures.value ∙ ap (λ (p : Plan). p.ceil.shared) c.plan.view_is)
 
 pub declared-requires-clause-guards : goal.declared-requires-clause-guards
 declared-requires-clause-guards c =
-    guards_are c.args.plan.now c.requires.planned c.plan.inside.0.0.now.bits c.deref.result.now c.deref-2.result.now (ap (λ (p : Plan). p.app.now.bits) c.plan.view_is)
-    (c.deref.ensures.value ∙ ap (λ (p : Plan). p.ceil.shared) c.plan.view_is) (c.deref-2.ensures.value ∙ c.in_ok-guards.ensures)
+    guards_are c.args.plan.now c.requires.planned c.plan.inside.0.0.now.bits c.deref.result.now c.deref-2.result.now
+    (ap (λ (p : Plan). p.app.now.bits) c.plan.view_is)
+    (c.deref.ensures.value ∙ ap (λ (p : Plan). p.ceil.shared) c.plan.view_is)
+    (c.deref-2.ensures.value ∙ c.in_ok-guards.ensures)

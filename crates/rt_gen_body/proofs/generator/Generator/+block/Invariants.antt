@@ -8,4 +8,5 @@ use Rattle.rt_gen_body.proofs.generator.Generator.+block.Given as goal
 
 abbrev pub invariant-block-loop-stmt : goal.invariant-block-loop-stmt
 invariant-block-loop-stmt l =
-    Appends l.initial.code l.code (block_code (context l.self) l.level l.lock (next_address l.initial.code) (block_of (take l.stmt-index l.stmts)))
+    Appends l.initial.code l.code (block_code (context l.self) l.level l.lock (next_address l.initial.code)
+    (block_of (take l.stmt-index l.stmts)))

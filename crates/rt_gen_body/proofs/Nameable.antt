@@ -1,0 +1,220 @@
+-- The lines of a body name only what the application declares.
+use Rattle.std.proofs.Common.{◌≡◌, ℕ, ◌+◌, ◌<◌, ◌==◌, nat_le, Bool, true, false, if◌then◌else◌, Option, Some, None}
+use Rattle.std.proofs.Common.{List, [], ◌∷◌, ◌++◌, length, map, slice_index, IsSome, refl, sym, subst, arith, eq-eqb}
+use Rattle.std.specs.List.{AllByRecursion}
+use Rattle.std.proofs.lemmas.List.{length-map}
+use Rattle.rt_lemmas.proofs.Lists.{found, some_at, mapped_at}
+use Rattle.rt_lemmas.proofs.Membership.{all_append}
+use Rattle.rt_lemmas.proofs.Places.{read_at}
+use Rattle.rt_ids.specs.declared.ids.BodyId.{BodyId}
+use Rattle.rt_ids.specs.declared.ids.BodyId.TheVariants as body
+use Rattle.rt_ids.specs.declared.op.Op.TheVariants as op
+use Rattle.rt_ids.specs.declared.ids.Section.TheVariants as section
+use Rattle.rt_app.specs.declared.app.IrqDecl.{IrqDecl}
+use Rattle.rt_app.specs.declared.expr.Atom.{Atom}
+use Rattle.rt_app.specs.declared.expr.Atom.TheVariants as atom
+use Rattle.rt_app.specs.Tree.{Expression, Num, Read, Oper, Value, Calc, Now, Call, App}
+use Rattle.rt_app.specs.Tree.{Statement, Bind, Assign, Branch, Repeat, Locked, Emit, Pend, Spawns, Block, Empty, Then}
+use Rattle.rt_app.specs.Bodies.{Member, member_at}
+use Rattle.rt_app.specs.Frame.{first_lock_slot}
+use Rattle.rt_app.specs.Names.{names_of}
+use Rattle.rt_app.specs.Variables.{variables, variables_in}
+use Rattle.rt_app.specs.Accepted.{behind, IsStatementPlaced, IsBlockPlaced, IsAccepted}
+use Rattle.rt_app.proofs.Members.{has_body}
+use Rattle.rt_code.specs.Listable.{HasIrq, HasInstr, HasSection}
+use Rattle.rt_code.specs.declared.instr.Instr.{Instr}
+use Rattle.rt_code.specs.declared.instr.Instr.TheVariants as instr
+use Rattle.rt_code.specs.declared.instr.Note.TheVariants as note
+use Rattle.rt_gen_body.specs.declared.guard.Guard.{Guard}
+use Rattle.rt_gen_body.specs.Bodies.{IsNameable}
+use Rattle.rt_gen_body.specs.Inside.Code.{Line, Context, plain, noted, next_slot, load, store, expression_code}
+use Rattle.rt_gen_body.specs.Inside.Code.{value_code, bind_code, guard_of, opening_of, closing_of, branch_code}
+use Rattle.rt_gen_body.specs.Inside.Code.{loop_back, loop_code, lock_code, statement_code, block_code, context_of}
+use Rattle.rt_gen_body.specs.Inside.Code.{end_code, blocks_of, code_of}
+
+-- each declared interrupt stands in the names, with its number
+pub number_named : (app : App) (i : ℕ) → i < length app.irqs
+    → HasIrq (names_of app) (slice_index (map (λ d. d.number) app.irqs) i)
+number_named app i within =
+    let one : (d : IrqDecl) × _ = some_at app.irqs i within in
+    let row : List ℕ × ℕ = (one.0.name, one.0.number) in
+    let number : ℕ = slice_index (map (λ d. d.number) app.irqs) i in
+    let is : number ≡ one.0.number = read_at (λ d. d.number) app.irqs i one.0 0 one.1 in
+    let rows : List (List ℕ × ℕ) = map (λ d. (d.name, d.number)) app.irqs in
+    let there =
+    found (λ irq. irq.1 == number) rows i row (mapped_at (λ d. (d.name, d.number)) app.irqs i one.0 one.1)
+    (eq-eqb one.0.number number (sym is)) in
+    subst IsSome (sym there.1) refl
+
+-- and each shared resource
+pub resource_named : (app : App) (r : ℕ) → r < length app.shared → HasSection (names_of app) (section.Res r)
+resource_named app r within = omega (arith, length-map app.shared (λ s. s.name))
+
+module _ (app : App) (c : Context) (numbers : (i : ℕ) → i < length app.irqs
+    → HasIrq (names_of app) (slice_index c.numbers i)) where
+  abbrev pub IsNamed : Line → Type 0
+  IsNamed = IsNameable (names_of app)
+
+  abbrev pub AreNamed : List Line → Type 0
+  AreNamed = AllByRecursion IsNamed
+
+  -- without a note, and with an instruction that names nothing
+  simple : (i : Instr) → HasInstr (names_of app) i → IsNamed (plain i)
+  simple i has = record { instr = has; note = tt }
+
+  load_named : (x : Atom) (slot : ℕ) → IsNamed (plain (load c x slot))
+  load_named (atom.Var x) slot = simple (instr.Copy slot x) tt
+  load_named (atom.Shared r) slot = simple (instr.Load slot r) tt
+  load_named (atom.Local n) slot = simple (instr.Load slot (c.locals + n)) tt
+
+  store_named : (x : Atom) (slot : ℕ) → IsNamed (plain (store c x slot))
+  store_named (atom.Var x) slot = simple (instr.Copy x slot) tt
+  store_named (atom.Shared r) slot = simple (instr.Store r slot) tt
+  store_named (atom.Local n) slot = simple (instr.Store (c.locals + n) slot) tt
+
+  expression_named : (e : Expression) (slot free : ℕ) → AreNamed (expression_code c e slot free)
+  expression_named (Num n) slot free = (simple (instr.Set slot n) tt, tt)
+  expression_named (Read x at) slot free = (load_named x slot, tt)
+  expression_named (Oper o left right) slot free =
+      all_append IsNamed (expression_code c left slot free)
+      (expression_code c right free (next_slot free) ++ plain (instr.Calc o slot slot free) ∷ [])
+      (expression_named left slot free)
+      (all_append IsNamed (expression_code c right free (next_slot free)) (plain (instr.Calc o slot slot free) ∷ [])
+      (expression_named right free (next_slot free)) (simple (instr.Calc o slot slot free) tt, tt))
+
+  value_named : (e : Expression) → AreNamed (value_code c e)
+  value_named e = expression_named e c.expressions (next_slot c.expressions)
+
+  -- a value, and one line more
+  valued : (e : Expression) (last : Line) → IsNamed last → AreNamed (value_code c e ++ last ∷ [])
+  valued e last is = all_append IsNamed (value_code c e) (last ∷ []) (value_named e) (is, tt)
+
+  bind_named : (x : ℕ) (v : Value) → AreNamed (bind_code c x v)
+  bind_named x (Calc e) = valued e (plain (instr.Copy x c.expressions)) (simple (instr.Copy x c.expressions) tt)
+  bind_named x (Now at) = (simple (instr.Clock x) tt, tt)
+  bind_named x (Call s) = tt
+
+  -- the two choices of blocks whose lines are, wherever they stand
+  branch_named : (at : ℕ) (first second : ℕ → List Line) (b : Block) → ((a : ℕ) → AreNamed (first a))
+      → ((a : ℕ) → AreNamed (second a)) → AreNamed (branch_code c at first second b)
+  branch_named at first second Empty one two =
+      (simple (instr.JumpZ c.expressions (at + 1 + length (first (at + 1)))) tt, one (at + 1))
+  branch_named at first second (Then s rest) one two =
+      let then_code : List Line = first (at + 1) in
+      let else_at : ℕ = at + 1 + length then_code + 1 in
+      let else_code : List Line = second else_at in
+      let over : Line = plain (instr.Jump (else_at + length else_code)) in (
+        simple (instr.JumpZ c.expressions else_at) tt,
+        all_append IsNamed then_code (over ∷ else_code) (one (at + 1))
+            (simple (instr.Jump (else_at + length else_code)) tt, two else_at),
+      )
+
+  back_named : (x head : ℕ) → AreNamed (loop_back c x head)
+  back_named x head = (
+    simple (instr.Set c.expressions 1) tt,
+    (
+      simple (instr.Calc op.Add x x c.expressions) tt,
+      (simple (instr.Jump head) tt, tt),
+    ),
+  )
+
+  loop_named : (at x first last : ℕ) (turn : List Line) → AreNamed turn → AreNamed (loop_code c at x first last turn)
+  loop_named at x first last turn are = (
+    simple (instr.Set x first) tt,
+    (
+      simple (instr.Set c.expressions last) tt,
+      (
+        simple (instr.Calc op.Lt c.expressions x c.expressions) tt,
+        (
+          simple (instr.JumpZ c.expressions (at + 4 + length turn + 3)) tt,
+          all_append IsNamed turn (loop_back c x (at + 1)) are (back_named x (at + 1)),
+        ),
+      ),
+    ),
+  )
+
+  -- how a section masks names nothing
+  opening_named : (g : Guard) (level slot : ℕ) → HasInstr (names_of app) (opening_of c g level slot)
+  opening_named g level slot = go (nat_le g.ceiling level) (g.value == 0)
+    where
+      go : (low all : Bool) → HasInstr (names_of app)
+          (if low then instr.Mark else if all then instr.Mask slot else instr.Raise slot g.value)
+      go true all = tt
+      go false true = tt
+      go false false = tt
+
+  closing_named : (g : Guard) (level slot : ℕ) → HasInstr (names_of app) (closing_of c g level slot)
+  closing_named g level slot = go (nat_le g.ceiling level) (g.value == 0)
+    where
+      go : (low all : Bool) → HasInstr (names_of app)
+          (if low then instr.Mark else if all then instr.Unmask slot else instr.Restore slot)
+      go true all = tt
+      go false true = tt
+      go false false = tt
+
+  lock_named : (level lock at r : ℕ) (block : ℕ → ℕ → ℕ → List Line) → r < length app.shared
+      → ((inside slot a : ℕ) → AreNamed (block inside slot a)) → AreNamed (lock_code c level lock at r block)
+  lock_named level lock at r block there are = (
+    record { instr = opening_named (guard_of c r) level lock; note = resource_named app r there },
+    all_append IsNamed _ (noted (closing_of c (guard_of c r) level lock) (note.Leave (section.Res r)) ∷ [])
+        (are _ _ (at + 1))
+        (record { instr = closing_named (guard_of c r) level lock; note = resource_named app r there }, tt),
+  )
+
+  module _ (listed : List ℕ) where
+    mutual
+      pub statement_named : (s : Statement) (n : ℕ) (visible : List ℕ) (level lock at : ℕ)
+          → IsStatementPlaced app listed n visible s → AreNamed (statement_code c level lock at s)
+      statement_named (Bind x v) n visible level lock at placed = bind_named x v
+      statement_named (Assign x e place) n visible level lock at placed =
+          valued e (plain (store c x c.expressions)) (store_named x c.expressions)
+      statement_named (Branch e first second) n visible level lock at placed =
+          let test : List Line = value_code c e in
+          all_append IsNamed test _ (value_named e)
+          (branch_named (at + length test) (λ a. block_code c level lock a first)
+          (λ a. block_code c level lock a second) second
+          (λ a. block_named first n visible level lock a placed.1)
+          (λ a. block_named second (n + variables first) visible level lock a placed.2))
+      statement_named (Repeat x first last turn) n visible level lock at placed =
+          loop_named at x first last (block_code c level lock (at + 4) turn)
+          (block_named turn (n + 1) (n ∷ visible) level lock (at + 4) placed.1)
+      statement_named (Locked r inner place) n visible level lock at placed =
+          lock_named level lock at r (λ inside slot a. block_code c inside slot a inner) placed.0
+          (λ inside slot a. block_named inner n visible inside slot a placed.1)
+      statement_named (Emit e) n visible level lock at placed =
+          valued e (plain (instr.Emit c.expressions)) (simple (instr.Emit c.expressions) tt)
+      statement_named (Pend i) n visible level lock at placed =
+          (simple (instr.Post (slice_index c.numbers i)) (numbers i placed), tt)
+      statement_named (Spawns s) n visible level lock at placed = tt
+
+      pub block_named : (b : Block) (n : ℕ) (visible : List ℕ) (level lock at : ℕ)
+          → IsBlockPlaced app listed n visible b → AreNamed (block_code c level lock at b)
+      block_named Empty n visible level lock at placed = tt
+      block_named (Then s rest) n visible level lock at placed =
+          let first : List Line = statement_code c level lock at s in
+          all_append IsNamed first (block_code c level lock (at + length first) rest)
+          (statement_named s n visible level lock at placed.0)
+          (block_named rest (n + variables_in s) (behind app listed n visible s) level lock
+          (at + length first) placed.1)
+
+module _ (app : App) (accepted : IsAccepted app) where
+  end_named : (id : BodyId) (entry : ℕ) → IsNameable (names_of app) (end_code id entry)
+  end_named body.Init entry = record { instr = tt; note = tt }
+  end_named body.Idle entry = record { instr = tt; note = tt }
+  end_named (body.Task n) entry = record { instr = tt; note = tt }
+
+  blocks_named : (id : BodyId) (o : Option Member) (entry : ℕ) → member_at app id ≡ o
+      → AllByRecursion (IsNameable (names_of app)) (blocks_of app o entry)
+  blocks_named id None entry is = tt
+  blocks_named id (Some m) entry is =
+      let placed = (has_body app accepted id m is).placed in
+      block_named app (context_of app m) (number_named app)
+      (map (λ o. o.local) m.body.local) m.body.block m.args _ m.priority
+      (first_lock_slot m.args m.body) entry placed.block
+
+  -- the lines of a body
+  pub code_named : (id : BodyId) (entry : ℕ) → AllByRecursion (IsNameable (names_of app))
+      (code_of app id (member_at app id) entry)
+  code_named id entry =
+      all_append (IsNameable (names_of app)) (blocks_of app (member_at app id) entry) (end_code id entry ∷ [])
+      (blocks_named id (member_at app id) entry refl) (end_named id entry, tt)

@@ -1,0 +1,196 @@
+-- The code of a body is no longer than the rule on sizes counts for it.
+use Rattle.std.proofs.Common.{◌≡◌, ℕ, zero, suc, ◌+◌, ◌≤◌, max, Option, Some, None, option_map, List, [], ◌∷◌, ◌++◌}
+use Rattle.std.proofs.Common.{length, slice_get, sum_by, refl, ap, subst, arith, length-append}
+use Rattle.std.proofs.lemmas.List.Sums.{sum_by-cons, sum_by-append}
+use Rattle.std.proofs.lemmas.Option.{none-some, same_Some}
+use Rattle.rt_ids.specs.declared.limits.TheConstants.{CODE_SIZE}
+use Rattle.rt_ids.specs.declared.ids.BodyId.{BodyId}
+use Rattle.rt_ids.specs.declared.ids.BodyId.TheVariants as body
+use Rattle.rt_ids.specs.declared.ids.Section.TheVariants as section
+use Rattle.rt_app.specs.Tree.{Expression, Num, Read, Oper, Calc, Now, Call, Body, Task, App}
+use Rattle.rt_app.specs.Tree.{Statement, Bind, Assign, Branch, Repeat, Locked, Emit, Pend, Spawns, Block, Empty, Then}
+use Rattle.rt_app.specs.Accepted.{IsAccepted}
+use Rattle.rt_app.specs.Bodies.{Member, thread_members, task_members, members, member_at, body_at}
+use Rattle.rt_app.specs.BodyCost.{size_measure, body_cost, cost_of}
+use Rattle.rt_app.specs.Frame.{first_lock_slot}
+use Rattle.rt_app.specs.Steps.{expression_steps, statement_steps, block_steps}
+use Rattle.rt_app.proofs.Capping.{cap_steps}
+use Rattle.rt_app.proofs.Members.{has_body}
+use Rattle.rt_app.proofs.Sound.{accepted_are_sound}
+use Rattle.rt_code.specs.declared.instr.Instr.TheVariants as instr
+use Rattle.rt_code.specs.declared.instr.Note.TheVariants as note
+use Rattle.rt_gen_body.specs.Inside.Code.{Line, Context, plain, noted, next_slot, guard_of, closing_of, expression_code}
+use Rattle.rt_gen_body.specs.Inside.Code.{value_code, branch_code, loop_back, statement_code, block_code, context_of}
+use Rattle.rt_gen_body.specs.Inside.Code.{end_code, blocks_of, code_of}
+
+module _ (app : App) (c : Context) where
+  abbrev size : Block → ℕ
+  size b = block_steps (size_measure app) b
+
+  expression_size : (e : Expression) (slot free : ℕ) → length (expression_code c e slot free) ≡ expression_steps e
+  expression_size (Num n) slot free = refl
+  expression_size (Read x at) slot free = refl
+  expression_size (Oper o left right) slot free =
+      let second : List Line = expression_code c right free (next_slot free) in
+      let last : List Line = plain (instr.Calc o slot slot free) ∷ [] in
+      omega (
+        arith,
+        length-append (expression_code c left slot free) (second ++ last),
+        length-append second last,
+        expression_size left slot free,
+        expression_size right free (next_slot free),
+      )
+
+  value_size : (e : Expression) → length (value_code c e) ≡ expression_steps e
+  value_size e = expression_size e c.expressions (next_slot c.expressions)
+
+  valued : (e : Expression) (last : Line) → length (value_code c e ++ last ∷ []) ≤ expression_steps e + 1
+  valued e last = omega (arith, length-append (value_code c e) (last ∷ []), value_size e)
+
+  branch_size : (at : ℕ) (first second : ℕ → List Line) (b : Block) (m n : ℕ) → ((a : ℕ) → length (first a) ≤ m)
+      → ((a : ℕ) → length (second a) ≤ n)
+      → length (branch_code c at first second b) ≤ 2 + (m + n)
+  branch_size at first second Empty m n one two = let few = one (at + 1) in omega arith
+  branch_size at first second (Then s rest) m n one two =
+      let then_code : List Line = first (at + 1) in
+      let else_at : ℕ = at + 1 + length then_code + 1 in
+      let over : Line = plain (instr.Jump (else_at + length (second else_at))) in
+      omega (arith, length-append then_code (over ∷ second else_at), one (at + 1), two else_at)
+
+  mutual
+    statement_size : (s : Statement) (level lock at : ℕ)
+        → length (statement_code c level lock at s) ≤ statement_steps (size_measure app) s
+    statement_size (Bind x (Calc e)) level lock at = valued e _
+    statement_size (Bind x (Now place)) level lock at = omega arith
+    statement_size (Bind x (Call s)) level lock at = omega arith
+    statement_size (Assign x e place) level lock at = valued e _
+    statement_size (Branch e first second) level lock at =
+        let test : List Line = value_code c e in
+        let choice : List Line =
+        branch_code c (at + length test) (λ a. block_code c level lock a first)
+        (λ a. block_code c level lock a second) second in
+        let few : length choice ≤ 2 + (size first + size second) =
+        branch_size (at + length test) (λ a. block_code c level lock a first)
+        (λ a. block_code c level lock a second) second (size first) (size second)
+        (λ a. block_size first level lock a) (λ a. block_size second level lock a) in
+        omega (arith, length-append test choice, value_size e)
+    statement_size (Repeat x first last turn) level lock at =
+        omega (
+          arith,
+          length-append (block_code c level lock (at + 4) turn) (loop_back c x (at + 1)),
+          block_size turn level lock (at + 4),
+        )
+    statement_size (Locked r inner place) level lock at =
+        let inside : ℕ = max level (guard_of c r).ceiling in
+        let last : List Line = noted (closing_of c (guard_of c r) level lock) (note.Leave (section.Res r)) ∷ [] in
+        omega (
+          arith,
+          length-append (block_code c inside (next_slot lock) (at + 1) inner) last,
+          block_size inner inside (next_slot lock) (at + 1),
+        )
+    statement_size (Emit e) level lock at = valued e _
+    statement_size (Pend i) level lock at = omega arith
+    statement_size (Spawns s) level lock at = omega arith
+
+    pub block_size : (b : Block) (level lock at : ℕ)
+        → length (block_code c level lock at b) ≤ block_steps (size_measure app) b
+    block_size Empty level lock at = omega arith
+    block_size (Then s rest) level lock at =
+        let first : List Line = statement_code c level lock at s in
+        omega (
+          arith,
+          length-append first (block_code c level lock (at + length first) rest),
+          statement_size s level lock at,
+          block_size rest level lock (at + length first),
+        )
+
+-- one of some numbers is at most their sum
+sum_has : {X : Type 0} (f : X → ℕ) (xs : List X) (i : ℕ) (x : X) → slice_get xs i ≡ Some x → f x ≤ sum_by f xs
+sum_has f [] i x at = absurd (none-some x at)
+sum_has f (y ∷ ys) zero x at = let same : f y ≡ f x = ap f (same_Some y x at) in omega (arith, sum_by-cons f y ys)
+sum_has f (y ∷ ys) (suc i) x at = omega (arith, sum_by-cons f y ys, sum_has f ys i x at)
+
+module _ (app : App) (accepted : IsAccepted app) where
+  -- no size of a body comes to the cap of its sum
+  uncapped : (id : BodyId) (m : Member) → member_at app id ≡ Some m
+      → block_steps (size_measure app) m.body.block + 1 ≤ body_cost (size_measure app) m.body
+  uncapped id m is =
+      let at = (has_body app accepted id m is).is_one in
+      let few : body_cost (size_measure app) m.body ≤ sum_by (λ m. body_cost (size_measure app) m.body) (members app) =
+      sum_has (λ m. body_cost (size_measure app) m.body) (members app) at.0 m at.1 in
+      let all = (accepted_are_sound app accepted).size in
+      omega (arith, cap_steps.blocks (size_measure app) m.body.block)
+
+  short : (id : BodyId) (o : Option Member) (entry : ℕ) → member_at app id ≡ o
+      → length (code_of app id o entry) ≤ cost_of (size_measure app) (option_map (λ m. m.body) o)
+  short id None entry is = omega arith
+  short id (Some m) entry is =
+      let blocks : List Line = blocks_of app (Some m) entry in
+      omega (
+        arith,
+        length-append blocks (end_code id entry ∷ []),
+        block_size app (context_of app m) m.body.block m.priority (first_lock_slot m.args m.body) entry,
+        uncapped id m is,
+      )
+
+  -- the body of a member is the body
+  thread_body : (id : BodyId) (o : Option Body)
+      → option_map (λ (m : Member). m.body) (option_map (λ b. record { id = id; priority = 0; args = 0; body = b }) o)
+      ≡ o
+  thread_body id None = refl
+  thread_body id (Some b) = refl
+
+  task_body : (id : BodyId) (o : Option Task) → option_map (λ (m : Member). m.body)
+      (option_map (λ t. record { id = id; priority = t.priority; args = t.args; body = t.body }) o)
+      ≡ option_map (λ t. t.body) o
+  task_body id None = refl
+  task_body id (Some t) = refl
+
+  body_is : (id : BodyId) → option_map (λ m. m.body) (member_at app id) ≡ body_at app id
+  body_is body.Init = thread_body body.Init app.init
+  body_is body.Idle = thread_body body.Idle app.idle
+  body_is (body.Task n) = task_body (body.Task n) (slice_get app.tasks n)
+
+  -- the code of a body, or its end alone
+  pub code_short : (id : BodyId) (entry : ℕ) → length (code_of app id (member_at app id) entry)
+      ≤ cost_of (size_measure app) (body_at app id)
+  code_short id entry =
+      subst (λ (o : Option Body). length (code_of app id (member_at app id) entry) ≤ cost_of (size_measure app) o)
+      (body_is id) (short id (member_at app id) entry refl)
+
+  abbrev size_of : Member → ℕ
+  size_of m = body_cost (size_measure app) m.body
+
+  -- what `init` and `idle` take, of which one that is not declared is no member
+  thread_size : (id : BodyId) (o : Option Body)
+      → cost_of (size_measure app) o ≤ sum_by size_of (thread_members id o) + 1
+  thread_size id None = omega arith
+  thread_size id (Some b) = omega arith
+
+  tasks_size : (n : ℕ) (ts : List Task)
+      → sum_by size_of (task_members n ts) ≡ sum_by (λ t. body_cost (size_measure app) t.body) ts
+  tasks_size n [] = refl
+  tasks_size n (t ∷ ts) =
+      let m : Member = record { id = body.Task n; priority = t.priority; args = t.args; body = t.body } in
+      omega (
+        arith,
+        sum_by-cons size_of m (task_members (n + 1) ts),
+        sum_by-cons (λ (t : Task). body_cost (size_measure app) t.body) t ts,
+        tasks_size (n + 1) ts,
+      )
+
+  -- the code of all bodies, of `init` and `idle` whether they are declared or not, is within the limit
+  pub all_fit : cost_of (size_measure app) app.init + cost_of (size_measure app) app.idle
+      + sum_by (λ t. body_cost (size_measure app) t.body) app.tasks ≤ CODE_SIZE
+  all_fit =
+      let idle : List Member = thread_members body.Idle app.idle in
+      let tasks : List Member = task_members 0 app.tasks in
+      let all = (accepted_are_sound app accepted).size in
+      omega (
+        arith,
+        sum_by-append size_of (thread_members body.Init app.init) (idle ++ tasks),
+        sum_by-append size_of idle tasks,
+        thread_size body.Init app.init,
+        thread_size body.Idle app.idle,
+        tasks_size 0 app.tasks,
+      )
