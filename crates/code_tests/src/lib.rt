@@ -3,3 +3,5 @@
 
 #[cfg(test)]
 mod hardware;
+#[cfg(test)]
+mod image;

@@ -1,3 +1,4 @@
+pub mod Bound
 pub mod Judging
 pub mod Firsts
 pub mod Accepting
@@ -7,3 +8,10 @@ pub mod ListedOnce
 pub mod PlacedStatements
 pub mod Named
 pub mod Placed
+pub mod Hardware
+pub mod Served
+pub mod Grown
+pub mod ImageCells
+pub mod ImageRows
+pub mod ImageSizes
+pub mod Assembled

@@ -1,0 +1,136 @@
+-- An image of an accepted application can be run, and its text and its traces can be written.
+use Rattle.std.proofs.Common.{◌≡◌, ℕ, ◌+◌, ◌%◌, ◌≤◌, List, [], ◌∷◌, ◌++◌, length, sum_by, true, Contains, Option, Some, None, slice_get, refl, sym, ap, subst, ◌∙◌, arith}
+use Rattle.std.specs.Prelude.{is_some}
+use Rattle.std.specs.List.{AllByRecursion}
+use Rattle.std.proofs.lemmas.List.{length-map}
+use Rattle.std.proofs.lemmas.List.Sums.{sum_by-cons, sum_by-append}
+use Rattle.std.proofs.lemmas.Option.{none-some}
+use Rattle.rt_lemmas.proofs.Membership.{all_weaker}
+use Rattle.rt_ids.specs.Names.{AreNames}
+use Rattle.rt_ids.specs.declared.ids.BodyId.{BodyId}
+use Rattle.rt_ids.specs.declared.ids.BodyId.TheVariants as body
+use Rattle.rt_ids.specs.declared.ids.Section.TheVariants as section
+use Rattle.rt_ids.specs.declared.cell.CellRow.{CellRow}
+use Rattle.rt_ids.specs.declared.limits.TheConstants.{CODE_SIZE}
+use Rattle.rt_app.specs.Tree.{Body, Task, App}
+use Rattle.rt_app.specs.Accepted.{IsAccepted}
+use Rattle.rt_app.specs.Acceptance.{IsSound}
+use Rattle.rt_app.specs.Bodies.{Member, thread_members, task_members}
+use Rattle.rt_app.specs.BodyCost.{size_measure, body_cost, cost_of}
+use Rattle.rt_app.specs.Cost.{Measure}
+use Rattle.rt_app.specs.Handlers.{has_no_software}
+use Rattle.rt_app.specs.Names.{names_of}
+use Rattle.rt_code.specs.Image.{Image}
+use Rattle.rt_code.specs.Lines.{HasCell, HasLines}
+use Rattle.rt_code.specs.Listable.{IsWord, IsPlain, AreWritable, HasTask, HasInstr, HasNote}
+use Rattle.rt_code.specs.Runnable.{HaveImplementedValues, HaveNumbersApart, HasRightSizes, IsRunnable}
+use Rattle.rt_code.specs.declared.instr.Note.{Note}
+use Rattle.rt_code.specs.declared.instr.Note.TheVariants as note
+use Rattle.rt_code.proofs.Writable.{names_writable}
+use Rattle.rt_gen_body.specs.Bodies.{IsNameable}
+use Rattle.rt_build.specs.Image.{Entries, HasTables}
+use Rattle.rt_build.specs.Inside.Code.{Line}
+use Rattle.rt_build.proofs.Hardware.{bodies_none}
+use Rattle.rt_build.proofs.ImageCells.{resource_numbers, words, few_cells}
+use Rattle.rt_build.proofs.ImageRows.{values_implemented, numbers_apart, plain_names, named_rows}
+
+-- all code is within the rule on sizes
+thread_sum : (m : Measure) (id : BodyId) (o : Option Body)
+    → cost_of m o ≤ 1 + sum_by (λ p. body_cost m p.body) (thread_members id o)
+thread_sum m id None = omega arith
+thread_sum m id (Some b) = omega
+    (arith, sum_by-cons (λ (p : Member). body_cost m p.body) (record { id = id; priority = 0; args = 0; body = b }) [])
+
+task_sum : (m : Measure) (n : ℕ) (ts : List Task)
+    → sum_by (λ p. body_cost m p.body) (task_members n ts) ≡ sum_by (λ t. body_cost m t.body) ts
+task_sum m n [] = refl
+task_sum m n (t ∷ ts) =
+    sum_by-cons (λ p. body_cost m p.body)
+    (record { id = body.Task n; priority = t.priority; args = t.args; body = t.body }) (task_members (n + 1) ts)
+    ∙ (ap (λ k. body_cost m t.body + k) (task_sum m (n + 1) ts) ∙ sym (sum_by-cons (λ t. body_cost m t.body) t ts))
+
+pub all_code : (app : App) → IsSound app
+    → cost_of (size_measure app) app.init + (cost_of (size_measure app) app.idle + sum_by
+    (λ t. body_cost (size_measure app) t.body) app.tasks) ≤ CODE_SIZE
+all_code app sound =
+    let m = size_measure app in
+    let size : Member → ℕ = λ p. body_cost m p.body in
+    let idles = thread_members body.Idle app.idle in
+    let tasks = task_members 0 app.tasks in
+    let whole = sum_by-append size (thread_members body.Init app.init) (idles ++ tasks) in
+    let others = sum_by-append size idles tasks in
+    omega (
+      arith,
+      sound.size,
+      whole,
+      others,
+      thread_sum m body.Init app.init,
+      thread_sum m body.Idle app.idle,
+      task_sum m 0 app.tasks,
+    )
+
+module _ (app : App) (at : Entries) (img : Image) (tables : HasTables app at img) (sound : IsSound app)
+    (accepted : IsAccepted app) (no_software : has_no_software app ≡ true) where
+  runnable_sizes : length img.code ≤ CODE_SIZE → HasRightSizes img
+  runnable_sizes short = record {
+    few_bits = let e = tables.bits in let few = accepted.limits.least_bits in omega arith;
+    many_bits = let e = tables.bits in let many = accepted.limits.most_bits in omega arith;
+    stack_pairs = ap (λ n. n % 8) tables.stack ∙ sound.stack_pairs;
+    stack_small = let e = tables.stack in let small = sound.stack_small in omega arith;
+    thread_fits = let e = tables.stack in let f = tables.thread in omega arith;
+    code_short = omega arith;
+    cells_few = omega (
+      arith,
+      ap (λ (cells : List CellRow). length cells) tables.cells,
+      few_cells app no_software
+          accepted,
+    );
+  }
+
+  no_bodies : img.bodies ≡ []
+  no_bodies = tables.bodies ∙ bodies_none app no_software at
+
+  pub runnable : length img.code ≤ CODE_SIZE → IsRunnable img
+  runnable short = record {
+    sizes = runnable_sizes short;
+    rows = record {
+      arguments = λ i row there. absurd (none-some row (ap (λ rows. slice_get rows i) (sym no_bodies) ∙ there));
+      values = subst (λ bits. HaveImplementedValues bits img.irqs) (sym tables.bits)
+          (subst (HaveImplementedValues app.bits) (sym tables.irqs) (values_implemented app at));
+      numbers = subst HaveNumbersApart (sym tables.irqs) (numbers_apart app at sound);
+    };
+  }
+
+  -- what a line leaves has a cell
+  leaves : (line : Line) → IsNameable (names_of app) line → HasCell img line.1
+  leaves (i, told) named = go told named.note
+    where
+      go : (told : Option Note) → HasNote (names_of app) told → HasCell img told
+      go None named = tt
+      go (Some (note.Leave (section.Res r))) named =
+          ap is_some (resource_numbers app at img tables sound r
+          (omega (arith, named, length-map app.shared (λ s. s.name))))
+      go (Some told) named = tt
+
+  pub lines : AllByRecursion (IsNameable (names_of app)) img.code → HasLines img
+  lines named = record {
+    listable = record {
+      names = subst AreWritable (sym tables.names) (names_writable (names_of app) sound.names);
+      cells = subst (λ cells. AllByRecursion (λ cell. IsWord cell.name) cells) (sym tables.cells)
+          (words app no_software accepted);
+      irqs = subst (λ rows. AllByRecursion (λ row. IsPlain row.name) rows) (sym tables.irqs) (plain_names app at sound);
+      bodies = subst (λ rows. AllByRecursion (λ row. HasTask img.names row.task) rows) (sym no_bodies) tt;
+      instrs = subst (λ names. AllByRecursion (λ line. HasInstr names line.0) img.code) (sym tables.names)
+          (all_weaker (IsNameable (names_of app)) (λ line. HasInstr (names_of app) line.0) (λ line is. is.instr)
+          img.code named);
+      notes = subst (λ names. AllByRecursion (λ line. HasNote names line.1) img.code) (sym tables.names)
+          (all_weaker (IsNameable (names_of app)) (λ line. HasNote (names_of app) line.1) (λ line is. is.note)
+          img.code named);
+    };
+    names = subst AreNames (sym tables.names) sound.names;
+    irqs = subst (λ names. AllByRecursion (λ row. Contains names.irqs (row.name, row.number)) img.irqs)
+        (sym tables.names)
+        (subst (λ rows. AllByRecursion (λ row. Contains (names_of app).irqs (row.name, row.number)) rows)
+        (sym tables.irqs) (named_rows app at sound));
+    left = all_weaker (IsNameable (names_of app)) (λ line. HasCell img line.1) leaves img.code named;
+  }

@@ -1,0 +1,262 @@
+-- How the interrupts of hardware tasks are served, task by task.
+use Rattle.std.proofs.Common.{◌≡◌, eq-eqb, ◌≢◌, ℕ, zero, suc, ◌+◌, ◌<◌, ◌≤◌, ◌^◌, ◌==◌, Bool, true, false, List, [], ◌∷◌, ◌++◌, length, map, get_or, filter, replicate, set, take, drop, append-nil, append_assoc, Option, Some, None, option_map, slice_get, Contains, refl, sym, ap, subst, ◌∙◌, arith, length-set}
+use Rattle.std.specs.List.{zip}
+use Rattle.std.proofs.lemmas.Bool.{eqb-true}
+use Rattle.std.proofs.lemmas.List.{map-append, length-replicate, take_all, take_more}
+use Rattle.std.proofs.lemmas.List.Elements.{filter-append}
+use Rattle.std.proofs.lemmas.Option.{same_Some, none-some, get_or_from_slice_get}
+use Rattle.std.proofs.lemmas.Slice.Zip.{length-zip, get_or-zip}
+use Rattle.rt_lemmas.proofs.Lists.{mapped_at}
+use Rattle.rt_ids.specs.Priority.{hardware}
+use Rattle.rt_lemmas.proofs.Bools.{true_and_false}
+use Rattle.rt_lemmas.proofs.Membership.{all_at, contains_here, contains_there}
+use Rattle.rt_ids.specs.Lists.{AreDifferent}
+use Rattle.rt_app.specs.declared.app.IrqDecl.{IrqDecl}
+use Rattle.rt_app.specs.Tree.{Task, App}
+use Rattle.rt_app.specs.Handlers.{Runs, Service, bound_service, task_services, services, has_no_software, has_no_monotonic}
+use Rattle.rt_app.specs.Accepted.{IsBindingPlaced, IsTaskPlaced, IsAccepted}
+use Rattle.rt_app.specs.Acceptance.{IsSound}
+use Rattle.rt_app.specs.Frame.{frame_words}
+use Rattle.rt_app.specs.Plan.{frames}
+use Rattle.rt_app.proofs.Parts.{parts}
+use Rattle.rt_app.proofs.SoundCeilings.{tasks_in_range}
+use Rattle.rt_app.proofs.Different.{different_apart}
+use Rattle.rt_code.specs.declared.image.Handler.{Handler}
+use Rattle.rt_build.specs.Image.{Entries, task_words, handler_words, handler_row, irq_rows}
+use Rattle.rt_build.specs.Inside.Tables.{handler_of, HasHandlers, row_of}
+use Rattle.rt_build.proofs.Hardware.{services_are}
+
+set_same : {X : Type 0} (xs : List X) (i : ℕ) (y : X) → i < length xs → slice_get (set xs i y) i ≡ Some y
+set_same [] i y within = absurd (omega arith)
+set_same (x ∷ xs) zero y within = refl
+set_same (x ∷ xs) (suc i) y within = set_same xs i y (omega arith)
+
+set_other : {X : Type 0} (xs : List X) (i k : ℕ) (y : X) → k ≢ i → slice_get (set xs i y) k ≡ slice_get xs k
+set_other [] i k y differ = refl
+set_other (x ∷ xs) zero zero y differ = absurd (differ refl)
+set_other (x ∷ xs) zero (suc k) y differ = refl
+set_other (x ∷ xs) (suc i) zero y differ = refl
+set_other (x ∷ xs) (suc i) (suc k) y differ = set_other xs i k y (λ e. differ (ap suc e))
+
+replicate_at : {X : Type 0} (n i : ℕ) (x : X) → i < n → slice_get (replicate n x) i ≡ Some x
+replicate_at zero i x within = absurd (omega arith)
+replicate_at (suc n) zero x within = refl
+replicate_at (suc n) (suc i) x within = replicate_at n i x (omega arith)
+
+abbrev irqs_of : List Service → List ℕ
+irqs_of ss = map (λ s. s.irq) ss
+
+-- no service is that of an interrupt that none has
+unserved : (irq : ℕ) (ss : List Service) → ¬ Contains (irqs_of ss) irq → filter (λ s. s.irq == irq) ss ≡ []
+unserved irq [] fresh = refl
+unserved irq (s ∷ ss) fresh = go (s.irq == irq) refl
+    (unserved irq ss (λ is. fresh (contains_there s.irq (irqs_of ss) irq is)))
+  where
+    go : (b : Bool) → (s.irq == irq) ≡ b → filter (λ s. s.irq == irq) ss ≡ [] → filter (λ s. s.irq == irq) (s ∷ ss) ≡ []
+    go true e rest = absurd (fresh (subst (λ n. Contains (n ∷ irqs_of ss) irq) (sym (eqb-true s.irq irq e))
+        (contains_here irq (irqs_of ss))))
+    go false e rest = rw e rest
+
+-- the services of the tasks up to one, and those of the others
+services_split : (k n : ℕ) (ts : List Task) (t : Task) → slice_get ts n ≡ Some t
+    → task_services k ts ≡ task_services k (take n ts)
+    ++ (bound_service (k + n) t t.binds ++ task_services (k + n + 1) (drop (suc n) ts))
+services_split k n [] t at = absurd (none-some t at)
+services_split k zero (u ∷ ts) t at =
+    let e : k + 0 ≡ k = omega arith in
+    rw (e, ap (λ (v : Task). v) (sym (same_Some u t at))) refl
+services_split k (suc n) (u ∷ ts) t at =
+    let e : k + suc n ≡ k + 1 + n = omega arith in
+    rw e
+    (ap (λ ss. bound_service k u u.binds ++ ss) (services_split (k + 1) n ts t at)
+    ∙ sym (append_assoc (bound_service k u u.binds) (task_services (k + 1) (take n ts)) _))
+
+services_more : (k n : ℕ) (ts : List Task) (t : Task) → slice_get ts n ≡ Some t
+    → task_services k (take (suc n) ts) ≡ task_services k (take n ts) ++ bound_service (k + n) t t.binds
+services_more k n [] t at = absurd (none-some t at)
+services_more k zero (u ∷ ts) t at =
+    let e : k ≡ k + 0 = omega arith in
+    append-nil (bound_service k u u.binds)
+    ∙ (ap (λ (v : Task). bound_service k v v.binds) (same_Some u t at) ∙ ap (λ j. bound_service j t t.binds) e)
+services_more k (suc n) (u ∷ ts) t at =
+    let e : k + 1 + n ≡ k + suc n = omega arith in
+    ap (λ ss. bound_service k u u.binds ++ ss)
+    (services_more (k + 1) n ts t at ∙ ap (λ j. task_services (k + 1) (take n ts) ++ bound_service j t t.binds) e)
+    ∙ sym (append_assoc (bound_service k u u.binds) (task_services (k + 1) (take n ts))
+    (bound_service (k + suc n) t t.binds))
+
+module _ (app : App) (at : Entries) where
+  -- no interrupt is served
+  pub none_served : (n : ℕ) → n ≡ length app.irqs → HasHandlers app at [] (replicate n None)
+  none_served n is = record {
+    long = length-replicate n None ∙ is;
+    each =
+        λ irq within. replicate_at n irq None (omega arith);
+  }
+
+  -- and one more
+  pub one_served : (ss : List Service) (s : Service) (table : List (Option Handler)) → HasHandlers app at ss table
+      → s.irq < length app.irqs → filter (λ o. o.irq == s.irq) ss ≡ []
+      → HasHandlers app at (ss ++ s ∷ []) (set table s.irq (Some (handler_row app at s)))
+  one_served ss s table has within fresh =
+      record {
+        long = length-set table s.irq (Some (handler_row app at s)) ∙ has.long;
+        each =
+            λ irq inside. go irq inside (s.irq == irq) refl;
+      }
+    where
+      more : (irq : ℕ) → filter (λ o. o.irq == irq) (ss ++ s ∷ []) ≡ filter (λ o. o.irq == irq) ss
+          ++ filter (λ o. o.irq == irq) (s ∷ [])
+      more irq = filter-append (λ o. o.irq == irq) ss (s ∷ [])
+
+      first : List Service → Option Handler
+      first found = option_map (handler_row app at) (slice_get found 0)
+
+      go : (irq : ℕ) → irq < length app.irqs → (b : Bool) → (s.irq == irq) ≡ b
+          → slice_get (set table s.irq (Some (handler_row app at s))) irq ≡ Some (handler_of app at (ss ++ s ∷ []) irq)
+      go irq inside true is =
+          let same : s.irq ≡ irq = eqb-true s.irq irq is in
+          let none : filter (λ o. o.irq == irq) ss ≡ [] = subst (λ i. filter (λ o. o.irq == i) ss ≡ []) same fresh in
+          let alone : filter (λ o. o.irq == irq) (s ∷ []) ≡ s ∷ [] = rw is refl in
+          let found : filter (λ o. o.irq == irq) (ss ++ s ∷ []) ≡ s ∷ [] = more irq
+          ∙ (ap (λ os. os ++ filter (λ o. o.irq == irq) (s ∷ [])) none ∙ alone) in
+          ap (slice_get (set table s.irq (Some (handler_row app at s)))) (sym same)
+          ∙ (set_same table s.irq (Some (handler_row app at s)) (omega (arith, has.long))
+          ∙ ap (λ os. Some (first os)) (sym found))
+      go irq inside false is =
+          let differ : irq ≢ s.irq = λ e. true_and_false (s.irq == irq) (eq-eqb s.irq irq (sym e)) is in
+          let alone : filter (λ o. o.irq == irq) (s ∷ []) ≡ [] = rw is refl in
+          let found : filter (λ o. o.irq == irq) (ss ++ s ∷ []) ≡ filter (λ o. o.irq == irq) ss =
+          more irq ∙ (ap (λ os. filter (λ o. o.irq == irq) ss ++ os) alone
+          ∙ append-nil (filter (λ o. o.irq == irq) ss)) in
+          set_other table s.irq irq (Some (handler_row app at s)) differ
+          ∙ (has.each irq inside ∙ ap (λ os. Some (first os)) (sym found))
+
+  -- a row for each interrupt
+  rows_from : (ss : List Service) (i : ℕ) (ds : List IrqDecl) (table : List (Option Handler)) → length table ≡ length ds
+      → ((k : ℕ) → k < length ds → slice_get table k ≡ Some (handler_of app at ss (i + k)))
+      → services app ≡ ss → map (λ (irq, handler). row_of irq handler) (zip ds table) ≡ irq_rows app at i ds
+  rows_from ss i [] table long each are = refl
+  rows_from ss i (d ∷ ds) [] long each are = absurd (omega (arith, long))
+  rows_from ss i (d ∷ ds) (h ∷ table) long each are =
+      let e : i + 0 ≡ i = omega arith in
+      let own : h ≡ handler_of app at ss i = same_Some _ _ (each 0 (omega arith)) ∙ ap (handler_of app at ss) e in
+      let same : handler_of app at ss i ≡ handler_of app at (services app) i =
+      ap (λ os. handler_of app at os i) (sym are) in
+      let rest : (k : ℕ) → k < length ds → slice_get table k ≡ Some (handler_of app at ss (i + 1 + k)) =
+      λ k inside. (let f : i + suc k ≡ i + 1 + k = omega arith in each (suc k) (omega arith)
+      ∙ ap (λ j. Some (handler_of app at ss j)) f) in
+      ap (λ o. row_of d o ∷ map (λ (irq, handler). row_of irq handler) (zip ds table)) (own ∙ same)
+      ∙ ap (λ rows. row_of d (handler_of app at (services app) i) ∷ rows)
+      (rows_from ss (i + 1) ds table (omega (arith, long)) rest are)
+
+  pub rows_are : (table : List (Option Handler)) → HasHandlers app at (services app) table
+      → map (λ (irq, handler). row_of irq handler) (zip app.irqs table) ≡ irq_rows app at 0 app.irqs
+  rows_are table has =
+      rows_from (services app) 0 app.irqs table has.long
+      (λ k inside. (let e : 0 + k ≡ k = omega arith in has.each k inside
+      ∙ ap (λ j. Some (handler_of app at (services app) j)) (sym e))) refl
+
+module _ (app : App) (at : Entries) (sound : IsSound app) (no_software : has_no_software app ≡ true)
+    (no_monotonic : has_no_monotonic app ≡ true) where
+  -- the services of the tasks before one, and its own, which is of another interrupt
+  module _ (n : ℕ) (t : Task) (there : slice_get app.tasks n ≡ Some t) where
+    split : services app ≡ task_services 0 (take n app.tasks)
+        ++ (bound_service n t t.binds ++ task_services (n + 1) (drop (suc n) app.tasks))
+    split =
+        let e : 0 + n ≡ n = omega arith in
+        services_are app no_software no_monotonic
+        ∙ (services_split 0 n app.tasks t there
+        ∙ ap (λ m. task_services 0 (take n app.tasks)
+        ++ (bound_service m t t.binds ++ task_services (m + 1) (drop (suc n) app.tasks))) e)
+
+    next_unserved : (irq : ℕ) → t.binds ≡ Some irq
+        → filter (λ s. s.irq == irq) (task_services 0 (take n app.tasks)) ≡ []
+    next_unserved irq binds =
+        let before = task_services 0 (take n app.tasks) in
+        let behind = bound_service n t t.binds ++ task_services (n + 1) (drop (suc n) app.tasks) in
+        let apart : AreDifferent (irqs_of before ++ irqs_of behind) =
+        subst AreDifferent (ap irqs_of split ∙ map-append (λ s. s.irq) before behind) sound.services_differ in
+        let own : Contains (irqs_of behind) irq =
+        subst (λ o. Contains (irqs_of (bound_service n t o ++ task_services (n + 1) (drop (suc n) app.tasks))) irq)
+        (sym binds) (contains_here irq (irqs_of (task_services (n + 1) (drop (suc n) app.tasks)))) in
+        unserved irq before (λ is. different_apart (irqs_of before) (irqs_of behind) apart irq is own)
+
+    -- of the tasks up to and with it
+    more_services : task_services 0 (take (n + 1) app.tasks) ≡ task_services 0 (take n app.tasks)
+        ++ bound_service n t t.binds
+    more_services =
+        let e : n + 1 ≡ suc n = omega arith in
+        let f : 0 + n ≡ n = omega arith in
+        ap (λ m. task_services 0 (take m app.tasks)) e
+        ∙ (services_more 0 n app.tasks t there
+        ∙ ap (λ m. task_services 0 (take n app.tasks) ++ bound_service m t t.binds) f)
+
+    pub next_served : (irq : ℕ) (table : List (Option Handler)) → t.binds ≡ Some irq → irq < length app.irqs
+        → HasHandlers app at (task_services 0 (take n app.tasks)) table
+        → HasHandlers app at (task_services 0 (take (n + 1) app.tasks))
+        (set table irq (Some (handler_row app at (record { irq = 0; handler = Runs n; level = t.priority }))))
+    next_served irq table binds within has =
+        let one : Service = record { irq = irq; handler = Runs n; level = t.priority } in
+        let more : task_services 0 (take (n + 1) app.tasks) ≡ task_services 0 (take n app.tasks) ++ one ∷ [] =
+        more_services ∙ ap (λ o. task_services 0 (take n app.tasks) ++ bound_service n t o) binds in
+        subst (λ ss. HasHandlers app at ss (set table irq (Some (handler_row app at one)))) (sym more)
+        (one_served app at (task_services 0 (take n app.tasks)) one table has within (next_unserved irq binds))
+
+    pub next_free : (table : List (Option Handler)) → t.binds ≡ None
+        → HasHandlers app at (task_services 0 (take n app.tasks)) table
+        → HasHandlers app at (task_services 0 (take (n + 1) app.tasks)) table
+    next_free table binds has =
+        let more : task_services 0 (take (n + 1) app.tasks) ≡ task_services 0 (take n app.tasks) =
+        more_services ∙ (ap (λ o. task_services 0 (take n app.tasks) ++ bound_service n t o) binds
+        ∙ append-nil (task_services 0 (take n app.tasks))) in
+        subst (λ ss. HasHandlers app at ss table) (sym more) has
+
+  pub all_served : (n : ℕ) (table : List (Option Handler)) → length app.tasks ≤ n
+      → HasHandlers app at (task_services 0 (take n app.tasks)) table → HasHandlers app at (services app) table
+  all_served n table last has =
+      let all : task_services 0 (take n app.tasks) ≡ services app = ap (task_services 0) (take_all n app.tasks last)
+      ∙ sym (services_are app no_software no_monotonic) in
+      subst (λ ss. HasHandlers app at ss table) all has
+
+-- how the interrupt of a task serves it
+pub row_is : (app : App) (at : Entries) (n : ℕ) (t : Task) (value entry frame : ℕ) → slice_get app.tasks n ≡ Some t
+    → value ≡ hardware app.bits t.priority → entry ≡ at.task n
+    → frame ≡ frame_words t.args t.body
+    → record { value = value; entry = entry; frame = frame } ≡ handler_row app at
+    (record { irq = 0; handler = Runs n; level = t.priority })
+row_is app at n t value entry frame there valued entered framed =
+    let words : frame ≡ handler_words app (Runs n) = framed ∙ ap task_words (sym there) in
+    rw (valued, entered, words) refl
+
+-- a task has a priority that there is, and a frame in the plan
+pub priority_of : (app : App) → IsAccepted app → (n : ℕ) (t : Task) → slice_get app.tasks n ≡ Some t
+    → (1 ≤ t.priority) × (t.priority ≤ 2 ^ app.bits)
+priority_of app accepted n t there =
+    all_at (λ t. (1 ≤ t.priority) × (t.priority ≤ 2 ^ app.bits)) app.tasks n t
+    (tasks_in_range app accepted (parts app accepted.rules)) there
+
+pub frame_at : (app : App) (n : ℕ) (t : Task) (frame : ℕ) → slice_get app.tasks n ≡ Some t
+    → frame ≡ get_or (frames app) (n + 2) frame → frame ≡ frame_words t.args t.body
+frame_at app n t frame there is =
+    let e : n + 2 ≡ suc (suc n) = omega arith in
+    let at : slice_get (map (λ t. frame_words t.args t.body) app.tasks) n ≡ Some (frame_words t.args t.body) =
+    mapped_at (λ t. frame_words t.args t.body) app.tasks n t there in
+    is ∙ (ap (λ k. get_or (frames app) k frame) e
+    ∙ get_or_from_slice_get (map (λ t. frame_words t.args t.body) app.tasks) n (frame_words t.args t.body) frame at)
+
+-- the interrupt that it binds is declared
+pub bound_declared : (app : App) → IsAccepted app → (n irq : ℕ) (t : Task) → slice_get app.tasks n ≡ Some t
+    → t.binds ≡ Some irq → irq < length app.irqs
+bound_declared app accepted n irq t there binds =
+    subst (IsBindingPlaced app) binds (all_at (IsTaskPlaced app) app.tasks n t accepted.tasks there).0
+
+-- the pairs of one place more
+pub zip_next : {X Y : Type 0} (xs : List X) (ys : List Y) (i : ℕ) (x : X) (y : Y) → i < length xs → i < length ys
+    → x ≡ get_or xs i x → y ≡ get_or ys i y
+    → take (i + 1) (zip xs ys) ≡ take i (zip xs ys) ++ (x, y) ∷ []
+zip_next xs ys i x y within within_too at at_too =
+    let long : i < length (zip xs ys) = omega (arith, length-zip xs ys) in
+    let read : get_or (zip xs ys) i (x, y) ≡ (x, y) = get_or-zip xs ys i (x, y) within within_too
+    ∙ (ap (λ z. (z, get_or ys i y)) (sym at) ∙ ap (λ z. (x, z)) (sym at_too)) in
+    take_more (zip xs ys) i (x, y) long ∙ ap (λ p. take i (zip xs ys) ++ p ∷ []) read

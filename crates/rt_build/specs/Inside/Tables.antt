@@ -1,0 +1,22 @@
+-- The tables beside the code of an image, while they are made.
+use Rattle.std.specs.Prelude.{◌≡◌, ℕ, ◌==◌, ◌<◌, List, length, filter, slice_get, Option, Some, option_map}
+use Rattle.rt_app.specs.declared.app.IrqDecl.{IrqDecl}
+use Rattle.rt_app.specs.Tree.{App}
+use Rattle.rt_app.specs.Handlers.{Service}
+use Rattle.rt_code.specs.declared.image.Handler.{Handler}
+use Rattle.rt_code.specs.declared.image.IrqRow.{IrqRow}
+use Rattle.rt_build.specs.Image.{Entries, handler_row}
+
+module _ (app : App) (at : Entries) (services : List Service) where
+  -- how the interrupt of this place is served, if only these are served
+  abbrev pub handler_of : ℕ → Option Handler
+  handler_of irq = option_map (handler_row app at) (slice_get (filter (λ s. s.irq == irq) services) 0)
+
+  -- how each declared interrupt is served
+  pub record HasHandlers (table : List (Option Handler)) : Type 0 where
+    pub long : length table ≡ length app.irqs
+    pub each : (irq : ℕ) → irq < length app.irqs → slice_get table irq ≡ Some (handler_of irq)
+
+-- the row of an interrupt that is served so
+abbrev pub row_of : IrqDecl → Option Handler → IrqRow
+row_of irq handler = record { name = irq.name; number = irq.number; handler = handler }

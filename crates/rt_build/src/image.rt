@@ -1,0 +1,64 @@
+ghost use Rattle.std.specs.Prelude.{◌≡◌, ℕ, ◌<◌, true, [], length, Some, IfOk};
+ghost use Rattle.rt_app.specs.Accepted.{IsAccepted};
+ghost use Rattle.rt_app.specs.Handlers.{has_no_software, has_no_monotonic};
+ghost use Rattle.rt_app.specs.View.{app_of};
+ghost use Rattle.rt_build.specs.Image.{IsImageOf};
+ghost use Rattle.rt_code.specs.Cells.{resource_cell};
+ghost use Rattle.rt_code.specs.Lines.{HasLines};
+ghost use Rattle.rt_code.specs.Runnable.{IsRunnable};
+
+use crate::code::{Code, generate};
+use crate::tables::{Tables, tables_of};
+use rt_app::{App, Layout, Plan};
+use rt_code::Image;
+use rt_ids::NoMemory;
+use rt_plan::plan;
+use std::alloc::Global;
+
+/// An image of these parts.
+fn assemble(alloc: Global, plan: Plan<'_>, code: Code, tables: Tables) -> Image
+    ensures { result ≡ record {
+      bits = plan.entry.app.now.bits;
+      stack_bytes = tables.stack.bytes;
+      thread_words = tables.stack.thread_words;
+      cells = plan.entry.lay.cells;
+      irqs = tables.irqs.items;
+      bodies = [];
+      code = code.lines.items;
+      names = tables.names;
+    } }
+{
+    let Plan { app, lay, .. } = plan;
+    let Layout { cells, .. } = lay;
+    let Code { lines, .. } = code;
+    let Tables { stack, irqs, names } = tables;
+    Image {
+        bits: app.bits,
+        stack_bytes: stack.bytes,
+        thread_words: stack.thread_words,
+        cells,
+        irqs,
+        bodies: Vec::new(alloc),
+        code: lines,
+        names,
+    }
+}
+
+/// The image of an application that is accepted and has neither software tasks nor a monotonic: its tables, and code
+/// that stands at the entry of each body. A core runs it; its listing can be written, and so can the lines of its
+/// traces. The cell of a shared resource has the resource's own number.
+pub fn build(alloc: Global, app: &App) -> Result<Image, NoMemory>
+    requires accepted { IsAccepted (app_of app.now) }
+    requires software { has_no_software (app_of app.now) ≡ true }
+    requires monotonic { has_no_monotonic (app_of app.now) ≡ true }
+    ensures image { IfOk result (λ image. IsImageOf (app_of app.now) image) }
+    ensures cells { IfOk result (λ image. (r : ℕ) → r < length (app_of app.now).shared
+        → resource_cell image r ≡ Some r) }
+    ensures runnable { IfOk result (λ image. IsRunnable image) }
+    ensures lines { IfOk result (λ image. HasLines image) }
+{
+    let plan = plan(alloc, app)?;
+    let code = generate(alloc, &plan)?;
+    let tables = tables_of(alloc, &plan, &code)?;
+    Ok(assemble(alloc, plan, code, tables))
+}

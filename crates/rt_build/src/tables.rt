@@ -1,0 +1,131 @@
+ghost use Rattle.std.specs.Prelude.{◌≡◌, length, map, slice_get, Some, IfOk};
+ghost use Rattle.std.specs.List.{zip};
+ghost use Rattle.rt_app.specs.Handlers.{Runs, Service, services};
+ghost use Rattle.rt_app.specs.Names.{names_of};
+ghost use Rattle.rt_app.specs.Stack.{thread_words, stack_bytes};
+ghost use Rattle.rt_app.specs.View.{app_of, task_of};
+ghost use Rattle.rt_build.specs.Image as spec;
+ghost use Rattle.rt_build.specs.Inside.Plan.{IsHardwarePlan};
+ghost use Rattle.rt_build.specs.Inside.Code.{entries_of};
+ghost use Rattle.rt_build.specs.Inside.Tables.{HasHandlers, row_of};
+
+use crate::code::Code;
+use rt_app::{IrqDecl, Plan, Task};
+use rt_code::{Handler, IrqRow};
+use rt_frames::bounds;
+use rt_ids::{Name, Names, NoMemory, Prio};
+use std::alloc::Global;
+
+/// What stands beside the code and the cells of an image.
+#[derive(Debug, Drop)]
+pub(crate) struct Tables {
+    pub(crate) stack: Stack,
+    pub(crate) irqs: Vec<IrqRow>,
+    pub(crate) names: Names,
+}
+
+/// What the stack of an application takes.
+#[derive(Clone, Copy, Debug)]
+pub(crate) struct Stack {
+    /// The words of the thread's frame.
+    pub(crate) thread_words: u32,
+    pub(crate) bytes: u32,
+}
+
+/// What its stack takes.
+fn stack_of(alloc: Global, plan: &Plan<'_>) -> Result<Stack, NoMemory>
+    requires { IsHardwarePlan plan.now }
+    ensures words { IfOk result (λ stack. stack.thread_words ≡ thread_words (app_of plan.now.app.now)) }
+    ensures bytes { IfOk result (λ stack. stack.bytes ≡ stack_bytes (app_of plan.now.app.now)) }
+{
+    let bounds = bounds(alloc, plan.app, &plan.ceil)?;
+    Ok(Stack {
+        thread_words: bounds.thread_words,
+        bytes: bounds.stack_bytes,
+    })
+}
+
+/// How the interrupt that a task binds serves it.
+fn handler(plan: &Plan<'_>, code: &Code, number: usize, task: &Task) -> Handler
+    requires plan { IsHardwarePlan plan.now }
+    requires entries { length code.now.tasks.items ≡ length (app_of plan.now.app.now).tasks }
+    requires task { slice_get (app_of plan.now.app.now).tasks number ≡ Some (task_of task.now) }
+    ensures { let served : Service = record { irq = 0; handler = Runs number; level = task.now.priority } in
+        result ≡ spec.handler_row (app_of plan.now.app.now) (entries_of code.now) served }
+{
+    Handler {
+        value: Prio(task.priority).hw(plan.app.bits),
+        entry: code.tasks[number],
+        frame: plan.frames[number + 2],
+    }
+}
+
+/// How each declared interrupt is served, where it is.
+fn handlers(alloc: Global, plan: &Plan<'_>, code: &Code) -> Result<Vec<Option<Handler>>, NoMemory>
+    requires plan { IsHardwarePlan plan.now }
+    requires entries { length code.now.tasks.items ≡ length (app_of plan.now.app.now).tasks }
+    ensures { let app = app_of plan.now.app.now in
+        IfOk result (λ handlers. HasHandlers app (entries_of code.now) (services app) handlers.items) }
+{
+    let mut handlers = vec![in alloc; None; plan.app.irqs.len()]?;
+    for (number, task) in plan.app.tasks.iter().enumerate() {
+        if let Some(irq) = task.binds {
+            handlers[usize::from(irq)] = Some(handler(plan, code, number, task));
+        }
+    }
+    Ok(handlers)
+}
+
+/// The row of a declared interrupt.
+fn irq_row(alloc: Global, irq: &IrqDecl, handler: Option<Handler>) -> Result<IrqRow, NoMemory>
+    ensures { IfOk result (λ row. row ≡ row_of irq.now handler) }
+{
+    Ok(IrqRow {
+        name: Name::of(alloc, irq.name.bytes())?,
+        number: irq.number,
+        handler,
+    })
+}
+
+/// The rows of declared interrupts that are served so.
+fn irq_rows(
+    alloc: Global,
+    irqs: &[IrqDecl],
+    handlers: &[Option<Handler>],
+) -> Result<Vec<IrqRow>, NoMemory>
+    ensures { IfOk result (λ rows. rows.items
+        ≡ map (λ (irq, handler). row_of irq handler) (zip irqs.now handlers.now)) }
+{
+    let mut rows = Vec::new(alloc);
+    for (irq, handler) in irqs.iter().zip(handlers) {
+        rows.push(irq_row(alloc, irq, *handler)?)?;
+    }
+    Ok(rows)
+}
+
+/// The rows of the declared interrupts of an application of this code.
+fn rows(alloc: Global, plan: &Plan<'_>, code: &Code) -> Result<Vec<IrqRow>, NoMemory>
+    requires plan { IsHardwarePlan plan.now }
+    requires entries { length code.now.tasks.items ≡ length (app_of plan.now.app.now).tasks }
+    ensures { let app = app_of plan.now.app.now in
+        IfOk result (λ rows. rows.items ≡ spec.irq_rows app (entries_of code.now) 0 app.irqs) }
+{
+    let handlers = handlers(alloc, plan, code)?;
+    irq_rows(alloc, &plan.app.irqs, &handlers)
+}
+
+/// The tables of an application of this code.
+pub(crate) fn tables_of(alloc: Global, plan: &Plan<'_>, code: &Code) -> Result<Tables, NoMemory>
+    requires plan { IsHardwarePlan plan.now }
+    requires entries { length code.now.tasks.items ≡ length (app_of plan.now.app.now).tasks }
+    ensures words { IfOk result (λ tables. tables.stack.thread_words ≡ thread_words (app_of plan.now.app.now)) }
+    ensures bytes { IfOk result (λ tables. tables.stack.bytes ≡ stack_bytes (app_of plan.now.app.now)) }
+    ensures irqs { let app = app_of plan.now.app.now in
+        IfOk result (λ tables. tables.irqs.items ≡ spec.irq_rows app (entries_of code.now) 0 app.irqs) }
+    ensures names { IfOk result (λ tables. tables.names ≡ names_of (app_of plan.now.app.now)) }
+{
+    let stack = stack_of(alloc, plan)?;
+    let irqs = rows(alloc, plan, code)?;
+    let names = plan.app.names(alloc)?;
+    Ok(Tables { stack, irqs, names })
+}
