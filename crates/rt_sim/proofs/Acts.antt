@@ -1,0 +1,269 @@
+-- A plain instruction that does the running job's next action is a step of Baker's machine.
+use Rattle.std.proofs.Common.{◌≡◌, ℕ, ◌||◌, ◌++◌, Bool, true, List, [], ◌∷◌, length, map, slice_set, Option, Some}
+use Rattle.std.proofs.Common.{None, refl, ap, subst, ◌∙◌, if◌then◌else◌, length-set}
+use Rattle.std.specs.List.{list_any}
+use Rattle.rt_ids.specs.Holder.{Holder, Guarded, Own, is_same_section}
+use Rattle.rt_ids.specs.Content.{Values, delays, least_instant}
+use Rattle.rt_ids.specs.Action.{Action, Emits, Posts, Clocks, Refuses, SetsAlarm, effect}
+use Rattle.rt_ids.specs.Doing.{Doing, over, does}
+use Rattle.rt_ids.specs.Storage.{Runner}
+use Rattle.rt_ids.specs.declared.ids.Section.{Section}
+use Rattle.rt_ids.specs.declared.ids.Section.TheVariants as section
+use Rattle.rt_app.specs.Tree.{App}
+use Rattle.rt_app.specs.Holding.{storage, is_kept}
+use Rattle.rt_code.specs.Acting.{Acts, SetsTheAlarm}
+use Rattle.rt_code.specs.Image.{Image}
+use Rattle.rt_code.specs.Owning.{Held, Spot, owns, is_open, MayAccess, Agree}
+use Rattle.rt_code.specs.Processor.{Processor}
+use Rattle.rt_code.specs.Standing.{Stands, HaveLeft, moved, passed}
+use Rattle.rt_code.proofs.Mine.{owns_open, owns_reads}
+use Rattle.rt_core.specs.Access.{access}
+use Rattle.rt_core.specs.Core.{Core}
+use Rattle.rt_core.specs.Leading.{GoesPlainly, with_processor}
+use Rattle.rt_core.specs.Stepping.{step}
+use Rattle.rt_core.specs.Transfer.{pended}
+use Rattle.rt_trace.specs.declared.item.What.{What}
+use Rattle.rt_trace.specs.declared.item.What.TheVariants as what
+use Rattle.rt_laws.specs.State.{reached}
+use Rattle.rt_laws.specs.Level.{candidate}
+use Rattle.rt_laws.specs.Giving.{next_item, item_of, is_due}
+use Rattle.rt_laws.specs.Acting.{acted, alarm_set}
+use Rattle.rt_laws.specs.Allowed.{Turn}
+use Rattle.rt_sim.specs.Inside.Moment.{Moment, spot_of, sections_of, job_of, core_of, state_of}
+use Rattle.rt_sim.specs.Inside.Sparing.{owns_in, held_after, IsActionOf, Spares, IsSparing}
+use Rattle.rt_sim.specs.Inside.Fits.{who, handles, AgreesWith, Fits}
+use Rattle.rt_sim.specs.Inside.Agrees.{StepsBoth}
+use Rattle.rt_sim.proofs.Others.{ChangesItsOwn, IsLeftOrOwned, touches_its_own}
+use Rattle.rt_sim.proofs.Plain.{IsWorking, moment_behind, plain_fits, may_turn}
+
+pub any_mapped : (held : List Held) (x : Section)
+    → list_any (λ y. is_same_section y x) (sections_of held) ≡ is_open held x
+any_mapped [] x = refl
+any_mapped (h ∷ held) x = ap (λ b. is_same_section h.section x || b) (any_mapped held x)
+
+-- what sections and a runner own, said in two ways
+pub owns_alike : (app : App) (runner : Runner) (handler : Bool) (held : List Held) (h : Holder)
+    → owns_in app runner handler (sections_of held) h ≡ owns (storage app) runner held h
+unfolding storage
+owns_alike app runner handler held (Guarded x) = ap (λ b. b || is_kept app runner (Guarded x)) (any_mapped held x)
+owns_alike app runner handler held (Own n) = refl
+
+pub agrees_reached : (app : App) (img : Image) (thread : ℕ) (runner : Runner) (held : List Held) (rest : Doing Values)
+    (vs : Values)
+    → AgreesWith app img thread runner held (reached rest vs) rest
+agrees_reached app img thread runner held over vs = tt
+agrees_reached app img thread runner held (does action made next) vs = λ h r. refl
+
+-- what is pending matters to no other part of what fits
+pub pending_fits : (app : App) (img : Image) (thread : ℕ) (m : Moment) (pending : List Bool)
+    → length pending ≡ length m.pending
+    → Fits app img thread m → Fits app img thread (record m { pending = pending })
+pending_fits app img thread m pending long fits = record {
+  stack = fits.stack;
+  parts = fits.parts;
+  spelled = fits.spelled;
+  basepri = fits.basepri;
+  primask = fits.primask;
+  memory = fits.memory;
+  no_messages = fits.no_messages;
+  numbers = long ∙ fits.numbers;
+}
+
+module _ (app : App) (img : Image) (thread : ℕ) (m : Moment) (fits : Fits app img thread m)
+    (works : IsWorking m.running.role) where
+  abbrev Spotted : Spot
+  Spotted = spot_of m.cells m.queues m.running
+
+  abbrev Later : ℕ → Spot → Type 0
+  Later n t = Stands (storage app) img.code img.bodies thread (who m.running) n t
+
+  -- a step that is known changes what the running job owns alone
+  pub changes_by : (c : Core) (shown : Option What) → step img (core_of app.bits m) ≡ (c, shown)
+      → MayAccess (storage app) (who m.running) (spot_of m.cells m.queues m.running) (access img (core_of app.bits m))
+      → ChangesItsOwn app img thread m.running m.cells c.processor.cells
+  changes_by c shown is may cell =
+      subst (λ (r : Core × Option What). IsLeftOrOwned app
+      (who m.running) m.running.held m.cells r.0.processor.cells cell) is
+      (touches_its_own app img (core_of app.bits m) (who m.running)
+      (spot_of m.cells m.queues m.running) fits.parts.0.empty may cell)
+
+  module _ (action : Action) (values : Values) (follows : ℕ → Values → Doing Values)
+      (is : m.running.rest ≡ does action values follows) where
+    -- the values that the job made are there, in what it reads
+    pub agreed : Agree (storage app) (who m.running) m.running.held m.values values
+    agreed = subst (λ rest. AgreesWith app img thread
+        (who m.running) m.running.held m.values rest) is fits.parts.0.agrees
+
+    pub spared : IsActionOf app (who m.running) (handles m.running.role) action
+        × ((n : ℕ) (vs : Values) → Spares app (who m.running) (handles m.running.role)
+        (held_after app (who m.running) (handles m.running.role) (sections_of m.running.held) action) vs
+        (follows n vs)
+        × IsSparing app (who m.running) (handles m.running.role)
+        (held_after app (who m.running) (handles m.running.role) (sections_of m.running.held) action)
+        (follows n vs))
+    spared = subst (λ rest. IsSparing app (who m.running) (handles m.running.role)
+        (sections_of m.running.held) rest) is fits.parts.0.sparing
+
+    -- the item of the job's next action, and what it changes
+    pub gives_item : next_item (state_of m) m.running.role m.running.rest ≡ item_of (state_of m) m.running.role action
+    gives_item = ap (next_item (state_of m) m.running.role) is
+
+    pub acts_as : acted app (state_of m) (job_of m.running) (map job_of m.below) m.running.rest
+        ≡ acted app (state_of m) (job_of m.running) (map job_of m.below) (does action values follows)
+    acts_as = ap (acted app (state_of m) (job_of m.running) (map job_of m.below)) is
+
+  -- where the action opens no section and changes no queue
+  pub acts_fit : (q : Processor) (n : ℕ) (action : Action) (answer : ℕ)
+      → GoesPlainly (spot_of m.cells m.queues m.running) (core_of app.bits m).processor q
+      → ChangesItsOwn app img thread m.running m.cells q.cells
+      → (acts : Acts (storage app) img.bodies (who m.running) action answer
+      (moved (passed (spot_of m.cells m.queues m.running)) q)
+      (λ t. Stands (storage app) img.code img.bodies thread (who m.running) n t))
+      → ((vs : Values) → effect action vs ≡ vs)
+      → ((held : List Section) → held_after app (who m.running) (handles m.running.role) held action ≡ held)
+      → Fits app img thread (moment_behind app img thread m q n (acts.follows answer m.values)
+      (reached (acts.follows answer m.values) m.values))
+  acts_fit q n action answer plain changes acts same closed =
+      let rest = acts.follows answer m.values in
+      let spares = subst (λ held. Spares app (who m.running) (handles m.running.role) held m.values rest
+      × IsSparing app (who m.running) (handles m.running.role) held rest)
+      (closed (sections_of m.running.held)) ((spared action acts.values acts.follows acts.is).1 answer m.values) in
+      plain_fits app img thread m fits works q n rest (reached rest m.values) plain changes
+      (λ h away. spares.0 h (owns_alike app (who m.running) (handles m.running.role) m.running.held h ∙ away))
+      (subst (λ vs. Stands (storage app) img.code img.bodies thread (who m.running) n
+      (record (moved (passed (spot_of m.cells m.queues m.running)) q) { rest = acts.follows answer vs }))
+      (same m.values)
+      (acts.on m.values (agreed action acts.values acts.follows acts.is)))
+      (agrees_reached app img thread (who m.running) m.running.held rest m.values) spares.1
+
+  module _ (n : ℕ) (none : candidate app (state_of m) ≡ None) (left : HaveLeft (m.running.lefts ++ m.running.left ∷ []))
+      (may : MayAccess (storage app) (who m.running) (spot_of m.cells m.queues m.running)
+      (access img (core_of app.bits m))) (q : Processor)
+      (plain : GoesPlainly (spot_of m.cells m.queues m.running) (core_of app.bits m).processor q) where
+    turn : Turn app (state_of m)
+    turn = may_turn app img thread m fits works none left
+
+    abbrev ActsBy : Action → ℕ → Type 0
+    ActsBy action answer = Acts (storage app) img.bodies (who m.running) action answer
+        (moved (passed (spot_of m.cells m.queues m.running)) q)
+        (λ t. Stands (storage app) img.code img.bodies thread (who m.running) n t)
+
+    abbrev Both : Type 0
+    Both = StepsBoth app img thread (core_of app.bits m) (state_of m)
+
+    pub silent : step img (core_of app.bits m) ≡ (with_processor (core_of app.bits m) q, None)
+        → Stands (storage app) img.code img.bodies thread (who m.running) n
+        (moved (passed (spot_of m.cells m.queues m.running)) q) → Both
+    silent is stands = record {
+      core = with_processor (core_of app.bits m) q;
+      shown = None;
+      is = is;
+      may = turn;
+      agrees = record {
+        moment = moment_behind app img thread m q n m.running.rest m.values;
+        core = refl;
+        state = refl;
+        fits = plain_fits app img thread m fits works q n m.running.rest m.values plain (changes_by _ _ is may)
+            (λ h away. refl) stands fits.parts.0.agrees fits.parts.0.sparing;
+      };
+    }
+
+    pub emits : (value : ℕ) → step img (core_of app.bits m) ≡
+        (with_processor (core_of app.bits m) q, Some (what.Emit value)) → ActsBy (Emits value) 0 → Both
+    emits value is acts = record {
+      core = with_processor (core_of app.bits m) q;
+      shown = Some (what.Emit value);
+      is = is;
+      may = (turn, gives_item (Emits value) acts.values acts.follows acts.is);
+      agrees = record {
+        moment = moment_behind app img thread m q n (acts.follows 0 m.values)
+            (reached (acts.follows 0 m.values) m.values);
+        core = refl;
+        state = acts_as (Emits value) acts.values acts.follows acts.is;
+        fits = acts_fit q n (Emits value) 0 plain (changes_by _ _ is may) acts (λ vs. refl) (λ held. refl);
+      };
+    }
+
+    pub clocks : step img (core_of app.bits m) ≡ (with_processor (core_of app.bits m) q, Some (what.Clock m.time))
+        → ActsBy Clocks m.time → Both
+    clocks is acts = record {
+      core = with_processor (core_of app.bits m) q;
+      shown = Some (what.Clock m.time);
+      is = is;
+      may = (turn, gives_item Clocks acts.values acts.follows acts.is);
+      agrees = record {
+        moment = moment_behind app img thread m q n (acts.follows m.time m.values)
+            (reached (acts.follows m.time m.values) m.values);
+        core = refl;
+        state = acts_as Clocks acts.values acts.follows acts.is;
+        fits = acts_fit q n Clocks m.time plain (changes_by _ _ is may) acts (λ vs. refl) (λ held. refl);
+      };
+    }
+
+    pub finds_none : (t : ℕ) → step img (core_of app.bits m) ≡
+        (with_processor (core_of app.bits m) q, Some (what.Full t)) → ActsBy (Refuses t) 0 → Both
+    finds_none t is acts = record {
+      core = with_processor (core_of app.bits m) q;
+      shown = Some (what.Full t);
+      is = is;
+      may = (turn, gives_item (Refuses t) acts.values acts.follows acts.is);
+      agrees = record {
+        moment = moment_behind app img thread m q n (acts.follows 0 m.values)
+            (reached (acts.follows 0 m.values) m.values);
+        core = refl;
+        state = acts_as (Refuses t) acts.values acts.follows acts.is;
+        fits = acts_fit q n (Refuses t) 0 plain (changes_by _ _ is may) acts (λ vs. refl) (λ held. refl);
+      };
+    }
+
+    pub posts : (irq : ℕ) → step img (core_of app.bits m) ≡
+        (pended (with_processor (core_of app.bits m) q) irq, Some (what.Post irq)) → ActsBy (Posts irq) 0 → Both
+    posts irq is acts = record {
+      core = pended (with_processor (core_of app.bits m) q) irq;
+      shown = Some (what.Post irq);
+      is = is;
+      may = (turn, gives_item (Posts irq) acts.values acts.follows acts.is);
+      agrees = record {
+        moment = record (moment_behind app img thread m q n (acts.follows 0 m.values)
+            (reached (acts.follows 0 m.values) m.values)) { pending = slice_set m.pending irq true };
+        core = refl;
+        state = acts_as (Posts irq) acts.values acts.follows acts.is;
+        fits = pending_fits app img thread _ (slice_set m.pending irq true) (length-set m.pending irq true)
+            (acts_fit q n (Posts irq) 0 plain (changes_by _ _ is may) acts (λ vs. refl) (λ held. refl));
+      };
+    }
+
+    -- nothing is armed, and so no alarm is set
+    pub sets_none : step img (core_of app.bits m) ≡
+        (record (core_of app.bits m) { processor = q; alarm = None }, Some what.AlarmSet)
+        → SetsTheAlarm (storage app) img.bodies (who m.running) None
+        (moved (passed (spot_of m.cells m.queues m.running)) q)
+        (λ t. Stands (storage app) img.code img.bodies thread (who m.running) n t) → Both
+    sets_none is sets =
+        let acts = sets.acts in
+        let instant : least_instant (delays (m.values (Guarded section.Timer))) ≡ None
+        = ap (λ content. least_instant (delays content))
+        (agreed SetsAlarm acts.values acts.follows acts.is (Guarded section.Timer)
+        (owns_reads (storage app) (who m.running) m.running.held (Guarded section.Timer)
+        (owns_open (storage app) (who m.running) m.running.held section.Timer sets.inside)))
+        ∙ sets.least in
+        record {
+          core = record (core_of app.bits m) { processor = q; alarm = None };
+          shown = Some what.AlarmSet;
+          is = is;
+          may = (
+            turn,
+            gives_item SetsAlarm acts.values acts.follows acts.is
+                ∙ ap (λ o. Some (if is_due m.time o then what.Alarm else what.AlarmSet)) instant,
+          );
+          agrees = record {
+            moment = moment_behind app img thread m q n (acts.follows 0 m.values)
+                (reached (acts.follows 0 m.values) m.values);
+            core = refl;
+            state = acts_as SetsAlarm acts.values acts.follows acts.is
+                ∙ ap (λ o. alarm_set app o (state_of
+                (moment_behind app img thread m q n (acts.follows 0 m.values)
+                (reached (acts.follows 0 m.values) m.values)))) instant;
+            fits = acts_fit q n SetsAlarm 0 plain (changes_by _ _ is may) acts (λ vs. refl) (λ held. refl);
+          };
+        }

@@ -1,0 +1,87 @@
+-- The stack in use is within the bound: each level counts once, with what exception entry pushes and the greatest frame
+-- of its handlers.
+use Rattle.std.proofs.Common.{◌≡◌, ℕ, zero, suc, ◌+◌, ◌*◌, ◌^◌, ◌<◌, ◌≤◌, ◌⊎◌, inl, inr, true, if◌then◌else◌, List}
+use Rattle.std.proofs.Common.{[], ◌∷◌, length, sum_by, None, refl, ap, subst, ◌∙◌, arith}
+use Rattle.std.specs.List.{AllByRecursion}
+use Rattle.std.proofs.Math.Pow.{pow_mono}
+use Rattle.std.proofs.lemmas.Bool.{cases_lt}
+use Rattle.std.proofs.lemmas.List.Sums.{sum_by-cons}
+use Rattle.rt_lemmas.proofs.Membership.{all_weaker}
+use Rattle.rt_ids.specs.Priority.{hardware}
+use Rattle.rt_app.specs.Tree.{App}
+use Rattle.rt_app.specs.declared.costs.TheConstants.{PRIORITIES, ENTRY_BYTES}
+use Rattle.rt_app.specs.Stack.{thread_words, has_handler, need, level_bytes, bytes_below, stack_bytes}
+use Rattle.rt_code.specs.Image.{Image, entry_words}
+use Rattle.rt_code.specs.Stack as stack
+use Rattle.rt_core.specs.Core.{Context, context_words, used, depth}
+use Rattle.rt_sim.specs.Inside.Moment.{Part, Moment, irq_of, contexts, core_of, words_under}
+use Rattle.rt_sim.specs.Inside.Fits.{PartFits, IsStacked, Fits}
+
+-- no body is called, so each frame stands alone
+abbrev AreAlone : List Part → Type 0
+AreAlone ps = AllByRecursion (λ (q : Part). q.caller ≡ None) ps
+
+words_are : (bits entry irq value : ℕ) (ps : List Part) → AllByRecursion (λ (q : Part). q.caller ≡ None) ps
+    → sum_by (context_words entry) (contexts bits irq value ps) ≡ words_under entry ps
+words_are bits entry irq value [] alone = refl
+words_are bits entry irq value (q ∷ ps) alone =
+    let none : length (stack.words_of q.caller) ≡ 0 = ap (λ o. length (stack.words_of o)) alone.0 in
+    let more = words_are bits entry (irq_of q.role) (hardware bits q.priority) ps alone.1 in
+    let here : Context = record { irq = irq; value = value; address = q.address; slots = q.slots; caller = q.caller } in
+    sum_by-cons (context_words entry) here (contexts bits (irq_of q.role) (hardware bits q.priority) ps)
+    ∙ omega (arith, none, more)
+
+-- the greatest priority is below the number of priorities
+top_small : (b : ℕ) → b ≤ 7 → 2 ^ b ≤ 128
+top_small b many = let e : 2 ^ b ≤ 2 ^ 7 = pow_mono many in omega (arith, e)
+
+module _ (app : App) (img : Image) (thread : ℕ) where
+  pub used_is : (m : Moment) → Fits app img thread m
+      → used img (core_of app.bits m) ≡ length m.running.slots + words_under (entry_words img) m.below
+  used_is m fits =
+      let alone = all_weaker (PartFits app img thread m.cells m.queues m.values) (λ (q : Part). q.caller ≡ None)
+      (λ q f. f.own_frame) (m.running ∷ m.below) fits.parts in
+      let none : length (stack.words_of m.running.caller) ≡ 0 = ap (λ o. length (stack.words_of o)) alone.0 in
+      let more = words_are app.bits (entry_words img) (irq_of m.running.role)
+      (hardware app.bits m.running.priority) m.below alone.1 in
+      omega (arith, none, more)
+
+  level_counts : (p : ℕ) → bytes_below app (suc p) ≡ bytes_below app p + level_bytes app p
+  unfolding bytes_below
+  level_counts p = refl
+
+  bytes_rise : (a b : ℕ) → a ≤ b → bytes_below app a ≤ bytes_below app b
+  bytes_rise a zero less = let same : a ≡ zero = omega arith in
+      subst (λ n. bytes_below app a ≤ bytes_below app n) same (omega arith)
+  bytes_rise a (suc b) less = by (cases_lt b a) (bytes_rise a b)
+    where
+      by : (b < a) ⊎ (a ≤ b) → (a ≤ b → bytes_below app a ≤ bytes_below app b)
+          → bytes_below app a ≤ bytes_below app (suc b)
+      by (inl equal) before = let same : a ≡ suc b = omega arith in
+          subst (λ n. bytes_below app a ≤ bytes_below app n) same (omega arith)
+      by (inr low) before = omega (arith, before low, level_counts b)
+
+  level_is : (p : ℕ) → has_handler app p ≡ true → level_bytes app p ≡ ENTRY_BYTES + 4 * need app p
+  level_is p has = ap (λ b. if b then ENTRY_BYTES + 4 * need app p else 0) has
+
+  stack_within : (p : Part) (ps : List Part) → IsStacked app img thread p ps
+      → 4 * (length p.slots + words_under (entry_words img) ps) ≤ 4 * thread_words app + bytes_below app
+      (suc p.priority)
+  stack_within p [] is = omega (arith, is.frame)
+  stack_within p (q ∷ ps) is =
+      let before = stack_within q ps is.1 in
+      let rise = bytes_rise (suc q.priority) p.priority (omega (arith, is.0.above)) in
+      omega (arith, before, rise, level_counts p.priority, level_is p.priority is.0.handled, is.0.frame)
+
+  pub depth_within : app.bits ≤ 7 → (m : Moment) → Fits app img thread m
+      → depth img (core_of app.bits m) ≤ stack_bytes app
+  depth_within many m fits = by m.below fits.stack (used_is m fits)
+    where
+      by : (ps : List Part) → IsStacked app img thread m.running ps
+          → used img (core_of app.bits m) ≡ length m.running.slots + words_under (entry_words img) ps
+          → depth img (core_of app.bits m) ≤ stack_bytes app
+      by [] is used = omega (arith, is.frame, used)
+      by (q ∷ ps) is used =
+          let small : 2 ^ app.bits ≤ 128 = top_small app.bits many in
+          let rise = bytes_rise (suc m.running.priority) PRIORITIES (omega (arith, is.0.most, small)) in
+          omega (arith, used, rise, stack_within m.running (q ∷ ps) is)

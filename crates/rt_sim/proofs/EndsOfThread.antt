@@ -1,0 +1,237 @@
+-- `init` or `idle` ends: the thread goes on at its address, with `idle` from its beginning, or waits where that is
+-- absent.
+use Rattle.std.proofs.Common.{◌≡◌, ℕ, ◌||◌, inl, inr, true, false, List, [], ◌∷◌, ◌++◌, slice_index, Option, Some}
+use Rattle.std.proofs.Common.{None, refl, sym, ap, subst, ◌∙◌}
+use Rattle.rt_ids.specs.Holder.{Holder}
+use Rattle.rt_ids.specs.Content.{Values}
+use Rattle.rt_ids.specs.Action.{Ends}
+use Rattle.rt_ids.specs.Doing.{over}
+use Rattle.rt_ids.specs.Storage.{AtLevel}
+use Rattle.rt_ids.specs.declared.ids.BodyId.{BodyId}
+use Rattle.rt_ids.specs.declared.ids.BodyId.TheVariants as body
+use Rattle.rt_app.specs.Tree.{Body, App}
+use Rattle.rt_app.specs.BodyCost.{cost_measure, cost_of}
+use Rattle.rt_app.specs.Doings.{idle_doing}
+use Rattle.rt_app.specs.Holding.{storage, is_kept, is_constant, IsHeld}
+use Rattle.rt_build.specs.Image.{IdleStands}
+use Rattle.rt_code.specs.Image.{Image}
+use Rattle.rt_code.specs.Standing.{Finishes, HaveLeft, Stands, passed}
+use Rattle.rt_core.specs.Core.{Core}
+use Rattle.rt_core.specs.Leading.{with_processor, served, at_address}
+use Rattle.rt_core.specs.Stepping.{step}
+use Rattle.rt_trace.specs.Label.{Stepped}
+use Rattle.rt_trace.specs.declared.item.What.TheVariants as what
+use Rattle.rt_laws.specs.State.{Role, Init, Idle, Waiting, Serving, Job, State, reached}
+use Rattle.rt_laws.specs.Acting.{idling}
+use Rattle.rt_laws.specs.Allowed.{after}
+use Rattle.rt_laws.specs.Level.{candidate}
+use Rattle.rt_sim.specs.Inside.Moment.{Part, Moment, runner_of, spot_of, job_of, core_of, state_of}
+use Rattle.rt_sim.specs.Inside.Chains.{is_init, base_inside, mask_inside}
+use Rattle.rt_sim.specs.Inside.Sparing.{SparesAlways}
+use Rattle.rt_sim.specs.Inside.Fits.{who, Fits}
+use Rattle.rt_sim.specs.Inside.Agrees.{StepsBoth}
+use Rattle.rt_sim.proofs.Plain.{IsWorking, may_turn}
+use Rattle.rt_sim.proofs.Acts.{owns_alike, agrees_reached, gives_item, acts_as}
+use Rattle.rt_sim.proofs.Returns.{given_back}
+
+-- the thread as it begins `idle`, or waits, in this frame
+abbrev pub thread_part : App → Option Body → ℕ → List ℕ → Values → Part
+thread_part app None address slots vs = record {
+  role = Waiting;
+  priority = 0;
+  rest = over;
+  left = 0;
+  lefts = [];
+  held = [];
+  places = [];
+  address = address;
+  slots = slots;
+  caller = None;
+  steps = 0;
+}
+thread_part app (Some b) address slots vs = record {
+  role = Idle;
+  priority = 0;
+  rest = idle_doing app vs;
+  left = cost_of (cost_measure app) app.idle;
+  lefts = [];
+  held = [];
+  places = [];
+  address = address;
+  slots = slots;
+  caller = None;
+  steps = cost_of (cost_measure app) app.idle;
+}
+
+module _ (app : App) (img : Image) (thread : ℕ) (idle : IdleStands app img.code img.bodies thread app.idle)
+    (held_there : (p : ℕ) (h : Holder) → (is_kept app (AtLevel p) h || is_constant app (AtLevel p) h) ≡ true
+    → IsHeld app h)
+    (sparing : SparesAlways app (AtLevel 0) false [] (idle_doing app)) where
+  module _ (m : Moment) (fits : Fits app img thread (record m { below = [] })) (works : IsWorking m.running.role)
+      (none : candidate app (state_of (record m { below = [] })) ≡ None)
+      (left : HaveLeft (m.running.lefts ++ m.running.left ∷ []))
+      (b : BodyId) (ends : Finishes (storage app) img.code img.bodies thread (who m.running) (Ends b)
+      (passed (spot_of m.cells m.queues m.running))) where
+    abbrev m0 : Moment
+    m0 = record m { below = [] }
+
+    -- nothing is owned by a job then
+    all_spelled : (h : Holder) → IsHeld app h → (storage app).Spells h (slice_index m.cells) (m.queues h) (m.values h)
+    all_spelled h held = given_back app img thread (record m { below = [] }) fits works (Ends b) ends h held tt
+
+    abbrev moment_of : Option Body → Moment
+    moment_of o = record m {
+      running = thread_part app o thread m.running.slots m.values;
+      below = [];
+      primask = false;
+      values = reached (thread_part app o thread m.running.slots m.values).rest m.values;
+    }
+
+    fits_idle : (c : Body) → app.idle ≡ Some c → Fits app img thread (moment_of (Some c))
+    unfolding storage
+    fits_idle c is = record {
+      stack = record {
+        frame = fits.stack.frame;
+        role = inr (inl refl, refl);
+        greatest = λ e. absurd (cc (e));
+        saves =
+            tt;
+      };
+      parts = (
+        record {
+          stands = subst (λ cost. Stands (storage app) img.code img.bodies thread (AtLevel 0) cost
+              (record (spot_of m.cells m.queues (thread_part app (Some c) thread m.running.slots m.values)) {
+                lefts =
+                    cost ∷ [];
+              }))
+              (ap (cost_of (cost_measure app)) (sym is))
+              (subst (λ o. IdleStands app img.code img.bodies thread o) is idle m.running.slots m.cells m.queues
+              m.values fits.stack.frame fits.memory
+              (λ h reads. all_spelled h (held_there 0 h reads)));
+          agrees = agrees_reached app img thread (AtLevel 0) [] (idle_doing app m.values) m.values;
+          counted = refl;
+          sparing = (sparing m.values).1;
+          opened = tt;
+          kinds = tt;
+          empty = refl;
+          own_frame = refl;
+        },
+        tt,
+      );
+      spelled = λ h held away.
+          subst (λ content. (storage app).Spells h (slice_index m.cells) (m.queues h) content)
+          (sym ((sparing m.values).0 h (owns_alike app (AtLevel 0) false [] h ∙ away.0))) (all_spelled h held);
+      basepri = fits.basepri ∙ ap (λ held. base_inside app held 0) ends.closed;
+      primask = refl;
+      memory = fits.memory;
+      no_messages = fits.no_messages;
+      numbers = fits.numbers;
+    }
+
+    fits_waiting : app.idle ≡ None → Fits app img thread (moment_of None)
+    fits_waiting is = record {
+      stack = record {
+        frame = fits.stack.frame;
+        role = inr (inr refl, refl);
+        greatest = λ e. absurd (cc (e));
+        saves =
+            tt;
+      };
+      parts = (
+        record {
+          stands = record {
+            code = subst (λ o. IdleStands app img.code img.bodies thread o) is idle;
+            over =
+                refl;
+            closed = refl;
+            none = refl;
+          };
+          agrees = tt;
+          counted = refl;
+          sparing = tt;
+          opened = tt;
+          kinds = tt;
+          empty = refl;
+          own_frame = refl;
+        },
+        tt,
+      );
+      spelled = λ h held away. all_spelled h held;
+      basepri = fits.basepri ∙ ap (λ held. base_inside app held 0) ends.closed;
+      primask = refl;
+      memory = fits.memory;
+      no_messages = fits.no_messages;
+      numbers = fits.numbers;
+    }
+
+    fits_thread : (o : Option Body) → app.idle ≡ o → Fits app img thread (moment_of o)
+    fits_thread None is = fits_waiting is
+    fits_thread (Some c) is = fits_idle c is
+
+    idling_is : (o : Option Body) → idling app m.values o ≡ job_of (thread_part app o thread m.running.slots m.values)
+    idling_is None = refl
+    idling_is (Some c) = refl
+
+    core_is : (o : Option Body) → with_processor (core_of app.bits m0) (record
+        (core_of app.bits m0).processor { address = thread; primask = false }) ≡ core_of app.bits (moment_of o)
+    core_is None = ap (λ k. record (core_of app.bits (moment_of None)) { caller = k }) fits.parts.0.own_frame
+    core_is (Some c) = ap (λ k. record (core_of app.bits (moment_of (Some c))) { caller = k }) fits.parts.0.own_frame
+
+    abbrev State_of : Job → State
+    State_of j = record (state_of m0) { jobs = j ∷ []; values = reached j.rest m.values }
+
+    thread_goes_on : (c : Core) → c ≡ with_processor (core_of app.bits m0) (record
+        (core_of app.bits m0).processor { address = thread; primask = false })
+        → step img (core_of app.bits m0) ≡ (c, Some (what.End b))
+        → after app (state_of m0) (Stepped (Some (what.End b))) ≡ State_of (idling app m.values app.idle)
+        → StepsBoth app img thread (core_of app.bits m0) (state_of m0)
+    thread_goes_on c there is state_is = record {
+      core = c;
+      shown = Some (what.End b);
+      is = is;
+      may = (
+        may_turn app img thread m0 fits works none left,
+        gives_item app img thread m0 fits works
+            (Ends b) ends.values ends.follows ends.is,
+      );
+      agrees = record {
+        moment = moment_of app.idle;
+        core = there ∙ core_is app.idle;
+        state = state_is ∙ ap State_of (idling_is app.idle);
+        fits = fits_thread app.idle refl;
+      };
+    }
+
+  pub ends_init : (m : Moment) (fits : Fits app img thread (record m { below = [] })) (works : IsWorking m.running.role)
+      → candidate app (state_of (record m { below = [] })) ≡ None → HaveLeft (m.running.lefts ++ m.running.left ∷ [])
+      → Finishes (storage app) img.code img.bodies thread (who m.running) (Ends body.Init)
+      (passed (spot_of m.cells m.queues m.running))
+      → step img (core_of app.bits (record m { below = [] })) ≡
+      (served (core_of app.bits (record m { below = [] })) thread, Some (what.End body.Init))
+      → StepsBoth app img thread (core_of app.bits (record m { below = [] })) (state_of (record m { below = [] }))
+  ends_init m fits works none left ends is =
+      thread_goes_on m fits works none left body.Init ends _ refl is
+      (acts_as app img thread (record m { below = [] }) fits works
+      (Ends body.Init) ends.values ends.follows ends.is)
+
+  not_init : (role : Role) (p : ℕ) → runner_of role p ≡ AtLevel 0 → is_init role ≡ false
+  not_init Init p is = absurd (cc (is))
+  not_init Idle p is = refl
+  not_init Waiting p is = refl
+  not_init (Serving irq) p is = refl
+
+  pub ends_idle : (m : Moment) (fits : Fits app img thread (record m { below = [] })) (works : IsWorking m.running.role)
+      → candidate app (state_of (record m { below = [] })) ≡ None → HaveLeft (m.running.lefts ++ m.running.left ∷ [])
+      → who m.running ≡ AtLevel 0 → Finishes (storage app) img.code img.bodies thread (who m.running) (Ends body.Idle)
+      (passed (spot_of m.cells m.queues m.running))
+      → step img (core_of app.bits (record m { below = [] })) ≡
+      (at_address (core_of app.bits (record m { below = [] })) thread, Some (what.End body.Idle))
+      → StepsBoth app img thread (core_of app.bits (record m { below = [] })) (state_of (record m { below = [] }))
+  ends_idle m fits works none left low ends is =
+      let clear : m.primask ≡ false = fits.primask
+      ∙ ap (λ held. mask_inside app held (is_init m.running.role)) ends.closed
+      ∙ not_init m.running.role m.running.priority low in
+      let c : Core = core_of app.bits (record m { below = [] }) in
+      thread_goes_on m fits works none left body.Idle ends (at_address c thread)
+      (ap (λ k. with_processor c (record c.processor { address = thread; primask = k })) clear) is
+      (acts_as app img thread (record m { below = [] }) fits works (Ends body.Idle) ends.values ends.follows ends.is)

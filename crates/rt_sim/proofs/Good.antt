@@ -1,0 +1,180 @@
+-- Every image of an accepted application of hardware tasks is good.
+use Rattle.std.proofs.Common.{◌≡◌, ℕ, zero, suc, ◌^◌, ◌<◌, ◌≤◌, Bool, true, false, if◌then◌else◌, List, [], ◌∷◌}
+use Rattle.std.proofs.Common.{length, take, Some, None, refl, sym, ap, subst, arith}
+use Rattle.std.specs.List.{AllByRecursion}
+use Rattle.std.proofs.lemmas.Option.{none-some}
+use Rattle.rt_ids.specs.Event.{Event, Arrive, Tick, Step}
+use Rattle.rt_ids.specs.Action.{Action, Enters, Leaves, Emits, Posts, Clocks, Takes, Refuses, Readies, Starts, Frees}
+use Rattle.rt_ids.specs.Action.{Arms, Fires, SetsAlarm, Ends, Returns}
+use Rattle.rt_ids.specs.Content.{Values}
+use Rattle.rt_ids.specs.Doing.{Doing, over, does}
+use Rattle.rt_trace.specs.Label.{Label, Arrived, Ticked, Rang, Stepped, items_of}
+use Rattle.rt_trace.specs.declared.item.What.{What}
+use Rattle.rt_trace.specs.declared.item.What.TheVariants as what
+use Rattle.rt_app.specs.Tree.{App}
+use Rattle.rt_app.specs.Accepted.{IsAccepted}
+use Rattle.rt_app.specs.Acceptance.{IsSound}
+use Rattle.rt_app.specs.Handlers.{has_no_software, has_no_monotonic}
+use Rattle.rt_app.specs.Stack.{stack_bytes}
+use Rattle.rt_app.proofs.Sound.{accepted_are_sound}
+use Rattle.rt_build.specs.Image.{IsImageOf}
+use Rattle.rt_build.proofs.ImageCells.{resource_numbers}
+use Rattle.rt_code.specs.Image.{Image}
+use Rattle.rt_core.specs.Access.{access}
+use Rattle.rt_core.specs.Core.{Core, reset, depth}
+use Rattle.rt_core.specs.Trace.{core_after, labels}
+use Rattle.rt_core.proofs.Showing.{shows_its_events}
+use Rattle.rt_laws.specs.State.{Role, Init, Idle, Waiting, Serving, Job, State, first}
+use Rattle.rt_laws.specs.Giving.{gives, item_given, item_of, next_item, return_item, next_instant, is_due}
+use Rattle.rt_laws.specs.Allowed.{May, after}
+use Rattle.rt_laws.specs.ByItems.{after_all}
+use Rattle.rt_laws.specs.Run.{RunsOn}
+use Rattle.rt_laws.specs.Sight.{Sight, first_sight, sees}
+use Rattle.rt_laws.proofs.Well.{StateWell}
+use Rattle.rt_laws.proofs.Happens.{first_well, happens, after_well}
+use Rattle.rt_laws.proofs.Keeping.{runs_keep_laws}
+use Rattle.rt_sim.specs.Guarded.{sees_all, IsGuarded}
+use Rattle.rt_sim.specs.Good.{AreDeclared, IsNoTrap, RunsWell, ImagesAreGood}
+use Rattle.rt_sim.specs.Inside.Moment.{Moment, core_of, state_of}
+use Rattle.rt_sim.specs.Inside.Fits.{Fits}
+use Rattle.rt_sim.specs.Inside.Agrees.{StepsBoth}
+use Rattle.rt_sim.proofs.Access.{access_is_guarded}
+use Rattle.rt_sim.proofs.Bodies.{init_sparing, idle_sparing, task_sparing}
+use Rattle.rt_sim.proofs.Depth.{depth_within}
+use Rattle.rt_sim.proofs.Running.{Reaches, reaches}
+use Rattle.rt_sim.proofs.Starting.{agrees_first}
+use Rattle.rt_sim.proofs.Stepping.{step_both}
+
+-- Baker's machine never traps
+not_trap : (s : State) (role : Role) (rest : Doing Values) (k : ℕ) → next_item s role rest ≡ Some (what.Trap k) → ⊥
+not_trap s role over k is = none-some (what.Trap k) is
+not_trap s role (does action made next) k is = by action is
+  where
+    returned : (role : Role) → return_item role ≡ Some (what.Trap k) → ⊥
+    returned (Serving irq) is = cc (is)
+    returned Init is = cc (is)
+    returned Idle is = cc (is)
+    returned Waiting is = cc (is)
+
+    set : (b : Bool) → Some (if b then what.Alarm else what.AlarmSet) ≡ Some (what.Trap k) → ⊥
+    set true is = cc (is)
+    set false is = cc (is)
+
+    by : (action : Action) → item_of s role action ≡ Some (what.Trap k) → ⊥
+    by (Enters x cost) is = cc (is)
+    by (Leaves x) is = cc (is)
+    by (Emits v) is = cc (is)
+    by (Posts irq) is = cc (is)
+    by Clocks is = cc (is)
+    by (Takes n) is = cc (is)
+    by (Refuses n) is = cc (is)
+    by (Readies p m) is = cc (is)
+    by (Starts p m) is = cc (is)
+    by (Frees n) is = cc (is)
+    by (Arms i m) is = cc (is)
+    by (Fires m) is = cc (is)
+    by SetsAlarm is = set (is_due s.time (next_instant s)) is
+    by (Ends b) is = cc (is)
+    by Returns is = returned role is
+
+module _ (app : App) where
+  gives_no_trap : (s : State) (k : ℕ) → gives s ≡ Some (what.Trap k) → ⊥
+  gives_no_trap s k is = by s.jobs is
+    where
+      by : (jobs : List Job) → item_given s jobs ≡ Some (what.Trap k) → ⊥
+      by [] is = none-some (what.Trap k) is
+      by (job ∷ others) is = not_trap s job.role job.rest k is
+
+  no_reason : (s : State) (w : What) → May app s (Stepped (Some w)) → IsNoTrap w
+  no_reason s (what.Trap k) may = absurd (gives_no_trap s k may.1)
+  no_reason s _ may = tt
+
+  no_traps : (labels : List Label) (s : State) (n : ℕ) → RunsOn app s labels
+      → AllByRecursion (λ item. IsNoTrap item.what) (items_of n labels)
+  no_traps [] s n runs = tt
+  no_traps (Arrived irq ∷ labels) s n runs = (tt, no_traps labels (after app s (Arrived irq)) n runs.1)
+  no_traps (Ticked ∷ labels) s n runs = (tt, no_traps labels (after app s Ticked) n runs.1)
+  no_traps (Rang ∷ labels) s n runs = (tt, no_traps labels (after app s Rang) n runs.1)
+  no_traps (Stepped None ∷ labels) s n runs = no_traps labels (after app s (Stepped None)) (suc n) runs.1
+  no_traps (Stepped (Some w) ∷ labels) s n runs =
+      (no_reason s w runs.0, no_traps labels (after app s (Stepped (Some w))) (suc n) runs.1)
+
+  -- a front of events is declared
+  front_declared : (events : List Event) (n : ℕ) → AreDeclared app events → AreDeclared app (take n events)
+  front_declared events zero declared = tt
+  front_declared [] (suc n) declared = tt
+  front_declared (Arrive irq ∷ events) (suc n) declared = (declared.0, front_declared events n declared.1)
+  front_declared (Tick ∷ events) (suc n) declared = front_declared events n declared
+  front_declared (Step ∷ events) (suc n) declared = front_declared events n declared
+
+  -- what is seen of the jobs is so behind labels
+  well_after : IsAccepted app → (labels : List Label) (s : State) (v : Sight) → StateWell app s v
+      → RunsOn app s labels → StateWell app (after_all app s labels) (sees_all app v labels)
+  well_after accepted [] s v well runs = well
+  well_after accepted (label ∷ labels) s v well runs =
+      well_after accepted labels (after app s label) (sees app v label)
+      (after_well app accepted s v well label (happens app accepted s v well label runs.0)) runs.1
+
+front_short : (events : List Event) (n : ℕ) → length (take n events) ≤ length events
+front_short events zero = omega arith
+front_short [] (suc n) = omega arith
+front_short (e ∷ events) (suc n) = omega (arith, front_short events n)
+
+module _ (app : App) (img : Image) (accepted : IsAccepted app) (no_software : has_no_software app ≡ true)
+    (no_monotonic : has_no_monotonic app ≡ true) (is_image : IsImageOf app img) where
+  sound : IsSound app
+  sound = accepted_are_sound app accepted
+
+  steps_both : (m : Moment) → Fits app img is_image.at.idle m → m.time < 2 ^ 31
+      → StepsBoth app img is_image.at.idle (core_of app.bits m) (state_of m)
+  steps_both = step_both app img accepted sound no_software no_monotonic is_image
+      (resource_numbers app is_image.at img is_image.tables sound)
+      (idle_sparing app accepted sound no_software no_monotonic)
+      (task_sparing app accepted sound no_software no_monotonic)
+
+  reached_by : (events : List Event) → length events < 2 ^ 31 → AreDeclared app events
+      → Reaches app img is_image.at.idle steps_both (reset img) (first app) events
+  reached_by events few declared =
+      reaches app img is_image.at.idle steps_both events (reset img) (first app)
+      (agrees_first app img accepted sound no_software no_monotonic is_image
+      (init_sparing app accepted sound no_software no_monotonic)) (omega (arith, few)) declared
+
+  runs_well : (events : List Event) → length events < 2 ^ 31 → AreDeclared app events → RunsWell app img events
+  runs_well events few declared =
+      let whole = reached_by events few declared in
+      record {
+        runs = record {
+          labels = labels img (reset img) events;
+          shows = refl;
+          steps = whole.counts;
+          allowed =
+              whole.runs;
+        };
+        shows = shows_its_events img events;
+        laws = runs_keep_laws app accepted (labels img (reset img) events) whole.runs;
+        stack_within = λ n.
+            let part = reached_by (take n events) (omega (arith, few, front_short events n))
+            (front_declared app events n declared) in
+            subst (λ (c : Core). depth img c ≤ stack_bytes app) (sym part.agrees.core)
+            (depth_within app img is_image.at.idle accepted.limits.most_bits part.agrees.moment part.agrees.fits);
+        no_trap = no_traps app (labels img (reset img) events) (first app) 0 whole.runs;
+        guarded = λ n.
+            let front : List Event = take n events in
+            let short : length front < 2 ^ 31 = omega (arith, few, front_short events n) in
+            let part = reached_by front short (front_declared app events n declared) in
+            let well = well_after app accepted (labels img (reset img) front) (first app) (first_sight app)
+            (first_well app accepted) part.runs in
+            let v : Sight = sees_all app (first_sight app) (labels img (reset img) front) in
+            let early : part.agrees.moment.time < 2 ^ 31 =
+            let same : (core_after img (reset img) front).time ≡ part.agrees.moment.time =
+            ap (λ (c : Core). c.time) part.agrees.core in omega (arith, same, part.time, short) in
+            subst (λ (c : Core). IsGuarded app v.jobs (access img c)) (sym part.agrees.core)
+            (access_is_guarded app img is_image.at.idle part.agrees.moment part.agrees.fits v
+            (subst (λ s. StateWell app s v) part.agrees.state well) early);
+      }
+
+pub images_are_good : ImagesAreGood
+images_are_good app img accepted no_software no_monotonic is_image = record {
+  size = is_image.tables.stack;
+  each = runs_well app img accepted no_software no_monotonic is_image;
+}

@@ -1,0 +1,169 @@
+-- A step of the running job changes cells and values of its own alone, and so keeps what holds of the other jobs, and
+-- of
+-- what no job owns.
+use Rattle.std.proofs.Common.{◌≡◌, ◌≢◌, ℕ, ◌<◌, ◌==◌, ◌⊎◌, inl, inr, Bool, true, false, List, [], ◌∷◌, length}
+use Rattle.std.proofs.Common.{slice_index, Option, Some, None, refl, sym, subst, ◌∙◌, arith}
+use Rattle.std.specs.List.{AllByRecursion}
+use Rattle.std.proofs.lemmas.Bool.{eqb-true, eq-eqb}
+use Rattle.rt_lemmas.proofs.Bools.{true_and_false}
+use Rattle.rt_ids.specs.Holder.{Holder}
+use Rattle.rt_ids.specs.Content.{Content, Values}
+use Rattle.rt_ids.specs.Entry.{Entry, count}
+use Rattle.rt_ids.specs.Doing.{Doing, over, does}
+use Rattle.rt_ids.specs.Storage.{Runner, Home, At, In, Nowhere}
+use Rattle.rt_app.specs.Tree.{App}
+use Rattle.rt_app.specs.Holding.{storage}
+use Rattle.rt_code.specs.Access.{Access, Loads, Stores}
+use Rattle.rt_code.specs.Image.{Image}
+use Rattle.rt_code.specs.Owning.{Held, Spot, owns, MayLoad, MayStore, MayAccess}
+use Rattle.rt_code.specs.Standing.{Stands}
+use Rattle.rt_code.proofs.Others.{stands_others}
+use Rattle.rt_code.proofs.Touching.{index_same}
+use Rattle.rt_core.specs.Access.{access}
+use Rattle.rt_core.specs.Core.{Core}
+use Rattle.rt_core.specs.Stepping.{step}
+use Rattle.rt_core.proofs.Storing.{changes_its_cell_alone}
+use Rattle.rt_gen_body.proofs.Stored.{stored}
+use Rattle.rt_laws.specs.State.{Role, Init, Idle, Waiting, Serving}
+use Rattle.rt_sim.specs.Inside.Moment.{Part, spot_of}
+use Rattle.rt_sim.specs.Inside.Fits.{who, PartFits, StandsBy, AgreesWith, Owns, Reads, AreApart}
+
+-- a Bool is one of two
+either : (b : Bool) → (b ≡ true) ⊎ (b ≡ false)
+either true = inl refl
+either false = inr refl
+
+pub not_so : (b : Bool) → (b ≡ true → ⊥) → b ≡ false
+not_so true h = absurd (h refl)
+not_so false h = refl
+
+-- a cell is as before, or it belongs to what the job owns
+abbrev pub IsLeftOrOwned : App → Runner → List Held → List ℕ → List ℕ → ℕ → Type 0
+IsLeftOrOwned app runner held before after cell =
+    (slice_index after cell ≡ slice_index before cell)
+    ⊎ ((h : Holder) × ((storage app).home cell ≡ At h) × (owns (storage app) runner held h ≡ true))
+
+-- where a step may touch what the job may touch, and nothing is in its hands
+pub touches_its_own : (app : App) (img : Image) (c : Core) (runner : Runner) (s : Spot) → s.places ≡ []
+    → MayAccess (storage app) runner s (access img c) → (cell : ℕ)
+    → IsLeftOrOwned app runner s.held c.processor.cells (step img c).0.processor.cells cell
+touches_its_own app img c runner s empty may cell = by (access img c) refl may
+  where
+    left : (access img c ≢ Some (Stores cell))
+        → IsLeftOrOwned app runner s.held c.processor.cells (step img c).0.processor.cells cell
+    left differs = inl (index_same _ _ cell (changes_its_cell_alone img c cell differs))
+
+    of_home : (home : Home) → (storage app).home cell ≡ home → MayStore (storage app) runner s home
+        → IsLeftOrOwned app runner s.held c.processor.cells (step img c).0.processor.cells cell
+    of_home (At h) is may = inr (h, is, may)
+    of_home (In e) is may = absurd (let none : 0 < count e [] = subst (λ xs. 0 < count e xs) empty may in omega
+        (arith, none))
+    of_home Nowhere is may = absurd may
+
+    stored_at : (k : ℕ) (same : Bool) → (k == cell) ≡ same → access img c ≡ Some (Stores k)
+        → MayStore (storage app) runner s ((storage app).home k)
+        → IsLeftOrOwned app runner s.held c.processor.cells (step img c).0.processor.cells cell
+    stored_at k true same is may =
+        of_home ((storage app).home cell) refl (subst (λ n. MayStore (storage app) runner s ((storage app).home n))
+        (eqb-true k cell same) may)
+    stored_at k false same is may = left (λ e. let one : Some (Stores k) ≡ Some (Stores cell) = sym is ∙ e in
+        let number : k ≡ cell = cc (one) in true_and_false (k == cell) (eq-eqb k cell number) same)
+
+    by : (a : Option Access) → access img c ≡ a → MayAccess (storage app) runner s a
+        → IsLeftOrOwned app runner s.held c.processor.cells (step img c).0.processor.cells cell
+    by None is may = left (λ e. cc (is, e))
+    by (Some (Loads k)) is may = left (λ e. cc (is, e))
+    by (Some (Stores k)) is may = stored_at k (k == cell) refl is may
+
+module _ (app : App) (img : Image) (thread : ℕ) where
+  -- what holds of a job is kept by whoever leaves what it reads
+  pub part_kept : (cells after : List ℕ) (queues : Holder → List Entry) (values later : Values) (q : Part)
+      → PartFits app img thread cells queues values q → length after ≡ length cells
+      → ((cell : ℕ) → MayLoad (storage app) (who q) (spot_of cells queues q) ((storage app).home cell)
+      → slice_index after cell ≡ slice_index cells cell)
+      → ((h : Holder) → Reads app img thread q h ≡ true → later h ≡ values h)
+      → PartFits app img thread after queues later q
+  part_kept cells after queues values later q fits long touched same = record {
+    stands = stands q.role fits.stands;
+    agrees = agrees q.rest fits.agrees;
+    counted = fits.counted;
+    sparing = fits.sparing;
+    opened = fits.opened;
+    kinds = fits.kinds;
+    empty = fits.empty;
+    own_frame = fits.own_frame;
+  }
+    where
+      others : Stands (storage app) img.code img.bodies thread (who q) q.steps (spot_of cells queues q)
+          → Stands (storage app) img.code img.bodies thread (who q) q.steps (spot_of after queues q)
+      others s = stands_others (storage app) img.bodies thread (who q) (stored app) img.code q.steps
+          (spot_of cells queues q) after queues
+          (record { long = long; touched = touched; queued = λ h o. refl }) s
+
+      stands : (role : Role) → StandsBy app img thread role cells queues q → StandsBy app img thread role after queues q
+      stands Init s = others s
+      stands Idle s = others s
+      stands Waiting s = s
+      stands (Serving irq) s = others s
+
+      agrees : (rest : Doing Values) → AgreesWith app img thread (who q) q.held values rest
+          → AgreesWith app img thread (who q) q.held later rest
+      agrees over a = tt
+      agrees (does action made next) a = λ h r. same h r ∙ a h r
+
+  -- cells that a job leaves or owns, and values that it leaves or owns
+  abbrev pub ChangesItsOwn : Part → List ℕ → List ℕ → Type 0
+  ChangesItsOwn p before after = (cell : ℕ) → IsLeftOrOwned app (who p) p.held before after cell
+
+  abbrev pub ValuesItsOwn : Part → Values → Values → Type 0
+  ValuesItsOwn p before after = (h : Holder) → Owns app img thread p h ≡ false → after h ≡ before h
+
+  home_reads : (q : Part) (cells : List ℕ) (queues : Holder → List Entry) (cell : ℕ) (h : Holder)
+      → (storage app).home cell ≡ At h
+      → MayLoad (storage app) (who q) (spot_of cells queues q) ((storage app).home cell)
+      → Reads app img thread q h ≡ true
+  home_reads q cells queues cell h is may =
+      subst (λ home. MayLoad (storage app) (who q) (spot_of cells queues q) home) is may
+
+  others_kept_one : (p r : Part) (cells after : List ℕ) (queues : Holder → List Entry) (values later : Values)
+      (q : Part)
+      → AreApart app img thread p q → AreApart app img thread r q → length after ≡ length cells
+      → ChangesItsOwn p cells after → ValuesItsOwn r values later
+      → PartFits app img thread cells queues values q → PartFits app img thread after queues later q
+  others_kept_one p r cells after queues values later q apart other long changes kept fits =
+      part_kept cells after queues values later q fits long
+      (λ cell may. elim (changes cell) [
+        | inl same ↦ same
+        | inr owned ↦ absurd (apart.0 owned.0 owned.2 (home_reads q cells queues cell owned.0 owned.1 may))
+      ])
+      (λ h reads. kept h (not_so (Owns app img thread r h) (λ owns. other.0 h owns reads)))
+
+  -- all others are kept by a job that was apart from them with what it had and is with what it has
+  pub others_kept : (p r : Part) (cells after : List ℕ) (queues : Holder → List Entry) (values later : Values)
+      (qs : List Part)
+      → AllByRecursion (AreApart app img thread p) qs → AllByRecursion (AreApart app img thread r) qs
+      → length after ≡ length cells → ChangesItsOwn p cells after → ValuesItsOwn r values later
+      → AllByRecursion (PartFits app img thread cells queues values) qs
+      → AllByRecursion (PartFits app img thread after queues later) qs
+  others_kept p r cells after queues values later [] apart other long changes kept fits = tt
+  others_kept p r cells after queues values later (q ∷ qs) apart other long changes kept fits = (
+    others_kept_one p r cells after queues values later q apart.0 other.0 long changes kept fits.0,
+    others_kept p r cells after queues values later qs apart.1 other.1 long changes kept fits.1,
+  )
+
+  -- what a holder's cells spell is left by a job that does not own it
+  pub spelling_left : (p : Part) (cells after : List ℕ) (entries : List Entry) (content : Content) (h : Holder)
+      → entries ≡ [] → ChangesItsOwn p cells after
+      → Owns app img thread p h ≡ false → (storage app).Spells h (slice_index cells) entries content
+      → (storage app).Spells h (slice_index after) entries content
+  spelling_left p cells after entries content h none changes away spells =
+      stored app h (slice_index cells) (slice_index after) entries content (λ cell by. elim by [
+        | inl at ↦ elim (changes cell) [
+          | inl same ↦ same
+          | inr owned ↦ absurd (let one : At h ≡ At owned.0 = sym at ∙ owned.1 in let same : h ≡ owned.0 = cc (one) in
+              true_and_false (Owns app img thread p h)
+              (subst (λ x. Owns app img thread p x ≡ true) (sym same) owned.2) away)
+        ]
+        | inr place ↦ absurd (let some : 0 < count place.1.0 [] =
+            subst (λ xs. 0 < count place.1.0 xs) none place.1.2 in omega (arith, some))
+      ]) spells

@@ -1,0 +1,189 @@
+-- Behind a plain instruction of the running job the moment fits again, whatever its rest and its values are now.
+use Rattle.std.proofs.Common.{◌≡◌, ℕ, suc, ◌-◌, ◌<◌, Bool, List, [], ◌∷◌, ◌++◌, length, map, slice_index, None, refl}
+use Rattle.std.proofs.Common.{sym, ap, subst, ◌∙◌, arith}
+use Rattle.std.specs.List.{AllByRecursion}
+use Rattle.rt_lemmas.proofs.Lists.{all_front, all_behind}
+use Rattle.rt_ids.specs.Holder.{Holder}
+use Rattle.rt_ids.specs.Content.{Values}
+use Rattle.rt_ids.specs.Entry.{Entry}
+use Rattle.rt_ids.specs.Doing.{Doing}
+use Rattle.rt_app.specs.Tree.{App}
+use Rattle.rt_app.specs.Holding.{storage}
+use Rattle.rt_code.specs.Image.{Image}
+use Rattle.rt_code.specs.Owning.{Kind, Marked, Raised, Masked, Held, Spot, saved_slot, saved_slots}
+use Rattle.rt_code.specs.Processor.{Processor}
+use Rattle.rt_code.specs.Standing.{Stands, HaveLeft, KeepsSaved, moved, passed}
+use Rattle.rt_core.specs.Leading.{GoesPlainly, IsAt}
+use Rattle.rt_laws.specs.State.{Role, Init, Idle, Waiting, Serving}
+use Rattle.rt_laws.specs.Level.{candidate}
+use Rattle.rt_laws.specs.Allowed.{HasStep, Turn}
+use Rattle.rt_sim.specs.Inside.Moment.{Part, Moment, spot_of, sections_of, core_of, state_of}
+use Rattle.rt_sim.specs.Inside.Sparing.{IsSparing}
+use Rattle.rt_sim.specs.Inside.Chains.{base_inside, mask_inside, SavesBy, Saves}
+use Rattle.rt_sim.specs.Inside.Fits.{who, handles, AgreesWith, StandsBy, AreApart, IsStacked, Fits}
+use Rattle.rt_sim.proofs.Others.{ChangesItsOwn, ValuesItsOwn, others_kept, spelling_left}
+
+-- a job that runs code
+abbrev pub IsWorking : Role → Type 0
+IsWorking Waiting = ⊥
+IsWorking role = Unit {0}
+
+pub lefts_passed : (lefts : List ℕ) (left : ℕ)
+    → map (λ n. n - 1) (lefts ++ left ∷ []) ≡ map (λ n. n - 1) lefts ++ (left - 1) ∷ []
+lefts_passed [] left = refl
+lefts_passed (n ∷ lefts) left = ap (λ ns. (n - 1) ∷ ns) (lefts_passed lefts left)
+
+pub length-passed : (lefts : List ℕ) → length (map (λ n. n - 1) lefts) ≡ length lefts
+length-passed [] = refl
+length-passed (n ∷ lefts) = ap suc (length-passed lefts)
+
+module _ (app : App) where
+  -- what open sections keep is kept where their slots are
+  pub saves_kept : (slots after : List ℕ) (held : List Held) (base : ℕ) (mask : Bool) → KeepsSaved held slots after
+      → length after ≡ length slots
+      → Saves app slots held base mask → Saves app after held base mask
+  saves_kept slots after [] base mask kept long saves = tt
+  saves_kept slots after (h ∷ outer) base mask kept long saves = (
+    one h.kind (all_front _ (saved_slot h.kind) (saved_slots outer) kept) saves.0,
+    saves_kept slots after outer base mask (all_behind _ (saved_slot h.kind) (saved_slots outer) kept) long saves.1,
+  )
+    where
+      one : (kind : Kind) → AllByRecursion (λ d. slice_index after d ≡ slice_index slots d) (saved_slot kind)
+          → SavesBy app slots kind (base_inside app outer base) (mask_inside app outer mask)
+          → SavesBy app after kind (base_inside app outer base) (mask_inside app outer mask)
+      one Marked kept saves = tt
+      one (Raised slot) kept saves = (omega (arith, long, saves.0), kept.0 ∙ saves.1)
+      one (Masked slot) kept saves = (omega (arith, long, saves.0), kept.0 ∙ saves.1)
+
+module _ (app : App) (img : Image) (thread : ℕ) where
+  -- the running job a step further, in this frame, with this rest
+  abbrev pub advanced : Part → Processor → ℕ → Doing Values → Part
+  advanced p q n rest = record p {
+    rest = rest;
+    left = p.left - 1;
+    lefts = map (λ n. n - 1) p.lefts;
+    address = q.address;
+    slots = q.slots;
+    steps = n;
+  }
+
+  abbrev pub moment_behind : Moment → Processor → ℕ → Doing Values → Values → Moment
+  moment_behind m q n rest values = record m {
+    running = advanced m.running q n rest;
+    basepri = q.basepri;
+    primask = q.primask;
+    cells = q.cells;
+    values = values;
+  }
+
+  pub apart_of : (p : Part) (ps : List Part) → IsStacked app img thread p ps
+      → AllByRecursion (AreApart app img thread p) ps
+  apart_of p [] stack = tt
+  apart_of p (q ∷ ps) stack = stack.0.apart
+
+  pub stack_kept : (p : Part) (ps : List Part) (q : Processor) (n : ℕ) (rest : Doing Values)
+      → length q.slots ≡ length p.slots → KeepsSaved p.held p.slots q.slots
+      → IsStacked app img thread p ps → IsStacked app img thread (advanced p q n rest) ps
+  stack_kept p [] q n rest long kept is = record {
+    frame = long ∙ is.frame;
+    role = is.role;
+    greatest = is.greatest;
+    saves = saves_kept app p.slots q.slots p.held 0 _ kept long is.saves;
+  }
+  stack_kept p (o ∷ ps) q n rest long kept stack = (
+    record {
+      irq = stack.0.irq;
+      serves = stack.0.serves;
+      above = stack.0.above;
+      most = stack.0.most;
+      apart = stack.0.apart;
+      unmasked = stack.0.unmasked;
+      handled = stack.0.handled;
+      frame = omega (arith, long, stack.0.frame);
+      saves = saves_kept app p.slots q.slots p.held _ _ kept long stack.0.saves;
+    },
+    stack.1,
+  )
+
+  pub stands_by : (role : Role) → IsWorking role → (cells : List ℕ) (queues : Holder → List Entry) (p : Part)
+      → Stands (storage app) img.code img.bodies thread (who p) p.steps (spot_of cells queues p)
+      → StandsBy app img thread role cells queues p
+  stands_by Init works cells queues p s = s
+  stands_by Idle works cells queues p s = s
+  stands_by Waiting works cells queues p s = absurd works
+  stands_by (Serving irq) works cells queues p s = s
+
+  pub stands_of : (role : Role) → IsWorking role → (cells : List ℕ) (queues : Holder → List Entry) (p : Part)
+      → StandsBy app img thread role cells queues p
+      → Stands (storage app) img.code img.bodies thread (who p) p.steps (spot_of cells queues p)
+  stands_of Init works cells queues p s = s
+  stands_of Idle works cells queues p s = s
+  stands_of Waiting works cells queues p s = absurd works
+  stands_of (Serving irq) works cells queues p s = s
+
+  module _ (m : Moment) (fits : Fits app img thread m) (works : IsWorking m.running.role) where
+    spot : Spot
+    spot = spot_of m.cells m.queues m.running
+
+    -- what a plain instruction leads to, where what is left and the values are these
+    pub plain_fits : (q : Processor) (n : ℕ) (rest : Doing Values) (values : Values)
+        → GoesPlainly (spot_of m.cells m.queues m.running) (core_of app.bits m).processor q
+        → ChangesItsOwn app img thread m.running m.cells q.cells
+        → ValuesItsOwn app img thread m.running m.values values
+        → Stands (storage app) img.code img.bodies thread (who m.running) n
+        (record (moved (passed (spot_of m.cells m.queues m.running)) q) { rest = rest })
+        → AgreesWith app img thread (who m.running) m.running.held values rest
+        → IsSparing app (who m.running) (handles m.running.role) (sections_of m.running.held) rest
+        → Fits app img thread (moment_behind m q n rest values)
+    plain_fits q n rest values plain changes kept stands agrees sparing = record {
+      stack = stack_kept m.running m.below q n rest plain.frame plain.saved fits.stack;
+      parts = (
+        record {
+          stands = stands_by m.running.role works q.cells m.queues (advanced m.running q n rest)
+              (subst (λ ls. Stands (storage app) img.code img.bodies thread (who m.running) n
+              (record (spot_of q.cells m.queues (advanced m.running q n rest)) { lefts = ls }))
+              (lefts_passed m.running.lefts m.running.left) stands);
+          agrees = agrees;
+          counted = length-passed m.running.lefts ∙ fits.parts.0.counted;
+          sparing = sparing;
+          opened = fits.parts.0.opened;
+          kinds = fits.parts.0.kinds;
+          empty = fits.parts.0.empty;
+          own_frame = fits.parts.0.own_frame;
+        },
+        others_kept app img thread m.running m.running m.cells q.cells m.queues m.values values m.below
+            (apart_of m.running m.below fits.stack)
+            (apart_of m.running m.below fits.stack) plain.memory changes kept fits.parts.1,
+      );
+      spelled = λ h held away.
+          subst (λ content. (storage app).Spells h (slice_index q.cells) (m.queues h) content) (sym (kept h away.0))
+          (spelling_left app img thread m.running m.cells q.cells (m.queues h) (m.values h) h
+          (fits.no_messages h) changes away.0 (fits.spelled h held away));
+      basepri = plain.basepri ∙ fits.basepri;
+      primask = plain.primask ∙ fits.primask;
+      memory = plain.memory ∙ fits.memory;
+      no_messages = fits.no_messages;
+      numbers = fits.numbers;
+    }
+
+    -- the running job may take a step
+    pub may_turn : candidate app (state_of m) ≡ None → HaveLeft (m.running.lefts ++ m.running.left ∷ [])
+        → Turn app (state_of m)
+    may_turn none left = record {
+      not_owing = refl;
+      quiet = none;
+      step = (
+        has m.running.role works (all_behind _ m.running.lefts (m.running.left ∷ []) left).0,
+        all_front _ m.running.lefts (m.running.left ∷ []) left,
+      );
+    }
+      where
+        has : (role : Role) → IsWorking role → 0 < m.running.left → HasStep role m.running.left
+        has Init works some = some
+        has Idle works some = some
+        has Waiting works some = absurd works
+        has (Serving irq) works some = some
+
+    -- the core is where the running job is
+    pub is_at : IsAt (core_of app.bits m) (spot_of m.cells m.queues m.running)
+    is_at = record { address = refl; slots = refl; cells = refl; caller = refl }

@@ -1,0 +1,147 @@
+-- What the bodies of an accepted application have left to do is sparing: they change only what they own, and enter only
+-- sections of resources that there are.
+use Rattle.std.proofs.Common.{◌≡◌, ℕ, zero, suc, ◌+◌, ◌-◌, ◌==◌, Bool, true, false, if◌then◌else◌, List, [], ◌∷◌}
+use Rattle.std.proofs.Common.{◌++◌, map, replicate, slice_set, refl, ap, ◌∙◌}
+use Rattle.std.proofs.lemmas.Bool.{eqb-true}
+use Rattle.rt_lemmas.proofs.Bools.{true_and_false}
+use Rattle.rt_ids.specs.Lists.{or_zero}
+use Rattle.rt_ids.specs.Holder.{Holder, Guarded, Own, is_same_holder}
+use Rattle.rt_ids.specs.Content.{Content, Values, Number, put_at}
+use Rattle.rt_ids.specs.Action.{Action, Enters, Leaves, Emits, Posts}
+use Rattle.rt_ids.specs.Doing.{Doing, over, does}
+use Rattle.rt_ids.specs.Storage.{Runner}
+use Rattle.rt_ids.specs.declared.ids.Section.{Section}
+use Rattle.rt_ids.specs.declared.ids.Section.TheVariants as section
+use Rattle.rt_app.specs.declared.expr.Atom.{Atom}
+use Rattle.rt_app.specs.declared.expr.Atom.TheVariants as atom
+use Rattle.rt_app.specs.Tree.{Spawn, Calc, Now, Call, Statement, Bind, Assign, Branch, Repeat, Locked, Emit, Pend}
+use Rattle.rt_app.specs.Tree.{Spawns, Block, Empty, Then, Body, App}
+use Rattle.rt_app.specs.Variables.{variables, variables_in}
+use Rattle.rt_app.specs.Bodies.{Member}
+use Rattle.rt_app.specs.Cost.{lock_cost, block_cost}
+use Rattle.rt_app.specs.BodyCost.{cost_measure}
+use Rattle.rt_app.specs.Doings.{nothing, body_doing}
+use Rattle.rt_app.specs.Handlers.{irq_number}
+use Rattle.rt_app.specs.Meaning.{Later, value_in, assign, turns_from, run, run_block}
+use Rattle.rt_app.specs.Sending.{Rest, act}
+use Rattle.rt_app.specs.Sound.{IsReached, IsChangeable, IsSoundSpawn, IsSoundStatement, IsSoundBlock}
+use Rattle.rt_code.proofs.Mine.{one_section}
+use Rattle.rt_sim.specs.Inside.Sparing.{owns_in, held_after, IsActionOf, Spares, IsSparing, SparesAlways}
+
+-- the sections of locks of these resources
+abbrev pub sections_locked : List ℕ → List Section
+sections_locked locked = map section.Res locked
+
+same_holder : (g h : Holder) → is_same_holder g h ≡ true → g ≡ h
+same_holder (Guarded a) (Guarded b) is = ap (λ x. Guarded x) (one_section a b is)
+same_holder (Guarded a) (Own n) is = absurd (cc (is))
+same_holder (Own n) (Guarded b) is = absurd (cc (is))
+same_holder (Own n) (Own k) is = ap (λ j. Own j) (eqb-true n k is)
+
+module _ (app : App) (who : Runner) (handles : Bool) (m : Member)
+    (owns_resource : (locked fixed : List ℕ) (r : ℕ) → IsReached app m locked (atom.Shared r)
+    → IsChangeable app m fixed (atom.Shared r)
+    → owns_in app who handles (sections_locked locked) (Guarded (section.Res r)) ≡ true)
+    (owns_local : (locked : List ℕ) (n : ℕ) → IsReached app m locked (atom.Local n)
+    → owns_in app who handles (sections_locked locked) (Own n) ≡ true)
+    (no_spawn : (locked : List ℕ) (s : Spawn) → IsSoundSpawn app m locked s → ⊥) where
+  abbrev Sparing : List ℕ → Rest → Type 0
+  Sparing locked rest = SparesAlways app who handles (sections_locked locked) rest
+
+  abbrev SparingLater : List ℕ → Later → Type 0
+  SparingLater locked later = (vars : List ℕ) → SparesAlways app who handles (sections_locked locked) (later vars)
+
+  -- an action on which another rest follows
+  pub act_sparing : (held : List Section) (action : Action) (rest : Rest) → IsActionOf app who handles action
+      → SparesAlways app who handles (held_after app who handles held action) rest
+      → SparesAlways app who handles held (act action rest)
+  act_sparing held action rest is later vs = (λ h away. refl, (is, λ n ws. later ws))
+
+  -- what is put at something owned is sparing, where what follows is
+  put_sparing : (held : List Section) (g : Holder) (content : Content) (rest : Doing Values) (vs : Values)
+      → owns_in app who handles held g ≡ true
+      → Spares app who handles held (put_at vs g content) rest → Spares app who handles held vs rest
+  put_sparing held g content over vs owned spares = λ h away. refl
+  put_sparing held g content (does action made next) vs owned spares = λ h away. spares h away
+      ∙ beside h away (is_same_holder g h) refl
+    where
+      beside : (h : Holder) → owns_in app who handles held h ≡ false → (b : Bool) → is_same_holder g h ≡ b
+          → (if b then content else vs h) ≡ vs h
+      beside h away true same = absurd (true_and_false _ owned
+          (ap (owns_in app who handles held) (same_holder g h same) ∙ away))
+      beside h away false same = refl
+
+  turns_sparing : (locked : List ℕ) (n x i : ℕ) (turn : Later → Later) (later : Later)
+      → ((next : Later) → SparingLater locked next → SparingLater locked (turn next))
+      → SparingLater locked later → SparingLater locked (turns_from n x i turn later)
+  turns_sparing locked zero x i turn later each fine vars = fine (slice_set vars x i)
+  turns_sparing locked (suc n) x i turn later each fine vars =
+      each (turns_from n x (suc i) turn later) (turns_sparing locked n x (suc i) turn later each fine)
+      (slice_set vars x i)
+
+  assign_sparing : (locked fixed : List ℕ) (x : Atom) (n : ℕ) (later : Later) → IsReached app m locked x
+      → IsChangeable app m fixed x
+      → SparingLater locked later → SparingLater locked (assign x n later)
+  assign_sparing locked fixed (atom.Var x) n later reach change fine vars vs = fine (slice_set vars x n) vs
+  assign_sparing locked fixed (atom.Shared r) n later reach change fine vars vs =
+      let after = fine vars (put_at vs (Guarded (section.Res r)) (Number n)) in (
+        put_sparing (sections_locked locked) (Guarded (section.Res r)) (Number n)
+            (later vars (put_at vs (Guarded (section.Res r)) (Number n))) vs
+            (owns_resource locked fixed r reach change) after.0,
+        after.1,
+      )
+  assign_sparing locked fixed (atom.Local l) n later reach change fine vars vs =
+      let after = fine vars (put_at vs (Own l) (Number n)) in (
+        put_sparing (sections_locked locked) (Own l) (Number n) (later vars (put_at vs (Own l) (Number n))) vs
+            (owns_local locked l reach) after.0,
+        after.1,
+      )
+
+  mutual
+    statement_sparing : (s : Statement) (n : ℕ) (locked fixed : List ℕ) (later : Later)
+        → IsSoundStatement app m n locked fixed s → SparingLater locked later → SparingLater locked (run app s later)
+    statement_sparing (Bind x (Calc e)) n locked fixed later sound fine =
+        λ vars vs. fine (slice_set vars x (value_in vars vs e)) vs
+    statement_sparing (Bind x (Now at)) n locked fixed later sound fine =
+        λ vars vs. (λ h away. refl, (tt, λ time ws. fine (slice_set vars x time) ws))
+    statement_sparing (Bind x (Call s)) n locked fixed later sound fine = absurd (no_spawn locked s sound.1)
+    statement_sparing (Assign x e at) n locked fixed later sound fine =
+        λ vars vs. assign_sparing locked fixed x (value_in vars vs e) later sound.0 sound.1 fine vars vs
+    statement_sparing (Branch e first second) n locked fixed later sound fine = λ vars vs.
+        elim (value_in vars vs e == 0) as (λ b. Spares app who handles (sections_locked locked) vs
+        (if b then run_block app second later vars vs else run_block app first later vars vs)
+        × IsSparing app who handles (sections_locked locked)
+        (if b then run_block app second later vars vs else run_block app first later vars vs)) [
+          | true ↦ block_sparing second (n + variables first) locked fixed later sound.2 fine vars vs
+          | false ↦ block_sparing first n locked fixed later sound.1 fine vars vs
+        ]
+    statement_sparing (Repeat x first last turn) n locked fixed later sound fine =
+        turns_sparing locked (last - first) x first (run_block app turn) later
+        (λ next good. block_sparing turn (n + 1) locked (x ∷ fixed) next sound.4 good) fine
+    statement_sparing (Locked r inner at) n locked fixed later sound fine = λ vars.
+        act_sparing (sections_locked locked) (Enters (section.Res r)
+        (lock_cost (block_cost (cost_measure app) inner))) _ sound.0.is_there
+        (block_sparing inner n (r ∷ locked) fixed _ sound.1
+        (λ vars. act_sparing (section.Res r ∷ sections_locked locked) (Leaves (section.Res r)) (later vars) tt
+        (fine vars)) vars)
+    statement_sparing (Emit e) n locked fixed later sound fine =
+        λ vars vs. act_sparing (sections_locked locked) (Emits (value_in vars vs e)) (later vars) tt (fine vars) vs
+    statement_sparing (Pend i) n locked fixed later sound fine =
+        λ vars. act_sparing (sections_locked locked) (Posts (or_zero (irq_number app i))) (later vars) tt (fine vars)
+    statement_sparing (Spawns s) n locked fixed later sound fine = absurd (no_spawn locked s sound)
+
+    pub block_sparing : (b : Block) (n : ℕ) (locked fixed : List ℕ) (later : Later)
+        → IsSoundBlock app m n locked fixed b → SparingLater locked later → SparingLater locked (run_block app b later)
+    block_sparing Empty n locked fixed later sound fine = fine
+    block_sparing (Then s rest) n locked fixed later sound fine =
+        statement_sparing s n locked fixed (run_block app rest later) sound.0
+        (block_sparing rest (n + variables_in s) locked fixed later sound.1 fine)
+
+  -- a whole body with a last action
+  pub body_sparing : (b : Body) (args : List ℕ) (last : Action) → IsSoundBlock app m m.args [] [] b.block
+      → IsActionOf app who handles last
+      → held_after app who handles [] last ≡ []
+      → SparesAlways app who handles [] (body_doing app b args (act last nothing))
+  body_sparing b args last sound is closed =
+      block_sparing b.block m.args [] [] (λ vars. act last nothing) sound
+      (λ vars. act_sparing [] last nothing is (λ vs. (λ h away. refl, tt))) (args ++ replicate (variables b.block) 0)

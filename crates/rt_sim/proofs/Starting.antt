@@ -1,0 +1,163 @@
+-- Both machines begin alike: the reset state of an image is the first state of Baker's machine, in a moment that fits.
+use Rattle.std.proofs.Common.{◌≡◌, ℕ, ◌^◌, ◌&&◌, ◌||◌, inl, nat_lt, Bool, true, false, is_none, List, [], ◌∷◌, length}
+use Rattle.std.proofs.Common.{map, replicate, slice_get, slice_index, Option, Some, None, IsSome, Contains, refl, sym}
+use Rattle.std.proofs.Common.{ap, subst, ◌∙◌}
+use Rattle.std.proofs.lemmas.Bool.{ltb-true}
+use Rattle.std.proofs.lemmas.List.{length-replicate, length-map}
+use Rattle.rt_lemmas.proofs.Bools.{and_right, true_and_false}
+use Rattle.rt_lemmas.proofs.Membership.{any_one, contains_none}
+use Rattle.rt_ids.specs.Holder.{Holder, Guarded, Own}
+use Rattle.rt_ids.specs.Storage.{Starting}
+use Rattle.rt_ids.specs.declared.ids.Section.TheVariants as section
+use Rattle.rt_ids.specs.declared.limits.TheConstants.{IRQ_NUMBERS}
+use Rattle.rt_app.specs.declared.app.Mono.{Mono}
+use Rattle.rt_app.specs.Tree.{App}
+use Rattle.rt_app.specs.Accepted.{IsAccepted}
+use Rattle.rt_app.specs.Acceptance.{IsSound}
+use Rattle.rt_app.specs.Bodies.{members}
+use Rattle.rt_app.specs.BodyCost.{cost_measure, cost_of}
+use Rattle.rt_app.specs.Declarations.{owns}
+use Rattle.rt_app.specs.Doings.{init_doing}
+use Rattle.rt_app.specs.Handlers.{has_no_software, has_no_monotonic}
+use Rattle.rt_app.specs.Holding.{storage, Spells, is_kept, is_constant, IsHeld}
+use Rattle.rt_app.specs.Layout.{Cell, memory, row_of}
+use Rattle.rt_app.specs.Level.{is_software}
+use Rattle.rt_app.specs.Statements.{is_init}
+use Rattle.rt_app.proofs.LaidFirst.{spelled_first}
+use Rattle.rt_app.proofs.Unbroken.{is_one_that}
+use Rattle.rt_build.specs.Image.{IsImageOf}
+use Rattle.rt_code.specs.Image.{Image}
+use Rattle.rt_code.specs.Standing.{Stands}
+use Rattle.rt_core.specs.Core.{reset}
+use Rattle.rt_laws.specs.State.{Init, first, first_values, reached}
+use Rattle.rt_sim.specs.Inside.Moment.{Part, Moment, spot_of}
+use Rattle.rt_sim.specs.Inside.Sparing.{SparesAlways}
+use Rattle.rt_sim.specs.Inside.Fits.{Fits}
+use Rattle.rt_sim.specs.Inside.Agrees.{Agrees}
+use Rattle.rt_sim.proofs.Acts.{owns_alike, agrees_reached}
+use Rattle.rt_sim.proofs.Choosing.{not_software, no_levels}
+use Rattle.rt_sim.proofs.Keepers.{local_held}
+
+module _ (app : App) (img : Image) (accepted : IsAccepted app) (sound : IsSound app)
+    (no_software : has_no_software app ≡ true) (no_monotonic : has_no_monotonic app ≡ true)
+    (is_image : IsImageOf app img) (sparing : SparesAlways app Starting false [] (init_doing app)) where
+  abbrev cells_first : List ℕ
+  cells_first = map (λ cell. cell.first) img.cells
+
+  abbrev first_part : Part
+  first_part = record {
+    role = Init;
+    priority = 2 ^ app.bits;
+    rest = init_doing app (first_values app);
+    left = cost_of (cost_measure app) app.init;
+    lefts = [];
+    held = [];
+    places = [];
+    address = 0;
+    slots = replicate img.thread_words 0;
+    caller = None;
+    steps = cost_of (cost_measure app) app.init;
+  }
+
+  abbrev first_moment : Moment
+  first_moment = record {
+    running = first_part;
+    below = [];
+    time = 0;
+    pending = replicate IRQ_NUMBERS false;
+    basepri = 0;
+    primask = true;
+    cells = cells_first;
+    queues = λ h. [];
+    values = reached (init_doing app (first_values app)) (first_values app);
+  }
+
+  cells_are : cells_first ≡ map (λ cell. cell.first) (memory app)
+  cells_are = ap (λ cells. map (λ cell. cell.first) cells) is_image.tables.cells ∙ firsts (memory app)
+    where
+      firsts : (cells : List Cell) → map (λ cell. cell.first) (map row_of cells) ≡ map (λ cell. cell.first) cells
+      firsts [] = refl
+      firsts (c ∷ cells) = ap (λ ns. c.first ∷ ns) (firsts cells)
+
+  -- after reset each holder's cells spell what it first holds
+  all_first : (h : Holder) → IsHeld app h → (storage app).Spells h (slice_index cells_first) [] (first_values app h)
+  unfolding storage
+  all_first (Guarded (section.Res r)) has =
+      subst (λ cells. IsHeld app (Guarded (section.Res r))
+      × Spells app (slice_index cells) (Guarded (section.Res r)) [] (first_values app (Guarded (section.Res r))))
+      (sym cells_are)
+      (has, spelled_first app (Guarded (section.Res r)) has)
+  all_first (Guarded (section.Free n)) has =
+      absurd (let one = is_one_that is_software (slice_get app.tasks n) has in
+      true_and_false _ one.2 (not_software app no_software no_monotonic n one.0 one.1))
+  all_first (Guarded (section.Ready p)) has =
+      absurd (contains_none p (subst (λ ps. Contains ps p) (no_levels app no_software no_monotonic) has))
+  all_first (Guarded section.Timer) has = absurd (by app.mono no_monotonic has)
+    where
+      by : (o : Option Mono) → is_none o ≡ true → IsSome o → ⊥
+      by None is some = cc (some)
+      by (Some mono) is some = cc (is)
+  all_first (Own n) has =
+      subst (λ cells. IsHeld app (Own n) × Spells app (slice_index cells) (Own n) [] (first_values app (Own n)))
+      (sym cells_are) (has, spelled_first app (Own n) has)
+
+  -- what `init` keeps is there
+  kept_by_init : (h : Holder) → (is_kept app Starting h || is_constant app Starting h) ≡ true → IsHeld app h
+  kept_by_init (Guarded (section.Res r)) is = ltb-true r (length app.shared) (plain (nat_lt r (length app.shared)) is)
+    where
+      plain : (b : Bool) → (b || false) ≡ true → b ≡ true
+      plain true is = refl
+      plain false is = is
+  kept_by_init (Guarded (section.Free n)) is = absurd (cc (is))
+  kept_by_init (Guarded (section.Ready p)) is = absurd (cc (is))
+  kept_by_init (Guarded section.Timer) is = absurd (cc (is))
+  kept_by_init (Own n) is =
+      let one = any_one (λ m. is_init m.id && owns n m) (members app) (plain _ is) in
+      local_held app accepted sound one.1 one.0 n one.2 (and_right (is_init one.1.id) (owns n one.1) one.3)
+    where
+      plain : (b : Bool) → (b || false) ≡ true → b ≡ true
+      plain true is = refl
+      plain false is = is
+
+  stands : Stands (storage app) img.code img.bodies is_image.at.idle Starting (cost_of (cost_measure app) app.init)
+      (record (spot_of cells_first (λ h. []) first_part) { rest = init_doing app (first_values app) })
+  unfolding storage
+  stands = is_image.code.init (replicate img.thread_words 0) cells_first (λ h. []) (first_values app)
+      (length-replicate img.thread_words 0 ∙ is_image.tables.thread)
+      (ap length cells_are ∙ length-map (memory app) (λ cell. cell.first))
+      (λ h reads. all_first h (kept_by_init h reads))
+
+  pub fits_first : Fits app img is_image.at.idle first_moment
+  fits_first = record {
+    stack = record {
+      frame = length-replicate img.thread_words 0 ∙ is_image.tables.thread;
+      role = inl refl;
+      greatest = λ e. refl;
+      saves = tt;
+    };
+    parts = (
+      record {
+        stands = stands;
+        agrees = agrees_reached app img is_image.at.idle Starting [] (init_doing app (first_values app))
+            (first_values app);
+        counted = refl;
+        sparing = (sparing (first_values app)).1;
+        opened = tt;
+        kinds = tt;
+        empty = refl;
+        own_frame = refl;
+      },
+      tt,
+    );
+    spelled = λ h held away.
+        subst (λ content. (storage app).Spells h (slice_index cells_first) [] content)
+        (sym ((sparing (first_values app)).0 h (owns_alike app Starting false [] h ∙ away.0))) (all_first h held);
+    basepri = refl;
+    primask = refl;
+    memory = ap length cells_are ∙ length-map (memory app) (λ cell. cell.first);
+    no_messages = λ h. refl;
+    numbers = length-replicate IRQ_NUMBERS false;
+  }
+
+  pub agrees_first : Agrees app img is_image.at.idle (reset img) (first app)
+  agrees_first = record { moment = first_moment; core = refl; state = refl; fits = fits_first }

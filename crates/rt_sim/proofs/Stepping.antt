@@ -1,0 +1,260 @@
+-- A core step is a step of Baker's machine, from every moment that fits: an interrupt is taken, the thread waits, or
+-- the
+-- running job goes on.
+use Rattle.std.proofs.Common.{◌≡◌, ℕ, suc, ◌-◌, ◌+◌, ◌*◌, ◌/◌, ◌^◌, ◌<◌, ◌≤◌, nat_le, true, false, if◌then◌else◌}
+use Rattle.std.proofs.Common.{List, [], ◌∷◌, ◌++◌, length, map, replicate, slice_get, Option, Some, None, option_map}
+use Rattle.std.proofs.Common.{is_none, refl, sym, ap, subst, ◌∙◌, arith}
+use Rattle.std.specs.List.{AllByRecursion}
+use Rattle.std.proofs.lemmas.Bool.{le-leb}
+use Rattle.std.proofs.lemmas.List.{length-replicate}
+use Rattle.rt_lemmas.proofs.Lists.{find_has}
+use Rattle.rt_ids.specs.Lists.{or_zero, then_from}
+use Rattle.rt_ids.specs.Action.{Returns}
+use Rattle.rt_ids.specs.Storage.{AtLevel}
+use Rattle.rt_app.specs.declared.app.Mono.{Mono}
+use Rattle.rt_app.specs.Tree.{Task, App}
+use Rattle.rt_app.specs.Frame.{frame_words}
+use Rattle.rt_app.specs.Accepted.{IsAccepted}
+use Rattle.rt_app.specs.Acceptance.{IsSound}
+use Rattle.rt_app.specs.Doings.{nothing, idle_doing, task_doing}
+use Rattle.rt_app.specs.Handlers.{Service, Runs, services, irq_number, has_no_software, has_no_monotonic}
+use Rattle.rt_app.specs.Holding.{storage}
+use Rattle.rt_app.specs.Level.{is_software}
+use Rattle.rt_app.specs.Sending.{act}
+use Rattle.rt_build.specs.Image.{Entries, IsImageOf, handler_row, handler_words, body_rows}
+use Rattle.rt_code.specs.Cells.{resource_cell}
+use Rattle.rt_code.specs.Image.{Image, entry_words}
+use Rattle.rt_code.specs.declared.image.IrqRow.{IrqRow}
+use Rattle.rt_code.specs.declared.image.Handler as row
+use Rattle.rt_core.specs.Core.{Core, depth, used}
+use Rattle.rt_core.specs.Outcome.{Trapped, Done, settle}
+use Rattle.rt_core.specs.Priority.{pick}
+use Rattle.rt_core.specs.Transfer.{has_room, enter, entered}
+use Rattle.rt_core.proofs.Happening.{steps_by_cause}
+use Rattle.rt_code.specs.declared.processor.Trap.TheVariants as trap
+use Rattle.rt_trace.specs.declared.item.What.TheVariants as what
+use Rattle.rt_laws.specs.Services.{service_at, priority_of}
+use Rattle.rt_laws.specs.State.{Role, Init, Idle, Waiting, Serving}
+use Rattle.rt_laws.specs.Level.{candidate, level}
+use Rattle.rt_laws.specs.Allowed.{HasStep}
+use Rattle.rt_laws.proofs.Pending.{starts_above}
+use Rattle.rt_sim.specs.Inside.Moment.{Part, Moment, jobs_of, core_of, state_of}
+use Rattle.rt_sim.specs.Inside.Sparing.{SparesAlways}
+use Rattle.rt_sim.specs.Inside.Fits.{StandsBy, WaitsAt, IsStacked, Fits}
+use Rattle.rt_sim.specs.Inside.Agrees.{StepsBoth}
+use Rattle.rt_sim.proofs.Plain.{IsWorking, length-passed}
+use Rattle.rt_sim.proofs.Levels.{execution_is}
+use Rattle.rt_sim.proofs.Choosing.{picks, IfServed, IsOfTask, all_of_tasks, priority_top, not_software}
+use Rattle.rt_sim.proofs.Takes.{fits_taken, takes}
+use Rattle.rt_sim.proofs.Depth.{depth_within, used_is}
+use Rattle.rt_sim.proofs.Keepers.{keepers_apart, kept_is_held}
+use Rattle.rt_sim.proofs.Working.{working}
+
+module _ (app : App) (img : Image) (thread : ℕ) where
+  -- the thread that waits
+  abbrev waited : Moment → Moment
+  waited m = record m {
+    running = record m.running {
+      left = m.running.left - 1;
+      lefts = map
+          (λ n. n - 1) m.running.lefts;
+    };
+  }
+
+  stack_waited : (p : Part) (ps : List Part) → IsStacked app img thread p ps
+      → IsStacked app img thread (record p { left = p.left - 1; lefts = map (λ n. n - 1) p.lefts }) ps
+  stack_waited p [] is = record { frame = is.frame; role = is.role; greatest = is.greatest; saves = is.saves }
+  stack_waited p (q ∷ ps) stack = (
+    record {
+      irq = stack.0.irq;
+      serves = stack.0.serves;
+      above = stack.0.above;
+      most = stack.0.most;
+      apart = stack.0.apart;
+      unmasked = stack.0.unmasked;
+      handled = stack.0.handled;
+      frame = stack.0.frame;
+      saves = stack.0.saves;
+    },
+    stack.1,
+  )
+
+  fits_waited : (m : Moment) → Fits app img thread m → m.running.role ≡ Waiting → WaitsAt app img thread m.running
+      → Fits app img thread (waited m)
+  fits_waited m fits role waits = record {
+    stack = stack_waited m.running m.below fits.stack;
+    parts = (
+      record {
+        stands = subst (λ r. StandsBy app img thread r m.cells m.queues (waited m).running) (sym role)
+            (record {
+              code = waits.code;
+              over = waits.over;
+              closed = waits.closed;
+              none =
+                  ap (λ ls. map (λ n. n - 1) ls) waits.none;
+            });
+        agrees = fits.parts.0.agrees;
+        counted = length-passed m.running.lefts ∙ fits.parts.0.counted;
+        sparing = fits.parts.0.sparing;
+        opened = fits.parts.0.opened;
+        kinds = fits.parts.0.kinds;
+        empty = fits.parts.0.empty;
+        own_frame = fits.parts.0.own_frame;
+      },
+      fits.parts.1,
+    );
+    spelled = fits.spelled;
+    basepri = fits.basepri;
+    primask = fits.primask;
+    memory = fits.memory;
+    no_messages = fits.no_messages;
+    numbers = fits.numbers;
+  }
+
+  waiting : (m : Moment) → Fits app img thread m → m.running.role ≡ Waiting → pick img (core_of app.bits m) ≡ None
+      → candidate app (state_of m) ≡ None
+      → StepsBoth app img thread (core_of app.bits m) (state_of m)
+  waiting m fits role picked none =
+      let waits : WaitsAt app img thread m.running =
+      subst (λ r. StandsBy app img thread r m.cells m.queues m.running) role fits.parts.0.stands in
+      record {
+        core = core_of app.bits m;
+        shown = None;
+        is = steps_by_cause.line img (core_of app.bits m) _ refl picked waits.code;
+        may = record {
+          not_owing = refl;
+          quiet = none;
+          step = (
+            subst (λ r. HasStep r m.running.left) (sym role) tt,
+            subst (λ ls. AllByRecursion (λ n. 0 < n) ls) (sym waits.none) tt,
+          );
+        };
+        agrees = record { moment = waited m; core = refl; state = refl; fits = fits_waited m fits role waits };
+      }
+
+-- a region of so many bytes has room for so many words
+room_of : (used more bytes : ℕ) → 4 * (used + more) ≤ bytes → nat_le (used + more) (bytes / 4) ≡ true
+room_of used more bytes within = le-leb (used + more) (bytes / 4) (omega arith)
+
+module _ (app : App) (img : Image) (accepted : IsAccepted app) (sound : IsSound app)
+    (no_software : has_no_software app ≡ true) (no_monotonic : has_no_monotonic app ≡ true)
+    (is_image : IsImageOf app img) (named : (r : ℕ) → r < length app.shared → resource_cell img r ≡ Some r)
+    (sparing_idle : SparesAlways app (AtLevel 0) false [] (idle_doing app))
+    (sparing_task : (k : ℕ) (t : Task) → slice_get app.tasks k ≡ Some t → is_software t ≡ false
+    → SparesAlways app (AtLevel t.priority) true [] (task_doing app k [] (act Returns nothing))) where
+  abbrev at : Entries
+  at = is_image.at
+
+  few : 3 ≤ app.bits
+  few = accepted.limits.least_bits
+
+  many : app.bits ≤ 7
+  many = accepted.limits.most_bits
+
+  no_bodies : img.bodies ≡ []
+  no_bodies = is_image.tables.bodies ∙ none 0 app.tasks
+      (λ k t there. not_software app no_software no_monotonic k t there)
+    where
+      none : (n : ℕ) (ts : List Task) → ((k : ℕ) (t : Task) → slice_get ts k ≡ Some t → is_software t ≡ false)
+          → body_rows app is_image.at n ts ≡ []
+      none n [] hw = refl
+      none n (t ∷ ts) hw =
+          ap (λ b. (if b then record {
+            task = n;
+            entry = is_image.at.task n;
+            frame = frame_words t.args t.body;
+            args =
+                t.args;
+          } ∷ [] else []) ++ body_rows app is_image.at (n + 1) ts) (hw 0 t refl)
+          ∙ none (n + 1) ts (λ k u there. hw (suc k) u there)
+
+  no_timer : (storage app).timer ≡ None
+  unfolding storage
+  no_timer = by app.mono no_monotonic
+    where
+      by : (o : Option Mono) → is_none o ≡ true → then_from o (λ mono. irq_number app mono.irq) ≡ None
+      by None is = refl
+      by (Some mono) is = absurd (cc (is))
+
+  -- a row that is picked is taken
+  taking : (m : Moment) → Fits app img at.idle m → (r : IrqRow) → pick img (core_of app.bits m) ≡ Some r
+      → candidate app (state_of m) ≡ Some r.number
+      → (o : Option Service) → service_at app r.number ≡ o → r.handler ≡ option_map (handler_row app at) o
+      → StepsBoth app img at.idle (core_of app.bits m) (state_of m)
+  taking m fits r picked next None serves has =
+      absurd (let above = starts_above app (state_of m) r.number next in
+      let none : priority_of app r.number ≡ 0 =
+      ap (λ (o : Option Service). or_zero (option_map (λ s. s.level) o)) serves in omega (arith, above, none))
+  taking m fits r picked next (Some v) serves has =
+      let of_task : IsOfTask app no_software no_monotonic v =
+      find_has _ _ (services app) v (all_of_tasks app no_software no_monotonic) serves in
+      taken v of_task serves has
+    where
+      taken : (v : Service) (of_task : IsOfTask app no_software no_monotonic v) → service_at app r.number ≡ Some v
+          → r.handler ≡ Some (handler_row app at v)
+          → StepsBoth app img at.idle (core_of app.bits m) (state_of m)
+      taken v of_task serves has =
+          let k : ℕ = of_task.task in
+          let t : Task = of_task.body in
+          let s : Service = record { irq = v.irq; handler = Runs k; level = t.priority } in
+          let there : service_at app r.number ≡ Some s = serves ∙ ap (λ x. Some x) of_task.is in
+          let level_is : priority_of app r.number ≡ t.priority =
+          ap (λ (o : Option Service). or_zero (option_map (λ s. s.level) o)) there in
+          let most : t.priority ≤ 2 ^ app.bits = subst (λ p. p ≤ 2 ^ app.bits) level_is
+          (priority_top app at few many sound r.number) in
+          let above : level app (jobs_of m.running m.below) < t.priority =
+          subst (λ p. level app (jobs_of m.running m.below) < p) level_is
+          (starts_above app (state_of m) r.number next) in
+          let h : row.Handler = handler_row app at s in
+          let handler : r.handler ≡ Some h = has ∙ ap (λ x. Some (handler_row app at x)) of_task.is in
+          let c : Core = core_of app.bits m in
+          let fit = fits_taken app img at.idle at few many (keepers_apart app accepted sound)
+          (kept_is_held app accepted sound) r.number v.irq k t of_task.there of_task.hardware_task there most
+          (is_image.code.tasks k t of_task.there of_task.hardware_task)
+          (sparing_task k t of_task.there of_task.hardware_task) m fits above in
+          let deep = depth_within app img at.idle many _ fit in
+          let words = used_is app img at.idle _ fit in
+          let before = used_is app img at.idle m fits in
+          let zeros : List ℕ = replicate (handler_words app (Runs k)) 0 in
+          let long : length zeros ≡ handler_words app (Runs k) = length-replicate (handler_words app (Runs k)) 0 in
+          let fitting : 4 * (used img c + (entry_words img + h.frame)) ≤ img.stack_bytes =
+          omega (arith, deep, words, before, long, is_image.tables.stack) in
+          let room : has_room img c (entry_words img + h.frame) ≡ true =
+          room_of (used img c) (entry_words img + h.frame) img.stack_bytes fitting in
+          takes app img at.idle at few many (keepers_apart app accepted sound)
+          (kept_is_held app accepted sound) r.number v.irq k t of_task.there of_task.hardware_task there most
+          (is_image.code.tasks k t of_task.there of_task.hardware_task)
+          (sparing_task k t of_task.there of_task.hardware_task) m fits above next
+          (steps_by_cause.entry img c r refl picked
+          ∙ ap (λ o. settle (enter img c r.number o)) handler
+          ∙ ap (λ b. settle (if b then Done (entered c r.number h)
+          (Some (what.Take r.number (depth img (entered c r.number h)))) else Trapped c trap.Stack)) room)
+
+  -- every core step
+  pub step_both : (m : Moment) → Fits app img at.idle m → m.time < 2 ^ 31
+      → StepsBoth app img at.idle (core_of app.bits m) (state_of m)
+  step_both m fits early =
+      let both = picks app at few many sound (core_of app.bits m) (state_of m) refl
+      (execution_is app img at.idle few many m fits) img is_image.tables.irqs in
+      by (pick img (core_of app.bits m)) refl both.0 both.1
+    where
+      on_with : IsWorking m.running.role → pick img (core_of app.bits m) ≡ None → candidate app (state_of m) ≡ None
+          → StepsBoth app img at.idle (core_of app.bits m) (state_of m)
+      on_with works picked none =
+          working app img at.idle no_bodies no_timer named is_image.code.idle
+          (kept_is_held app accepted sound) sparing_idle m fits works picked none early
+
+      goes_on : (role : Role) → m.running.role ≡ role → pick img (core_of app.bits m) ≡ None
+          → candidate app (state_of m) ≡ None → StepsBoth app img at.idle (core_of app.bits m) (state_of m)
+      goes_on Waiting is picked none = waiting app img at.idle m fits is picked none
+      goes_on Init is picked none = on_with (subst IsWorking (sym is) tt) picked none
+      goes_on Idle is picked none = on_with (subst IsWorking (sym is) tt) picked none
+      goes_on (Serving irq) is picked none = on_with (subst IsWorking (sym is) tt) picked none
+
+      by : (o : Option IrqRow) → pick img (core_of app.bits m) ≡ o
+          → option_map (λ r. r.number) o ≡ candidate app (state_of m)
+          → IfServed app at few many sound (core_of app.bits m) (state_of m) refl
+          (execution_is app img at.idle few many m fits) o
+          → StepsBoth app img at.idle (core_of app.bits m) (state_of m)
+      by None picked same served = goes_on m.running.role refl picked (sym same)
+      by (Some r) picked same served = taking m fits r picked (sym same) (service_at app r.number) refl served

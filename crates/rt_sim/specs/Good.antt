@@ -1,0 +1,54 @@
+-- A good image of an application: whatever happens, what the core shows is a run of Baker's machine (Stack-Based
+-- Scheduling of Realtime Processes, 1991) with its three properties, the stack stays within the printed bound, nothing
+-- traps, and shared resources are touched in their sections alone. No frame, mask or address is named here.
+use Rattle.std.specs.Prelude.{◌≡◌, ℕ, ◌^◌, ◌<◌, ◌≤◌, true, List, [], ◌∷◌, length, take}
+use Rattle.std.specs.List.{AllByRecursion}
+use Rattle.rt_ids.specs.Event.{Event, Arrive, steps}
+use Rattle.rt_trace.specs.Shown.{shown}
+use Rattle.rt_trace.specs.declared.item.What.{What}
+use Rattle.rt_trace.specs.declared.item.What.TheVariants as what
+use Rattle.rt_app.specs.Tree.{App}
+use Rattle.rt_app.specs.Accepted.{IsAccepted}
+use Rattle.rt_app.specs.Handlers.{has_no_software, has_no_monotonic}
+use Rattle.rt_app.specs.Stack.{stack_bytes}
+use Rattle.rt_build.specs.Image.{IsImageOf}
+use Rattle.rt_code.specs.Image.{Image}
+use Rattle.rt_core.specs.Core.{reset}
+use Rattle.rt_core.specs.Trace.{labels, trace, depth_after}
+use Rattle.rt_laws.specs.Services.{is_declared}
+use Rattle.rt_laws.specs.Run.{Run}
+use Rattle.rt_laws.specs.Properties.{KeepsLaws}
+use Rattle.rt_sim.specs.Guarded.{AccessesAreGuarded}
+
+-- each interrupt that arrives is declared
+abbrev pub AreDeclared : App → List Event → Type 0
+AreDeclared app [] = Unit {0}
+AreDeclared app (Arrive irq ∷ events) = (is_declared app irq ≡ true) × AreDeclared app events
+AreDeclared app (e ∷ events) = AreDeclared app events
+
+abbrev pub IsNoTrap : What → Type 0
+IsNoTrap (what.Trap number) = ⊥
+IsNoTrap w = Unit {0}
+
+-- what holds of one list of events
+pub record RunsWell (app : App) (img : Image) (events : List Event) : Type 0 where
+  -- the trace is a run of Baker's machine, and shows exactly these events
+  pub runs : Run app (trace img events) (steps events)
+  pub shows : shown 0 (trace img events) (steps events) ≡ events
+  -- sections are exclusive, no job finds one taken, and none waits for more than one section of one lower job
+  pub laws : KeepsLaws app (labels img (reset img) events)
+  -- the stack bytes in use are within the bound at every moment
+  pub stack_within : (n : ℕ) → depth_after img (take n events) ≤ stack_bytes app
+  pub no_trap : AllByRecursion (λ item. IsNoTrap item.what) (trace img events)
+  -- each load or store on a shared resource's cell is made where it may be
+  pub guarded : (n : ℕ) → AccessesAreGuarded app img (take n events)
+
+pub record Good (app : App) (img : Image) : Type 0 where
+  pub size : img.stack_bytes ≡ stack_bytes app
+  pub each : (events : List Event) → length events < 2 ^ 31 → AreDeclared app events → RunsWell app img events
+
+-- Every image of an application of hardware tasks is good.
+abbrev pub ImagesAreGood : Type 0
+ImagesAreGood =
+    (app : App) (img : Image) → IsAccepted app → has_no_software app ≡ true → has_no_monotonic app ≡ true
+    → IsImageOf app img → Good app img

@@ -1,0 +1,5 @@
+pub mod Moment
+pub mod Sparing
+pub mod Chains
+pub mod Fits
+pub mod Agrees

@@ -1,0 +1,28 @@
+-- A core and a state of Baker's machine agree where both are those of one moment that fits.
+use Rattle.std.specs.Prelude.{◌≡◌, ℕ}
+use Rattle.rt_app.specs.Tree.{App}
+use Rattle.rt_code.specs.Image.{Image}
+use Rattle.rt_core.specs.Core.{Core}
+use Rattle.rt_core.specs.Stepping.{step}
+use Rattle.rt_trace.specs.Label.{Stepped}
+use Rattle.rt_trace.specs.declared.item.What.{What}
+use Rattle.std.specs.Prelude.{Option}
+use Rattle.rt_laws.specs.State.{State}
+use Rattle.rt_laws.specs.Allowed.{May, after}
+use Rattle.rt_sim.specs.Inside.Moment.{Moment, core_of, state_of}
+use Rattle.rt_sim.specs.Inside.Fits.{Fits}
+
+module _ (app : App) (img : Image) (thread : ℕ) where
+  pub record Agrees (c : Core) (s : State) : Type 0 where
+    pub moment : Moment
+    pub core : c ≡ core_of app.bits moment
+    pub state : s ≡ state_of moment
+    pub fits : Fits app img thread moment
+
+  -- a core step is a step of Baker's machine, and they agree again
+  pub record StepsBoth (c : Core) (s : State) : Type 0 where
+    pub core : Core
+    pub shown : Option What
+    pub is : step img c ≡ (core, shown)
+    pub may : May app s (Stepped shown)
+    pub agrees : Agrees core (after app s (Stepped shown))

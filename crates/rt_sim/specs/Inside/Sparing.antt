@@ -1,0 +1,44 @@
+-- What is left to do is sparing: on its way to each action it changes only what the job owns then, it enters only
+-- sections of things that there are, and only a handler returns. It is said of the meaning of bodies, not of code.
+use Rattle.std.specs.Prelude.{◌≡◌, ℕ, ◌||◌, Bool, true, false, List, ◌∷◌, drop}
+use Rattle.std.specs.List.{list_any}
+use Rattle.rt_ids.specs.Holder.{Holder, Guarded, Own, is_same_section}
+use Rattle.rt_ids.specs.Content.{Values}
+use Rattle.rt_ids.specs.Action.{Action, Enters, Leaves, Returns}
+use Rattle.rt_ids.specs.Doing.{Doing, over, does}
+use Rattle.rt_ids.specs.Storage.{Runner}
+use Rattle.rt_ids.specs.declared.ids.Section.{Section}
+use Rattle.rt_app.specs.Tree.{App}
+use Rattle.rt_app.specs.Holding.{is_kept, IsHeld}
+use Rattle.rt_app.specs.Sending.{Rest}
+use Rattle.rt_laws.specs.State.{reached}
+
+module _ (app : App) (who : Runner) (handles : Bool) where
+  -- with these sections open
+  abbrev pub owns_in : List Section → Holder → Bool
+  owns_in held (Guarded x) = list_any (λ y. is_same_section y x) held || is_kept app who (Guarded x)
+  owns_in held (Own n) = is_kept app who (Own n)
+
+  abbrev pub held_after : List Section → Action → List Section
+  held_after held (Enters x cost) = x ∷ held
+  held_after held (Leaves x) = drop 1 held
+  held_after held action = held
+
+  abbrev pub IsActionOf : Action → Type 0
+  IsActionOf (Enters x cost) = IsHeld app (Guarded x)
+  IsActionOf Returns = handles ≡ true
+  IsActionOf action = Unit {0}
+
+  -- the values that it makes on its way are those before, but for what is owned
+  abbrev pub Spares : List Section → Values → Doing Values → Type 0
+  Spares held vs rest = (h : Holder) → owns_in held h ≡ false → reached rest vs h ≡ vs h
+
+  abbrev pub IsSparing : List Section → Doing Values → Type 0
+  IsSparing held over = Unit {0}
+  IsSparing held (does action made next) =
+      IsActionOf action
+      × ((n : ℕ) (vs : Values) → Spares (held_after held action) vs (next n vs)
+      × IsSparing (held_after held action) (next n vs))
+
+  abbrev pub SparesAlways : List Section → Rest → Type 0
+  SparesAlways held rest = (vs : Values) → Spares held vs (rest vs) × IsSparing held (rest vs)

@@ -1,0 +1,7 @@
+// Good images: whatever happens to a core that runs an image, what it shows is a run of Baker's machine on the
+// application, within the stack bound, without a trap, and with shared resources touched in their sections alone.
+#![tactic(auto)]
+
+pub mod laws;
+
+pub use laws::images_are_good;
