@@ -1,5 +1,5 @@
 #!/usr/bin/env python3
-"""Prints the speed of `rtic fmt` and `rtic check`, each as a share of the speed of `LC_ALL=C wc -w` over the same text.
+"""Prints the speed of `rtic fmt`, `rtic check` and `rtic build`, each as a share of the speed of `LC_ALL=C wc -w` over the same text.
 
     python3 reading.py PROGRAM FOLDER
 
@@ -62,6 +62,10 @@ def main(program, folder):
     measure(program, folder, "check", "a natural text", natural)
     measure(program, folder, "fmt", "a dense text", texts.dense(LARGEST))
     measure(program, folder, "check", "a dense text", texts.dense(DENSEST))
+    half = measure(program, folder, "build", "hardware tasks", texts.hardware(DENSEST // 2))
+    whole = measure(program, folder, "build", "hardware tasks", texts.hardware(DENSEST))
+    judged = measure(program, folder, "check", "hardware tasks", texts.hardware(DENSEST))
+    print(f"build takes {whole / judged:.2f} times check, and {whole / half:.2f} times build of half the text")
     many = measure(program, folder, "check", "930 variables in scope", texts.variables(930))
     one = measure(program, folder, "check", "one variable in scope", texts.variables(1))
     print(f"930 variables take {many / one:.2f} times the time of one")

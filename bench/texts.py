@@ -3,6 +3,7 @@
 
     python3 texts.py natural BYTES       as people write: long names, comments, indentation, just so many bytes
     python3 texts.py dense BYTES         no blank where none is needed, an expression in each statement, just so many bytes
+    python3 texts.py hardware BYTES      the same, each task bound to an interrupt of its own
     python3 texts.py variables N         tasks with N variables in scope, as long for each N up to 930
     python3 texts.py parentheses N       an expression with N open parentheses
     python3 texts.py operands N          the same, with an operator in front of some of them
@@ -42,6 +43,8 @@ NATURAL_PART = """\
     }}
 """
 NATURAL_END = "    emit smoothed_level;\n}\n\n"
+DENSE_TASK = "task t{0}{{let x={0};let y=2;"
+DENSE_PART = "x=(x+y*3)<<1;" * 8
 SMALL_HEAD = "app bench(bits = 4, dispatchers = [A]); interrupts { A = 3 } "
 
 
@@ -64,7 +67,12 @@ def natural(size):
 
 def dense(size):
     head = SMALL_HEAD.replace(" = ", "=").replace("; ", ";").replace(", ", ",").replace(" { ", "{").replace(" } ", "}")
-    return filled(size, head, 32, "task t{0}{{let x={0};let y=2;", "x=(x+y*3)<<1;" * 8, "}")
+    return filled(size, head, 32, DENSE_TASK, DENSE_PART, "}")
+
+
+def hardware(size):
+    head = f"app bench(bits=4);interrupts{{{','.join(f'I{number}={number}' for number in range(32))}}}"
+    return filled(size, head, 32, DENSE_TASK.replace("{{", "(binds=I{0}){{"), DENSE_PART, "}")
 
 
 def variables(count):
@@ -99,5 +107,5 @@ def statements(count):
 
 
 if __name__ == "__main__":
-    kinds = [natural, dense, variables, parentheses, operands, nested, statements]
+    kinds = [natural, hardware, dense, variables, parentheses, operands, nested, statements]
     sys.stdout.write({kind.__name__: kind for kind in kinds}[sys.argv[1]](int(sys.argv[2])))

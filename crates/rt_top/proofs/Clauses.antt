@@ -17,11 +17,13 @@ pub built : (c : code.Command) → IsBuilt (meant c)
 built command.Run = tt
 built command.Check = tt
 built command.Fmt = tt
+built command.Build = tt
 
 pub reads_first : (c : code.Command) → 1 ≤ reads (meant c)
 reads_first command.Run = omega arith
 reads_first command.Check = omega arith
 reads_first command.Fmt = omega arith
+reads_first command.Build = omega arith
 
 -- the words name the command
 module _ (words : List (List ℕ)) (c : code.Command) (named : Names words (meant c)) where

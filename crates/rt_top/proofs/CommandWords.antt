@@ -53,12 +53,15 @@ refuted : {P : Type 0} (b : Bool) → (IsTrue b ↔ P) → b ≡ false → P →
 refuted b both is_false p = let is_true : b ≡ true = both.1 p in cc
 
 -- words that are none of these are no command that is built
-module _ (words : List (List ℕ)) (run check fmt : Bool) (is_run : IsTrue run ↔ Names words Run) (is_check : IsTrue check ↔ Names words Check) (is_fmt : IsTrue fmt ↔ Names words Fmt) (no_run : run ≡ false) (no_check : check ≡ false) (no_fmt : fmt ≡ false) where
+module _ (words : List (List ℕ)) (run check fmt build : Bool)
+    (is_run : IsTrue run ↔ Names words Run) (is_check : IsTrue check ↔ Names words Check)
+    (is_fmt : IsTrue fmt ↔ Names words Fmt) (is_build : IsTrue build ↔ Names words Build)
+    (no_run : run ≡ false) (no_check : check ≡ false) (no_fmt : fmt ≡ false) (no_build : build ≡ false) where
   none : (c : Command) → IsBuilt c → Names words c → ⊥
   none Run built named = refuted run is_run no_run named
   none Check built named = refuted check is_check no_check named
   none Fmt built named = refuted fmt is_fmt no_fmt named
-  none Build built named = absurd built
+  none Build built named = refuted build is_build no_build named
   none Audit built named = absurd built
   none Live built named = absurd built
   none (Soak number count workers) built named = absurd built
@@ -77,6 +80,13 @@ same_verb words a b x y e f = cc
 check_fmt : codes "check" ≡ codes "fmt" → ⊥
 check_fmt e = omega (arith, ap length e)
 
+fmt_build : codes "fmt" ≡ codes "build" → ⊥
+fmt_build e = omega (arith, ap length e)
+
+-- words of one length differ in their first byte
+check_build : codes "check" ≡ codes "build" → ⊥
+check_build e = omega (arith, ap (λ w. get_or w 0 0) e)
+
 pub one_command : (words : List (List ℕ)) (c d : Command) → IsBuilt c → IsBuilt d → Names words c → Names words d → c ≡ d
 one_command words Run Run built also named other = refl
 one_command words Run Check built also named other = absurd (three_two words _ _ _ _ _ named.2 other.1)
@@ -87,22 +97,29 @@ one_command words Check Fmt built also named other = absurd (check_fmt (same_ver
 one_command words Fmt Run built also named other = absurd (three_two words _ _ _ _ _ other.2 named.1)
 one_command words Fmt Check built also named other = absurd (check_fmt (same_verb words _ _ _ _ other.1 named.1))
 one_command words Fmt Fmt built also named other = refl
-one_command words Run Build built also named other = absurd also
+one_command words Run Build built also named other = absurd (three_two words _ _ _ _ _ named.2 other.1)
 one_command words Run Audit built also named other = absurd also
 one_command words Run Live built also named other = absurd also
 one_command words Run (Soak number count workers) built also named other = absurd also
 one_command words Run (Demo n) built also named other = absurd also
-one_command words Check Build built also named other = absurd also
+one_command words Check Build built also named other = absurd (check_build (same_verb words _ _ _ _ named.1 other.1))
 one_command words Check Audit built also named other = absurd also
 one_command words Check Live built also named other = absurd also
 one_command words Check (Soak number count workers) built also named other = absurd also
 one_command words Check (Demo n) built also named other = absurd also
-one_command words Fmt Build built also named other = absurd also
+one_command words Fmt Build built also named other = absurd (fmt_build (same_verb words _ _ _ _ named.1 other.1))
 one_command words Fmt Audit built also named other = absurd also
 one_command words Fmt Live built also named other = absurd also
 one_command words Fmt (Soak number count workers) built also named other = absurd also
 one_command words Fmt (Demo n) built also named other = absurd also
-one_command words Build d built also named other = absurd built
+one_command words Build Run built also named other = absurd (three_two words _ _ _ _ _ other.2 named.1)
+one_command words Build Check built also named other = absurd (check_build (same_verb words _ _ _ _ other.1 named.1))
+one_command words Build Fmt built also named other = absurd (fmt_build (same_verb words _ _ _ _ other.1 named.1))
+one_command words Build Build built also named other = refl
+one_command words Build Audit built also named other = absurd also
+one_command words Build Live built also named other = absurd also
+one_command words Build (Soak number count workers) built also named other = absurd also
+one_command words Build (Demo n) built also named other = absurd also
 one_command words Audit d built also named other = absurd built
 one_command words Live d built also named other = absurd built
 one_command words (Soak number count workers) d built also named other = absurd built

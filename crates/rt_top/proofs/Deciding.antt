@@ -1,23 +1,29 @@
 -- From what a command does to what it is to reply.
-use Rattle.std.proofs.Common.{◌≡◌, ℕ, ◌≤◌, ◌⊎◌, List, ◌++◌, Option, Some, None, inl, inr, refl, sym, subst, codes, arith}
+use Rattle.std.proofs.Common.{◌≡◌, ◌∙◌, ℕ, ◌≤◌, ◌⊎◌, true, false, List, ◌++◌, Option, Some, None, inl, inr, refl, sym, subst, codes, arith}
 use Rattle.rt_ids.specs.declared.status.Status.{Status}
 use Rattle.rt_ids.specs.declared.status.Status.TheVariants as status
 use Rattle.rt_ast.specs.Tree as tree
 use Rattle.rt_ast.specs.Canonical.{canonical}
 use Rattle.rt_grammar.specs.Text.{IsText}
+use Rattle.rt_lemmas.proofs.Bools.{and_parts}
+use Rattle.rt_app.specs.Accepted.{IsAccepted}
+use Rattle.rt_app.specs.Handlers.{has_no_software, has_no_monotonic}
 use Rattle.rt_app.specs.Tree.{App}
 use Rattle.rt_build.specs.Accepted.{IsApplication}
 use Rattle.rt_first.specs.Application as form
 use Rattle.rt_first.specs.Script.{script_of}
-use Rattle.rt_top.specs.Words.{Command, Run, Check, Fmt, reads}
+use Rattle.rt_build.specs.Form.{has_image}
+use Rattle.rt_sim.proofs.Good.{images_are_good}
+use Rattle.rt_top.specs.Words.{Command, Run, Check, Fmt, Build, reads}
+use Rattle.rt_top.specs.Refusal.{RefusesApplication, RefusesImage, unbuilt_line}
 use Rattle.rt_top.specs.Outputs.{check_report, IsBuiltForm}
 use Rattle.rt_top.specs.Defined.{Inputs, inputs, RefusesFirst, Defined, refused, faulty, output, IsTold, IsFirstRefused, AreReadTold}
-use Rattle.rt_top.specs.Inside.Decides.{Tells, Stops, Halts, meant, Outputs, IsDecided, Decides}
+use Rattle.rt_top.specs.Inside.Decides.{Tells, Stops, Halts, meant, Lists, Outputs, IsDecided, Decides}
 use Rattle.rt_top.specs.declared.command.Command as code
 use Rattle.rt_top.specs.declared.reply.Reply.{Reply}
 use Rattle.rt_top.specs.declared.reply.Reply.TheVariants as reply
 use Rattle.rt_top.proofs.ImageOf.{image_is_of}
-use Rattle.rt_top.proofs.Excluding.{tree_passes, application_passes, form_passes}
+use Rattle.rt_top.proofs.Excluding.{tree_passes, application_passes, image_passes, form_passes}
 
 -- what a source holds that tells
 told_text : (o : Option (List ℕ)) → IsTold o → (text : List ℕ) × (o ≡ Some text)
@@ -80,6 +86,43 @@ module _ (first second third : Option (List ℕ)) (app : App) (accepted : (text 
         let text = told_text first (told.0 (omega arith)) in
         output status.Done bytes (refl, text.0, text.1, (app, accepted text.0 text.1, says));
   }
+
+-- a listing, or the line that there is none
+module _ (first second third : Option (List ℕ)) (app : App) (accepted : (text : List ℕ) → first ≡ Some text → IsApplication text app) where
+  abbrev w : Inputs
+  w = inputs first second third
+
+  parts : has_image app ≡ true → (has_no_software app ≡ true) × (has_no_monotonic app ≡ true)
+  parts = and_parts (has_no_software app) (has_no_monotonic app)
+
+  pub listed_decided : IsAccepted app → has_image app ≡ true → (items : List ℕ) → Lists app items → (bytes : List ℕ)
+      → bytes ≡ items
+      → IsDecided Build w status.Done bytes
+  listed_decided is_accepted made items (image, of_application, runnable, says) bytes same = record {
+    which = inr (inl refl, λ r. image_passes r.0 r.1 app (accepted r.0 r.2) made r.3);
+    defined = λ told.
+        let text = told_text first (told.0 (omega arith)) in
+        output status.Done bytes (
+          refl,
+          text.0,
+          text.1,
+          record {
+            app = app;
+            of_text = accepted text.0 text.1;
+            made = made;
+            image = image;
+            of_application = of_application;
+            runnable = runnable;
+            good = images_are_good app image is_accepted (parts made).0 (parts made).1 of_application;
+            written = same ∙ says;
+          },
+        );
+  }
+
+  pub unbuilt_decided : has_image app ≡ false → (bytes : List ℕ) → bytes ≡ unbuilt_line → IsDecided Build w status.App bytes
+  unbuilt_decided none bytes says =
+      refused_decided Build w (omega arith) RefusesImage (λ text line is. inr is) status.App bytes refl
+      (λ text told. record { app = app; of_text = accepted text told; none = none; says = says })
 
 both : {a b x y : List ℕ} → a ≡ b → x ≡ y → a ++ x ≡ b ++ y
 both e f = cc

@@ -1,5 +1,5 @@
 -- A text is refused or is read, not both, and the status that is due is one.
-use Rattle.std.proofs.Common.{◌≡◌, ℕ, ◌⊎◌, List, Option, Some, None, inl, inr, refl, sym, ap, subst, ◌∙◌, arith}
+use Rattle.std.proofs.Common.{◌≡◌, ℕ, ◌⊎◌, Bool, true, false, List, Option, Some, None, inl, inr, refl, sym, ap, subst, ◌∙◌, arith}
 use Rattle.rt_ids.specs.declared.status.Status.{Status}
 use Rattle.rt_ids.specs.declared.status.Status.TheVariants as status
 use Rattle.rt_ast.specs.Tree as tree
@@ -9,13 +9,15 @@ use Rattle.rt_app.specs.Tree.{App}
 use Rattle.rt_app.specs.Violation.{IsFirst}
 use Rattle.rt_build.specs.Accepted.{broken, IsApplication}
 use Rattle.rt_build.proofs.Firsts.{no_first}
+use Rattle.rt_resolve.specs.Resolved.{resolved}
 use Rattle.rt_first.specs.Application as form
 use Rattle.rt_first.specs.Form.{HasFirstForm, app_of}
 use Rattle.rt_first.specs.FirstForm as first
 use Rattle.rt_first.specs.Script.{script_of}
 use Rattle.rt_first.specs.declared.script.Order.{Order}
+use Rattle.rt_build.specs.Form.{has_image}
 use Rattle.rt_top.specs.Words.{Command, Run, Check, Fmt, Build, Audit, Live, Soak, Demo}
-use Rattle.rt_top.specs.Refusal.{RefusesText, RefusesApplication, RefusesForm}
+use Rattle.rt_top.specs.Refusal.{RefusesText, RefusesApplication, RefusesForm, RefusesImage}
 use Rattle.rt_top.specs.Outputs.{IsBuiltForm, IsRun, RefusesScript}
 use Rattle.rt_top.specs.Defined.{Inputs, RefusesFirst, RefusesSecond, Writes, Defined, refused, faulty, output, IsTold, IsFirstRefused, AreTold}
 use Rattle.rt_top.proofs.Refused.{not_refused}
@@ -29,6 +31,20 @@ pub application_passes : (text line : List ℕ) (app : App) → IsApplication te
 application_passes text line app is (fault, inl met, says) = not_refused text is.tree fault is.text met
 application_passes text line app is (fault, inr b, says) =
     no_first (broken is.tree) b.broken.violation is.kept.rules (subst (λ t. IsFirst (broken t) b.broken.violation) (text_only text b.tree is.tree b.text is.text) b.broken.first)
+
+-- the application of a text is one
+application_only : (text : List ℕ) (a b : App) → IsApplication text a → IsApplication text b → a ≡ b
+application_only text a b one other =
+    one.kept.same ∙ (ap resolved (text_only text one.tree other.tree one.text other.text) ∙ sym other.kept.same)
+
+pub image_passes : (text line : List ℕ) (app : App) → IsApplication text app → has_image app ≡ true
+    → RefusesApplication text line ⊎ RefusesImage text line → ⊥
+image_passes text line app is made (inl r) = application_passes text line app is r
+image_passes text line app is made (inr r) =
+    not_made (has_image app) made (subst (λ a. has_image a ≡ false) (application_only text r.app app r.of_text is) r.none)
+  where
+    not_made : (b : Bool) → b ≡ true → b ≡ false → ⊥
+    not_made b one other = cc
 
 application_of : (text : List ℕ) (app : App) (built : form.App) → IsBuiltForm text app built → IsApplication text app
 application_of text app built is = record { tree = is.tree; text = is.spelled; kept = is.kept }
@@ -81,7 +97,8 @@ refused_no_output Check t text line ended bytes e r (is, text', e', (app, accept
     application_passes text' line app accepted (subst (λ s. RefusesApplication s line) (some_same t.first text text' e e') r)
 refused_no_output Fmt t text line ended bytes e r (is, text', e', (a, spelled, says)) =
     tree_passes text' line a spelled (subst (λ s. RefusesText s line) (some_same t.first text text' e e') r)
-refused_no_output Build t text line ended bytes e r w = w
+refused_no_output Build t text line ended bytes e r (is, text', e', w) =
+    image_passes text' line w.app w.of_text w.made (subst (λ s. RefusesFirst Build s line) (some_same t.first text text' e e') r)
 refused_no_output Audit t text line ended bytes e r w = w
 refused_no_output Live t text line ended bytes e r w = w
 refused_no_output (Soak number count workers) t text line ended bytes e r w = w
@@ -103,7 +120,7 @@ output_done : (c : Command) (t : Inputs) (ended : Status) (bytes : List ℕ) →
 output_done Run t ended bytes w = w.0
 output_done Check t ended bytes w = w.0
 output_done Fmt t ended bytes w = w.0
-output_done Build t ended bytes w = absurd w
+output_done Build t ended bytes w = w.0
 output_done Audit t ended bytes w = absurd w
 output_done Live t ended bytes w = absurd w
 output_done (Soak number count workers) t ended bytes w = absurd w
@@ -129,7 +146,7 @@ told_output : (c : Command) (t : Inputs) (ended : Status) (bytes : List ℕ) →
 told_output Run t ended bytes (is, text, more, e, f, run) = (λ _. is_told t.first text e, λ _. is_told t.second more f)
 told_output Check t ended bytes (is, text, e, w) = (λ _. is_told t.first text e, λ few. absurd (omega (arith, few)))
 told_output Fmt t ended bytes (is, text, e, w) = (λ _. is_told t.first text e, λ few. absurd (omega (arith, few)))
-told_output Build t ended bytes w = absurd w
+told_output Build t ended bytes (is, text, e, w) = (λ _. is_told t.first text e, λ few. absurd (omega (arith, few)))
 told_output Audit t ended bytes w = absurd w
 told_output Live t ended bytes w = absurd w
 told_output (Soak number count workers) t ended bytes w = absurd w

@@ -6,3 +6,4 @@ mod Excluding
 mod ImageOf
 mod FirstText
 mod Refused
+mod Listed

@@ -5,9 +5,9 @@ use Rattle.rt_ids.specs.declared.status.Status.{Status}
 use Rattle.rt_ids.specs.declared.status.Status.TheVariants as status
 use Rattle.rt_outside.specs.Faults.{Rose}
 use Rattle.rt_outside.specs.Bytes.{Took, TookPrefix}
-use Rattle.rt_top.specs.Words.{Command, Run, Check, Fmt, Names, IsBuilt, reads}
-use Rattle.rt_top.specs.Refusal.{RefusesText, RefusesApplication, RefusesForm}
-use Rattle.rt_top.specs.Outputs.{IsFormatted, IsChecked, IsRun, RefusesScript}
+use Rattle.rt_top.specs.Words.{Command, Run, Check, Fmt, Build, Names, IsBuilt, reads}
+use Rattle.rt_top.specs.Refusal.{RefusesText, RefusesApplication, RefusesForm, RefusesImage}
+use Rattle.rt_top.specs.Outputs.{IsFormatted, IsChecked, IsListed, IsRun, RefusesScript}
 
 -- what the sources have left, where they tell
 pub record Inputs : Type 0 where
@@ -23,6 +23,7 @@ abbrev pub RefusesFirst : Command → List ℕ → List ℕ → Type 0
 RefusesFirst Run text line = RefusesApplication text line ⊎ RefusesForm text line
 RefusesFirst Check text line = RefusesApplication text line
 RefusesFirst Fmt text line = RefusesText text line
+RefusesFirst Build text line = RefusesApplication text line ⊎ RefusesImage text line
 RefusesFirst other text line = ⊥
 
 -- the line refuses the second text, where the first is not refused
@@ -37,6 +38,7 @@ Writes Run t ended bytes =
     × IsRun text more bytes
 Writes Check t ended bytes = (ended ≡ status.Done) × (text : List ℕ) × (t.first ≡ Some text) × IsChecked text bytes
 Writes Fmt t ended bytes = (ended ≡ status.Done) × (text : List ℕ) × (t.first ≡ Some text) × IsFormatted text bytes
+Writes Build t ended bytes = (ended ≡ status.Done) × (text : List ℕ) × (t.first ≡ Some text) × IsListed text bytes
 Writes other t ended bytes = ⊥
 
 pub data Defined (c : Command) (t : Inputs) : Status → List ℕ → Type 0 where

@@ -1,5 +1,5 @@
 -- What each command writes where its texts are not refused, and which scripts `run` refuses.
-use Rattle.std.specs.Prelude.{◌≡◌, ℕ, List, ◌++◌, codes, map, Some, None, IfSome}
+use Rattle.std.specs.Prelude.{◌≡◌, ℕ, true, List, ◌++◌, codes, map, Some, None, IfSome}
 use Rattle.std.specs.List.{AllByRecursion}
 use Rattle.rt_ids.specs.Priority.{hardware}
 use Rattle.rt_ast.specs.Tree as tree
@@ -9,6 +9,11 @@ use Rattle.rt_app.specs.Tree.{App}
 use Rattle.rt_app.specs.Ceiling.{ceilings}
 use Rattle.rt_app.specs.Bounds.{bounds}
 use Rattle.rt_build.specs.Accepted.{KeepsRules, IsApplication}
+use Rattle.rt_build.specs.Image as built
+use Rattle.rt_code.specs.Image as code
+use Rattle.rt_code.specs.Runnable.{IsRunnable}
+use Rattle.rt_listing.specs.Listing as code_text
+use Rattle.rt_sim.specs.Good as whole
 use Rattle.rt_report.specs.Report.{report}
 use Rattle.rt_first.specs.Application as form
 use Rattle.rt_first.specs.Form.{HasFirstForm}
@@ -20,6 +25,7 @@ use Rattle.rt_first.specs.Output.{traced}
 use Rattle.rt_first.specs.Script.{script_of}
 use Rattle.rt_first.specs.declared.image.Handler.{Handler}
 use Rattle.rt_first.specs.declared.script.Order.{Order}
+use Rattle.rt_build.specs.Form.{has_image}
 
 -- `fmt`: the canonical text of the tree
 abbrev pub IsFormatted : List ℕ → List ℕ → Type 0
@@ -31,6 +37,18 @@ check_report app = report app (ceilings app) (bounds app)
 -- `check`: the ceilings, costs, frames and bounds of the application
 abbrev pub IsChecked : List ℕ → List ℕ → Type 0
 IsChecked text bytes = (app : App) × IsApplication text app × (bytes ≡ check_report app)
+
+-- `build`: the listing of an image of the application, which a core runs, and which is good: whatever happens to it, what it
+-- shows is a run of Baker's machine
+pub record IsListed (text bytes : List ℕ) : Type 0 where
+  pub app : App
+  pub of_text : IsApplication text app
+  pub made : has_image app ≡ true
+  pub image : code.Image
+  pub of_application : built.IsImageOf app image
+  pub runnable : IsRunnable image
+  pub good : whole.Good app image
+  pub written : bytes ≡ code_text.listing image
 
 -- an accepted application of the form that is built
 pub record IsBuiltForm (text : List ℕ) (app : App) (first : form.App) : Type 0 where

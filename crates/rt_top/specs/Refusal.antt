@@ -1,5 +1,5 @@
 -- The line that refuses an application text: where it stands, its number, and what is wrong.
-use Rattle.std.specs.Prelude.{◌≡◌, ℕ, List, ◌++◌, codes, decimal}
+use Rattle.std.specs.Prelude.{◌≡◌, ℕ, false, List, ◌++◌, codes, decimal}
 use Rattle.rt_ids.specs.declared.limit.Limit.{Limit}
 use Rattle.rt_ids.specs.declared.limit.Limit.TheVariants as limit
 use Rattle.rt_ids.specs.declared.refusal.Fault.{Fault}
@@ -10,7 +10,8 @@ use Rattle.rt_ids.specs.declared.rule.Rule.TheVariants as rule
 use Rattle.rt_ast.specs.Tree as tree
 use Rattle.rt_grammar.specs.Text.{IsText, IsRefused}
 use Rattle.rt_app.specs.Tree.{App}
-use Rattle.rt_build.specs.Accepted.{KeepsRules, IsRefusedText}
+use Rattle.rt_build.specs.Accepted.{KeepsRules, IsApplication, IsRefusedText}
+use Rattle.rt_build.specs.Form.{has_image}
 use Rattle.rt_first.specs.Application as form
 use Rattle.rt_first.specs.Form.{HasFirstForm}
 
@@ -79,4 +80,11 @@ pub record RefusesForm (text line : List ℕ) : Type 0 where
   pub app : App
   pub kept : KeepsRules tree app
   pub none : (first : form.App) → HasFirstForm tree first → ⊥
+  pub says : line ≡ unbuilt_line
+
+-- or an application that no image is made of
+pub record RefusesImage (text line : List ℕ) : Type 0 where
+  pub app : App
+  pub of_text : IsApplication text app
+  pub none : has_image app ≡ false
   pub says : line ≡ unbuilt_line

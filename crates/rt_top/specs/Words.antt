@@ -64,6 +64,7 @@ abbrev pub IsBuilt : Command → Type 0
 IsBuilt Run = Unit {0}
 IsBuilt Check = Unit {0}
 IsBuilt Fmt = Unit {0}
+IsBuilt Build = Unit {0}
 IsBuilt other = ⊥
 
 -- the words name a command that is built

@@ -12,6 +12,8 @@ pub(crate) enum Command {
     Check,
     /// `fmt APP`
     Fmt,
+    /// `build APP`
+    Build,
 }
 
 /// The command that the words name, None where that is none that is built.
@@ -25,6 +27,8 @@ pub(crate) fn command_of(words: &[&str]) -> Option<Command>
         Some(Command::Check)
     } else if is_fmt(words) {
         Some(Command::Fmt)
+    } else if is_build(words) {
+        Some(Command::Build)
     } else {
         None
     }
@@ -56,6 +60,16 @@ fn is_fmt(words: &[&str]) -> bool
 {
     match words {
         [verb, _] => *verb == "fmt",
+        _ => false,
+    }
+}
+
+/// Whether the words are `build APP`.
+fn is_build(words: &[&str]) -> bool
+    ensures { IsTrue result ↔ Names (texts words.now) word.Build }
+{
+    match words {
+        [verb, _] => *verb == "build",
         _ => false,
     }
 }

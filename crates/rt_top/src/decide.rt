@@ -4,6 +4,7 @@ ghost use Rattle.rt_top.specs.Words.{reads};
 ghost use Rattle.rt_top.specs.Defined.{inputs, IsFirstRefused, IsKept};
 ghost use Rattle.rt_top.specs.Inside.Decides.{meant, Decides};
 
+use crate::build::build;
 use crate::check::check;
 use crate::command::Command;
 use crate::format::fmt;
@@ -30,5 +31,6 @@ pub(crate) fn decide<A: Source, B: Source>(
         Command::Run => run(alloc, app, second),
         Command::Check => check(alloc, app),
         Command::Fmt => fmt(alloc, app),
+        Command::Build => build(alloc, app),
     }
 }

@@ -24,7 +24,7 @@ use rt_parse::parse;
 use std::alloc::Global;
 
 /// The line for an application that is of no form that is built.
-const UNBUILT: &[u8] = b"1:1 E00 not built\n";
+pub(crate) const UNBUILT: &[u8] = b"1:1 E00 not built\n";
 
 /// A text that is too long is refused at its first byte.
 const TOO_LONG: Fault = Fault {

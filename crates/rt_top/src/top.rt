@@ -31,9 +31,11 @@ pub fn rtic<R: Threads + Sync, A: Source, B: Source, C: Source, K: Sink + Send, 
     out: &mut K,
     _gate: &G,
 ) -> Status
-    // With an answer all that is defined was written, and nothing else. For `run` at `Done` it is the listing of an
-    // image of the application and that image's trace, and for every list of fewer than 2^31 events in which only
-    // declared interrupts arrive the image's trace is a run of Baker's machine.
+    // With an answer all that is defined was written, and nothing else. For `build` at `Done` it is the listing of an
+    // image of the application, and for every list of fewer than 2^31 events in which only declared interrupts arrive
+    // the image's trace is a run of Baker's machine, no lock is found taken, waiting and stack keep within the printed
+    // bounds, and nothing traps. For `run`, which takes fewer applications, it is the listing of an image and that
+    // image's trace, and the trace of each such list is a run, within the stack bound and without a trap.
     ensures answered { (c : Command) → IsBuilt c → Names (texts words.now) c → IsAnswer result →
         let t = inputs (A.left app.old) (B.left second.old) (C.left third.old) in
         AreReadTold c t result → WroteAll c t result (K.taken out.old) (K.taken out.new) }

@@ -5,8 +5,13 @@ use Rattle.rt_ids.specs.declared.status.Status.{Status}
 use Rattle.rt_ids.specs.declared.status.Status.TheVariants as status
 use Rattle.rt_outside.specs.Bytes.{Took}
 use Rattle.rt_ast.specs.Tree as tree
+use Rattle.rt_app.specs.Tree.{App}
 use Rattle.rt_build.specs.Accepted.{IsBroken}
-use Rattle.rt_first.specs.Application.{App}
+use Rattle.rt_build.specs.Image.{IsImageOf}
+use Rattle.rt_code.specs.Image.{Image}
+use Rattle.rt_code.specs.Runnable.{IsRunnable}
+use Rattle.rt_listing.specs.Listing.{listing}
+use Rattle.rt_first.specs.Application as form
 use Rattle.rt_first.specs.Form.{HasFirstForm}
 use Rattle.rt_first.specs.Output.{IsOutput}
 use Rattle.rt_first.specs.Script.{script_of}
@@ -24,6 +29,7 @@ abbrev pub meant : Command → word.Command
 meant command.Run = word.Run
 meant command.Check = word.Check
 meant command.Fmt = word.Fmt
+meant command.Build = word.Build
 
 -- the reply is with this status, and this is so of its text; or memory was wanted
 abbrev pub Tells : Status → (List ℕ → Type 0) → Reply → Type 0
@@ -48,15 +54,19 @@ pub record IsBrokenBy (text : List ℕ) (a : tree.App) (line : List ℕ) : Type 
 
 -- the line says that this tree is of no form that is built
 pub record IsUnbuiltBy (a : tree.App) (line : List ℕ) : Type 0 where
-  pub none : (first : App) → HasFirstForm a first → ⊥
+  pub none : (first : form.App) → HasFirstForm a first → ⊥
   pub says : line ≡ unbuilt_line
 
 -- the line refuses a text for `run`
 abbrev pub RefusesRun : List ℕ → List ℕ → Type 0
 RefusesRun text line = RefusesApplication text line ⊎ RefusesForm text line
 
+-- the bytes are the listing of an image of the application, which a core runs
+abbrev pub Lists : App → List ℕ → Type 0
+Lists app bytes = (image : Image) × IsImageOf app image × IsRunnable image × (bytes ≡ listing image)
+
 -- the output of an application under a script text
-pub record Outputs (app : App) (script first second : List ℕ) : Type 0 where
+pub record Outputs (app : form.App) (script first second : List ℕ) : Type 0 where
   pub orders : List Order
   pub read : script_of app script ≡ Some orders
   pub output : IsOutput app orders first second

@@ -1,6 +1,6 @@
 use Rattle.std.proofs.Common.{refl, arith}
 use Rattle.rt_outside.specs.Faults.{Rose}
-use Rattle.rt_top.specs.Words.{Check, Fmt}
+use Rattle.rt_top.specs.Words.{Check, Fmt, Build}
 use Rattle.rt_top.specs.Defined.{inputs, IsKept}
 use Rattle.rt_top.specs.declared.command.Command.TheVariants as command
 use Rattle.rt_top.proofs.Deciding.{only_first, run_kept, decides_as, kept_as}
@@ -40,3 +40,14 @@ returns-in-Fmt-clause-decides g c third =
     (Rose (g.A.Source.faults c.args.app.now) (g.A.Source.faults c.fmt.new.app) × IsKept g.B.Source.left g.B.Source.faults c.args.second.now c.args.second.now)
     (Rose (g.B.Source.faults c.args.second.now) (g.B.Source.faults c.args.second.now))
     (λ h. (h, record { has_all = refl; no_fault = refl })) c.fmt.result (c.fmt.ensures (g.B.Source.left c.args.second.now) third))
+
+pub returns-in-Build-clause-decides : goal.returns-in-Build-clause-decides
+returns-in-Build-clause-decides g c third =
+    decides_as c.args.command command.Build c.in-Build.is (inputs (g.A.Source.left c.args.app.now) (g.B.Source.left c.args.second.now) third)
+    (Rose (g.A.Source.faults c.args.app.now) (g.A.Source.faults c.build.new.app) × IsKept g.B.Source.left g.B.Source.faults c.args.second.now c.args.second.now)
+    (Rose (g.B.Source.faults c.args.second.now) (g.B.Source.faults c.args.second.now))
+    c.build.result (only_first Build (inputs (g.A.Source.left c.args.app.now) (g.B.Source.left c.args.second.now) third) (omega arith)
+    (Rose (g.A.Source.faults c.args.app.now) (g.A.Source.faults c.build.new.app))
+    (Rose (g.A.Source.faults c.args.app.now) (g.A.Source.faults c.build.new.app) × IsKept g.B.Source.left g.B.Source.faults c.args.second.now c.args.second.now)
+    (Rose (g.B.Source.faults c.args.second.now) (g.B.Source.faults c.args.second.now))
+    (λ h. (h, record { has_all = refl; no_fault = refl })) c.build.result (c.build.ensures (g.B.Source.left c.args.second.now) third))

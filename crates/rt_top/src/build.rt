@@ -1,0 +1,45 @@
+ghost use Rattle.std.specs.Prelude.{◌≡◌, ℕ, List, Option, true, IfOk};
+ghost use Rattle.rt_outside.specs.Faults.{Rose};
+ghost use Rattle.rt_app.specs.View.{app_of};
+ghost use Rattle.rt_app.specs.Accepted.{IsAccepted};
+ghost use Rattle.rt_top.specs.Words as word;
+ghost use Rattle.rt_build.specs.Form.{has_image};
+ghost use Rattle.rt_top.specs.Defined.{inputs};
+ghost use Rattle.rt_top.specs.Inside.Decides.{Decides, Lists};
+
+use crate::reading::{UNBUILT, read_accepted};
+use crate::reply::{Reply, line, text};
+use rt_app::App;
+use rt_build::has_image;
+use rt_ids::{NoMemory, Status};
+use rt_listing::listing;
+use rt_outside::Source;
+use std::alloc::Global;
+
+/// `build APP`: the listing of the application's image.
+pub(crate) fn build<A: Source>(alloc: Global, app: &mut A) -> Reply
+    ensures { (second third : Option (List ℕ)) → Decides word.Build (inputs (A.left app.old) second third)
+        (Rose (A.faults app.old) (A.faults app.new)) ⊥ result }
+{
+    let accepted = match read_accepted(alloc, app) {
+        Ok(accepted) => accepted,
+        Err(reply) => return reply,
+    };
+    if !has_image(&accepted) {
+        return line(alloc, Status::App, UNBUILT);
+    }
+    match listed(alloc, &accepted) {
+        Ok(bytes) => text(alloc, Status::Done, bytes),
+        Err(_) => Reply::Stop(Status::Memory),
+    }
+}
+
+/// The listing of its image.
+fn listed(alloc: Global, app: &App) -> Result<Vec<u8>, NoMemory>
+    requires accepted { IsAccepted (app_of app.now) }
+    requires image { has_image (app_of app.now) ≡ true }
+    ensures { IfOk result (λ text. Lists (app_of app.now) text.items) }
+{
+    let image = rt_build::build(alloc, app)?;
+    listing(alloc, &image)
+}
