@@ -27,8 +27,10 @@ use Rattle.rt_laws.specs.Sight.{Seen, Sight}
 use Rattle.rt_laws.proofs.Well.{StackWell, StateWell}
 use Rattle.rt_sim.specs.Guarded as guarded
 use Rattle.rt_sim.specs.Guarded.{IsInside, IsInit, IsGuarded, is_read_alone}
-use Rattle.rt_sim.specs.Inside.Moment.{Part, Moment, runner_of, spot_of, sections_of, job_of, core_of, state_of}
-use Rattle.rt_sim.specs.Inside.Fits.{who, StandsBy, IsStacked, Fits}
+use Rattle.rt_sim.specs.Inside.Moment.{Part, Moment, runner_of, spot_of, sections_of, job_of}
+use Rattle.rt_sim.specs.Inside.States.{core_of, state_of}
+use Rattle.rt_sim.specs.Inside.PartFits.{who, StandsBy}
+use Rattle.rt_sim.specs.Inside.Fits.{IsStacked, Fits}
 use Rattle.rt_sim.proofs.Plain.{IsWorking, is_at}
 
 -- a section that is open stands among the sections

@@ -29,9 +29,11 @@ use Rattle.rt_laws.specs.Level.{candidate}
 use Rattle.rt_laws.specs.Giving.{next_item, item_of, is_due}
 use Rattle.rt_laws.specs.Acting.{acted, alarm_set}
 use Rattle.rt_laws.specs.Allowed.{Turn}
-use Rattle.rt_sim.specs.Inside.Moment.{Moment, spot_of, sections_of, job_of, core_of, state_of}
+use Rattle.rt_sim.specs.Inside.Moment.{Moment, spot_of, sections_of, job_of}
+use Rattle.rt_sim.specs.Inside.States.{core_of, state_of}
 use Rattle.rt_sim.specs.Inside.Sparing.{owns_in, held_after, IsActionOf, Spares, IsSparing}
-use Rattle.rt_sim.specs.Inside.Fits.{who, handles, AgreesWith, Fits}
+use Rattle.rt_sim.specs.Inside.PartFits.{who, handles, AgreesWith}
+use Rattle.rt_sim.specs.Inside.Fits.{Fits}
 use Rattle.rt_sim.specs.Inside.Agrees.{StepsBoth}
 use Rattle.rt_sim.proofs.Others.{ChangesItsOwn, IsLeftOrOwned, touches_its_own}
 use Rattle.rt_sim.proofs.Plain.{IsWorking, moment_behind, plain_fits, may_turn}

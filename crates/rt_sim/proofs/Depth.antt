@@ -14,8 +14,10 @@ use Rattle.rt_app.specs.Stack.{thread_words, has_handler, need, level_bytes, byt
 use Rattle.rt_code.specs.Image.{Image, entry_words}
 use Rattle.rt_code.specs.Stack as stack
 use Rattle.rt_core.specs.Core.{Context, context_words, used, depth}
-use Rattle.rt_sim.specs.Inside.Moment.{Part, Moment, irq_of, contexts, core_of, words_under}
-use Rattle.rt_sim.specs.Inside.Fits.{PartFits, IsStacked, Fits}
+use Rattle.rt_sim.specs.Inside.Moment.{Part, Moment, irq_of}
+use Rattle.rt_sim.specs.Inside.States.{contexts, core_of, words_under}
+use Rattle.rt_sim.specs.Inside.PartFits.{PartFits}
+use Rattle.rt_sim.specs.Inside.Fits.{IsStacked, Fits}
 
 -- no body is called, so each frame stands alone
 abbrev AreAlone : List Part → Type 0

@@ -25,10 +25,12 @@ use Rattle.rt_laws.specs.State.{Role, Init, Idle, Waiting, Serving, Job, State, 
 use Rattle.rt_laws.specs.Acting.{idling}
 use Rattle.rt_laws.specs.Allowed.{after}
 use Rattle.rt_laws.specs.Level.{candidate}
-use Rattle.rt_sim.specs.Inside.Moment.{Part, Moment, runner_of, spot_of, job_of, core_of, state_of}
+use Rattle.rt_sim.specs.Inside.Moment.{Part, Moment, runner_of, spot_of, job_of}
+use Rattle.rt_sim.specs.Inside.States.{core_of, state_of}
 use Rattle.rt_sim.specs.Inside.Chains.{is_init, base_inside, mask_inside}
 use Rattle.rt_sim.specs.Inside.Sparing.{SparesAlways}
-use Rattle.rt_sim.specs.Inside.Fits.{who, Fits}
+use Rattle.rt_sim.specs.Inside.PartFits.{who}
+use Rattle.rt_sim.specs.Inside.Fits.{Fits}
 use Rattle.rt_sim.specs.Inside.Agrees.{StepsBoth}
 use Rattle.rt_sim.proofs.Plain.{IsWorking, may_turn}
 use Rattle.rt_sim.proofs.Acts.{owns_alike, agrees_reached, gives_item, acts_as}

@@ -16,7 +16,8 @@ use Rattle.rt_code.specs.Owning.{Held, owns, reads, is_open}
 use Rattle.rt_code.proofs.Mine.{one_section}
 use Rattle.rt_laws.specs.Level.{level, greatest_ceiling}
 use Rattle.rt_sim.specs.Inside.Moment.{Part, runner_of, sections_of, jobs_of}
-use Rattle.rt_sim.specs.Inside.Fits.{who, Reads, IsStacked}
+use Rattle.rt_sim.specs.Inside.PartFits.{who, Reads}
+use Rattle.rt_sim.specs.Inside.Fits.{IsStacked}
 use Rattle.rt_sim.proofs.Others.{not_so}
 
 -- one more section is owned, and read, by who opens it

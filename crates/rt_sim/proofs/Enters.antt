@@ -32,11 +32,13 @@ use Rattle.rt_core.specs.Stepping.{step}
 use Rattle.rt_trace.specs.declared.item.What.TheVariants as what
 use Rattle.rt_laws.specs.State.{reached}
 use Rattle.rt_laws.specs.Level.{candidate}
-use Rattle.rt_sim.specs.Inside.Moment.{Part, Moment, spot_of, sections_of, core_of, state_of}
+use Rattle.rt_sim.specs.Inside.Moment.{Part, Moment, spot_of, sections_of}
+use Rattle.rt_sim.specs.Inside.States.{core_of, state_of}
 use Rattle.rt_sim.specs.Inside.Sparing.{Spares, IsSparing}
 use Rattle.rt_sim.specs.Inside.Chains.{is_init, base_by, mask_by, base_inside, mask_inside, base_under, mask_under}
 use Rattle.rt_sim.specs.Inside.Chains.{Saves}
-use Rattle.rt_sim.specs.Inside.Fits.{who, handles, Owns, Reads, AreApart, IsStacked, Fits}
+use Rattle.rt_sim.specs.Inside.PartFits.{who, handles, Owns, Reads, AreApart}
+use Rattle.rt_sim.specs.Inside.Fits.{IsStacked, Fits}
 use Rattle.rt_sim.specs.Inside.Agrees.{StepsBoth}
 use Rattle.rt_sim.proofs.Others.{others_kept, not_so}
 use Rattle.rt_sim.proofs.Plain.{IsWorking, lefts_passed, length-passed, saves_kept, apart_of, stands_by, may_turn}

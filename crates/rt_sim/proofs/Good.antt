@@ -35,7 +35,8 @@ use Rattle.rt_laws.proofs.Happens.{first_well, happens, after_well}
 use Rattle.rt_laws.proofs.Keeping.{runs_keep_laws}
 use Rattle.rt_sim.specs.Guarded.{sees_all, IsGuarded}
 use Rattle.rt_sim.specs.Good.{AreDeclared, IsNoTrap, RunsWell, ImagesAreGood}
-use Rattle.rt_sim.specs.Inside.Moment.{Moment, core_of, state_of}
+use Rattle.rt_sim.specs.Inside.Moment.{Moment}
+use Rattle.rt_sim.specs.Inside.States.{core_of, state_of}
 use Rattle.rt_sim.specs.Inside.Fits.{Fits}
 use Rattle.rt_sim.specs.Inside.Agrees.{StepsBoth}
 use Rattle.rt_sim.proofs.Access.{access_is_guarded}

@@ -18,9 +18,11 @@ use Rattle.rt_code.specs.Owning.{Kind, Marked, Raised, Masked, Held}
 use Rattle.rt_core.specs.Priority.{running_value, base_value, mask_value, execution}
 use Rattle.rt_laws.specs.State.{Init}
 use Rattle.rt_laws.specs.Level.{level, greatest_ceiling}
-use Rattle.rt_sim.specs.Inside.Moment.{Part, Moment, runner_of, sections_of, contexts_of, core_of, jobs_of}
+use Rattle.rt_sim.specs.Inside.Moment.{Part, Moment, runner_of, sections_of, jobs_of}
+use Rattle.rt_sim.specs.Inside.States.{contexts_of, core_of}
 use Rattle.rt_sim.specs.Inside.Chains.{is_init, base_by, mask_by, base_inside, mask_inside, base_of, mask_of}
-use Rattle.rt_sim.specs.Inside.Fits.{who, AreOfKind, PartFits, IsThread, IsOn, IsStacked, Fits}
+use Rattle.rt_sim.specs.Inside.PartFits.{who, AreOfKind, PartFits}
+use Rattle.rt_sim.specs.Inside.Fits.{IsThread, IsOn, IsStacked, Fits}
 
 -- a priority that is the greatest, or more, has the value 0
 pub value_of_top : (b c : ℕ) → 2 ^ b ≤ c → hardware b c ≡ 0

@@ -19,3 +19,4 @@ pub mod Sparings
 pub mod Bodies
 pub mod Access
 pub mod Good
+pub mod Rows

@@ -26,7 +26,7 @@ use Rattle.rt_core.proofs.Storing.{changes_its_cell_alone}
 use Rattle.rt_gen_body.proofs.Stored.{stored}
 use Rattle.rt_laws.specs.State.{Role, Init, Idle, Waiting, Serving}
 use Rattle.rt_sim.specs.Inside.Moment.{Part, spot_of}
-use Rattle.rt_sim.specs.Inside.Fits.{who, PartFits, StandsBy, AgreesWith, Owns, Reads, AreApart}
+use Rattle.rt_sim.specs.Inside.PartFits.{who, PartFits, StandsBy, AgreesWith, Owns, Reads, AreApart}
 
 -- a Bool is one of two
 either : (b : Bool) → (b ≡ true) ⊎ (b ≡ false)

@@ -17,10 +17,12 @@ use Rattle.rt_core.specs.Leading.{GoesPlainly, IsAt}
 use Rattle.rt_laws.specs.State.{Role, Init, Idle, Waiting, Serving}
 use Rattle.rt_laws.specs.Level.{candidate}
 use Rattle.rt_laws.specs.Allowed.{HasStep, Turn}
-use Rattle.rt_sim.specs.Inside.Moment.{Part, Moment, spot_of, sections_of, core_of, state_of}
+use Rattle.rt_sim.specs.Inside.Moment.{Part, Moment, spot_of, sections_of}
+use Rattle.rt_sim.specs.Inside.States.{core_of, state_of}
 use Rattle.rt_sim.specs.Inside.Sparing.{IsSparing}
 use Rattle.rt_sim.specs.Inside.Chains.{base_inside, mask_inside, SavesBy, Saves}
-use Rattle.rt_sim.specs.Inside.Fits.{who, handles, AgreesWith, StandsBy, AreApart, IsStacked, Fits}
+use Rattle.rt_sim.specs.Inside.PartFits.{who, handles, AgreesWith, StandsBy, AreApart}
+use Rattle.rt_sim.specs.Inside.Fits.{IsStacked, Fits}
 use Rattle.rt_sim.proofs.Others.{ChangesItsOwn, ValuesItsOwn, others_kept, spelling_left}
 
 -- a job that runs code

@@ -15,9 +15,11 @@ use Rattle.rt_core.specs.Stepping.{step}
 use Rattle.rt_trace.specs.declared.item.What.TheVariants as what
 use Rattle.rt_laws.specs.Giving.{return_item}
 use Rattle.rt_laws.specs.Level.{candidate}
-use Rattle.rt_sim.specs.Inside.Moment.{Part, Moment, irq_of, spot_of, core_of, state_of}
+use Rattle.rt_sim.specs.Inside.Moment.{Part, Moment, irq_of, spot_of}
+use Rattle.rt_sim.specs.Inside.States.{core_of, state_of}
 use Rattle.rt_sim.specs.Inside.Chains.{base_inside, mask_inside, base_under, mask_under}
-use Rattle.rt_sim.specs.Inside.Fits.{who, Owns, Fits}
+use Rattle.rt_sim.specs.Inside.PartFits.{who, Owns}
+use Rattle.rt_sim.specs.Inside.Fits.{Fits}
 use Rattle.rt_sim.specs.Inside.Agrees.{StepsBoth}
 use Rattle.rt_sim.proofs.Plain.{IsWorking, may_turn}
 use Rattle.rt_sim.proofs.Acts.{agreed, gives_item, acts_as}

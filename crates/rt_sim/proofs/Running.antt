@@ -16,7 +16,8 @@ use Rattle.rt_laws.specs.Allowed.{May, after}
 use Rattle.rt_laws.specs.Run.{RunsOn}
 use Rattle.rt_laws.specs.ByItems.{after_all}
 use Rattle.rt_sim.specs.Good.{AreDeclared}
-use Rattle.rt_sim.specs.Inside.Moment.{Moment, core_of, state_of}
+use Rattle.rt_sim.specs.Inside.Moment.{Moment}
+use Rattle.rt_sim.specs.Inside.States.{core_of, state_of}
 use Rattle.rt_sim.specs.Inside.Fits.{Fits}
 use Rattle.rt_sim.specs.Inside.Agrees.{Agrees, StepsBoth}
 use Rattle.rt_sim.proofs.Acts.{pending_fits}

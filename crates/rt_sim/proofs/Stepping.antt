@@ -38,9 +38,11 @@ use Rattle.rt_laws.specs.State.{Role, Init, Idle, Waiting, Serving}
 use Rattle.rt_laws.specs.Level.{candidate, level}
 use Rattle.rt_laws.specs.Allowed.{HasStep}
 use Rattle.rt_laws.proofs.Pending.{starts_above}
-use Rattle.rt_sim.specs.Inside.Moment.{Part, Moment, jobs_of, core_of, state_of}
+use Rattle.rt_sim.specs.Inside.Moment.{Part, Moment, jobs_of}
+use Rattle.rt_sim.specs.Inside.States.{core_of, state_of}
 use Rattle.rt_sim.specs.Inside.Sparing.{SparesAlways}
-use Rattle.rt_sim.specs.Inside.Fits.{StandsBy, WaitsAt, IsStacked, Fits}
+use Rattle.rt_sim.specs.Inside.PartFits.{StandsBy, WaitsAt}
+use Rattle.rt_sim.specs.Inside.Fits.{IsStacked, Fits}
 use Rattle.rt_sim.specs.Inside.Agrees.{StepsBoth}
 use Rattle.rt_sim.proofs.Plain.{IsWorking, length-passed}
 use Rattle.rt_sim.proofs.Levels.{execution_is}

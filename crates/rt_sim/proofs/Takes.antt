@@ -42,10 +42,12 @@ use Rattle.rt_laws.specs.State.{Serving, reached}
 use Rattle.rt_laws.specs.Services.{service_at, handler_cost}
 use Rattle.rt_laws.specs.Allowed.{started}
 use Rattle.rt_laws.specs.Level.{candidate, level}
-use Rattle.rt_sim.specs.Inside.Moment.{Part, Moment, spot_of, jobs_of, contexts_of, core_of, state_of}
+use Rattle.rt_sim.specs.Inside.Moment.{Part, Moment, spot_of, jobs_of}
+use Rattle.rt_sim.specs.Inside.States.{contexts_of, core_of, state_of}
 use Rattle.rt_sim.specs.Inside.Chains.{base_of, mask_of}
 use Rattle.rt_sim.specs.Inside.Sparing.{SparesAlways}
-use Rattle.rt_sim.specs.Inside.Fits.{who, Owns, Reads, AreApart, IsOpenWell, AreOfKind, IsStacked, PartFits, Fits}
+use Rattle.rt_sim.specs.Inside.PartFits.{who, Owns, Reads, AreApart, IsOpenWell, AreOfKind, PartFits}
+use Rattle.rt_sim.specs.Inside.Fits.{IsStacked, Fits}
 use Rattle.rt_sim.specs.Inside.Agrees.{StepsBoth}
 use Rattle.rt_sim.proofs.Others.{others_kept, not_so}
 use Rattle.rt_sim.proofs.Acts.{owns_alike, agrees_reached}

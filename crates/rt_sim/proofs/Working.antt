@@ -29,9 +29,11 @@ use Rattle.rt_core.specs.Stepping.{step}
 use Rattle.rt_core.proofs.Standing.{standing_leads}
 use Rattle.rt_trace.specs.declared.item.What.TheVariants as what
 use Rattle.rt_laws.specs.Level.{candidate}
-use Rattle.rt_sim.specs.Inside.Moment.{Part, Moment, runner_of, spot_of, core_of, state_of}
+use Rattle.rt_sim.specs.Inside.Moment.{Part, Moment, runner_of, spot_of}
+use Rattle.rt_sim.specs.Inside.States.{core_of, state_of}
 use Rattle.rt_sim.specs.Inside.Sparing.{SparesAlways}
-use Rattle.rt_sim.specs.Inside.Fits.{who, handles, IsThread, Fits}
+use Rattle.rt_sim.specs.Inside.PartFits.{who, handles}
+use Rattle.rt_sim.specs.Inside.Fits.{IsThread, Fits}
 use Rattle.rt_sim.specs.Inside.Agrees.{StepsBoth}
 use Rattle.rt_sim.proofs.Plain.{IsWorking, stands_of, is_at}
 use Rattle.rt_sim.proofs.Acts.{spared, silent, emits, clocks, finds_none, posts, sets_none}

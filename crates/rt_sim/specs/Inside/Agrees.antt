@@ -9,7 +9,8 @@ use Rattle.rt_trace.specs.declared.item.What.{What}
 use Rattle.std.specs.Prelude.{Option}
 use Rattle.rt_laws.specs.State.{State}
 use Rattle.rt_laws.specs.Allowed.{May, after}
-use Rattle.rt_sim.specs.Inside.Moment.{Moment, core_of, state_of}
+use Rattle.rt_sim.specs.Inside.Moment.{Moment}
+use Rattle.rt_sim.specs.Inside.States.{core_of, state_of}
 use Rattle.rt_sim.specs.Inside.Fits.{Fits}
 
 module _ (app : App) (img : Image) (thread : ℕ) where

@@ -1,16 +1,14 @@
 -- A moment of a run, seen from both machines at once: what the core has in frames, masks and cells, and what Baker's
 -- machine has in jobs and values. Each job is told with its frame beside it, so that both states can be read off.
-use Rattle.std.specs.Prelude.{ℕ, ◌+◌, Bool, false, List, [], ◌∷◌, ◌++◌, length, map, Option, None}
+use Rattle.std.specs.Prelude.{ℕ, Bool, List, [], ◌∷◌, ◌++◌, map, Option}
 use Rattle.rt_ids.specs.Holder.{Holder}
 use Rattle.rt_ids.specs.Content.{Values}
 use Rattle.rt_ids.specs.Entry.{Entry}
 use Rattle.rt_ids.specs.Doing.{Doing}
-use Rattle.rt_ids.specs.Priority.{hardware}
 use Rattle.rt_ids.specs.Storage.{Runner, Starting, AtLevel}
 use Rattle.rt_ids.specs.declared.ids.Section.{Section}
 use Rattle.rt_code.specs.Owning.{Held, Spot}
-use Rattle.rt_core.specs.Core.{Core, Context}
-use Rattle.rt_laws.specs.State.{Role, Init, Serving, Job, State}
+use Rattle.rt_laws.specs.State.{Role, Init, Serving, Job}
 
 -- a started job, and where its code is: in the running frame, or in the one that was interrupted
 pub record Part : Type 0 where
@@ -78,47 +76,5 @@ spot_of cells queues p = record {
   rest = p.rest;
 }
 
--- what a handler of this interrupt, with this priority value, was entered for, and what it interrupted
-abbrev pub contexts : ℕ → ℕ → ℕ → List Part → List Context
-contexts bits irq value [] = []
-contexts bits irq value (q ∷ ps) =
-    record { irq = irq; value = value; address = q.address; slots = q.slots; caller = q.caller }
-    ∷ contexts bits (irq_of q.role) (hardware bits q.priority) ps
-
-abbrev pub contexts_of : ℕ → Part → List Part → List Context
-contexts_of bits p ps = contexts bits (irq_of p.role) (hardware bits p.priority) ps
-
-abbrev pub core_of : ℕ → Moment → Core
-core_of bits m = record {
-  time = m.time;
-  alarm = None;
-  pending = m.pending;
-  processor = record {
-    address = m.running.address;
-    basepri = m.basepri;
-    primask = m.primask;
-    slots = m.running.slots;
-    cells = m.cells;
-  };
-  caller = m.running.caller;
-  below = contexts_of bits m.running m.below;
-  stopped = false;
-}
-
 abbrev pub jobs_of : Part → List Part → List Job
 jobs_of p ps = job_of p ∷ map job_of ps
-
-abbrev pub state_of : Moment → State
-state_of m = record {
-  jobs = jobs_of m.running m.below;
-  pending = m.pending;
-  values = m.values;
-  time = m.time;
-  alarm = None;
-  owing = false;
-}
-
--- the words of the stack that interrupted parts take, with the so many that each exception entry pushes
-abbrev pub words_under : ℕ → List Part → ℕ
-words_under entry [] = 0
-words_under entry (q ∷ ps) = entry + length q.slots + words_under entry ps

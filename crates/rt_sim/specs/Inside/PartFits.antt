@@ -1,0 +1,84 @@
+-- What holds of each job at a moment of a run: its code stands for what it has left to do, the values that it made on
+-- its way are there yet, and its open sections are of the kinds that are asked for. It is said by "stands" alone, and
+-- follows no instruction.
+use Rattle.std.specs.Prelude.{◌≡◌, ℕ, Bool, true, false, List, [], ◌∷◌, length}
+use Rattle.std.specs.Prelude.{slice_get, Some, None}
+use Rattle.std.specs.List.{AllByRecursion}
+use Rattle.rt_ids.specs.Holder.{Holder, Guarded}
+use Rattle.rt_ids.specs.Content.{Values}
+use Rattle.rt_ids.specs.Entry.{Entry}
+use Rattle.rt_ids.specs.Doing.{Doing, over, does}
+use Rattle.rt_ids.specs.Storage.{Runner}
+use Rattle.rt_app.specs.Tree.{App}
+use Rattle.rt_app.specs.Holding.{storage, IsHeld}
+use Rattle.rt_code.specs.Image.{Image}
+use Rattle.rt_code.specs.Masking.{IsKindFor, IsWithin, NobodyKeeps}
+use Rattle.rt_code.specs.Owning.{Held, owns, reads, Agree}
+use Rattle.rt_code.specs.Standing.{Stands}
+use Rattle.rt_code.specs.declared.instr.Instr.TheVariants as instr
+use Rattle.rt_laws.specs.State.{Role, Waiting, Serving}
+use Rattle.rt_sim.specs.Inside.Moment.{Part, runner_of, sections_of, spot_of}
+use Rattle.rt_sim.specs.Inside.Sparing.{IsSparing}
+
+abbrev pub who : Part → Runner
+who p = runner_of p.role p.priority
+
+-- a handler of an interrupt, which returns
+abbrev pub handles : Role → Bool
+handles (Serving irq) = true
+handles role = false
+
+module _ (app : App) (img : Image) (thread : ℕ) where
+  abbrev pub Owns : Part → Holder → Bool
+  Owns p h = owns (storage app) (who p) p.held h
+
+  abbrev pub Reads : Part → Holder → Bool
+  Reads p h = reads (storage app) (who p) p.held h
+
+  -- what the first owns the other does not read
+  abbrev pub SparesTheOther : Part → Part → Type 0
+  SparesTheOther p q = (h : Holder) → Owns p h ≡ true → Reads q h ≡ true → ⊥
+
+  abbrev pub AreApart : Part → Part → Type 0
+  AreApart p q = SparesTheOther p q × SparesTheOther q p
+
+  -- an open section: its ceiling is at least the job's priority, it guards something, and nobody goes without it
+  pub record IsOpenWell (runner : Runner) (h : Held) : Type 0 where
+    pub within : IsWithin (storage app) runner runner h.section
+    pub is_held : IsHeld app (Guarded h.section)
+    pub shared : NobodyKeeps (storage app) runner runner h.section
+
+  -- each section was opened by the kind that the sections further out ask for
+  abbrev pub AreOfKind : Runner → List Held → Type 0
+  AreOfKind runner [] = Unit {0}
+  AreOfKind runner (h ∷ outer) =
+      IsKindFor (storage app) runner runner outer h.section h.kind × AreOfKind runner outer
+
+  -- where `idle` is absent, the thread waits for interrupts
+  pub record WaitsAt (p : Part) : Type 0 where
+    pub code : slice_get img.code p.address ≡ Some (instr.Wait, None)
+    pub over : p.rest ≡ over
+    pub closed : p.held ≡ []
+    pub none : p.lefts ≡ []
+
+  -- the code stands for what is left
+  abbrev pub StandsBy : Role → List ℕ → (Holder → List Entry) → Part → Type 0
+  StandsBy Waiting cells queues p = WaitsAt p
+  StandsBy role cells queues p =
+      Stands (storage app) img.code img.bodies thread (who p) p.steps (spot_of cells queues p)
+
+  -- the values that a job made on its way are there yet, in what it reads
+  abbrev pub AgreesWith : Runner → List Held → Values → Doing Values → Type 0
+  AgreesWith runner held values over = Unit {0}
+  AgreesWith runner held values (does action made next) = Agree (storage app) runner held values made
+
+  pub record PartFits (cells : List ℕ) (queues : Holder → List Entry) (values : Values) (p : Part) : Type 0 where
+    pub stands : StandsBy p.role cells queues p
+    pub agrees : AgreesWith (who p) p.held values p.rest
+    pub counted : length p.lefts ≡ length p.held
+    pub sparing : IsSparing app (who p) (handles p.role) (sections_of p.held) p.rest
+    pub opened : AllByRecursion (IsOpenWell (who p)) p.held
+    pub kinds : AreOfKind (who p) p.held
+    -- no software task: nothing is in hands, and no body is called
+    pub empty : p.places ≡ []
+    pub own_frame : p.caller ≡ None

@@ -1,0 +1,48 @@
+-- The states of both machines at a moment, and the words of the stack that it takes.
+use Rattle.std.specs.Prelude.{ℕ, ◌+◌, false, List, [], ◌∷◌, length, None}
+use Rattle.rt_ids.specs.Priority.{hardware}
+use Rattle.rt_core.specs.Core.{Core, Context}
+use Rattle.rt_laws.specs.State.{State}
+use Rattle.rt_sim.specs.Inside.Moment.{Part, Moment, irq_of, jobs_of}
+
+-- what a handler of this interrupt, with this priority value, was entered for, and what it interrupted
+abbrev pub contexts : ℕ → ℕ → ℕ → List Part → List Context
+contexts bits irq value [] = []
+contexts bits irq value (q ∷ ps) =
+    record { irq = irq; value = value; address = q.address; slots = q.slots; caller = q.caller }
+    ∷ contexts bits (irq_of q.role) (hardware bits q.priority) ps
+
+abbrev pub contexts_of : ℕ → Part → List Part → List Context
+contexts_of bits p ps = contexts bits (irq_of p.role) (hardware bits p.priority) ps
+
+abbrev pub core_of : ℕ → Moment → Core
+core_of bits m = record {
+  time = m.time;
+  alarm = None;
+  pending = m.pending;
+  processor = record {
+    address = m.running.address;
+    basepri = m.basepri;
+    primask = m.primask;
+    slots = m.running.slots;
+    cells = m.cells;
+  };
+  caller = m.running.caller;
+  below = contexts_of bits m.running m.below;
+  stopped = false;
+}
+
+abbrev pub state_of : Moment → State
+state_of m = record {
+  jobs = jobs_of m.running m.below;
+  pending = m.pending;
+  values = m.values;
+  time = m.time;
+  alarm = None;
+  owing = false;
+}
+
+-- the words of the stack that interrupted parts take, with the so many that each exception entry pushes
+abbrev pub words_under : ℕ → List Part → ℕ
+words_under entry [] = 0
+words_under entry (q ∷ ps) = entry + length q.slots + words_under entry ps
