@@ -6,3 +6,4 @@ pub mod Chains
 pub mod PartFits
 pub mod Fits
 pub mod Agrees
+pub mod Writing

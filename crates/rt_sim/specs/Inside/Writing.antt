@@ -1,0 +1,86 @@
+-- How far a run's trace is written, and which items have a line: their names are in the tables, and their numbers in
+-- range.
+use Rattle.std.specs.Prelude.{◌≡◌, ℕ, ◌+◌, ◌<◌, ◌≤◌, ◌^◌, List}
+use Rattle.std.specs.Prelude.{◌++◌, flat_map, length, Option, Some, None, IsSome}
+use Rattle.std.specs.List.{AllByRecursion}
+use Rattle.rt_ids.specs.Event.{Event, steps}
+use Rattle.rt_ids.specs.Names.{Names}
+use Rattle.rt_ids.specs.declared.ids.Section.{Section}
+use Rattle.rt_ids.specs.declared.ids.Section.TheVariants as section
+use Rattle.rt_code.specs.Image.{Image}
+use Rattle.rt_code.specs.Lines.{HasLines}
+use Rattle.rt_code.specs.Listable.{HasIrq, HasTask, HasSection, HasBody}
+use Rattle.rt_core.specs.Core.{Core}
+use Rattle.rt_core.specs.Machine.{Machine}
+use Rattle.rt_core.specs.Trace.{core_after, labels}
+use Rattle.rt_trace.specs.Label.{items_of}
+use Rattle.rt_trace.specs.Lined.{IsDeclared, IsWord}
+use Rattle.rt_trace.specs.Text.{text}
+use Rattle.rt_trace.specs.declared.item.What.{What}
+use Rattle.rt_trace.specs.declared.item.What.TheVariants as what
+
+abbrev pub HasLevel : Section → Type 0
+HasLevel (section.Ready p) = p < 2 ^ 8
+HasLevel s = Unit {0}
+
+abbrev pub IsWordIf : Option ℕ → Type 0
+IsWordIf None = Unit {0}
+IsWordIf (Some n) = IsWord n
+
+-- the numbers of an item are in the range of their types
+abbrev pub HasNumbers : What → Type 0
+HasNumbers (what.Take i depth) = IsWord depth
+HasNumbers (what.Enter x) = HasLevel x
+HasNumbers (what.Leave x value) = HasLevel x × IsWordIf value
+HasNumbers (what.Emit v) = IsWord v
+HasNumbers (what.Start t args) = (length args ≤ 4) × AllByRecursion IsWord args
+HasNumbers (what.Clock v) = IsWord v
+HasNumbers (what.Arm t v) = IsWord v
+HasNumbers (what.Trap k) = k < 2 ^ 8
+HasNumbers w = Unit {0}
+
+-- a resource is left with a value, and a queue with none
+abbrev pub HasValueOf : Section → Option ℕ → Type 0
+HasValueOf (section.Res r) value = IsSome value
+HasValueOf s value = value ≡ None
+
+-- the names of an item are in the tables
+abbrev pub HasWords : Names → What → Type 0
+HasWords names (what.Pend i) = HasIrq names i
+HasWords names (what.Take i depth) = HasIrq names i
+HasWords names (what.Ret i) = HasIrq names i
+HasWords names (what.Post i) = HasIrq names i
+HasWords names (what.Enter x) = HasSection names x
+HasWords names (what.Leave x value) = HasSection names x × HasValueOf x value
+HasWords names (what.Placed t) = HasTask names t
+HasWords names (what.Full t) = HasTask names t
+HasWords names (what.Ready t) = HasTask names t
+HasWords names (what.Start t args) = HasTask names t
+HasWords names (what.Free t) = HasTask names t
+HasWords names (what.Arm t v) = HasTask names t
+HasWords names (what.Fire t) = HasTask names t
+HasWords names (what.End b) = HasBody names b
+HasWords names w = Unit {0}
+
+abbrev pub ShowsWords : Names → Option What → Type 0
+ShowsWords names None = Unit {0}
+ShowsWords names (Some w) = HasWords names w
+
+-- the core has as many cells as the image, and each handler that was entered is of an interrupt with a name
+pub record IsKnown (img : Image) (c : Core) : Type 0 where
+  pub cells : length c.processor.cells ≡ length img.cells
+  pub below : AllByRecursion (λ x. IsDeclared img.names x.irq) c.below
+
+pub record IsWritable (m : Machine) : Type 0 where
+  pub lines : HasLines m.image
+  pub known : IsKnown m.image m.core
+
+-- these events lead from the old core to the new one, and their items' lines were written
+pub record Writes (events : List Event) (old new : Machine) (before after : List ℕ) : Type 0 where
+  pub image : new.image ≡ old.image
+  pub core : new.core ≡ core_after old.image old.core events
+  pub steps : new.steps ≡ old.steps + steps events
+  pub time : new.core.time ≤ old.core.time + length events
+  pub known : IsKnown new.image new.core
+  pub lines :
+      after ≡ before ++ flat_map (text old.image.names) (items_of old.steps (labels old.image old.core events))
