@@ -55,7 +55,7 @@ either p n h = last (cases_order p n)
     last (inr (inr more)) = absurd (omega (arith, h, more))
 
 -- a level that passes is one of the levels below a number
-any_below : (test : ℕ → Bool) (p n : ℕ) → p < n → test p ≡ true → list_any (λ q. q == p) (those_below test n) ≡ true
+pub any_below : (test : ℕ → Bool) (p n : ℕ) → p < n → test p ≡ true → list_any (λ q. q == p) (those_below test n) ≡ true
 unfolding those_below
 any_below test p zero h is = absurd (omega (arith, h))
 any_below test p (suc n) h is =

@@ -10,7 +10,7 @@ use crate::level::{level_flags, software_count};
 use crate::measure::Measure;
 use rt_app::costs::{
     DISPATCHER_COST, DISPATCHER_TASK_SIZE, MESSAGE_COST, SIZED_MESSAGES, THREAD_SIZE, TIMER_COST,
-    TIMER_TASK_SIZE,
+    TIMER_TASK_COST, TIMER_TASK_SIZE,
 };
 use rt_app::{App, Body};
 use rt_ids::BodyId;
@@ -53,6 +53,15 @@ pub fn body_size(app: &App, body: BodyId) -> u32
     ensures { result ≡ cost.cost_of (cost.size_measure (app_of app.now)) (body_at (app_of app.now) body) }
 {
     cost_at(&Measure::size(app), app, body)
+}
+
+/// The core steps of the timer handler, at most.
+pub fn timer_cost(app: &App) -> u32
+    ensures { result ≡ cost.timer_cost (app_of app.now) }
+{
+    let armed = armed_flags(app);
+    let messages = armed_messages(app, &armed);
+    TIMER_COST + MESSAGE_COST * messages + TIMER_TASK_COST * armed_tasks(app, &armed)
 }
 
 /// The instructions of the timer handler, and none where there is no monotonic.

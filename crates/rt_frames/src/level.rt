@@ -15,14 +15,14 @@ pub(crate) fn is_software(task: &Task) -> bool
 }
 
 /// Whether a task is a software task of this priority.
-pub(crate) fn is_of_level(task: &Task, priority: u8) -> bool
+pub fn is_of_level(task: &Task, priority: u8) -> bool
     ensures { result ≡ level.is_of_level priority (task_of task.now) }
 {
     is_software(task) && task.priority == priority
 }
 
 /// How many software tasks have this priority.
-pub(crate) fn tasks_of_level(tasks: &[Task], priority: u8) -> usize
+pub fn tasks_of_level(tasks: &[Task], priority: u8) -> usize
     ensures { result ≡ count_by (level.is_of_level priority) (map task_of tasks.now) }
 {
     let mut count: usize = 0;

@@ -13,8 +13,8 @@ pub mod waiting;
 pub mod words;
 
 pub use bound::bounds;
-pub use cost::{body_cost, body_size, shared_size};
+pub use cost::{body_cost, body_size, shared_size, timer_cost};
 pub use frame::Slots;
-pub use level::level_count;
+pub use level::{is_of_level, level_count, tasks_of_level};
 pub use measure::Measure;
 pub use words::body_frames;

@@ -106,7 +106,7 @@ impl Measure {
     }
 
     /// The messages that may be armed at once, as it counts them.
-    pub(crate) fn messages(&self) -> u32
+    pub fn messages(&self) -> u32
         ensures value { result ≡ self.now.messages }
         ensures few { result ≤ MOST_ARMED }
     {
@@ -183,7 +183,7 @@ impl Measure {
 
     /// Of a statement.
     #[cycle(block)]
-    pub(crate) fn statement(&self, stmt: &Stmt) -> u32
+    pub fn statement(&self, stmt: &Stmt) -> u32
         ensures { result ≡ cost.statement_cost self.now (statement_of stmt.now) }
     {
         match stmt {

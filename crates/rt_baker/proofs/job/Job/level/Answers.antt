@@ -1,0 +1,13 @@
+use Rattle.std.proofs.Common.{ap, ◌∙◌}
+use Rattle.rt_app.specs.View.{app_of}
+use Rattle.rt_baker.specs.Inside.Job.{Kept}
+use Rattle.rt_baker.proofs.Levels.{sections_next}
+use Rattle.rt_baker.proofs.job.Job.level.Goals as goal
+
+pub loop-section-preserved : goal.loop-section-preserved
+loop-section-preserved c =
+    sections_next (app_of c.args.code.now.app.now) c.args.self.now.priority c.args.self.now.sections
+    c.deref-section-items.result.now c.loop-section.section-index c.section-item.result c.loop-section.level
+    c.ceiling.result c.from.result c.max-level.result (c.deref-section-items.ensures.value
+    ∙ ap (λ (j : Kept). j.sections) c.self.view_is) c.loop-section-test.true c.section-item.is
+    c.loop-section.invariant c.ceiling.ensures c.from.ensures c.max-level.ensures

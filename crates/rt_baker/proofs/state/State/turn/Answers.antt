@@ -1,0 +1,22 @@
+use Rattle.std.proofs.Common.{refl}
+use Rattle.rt_app.specs.View.{app_of}
+use Rattle.rt_baker.proofs.Allowing.{turn_stopped, turn_other, turned}
+use Rattle.rt_baker.proofs.state.State.turn.Goals as goal
+
+pub returns-then-not-may_go : goal.returns-then-not-may_go
+returns-then-not-may_go c =
+    turn_stopped (app_of c.args.code.now.app.now) c.args.self.now c.args.self.now c.args.what.now c.requires.free
+    c.requires.action
+    (c.if-not-may_go.ensures.may_not refl)
+
+pub returns-then-not-shows : goal.returns-then-not-shows
+returns-then-not-shows c =
+    turn_other (app_of c.args.code.now.app.now) c.args.self.now c.args.self.now c.args.what.now c.requires.free
+    c.requires.action
+    (c.if-not-shows.ensures.wrong refl)
+
+pub returns : goal.returns
+returns c =
+    turned (app_of c.args.code.now.app.now) c.args.self.now c.advance.new.self c.args.what.now c.requires.free
+    c.requires.action
+    (c.if-not-may_go.ensures.may refl) (c.if-not-shows.ensures.right refl) c.in_ok-advance.ensures

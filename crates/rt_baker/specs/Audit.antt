@@ -1,0 +1,40 @@
+-- What an audit says of a trace: that it is judged right, by Baker's machine (Stack-Based Scheduling of Realtime
+-- Processes, 1991), and then it keeps the laws that every run keeps; or which item is the first that is wrong. It is
+-- told by whole beginnings of the trace; the code follows the machine item by item, and counts silent steps by their
+-- costs.
+use Rattle.std.specs.Prelude.{◌≡◌, ℕ, suc, ◌<◌, ◌≤◌, ◌⊎◌, length, take, None}
+use Rattle.rt_trace.specs.Trace.{Trace}
+use Rattle.rt_app.specs.Tree.{App}
+use Rattle.rt_laws.specs.Run.{Judged}
+use Rattle.rt_laws.specs.Properties.{KeepsLaws}
+use Rattle.rt_baker.specs.declared.verdict.Verdict.{Verdict}
+use Rattle.rt_baker.specs.declared.verdict.Verdict.TheVariants as verdict
+
+-- the first so many items, as a trace that tells no total
+abbrev pub front : ℕ → Trace → Trace
+front n trace = record { items = take n trace.items; total = None }
+
+-- It is judged right. Sections were exclusive then, no job found one taken, and none waited for more than one section
+-- of one lower job.
+pub record IsRight (app : App) (trace : Trace) : Type 0 where
+  pub judged : Judged app trace
+  pub laws : KeepsLaws app judged.run.labels
+
+-- The items so far are judged right, and with the next one they are not; or all items are, and the total is not.
+abbrev pub IsWrongBehind : App → Trace → ℕ → Type 0
+IsWrongBehind app trace n =
+    ((n < length trace.items) × (Judged app (front (suc n) trace) → ⊥)) ⊎ (n ≡ length trace.items)
+
+-- It is not judged right, and the first item that is wrong has this number, from 1. A wrong total has the number behind
+-- the last item's.
+pub record IsWrongAt (app : App) (trace : Trace) (number : ℕ) : Type 0 where
+  pub before : ℕ
+  pub number_is : number ≡ suc before
+  pub right : (n : ℕ) → n ≤ before → Judged app (front n trace)
+  pub wrong : IsWrongBehind app trace before
+  pub not_judged : Judged app trace → ⊥
+
+-- the verdict on a trace
+abbrev pub IsVerdict : App → Trace → Verdict → Type 0
+IsVerdict app trace verdict.Yes = IsRight app trace
+IsVerdict app trace (verdict.No number) = IsWrongAt app trace number

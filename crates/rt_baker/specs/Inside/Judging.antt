@@ -1,0 +1,70 @@
+-- What an auditor says of an item, and of the silent steps in front of it, for each state of Baker's machine
+-- (Stack-Based Scheduling of Realtime Processes, 1991) that the one that it keeps stands for: that it may come, and
+-- what is kept of the state behind it; or that it may not.
+use Rattle.std.specs.Prelude.{◌≡◌, ℕ, suc, ◌<◌, ◌^◌, Bool, true, false, if◌then◌else◌, Option, Some, None}
+use Rattle.rt_trace.specs.declared.item.Item.{Item}
+use Rattle.rt_trace.specs.declared.item.What.{What}
+use Rattle.rt_trace.specs.declared.item.What.TheVariants as what
+use Rattle.rt_app.specs.Tree.{App}
+use Rattle.rt_laws.specs.State as laws
+use Rattle.rt_laws.specs.Allowed.{May, after}
+use Rattle.rt_laws.specs.Run.{RunsOn, IsWithinStack}
+use Rattle.rt_laws.specs.ByItems.{label_of, done_after, after_all, silent, Comes, after_item}
+use Rattle.rt_baker.specs.declared.done.Done.{Done}
+use Rattle.rt_baker.specs.Inside.State.{Held, StateIs}
+
+-- the core steps that are done
+abbrev pub steps_done : Done → ℕ
+steps_done d = if d.is_step then suc d.step else d.step
+
+-- an item that the running job gives by a step
+abbrev pub IsTurn : What → Type 0
+IsTurn (what.Pend irq) = ⊥
+IsTurn what.Tick = ⊥
+IsTurn (what.Take irq depth) = ⊥
+IsTurn w = Unit {0}
+
+-- The time is so early that it can rise.
+pub record IsEarly (app : App) (s : Held) : Type 0 where
+  pub state : laws.State
+  pub is : StateIs app s state
+  pub early : state.time < 2 ^ 63
+
+-- An item may come, and this is kept of the state behind it.
+pub record Came (app : App) (t : laws.State) (w : What) (new : Held) : Type 0 where
+  pub may : May app t (label_of t.owing w)
+  pub is : StateIs app new (after app t (label_of t.owing w))
+
+-- An item came where it might, and only there.
+unfoldable pub Judges : App → Bool → Held → Held → What → Type 0
+Judges app true old new w = (t : laws.State) → StateIs app old t → Came app t w new
+Judges app false old new w = (t : laws.State) → StateIs app old t → May app t (label_of t.owing w) → ⊥
+
+-- So many silent steps may pass, and this is kept of the state behind them.
+pub record Passed (app : App) (t : laws.State) (k : ℕ) (new : Held) : Type 0 where
+  pub runs : RunsOn app t (silent k)
+  pub is : StateIs app new (after_all app t (silent k))
+
+-- Silent steps passed where they might, and only there.
+unfoldable pub Passes : App → Bool → Held → Held → ℕ → Type 0
+Passes app true old new k = (t : laws.State) → StateIs app old t → Passed app t k new
+Passes app false old new k = (t : laws.State) → StateIs app old t → RunsOn app t (silent k) → ⊥
+
+-- An item comes where so many steps are done, and this is kept of the state behind it, where so many are.
+pub record Behind (app : App) (t : laws.State) (n : ℕ) (item : Item) (new : Held) (m : ℕ) : Type 0 where
+  pub comes : Comes app t n item
+  pub is : StateIs app new (after_item app t n item)
+  pub steps : m ≡ done_after item.step (label_of t.owing item.what)
+
+-- An item came with the silent steps in front of it where they might, and only there.
+unfoldable pub ItemComes : App → Option Done → Held → Held → ℕ → Item → Type 0
+ItemComes app None old new n item = (t : laws.State) → StateIs app old t → Comes app t n item → ⊥
+ItemComes app (Some d) old new n item = (t : laws.State) → StateIs app old t → Behind app t n item new (steps_done d)
+
+-- and within the stack bound
+unfoldable pub ItemJudged : App → Option Done → Held → Held → ℕ → Item → Type 0
+ItemJudged app None old new n item =
+    (t : laws.State) → StateIs app old t → IsWithinStack app item.what → Comes app t n item → ⊥
+ItemJudged app (Some d) old new n item =
+    IsWithinStack app item.what
+    × ((t : laws.State) → StateIs app old t → Behind app t n item new (steps_done d))
