@@ -1,3 +1,4 @@
 pub mod Lines
 pub mod Taking
 pub mod OneWay
+pub mod Declared

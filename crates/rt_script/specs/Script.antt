@@ -1,8 +1,10 @@
 -- What a script is, and what it stands for. It is this project's own: what happens to a core while a test bench
 -- drives it.
-use Rattle.std.specs.Prelude.{ℕ, ◌<◌, ◌≤◌, ◌==◌, List, [], flat_map, sum_by, replicate, if◌then◌else◌}
+use Rattle.std.specs.Prelude.{ℕ, ◌<◌, ◌≤◌, ◌==◌, List, [], flat_map, sum_by, replicate, if◌then◌else◌, IsSome}
 use Rattle.std.specs.List.{AllByRecursion}
 use Rattle.rt_ids.specs.Event.{Event, Arrive, Tick, Step}
+use Rattle.rt_ids.specs.Names.{Names}
+use Rattle.rt_ids.specs.Naming.{irq_named}
 use Rattle.rt_ids.specs.declared.limits.TheConstants.{SCRIPT_EVENTS, DEVICES}
 use Rattle.rt_script.specs.declared.line.Line.{Line}
 use Rattle.rt_script.specs.declared.line.Line.TheVariants.{Steps, Ticks, Pends, Device}
@@ -25,6 +27,15 @@ HasDeviceInRange line = Unit {0}
 pub record IsScript (script : List Line) : Type 0 where
   pub devices : AllByRecursion HasDeviceInRange script
   pub few : count script ≤ SCRIPT_EVENTS
+
+-- the interrupt that a line requests, where it does, has a name
+abbrev pub HasName : Names → Line → Type 0
+HasName names (Pends irq n) = IsSome (irq_named names irq)
+HasName names (Device d irq n) = IsSome (irq_named names irq)
+HasName names line = Unit {0}
+
+abbrev pub HasNames : Names → List Line → Type 0
+HasNames names script = AllByRecursion (HasName names) script
 
 -- a line expanded; a device's requests arrive at its place
 abbrev pub line_events : Line → List Event

@@ -1,7 +1,7 @@
 ghost use Rattle.std.specs.Prelude.{◌≡◌, ◌<◌, ◌≤◌, ◌+◌, ◌⊎◌, [], ◌∷◌, ◌++◌, length, IfOk, IfErr, OnOk};
 ghost use Rattle.std.specs.Str.Lines.{lines, strip_carriage_return};
 ghost use Rattle.rt_ids.specs.declared.limits.TheConstants.{SCRIPT_EVENTS};
-ghost use Rattle.rt_script.specs.Script.{HasDeviceInRange, count, count_of};
+ghost use Rattle.rt_script.specs.Script.{HasDeviceInRange, HasNames, count, count_of};
 ghost use Rattle.rt_script.specs.Text as spec;
 ghost use Rattle.rt_script.specs.Inside.Taking as taking;
 
@@ -19,6 +19,7 @@ use std::alloc::Global;
 /// number is out of range, the events up to it are too many.
 pub fn read_script(alloc: Global, bytes: &[u8], names: &Names) -> Result<Script, ScriptRefused>
     ensures read { IfOk result (λ script. spec.IsScriptText names.now bytes.now script) }
+    ensures names { IfOk result (λ script. HasNames names.now script) }
     ensures refused { IfErr result (λ refusal. spec.IsRefused names.now bytes.now refusal) }
 {
     if bytes.len() > SCRIPT_BYTES as usize {

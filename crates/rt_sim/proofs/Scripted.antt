@@ -16,7 +16,7 @@ use Rattle.rt_script.specs.declared.line.Line.TheVariants.{Steps, Ticks, Pends, 
 use Rattle.rt_trace.specs.Label.{items_of}
 use Rattle.rt_trace.specs.Text.{text, total_text}
 use Rattle.rt_sim.specs.Inside.Writing.{IsKnown, Writes}
-use Rattle.rt_sim.specs.Written.{HasName, text_of}
+use Rattle.rt_sim.specs.Written.{text_of}
 use Rattle.rt_sim.proofs.Advancing.{goes_on, steps-append}
 
 line_length : (line : Line) → length (line_events line) ≡ count_of line

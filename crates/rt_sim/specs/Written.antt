@@ -1,25 +1,12 @@
 -- The text that a run of an image under a script writes: the trace of the image, from reset, under the script's events,
 -- with its total of core steps. It is this project's own.
 use Rattle.std.specs.Prelude.{ℕ, List, Some}
-use Rattle.std.specs.List.{AllByRecursion}
 use Rattle.rt_ids.specs.Event.{steps}
-use Rattle.rt_ids.specs.Names.{Names}
 use Rattle.rt_code.specs.Image.{Image}
 use Rattle.rt_core.specs.Trace.{trace}
 use Rattle.rt_script.specs.Script.{events}
 use Rattle.rt_script.specs.declared.line.Line.{Line}
-use Rattle.rt_script.specs.declared.line.Line.TheVariants.{Steps, Ticks, Pends, Device}
-use Rattle.rt_trace.specs.Lined.{IsDeclared}
 use Rattle.rt_trace.specs.Text.{trace_text}
-
--- the interrupt that a line requests, where it does, has a name
-abbrev pub HasName : Names → Line → Type 0
-HasName names (Pends irq n) = IsDeclared names irq
-HasName names (Device d irq n) = IsDeclared names irq
-HasName names line = Unit {0}
-
-abbrev pub HasNames : Names → List Line → Type 0
-HasNames names script = AllByRecursion (HasName names) script
 
 abbrev pub text_of : Image → List Line → List ℕ
 text_of img script =

@@ -4,11 +4,11 @@ ghost use Rattle.rt_ids.specs.Event.{Event, Arrive, Tick, Step, steps};
 ghost use Rattle.rt_code.specs.Lines.{HasLines};
 ghost use Rattle.rt_core.specs.Machine.{IsFresh};
 ghost use Rattle.rt_core.specs.Trace.{core_after};
-ghost use Rattle.rt_script.specs.Script.{IsScript, events, line_events, count_of};
+ghost use Rattle.rt_script.specs.Script.{IsScript, HasName, HasNames, events, line_events, count_of};
 ghost use Rattle.rt_trace.specs.Label.{Ticked, Rang, Stepped, items_of};
 ghost use Rattle.rt_trace.specs.Lined.{HasLine, IsDeclared};
 ghost use Rattle.rt_trace.specs.Text as spec;
-ghost use Rattle.rt_sim.specs.Written.{HasNames, HasName, text_of};
+ghost use Rattle.rt_sim.specs.Written.{text_of};
 ghost use Rattle.rt_sim.specs.Inside.Writing.{IsWritable, ShowsWords, Writes};
 
 use crate::numbers::numbers_fit;

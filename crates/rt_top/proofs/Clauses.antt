@@ -18,12 +18,14 @@ built command.Run = tt
 built command.Check = tt
 built command.Fmt = tt
 built command.Build = tt
+built command.Audit = tt
 
 pub reads_first : (c : code.Command) → 1 ≤ reads (meant c)
 reads_first command.Run = omega arith
 reads_first command.Check = omega arith
 reads_first command.Fmt = omega arith
 reads_first command.Build = omega arith
+reads_first command.Audit = omega arith
 
 -- the words name the command
 module _ (words : List (List ℕ)) (c : code.Command) (named : Names words (meant c)) where

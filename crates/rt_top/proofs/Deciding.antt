@@ -1,5 +1,6 @@
 -- From what a command does to what it is to reply.
-use Rattle.std.proofs.Common.{◌≡◌, ◌∙◌, ℕ, ◌≤◌, ◌⊎◌, true, false, List, ◌++◌, Option, Some, None, inl, inr, refl, sym, subst, codes, arith}
+use Rattle.std.proofs.Common.{◌≡◌, ◌∙◌, ℕ, ◌<◌, ◌≤◌, ◌⊎◌, true, false, List, ◌++◌, length, Option, Some, None, inl, inr, refl, sym, subst, arith}
+use Rattle.rt_ids.specs.declared.limits.TheConstants.{SCRIPT_BYTES, TRACE_BYTES}
 use Rattle.rt_ids.specs.declared.status.Status.{Status}
 use Rattle.rt_ids.specs.declared.status.Status.TheVariants as status
 use Rattle.rt_ast.specs.Tree as tree
@@ -8,22 +9,30 @@ use Rattle.rt_grammar.specs.Text.{IsText}
 use Rattle.rt_lemmas.proofs.Bools.{and_parts}
 use Rattle.rt_app.specs.Accepted.{IsAccepted}
 use Rattle.rt_app.specs.Handlers.{has_no_software, has_no_monotonic}
+use Rattle.rt_app.specs.Names.{names_of}
 use Rattle.rt_app.specs.Tree.{App}
+use Rattle.rt_baker.specs.declared.verdict.Verdict.{Verdict}
+use Rattle.rt_baker.specs.declared.verdict.Verdict.TheVariants as judged
 use Rattle.rt_build.specs.Accepted.{IsApplication}
-use Rattle.rt_first.specs.Application as form
-use Rattle.rt_first.specs.Script.{script_of}
 use Rattle.rt_build.specs.Form.{has_image}
 use Rattle.rt_sim.proofs.Good.{images_are_good}
-use Rattle.rt_top.specs.Words.{Command, Run, Check, Fmt, Build, reads}
-use Rattle.rt_top.specs.Refusal.{RefusesApplication, RefusesImage, unbuilt_line}
-use Rattle.rt_top.specs.Outputs.{check_report, IsBuiltForm}
-use Rattle.rt_top.specs.Defined.{Inputs, inputs, RefusesFirst, Defined, refused, faulty, output, IsTold, IsFirstRefused, AreReadTold}
-use Rattle.rt_top.specs.Inside.Decides.{Tells, Stops, Halts, meant, Lists, Outputs, IsDecided, Decides}
+use Rattle.rt_script.specs.Text as script
+use Rattle.rt_script.specs.declared.refusal.ScriptRefused.{ScriptRefused}
+use Rattle.rt_script.specs.declared.refusal.ScriptRefused.TheVariants as in_script
+use Rattle.rt_trace.specs.Reading as trace
+use Rattle.rt_trace.specs.declared.refusal.TraceRefused.{TraceRefused}
+use Rattle.rt_trace.specs.declared.refusal.TraceRefused.TheVariants as in_trace
+use Rattle.rt_top.specs.Words.{Command, Run, Check, Fmt, Build, Audit, reads}
+use Rattle.rt_top.specs.SecondRefusal.{SaysScript, SaysTrace}
+use Rattle.rt_top.specs.Outputs.{check_report, Says}
+use Rattle.rt_top.specs.Defined.{Inputs, inputs, RefusesFirst, Defined, refused, faulty, output, IsTold, IsFirstRefused, AreTold, AreReadTold}
+use Rattle.rt_top.specs.Inside.Replies.{Replies, AnswersRun, AnswersAudit}
+use Rattle.rt_top.specs.Inside.Replies as replies
+use Rattle.rt_top.specs.Inside.Decides.{Tells, Halts, meant, Lists, IsPast, is_done, is_text, is_no, IsDecided, Decides}
 use Rattle.rt_top.specs.declared.command.Command as code
 use Rattle.rt_top.specs.declared.reply.Reply.{Reply}
 use Rattle.rt_top.specs.declared.reply.Reply.TheVariants as reply
-use Rattle.rt_top.proofs.ImageOf.{image_is_of}
-use Rattle.rt_top.proofs.Excluding.{tree_passes, application_passes, image_passes, form_passes}
+use Rattle.rt_top.proofs.Excluding.{tree_passes, application_passes, image_passes}
 
 -- what a source holds that tells
 told_text : (o : Option (List ℕ)) → IsTold o → (text : List ℕ) × (o ≡ Some text)
@@ -48,11 +57,15 @@ module _ (c : Command) (t : Inputs) (some : 1 ≤ reads c) (Refuses : List ℕ �
   halts_decides failed first second more (reply.Stop ended) (inl is) = inl is
   halts_decides failed first second more (reply.Stop ended) (inr (is, f)) = inr (is, inl (some, more f))
 
--- a reply that tells what is decided
+-- a reply that replies what is decided
+pub replies_decides : (c : Command) (t : Inputs) (first second : Type 0) (P : Status → List ℕ → Type 0) → ((ended : Status) (bytes : List ℕ) → P ended bytes → IsDecided c t ended bytes) → (r : Reply) → Replies P r → Decides c t first second r
+replies_decides c t first second P means (reply.Write ended front back) p = means ended (front.items ++ back.items) p
+replies_decides c t first second P means (reply.Stop ended) is = inl is
+
 pub tells_decides : (c : Command) (t : Inputs) (first second : Type 0) (wanted : Status) (P : List ℕ → Type 0) → ((bytes : List ℕ) → P bytes → IsDecided c t wanted bytes) → (r : Reply) → Tells wanted P r → Decides c t first second r
-tells_decides c t first second wanted P means (reply.Write ended front back) (is, p) =
-    subst (λ s. IsDecided c t s (front.items ++ back.items)) (sym is) (means (front.items ++ back.items) p)
-tells_decides c t first second wanted P means (reply.Stop ended) is = inl is
+tells_decides c t first second wanted P means r tells =
+    replies_decides c t first second (λ ended bytes. (ended ≡ wanted) × P bytes)
+    (λ ended bytes p. subst (λ s. IsDecided c t s bytes) (sym p.0) (means bytes p.1)) r tells
 
 -- a reply of a command that reads one source, where another source is as it was
 pub only_first : (c : Command) (t : Inputs) (one : reads c ≤ 1) (failed first second : Type 0) → (failed → first) → (r : Reply) → Decides c t failed ⊥ r → Decides c t first second r
@@ -68,38 +81,91 @@ module _ (first second third : Option (List ℕ)) (a : tree.App) (spelled : (tex
 
   pub formatted_decided : (bytes : List ℕ) → bytes ≡ canonical a → IsDecided Fmt t status.Done bytes
   formatted_decided bytes says = record {
-    which = inr (inl refl, λ r. tree_passes r.0 r.1 a (spelled r.0 r.2) r.3);
+    which = inr (is_done, λ r. tree_passes r.0 r.1 a (spelled r.0 r.2) r.3);
     defined = λ told.
         let text = told_text first (told.0 (omega arith)) in
         output status.Done bytes (refl, text.0, text.1, (a, spelled text.0 text.1, says));
   }
 
--- a report
+-- what a command does behind a first text that is not refused, where it reads a second one
+module _ (c : Command) (t : Inputs) (passes : IsFirstRefused c t → ⊥) (two : 2 ≤ reads c) where
+  both_told : (ended : Status) → IsPast ended → AreReadTold c t ended → AreTold c t
+  both_told ended is_done told = told
+  both_told ended is_text told = told
+  both_told ended is_no told = told
+
+  past_decided : (ended : Status) (bytes : List ℕ) → IsPast ended
+      → ((text more : List ℕ) → t.first ≡ Some text → t.second ≡ Some more → Defined c t ended bytes) → IsDecided c t ended bytes
+  past_decided ended bytes past defined = record {
+    which = inr (past, passes);
+    defined = λ told.
+        let all = both_told ended past told in
+        let text = told_text t.first (all.0 (omega (arith, two))) in
+        let more = told_text t.second (all.1 two) in
+        defined text.0 more.0 text.1 more.1;
+  }
+
+-- the application of the first text
 module _ (first second third : Option (List ℕ)) (app : App) (accepted : (text : List ℕ) → first ≡ Some text → IsApplication text app) where
   abbrev u : Inputs
   u = inputs first second third
 
+  -- a report
   pub checked_decided : (bytes : List ℕ) → bytes ≡ check_report app → IsDecided Check u status.Done bytes
   checked_decided bytes says = record {
-    which = inr (inl refl, λ r. application_passes r.0 r.1 app (accepted r.0 r.2) r.3);
+    which = inr (is_done, λ r. application_passes r.0 r.1 app (accepted r.0 r.2) r.3);
     defined = λ told.
         let text = told_text first (told.0 (omega arith)) in
         output status.Done bytes (refl, text.0, text.1, (app, accepted text.0 text.1, says));
   }
 
--- a listing, or the line that there is none
-module _ (first second third : Option (List ℕ)) (app : App) (accepted : (text : List ℕ) → first ≡ Some text → IsApplication text app) where
-  abbrev w : Inputs
-  w = inputs first second third
+  -- a verdict, or the refusal of a trace
+  pub audit_passes : IsFirstRefused Audit u → ⊥
+  audit_passes r = application_passes r.0 r.1 app (accepted r.0 r.2) r.3
 
+  trace_decided : (refusal : TraceRefused) (line : List ℕ) → ((more : List ℕ) → second ≡ Some more → trace.IsRefused (names_of app) more refusal)
+      → SaysTrace refusal line → IsDecided Audit u status.Text line
+  trace_decided refusal line met says =
+      past_decided Audit u audit_passes (omega arith) status.Text line is_text (λ text more e f.
+      faulty text more line e f (record { app = app; of_text = accepted text e; refusal = refusal; refused = met more f; says = says }))
+
+  pub long_trace_decided : ((more : List ℕ) → second ≡ Some more → TRACE_BYTES < length more) → (line : List ℕ) → SaysTrace in_trace.TooLong line → IsDecided Audit u status.Text line
+  long_trace_decided long line says = trace_decided in_trace.TooLong line long says
+
+  pub audit_decided : (own : List ℕ) → ((more : List ℕ) → second ≡ Some more → own ≡ more) → (ended : Status) (bytes : List ℕ) → AnswersAudit app own ended bytes → IsDecided Audit u ended bytes
+  audit_decided own same s b (replies.judged shown ended bytes read (verdict, is, says)) =
+      past_decided Audit u audit_passes (omega arith) ended bytes (is_past verdict says) (λ text more e f.
+      output ended bytes (
+        text,
+        more,
+        e,
+        f,
+        record {
+          app = app;
+          of_text = accepted text e;
+          trace = shown;
+          read = subst (λ m. trace.IsTraceText (names_of app) m shown) (same more f) read;
+          verdict = verdict;
+          is = is;
+          says = says;
+        },
+      ))
+    where
+      is_past : (v : Verdict) → Says shown v ended bytes → IsPast ended
+      is_past judged.Yes s = subst IsPast (sym s.0) is_done
+      is_past (judged.No n) s = subst IsPast (sym s.0) is_no
+  audit_decided own same s b (replies.refused refusal line met says) =
+      trace_decided refusal line (λ more f. subst (λ m. trace.IsRefused (names_of app) m refusal) (same more f) met) says
+
+  -- a listing
   parts : has_image app ≡ true → (has_no_software app ≡ true) × (has_no_monotonic app ≡ true)
   parts = and_parts (has_no_software app) (has_no_monotonic app)
 
   pub listed_decided : IsAccepted app → has_image app ≡ true → (items : List ℕ) → Lists app items → (bytes : List ℕ)
       → bytes ≡ items
-      → IsDecided Build w status.Done bytes
+      → IsDecided Build u status.Done bytes
   listed_decided is_accepted made items (image, of_application, runnable, says) bytes same = record {
-    which = inr (inl refl, λ r. image_passes r.0 r.1 app (accepted r.0 r.2) made r.3);
+    which = inr (is_done, λ r. image_passes r.0 r.1 app (accepted r.0 r.2) made r.3);
     defined = λ told.
         let text = told_text first (told.0 (omega arith)) in
         output status.Done bytes (
@@ -108,79 +174,64 @@ module _ (first second third : Option (List ℕ)) (app : App) (accepted : (text 
           text.1,
           record {
             app = app;
-            of_text = accepted text.0 text.1;
-            made = made;
             image = image;
-            of_application = of_application;
-            runnable = runnable;
-            good = images_are_good app image is_accepted (parts made).0 (parts made).1 of_application;
+            is = record {
+              of_text = accepted text.0 text.1;
+              made = made;
+              of_application = of_application;
+              runnable = runnable;
+              good = images_are_good app image is_accepted (parts made).0 (parts made).1 of_application;
+            };
             written = same ∙ says;
           },
         );
   }
 
-  pub unbuilt_decided : has_image app ≡ false → (bytes : List ℕ) → bytes ≡ unbuilt_line → IsDecided Build w status.App bytes
-  unbuilt_decided none bytes says =
-      refused_decided Build w (omega arith) RefusesImage (λ text line is. inr is) status.App bytes refl
-      (λ text told. record { app = app; of_text = accepted text told; none = none; says = says })
+  -- a run, or the refusal of a script
+  module _ (made : has_image app ≡ true) where
+    pub run_passes : IsFirstRefused Run u → ⊥
+    run_passes r = image_passes r.0 r.1 app (accepted r.0 r.2) made r.3
 
-both : {a b x y : List ℕ} → a ≡ b → x ≡ y → a ++ x ≡ b ++ y
-both e f = cc
+    script_decided : (refusal : ScriptRefused) (line : List ℕ) → ((more : List ℕ) → second ≡ Some more → script.IsRefused (names_of app) more refusal)
+        → SaysScript refusal line → IsDecided Run u status.Text line
+    script_decided refusal line met says =
+        past_decided Run u run_passes (omega arith) status.Text line is_text (λ text more e f.
+        faulty text more line e f (record { app = app; of_text = accepted text e; made = made; refusal = refusal; refused = met more f; says = says }))
 
--- a run of an application
-module _ (first second third : Option (List ℕ)) (a : form.App) (built : (text : List ℕ) → first ≡ Some text → (app : App) × IsBuiltForm text app a) where
-  abbrev v : Inputs
-  v = inputs first second third
+    pub long_script_decided : ((more : List ℕ) → second ≡ Some more → SCRIPT_BYTES < length more) → (line : List ℕ) → SaysScript in_script.TooLong line → IsDecided Run u status.Text line
+    long_script_decided long line says = script_decided in_script.TooLong line long says
 
-  pub passes : IsFirstRefused Run v → ⊥
-  passes r = let b = built r.0 r.2 in form_passes r.0 r.1 b.0 a b.1 r.3
-
-  pub faulty_decided : ((script : List ℕ) → second ≡ Some script → script_of a script ≡ None) → (bytes : List ℕ) → bytes ≡ codes "script:1 0 not built\n" → IsDecided Run v status.Text bytes
-  faulty_decided none bytes says = record {
-    which = inr (inr refl, passes);
-    defined = λ told.
-        let text = told_text first (told.0 (omega arith)) in
-        let more = told_text second (told.1 (omega arith)) in
-        let b = built text.0 text.1 in
-        faulty text.0 more.0 bytes text.1 more.1 (record { app = b.0; first = a; built = b.1; none = none more.0 more.1; says = says });
-  }
-
-  pub run_decided : (listing trace : List ℕ) → ((script : List ℕ) → second ≡ Some script → Outputs a script listing trace) → IsDecided Run v status.Done (listing ++ trace)
-  run_decided listing trace outputs = record {
-    which = inr (inl refl, passes);
-    defined = λ told.
-        let text = told_text first (told.0 (omega arith)) in
-        let more = told_text second (told.1 (omega arith)) in
-        let b = built text.0 text.1 in
-        let o = outputs more.0 more.1 in
-        output status.Done (listing ++ trace) (
+    pub run_decided : (own : List ℕ) → ((more : List ℕ) → second ≡ Some more → own ≡ more) → (ended : Status) (bytes : List ℕ) → AnswersRun app own ended bytes → IsDecided Run u ended bytes
+    run_decided own same s b (replies.ran image asked bytes good read written) =
+        past_decided Run u run_passes (omega arith) status.Done bytes is_done (λ text more e f.
+        output status.Done bytes (
           refl,
-          text.0,
-          more.0,
-          text.1,
-          more.1,
+          text,
+          more,
+          e,
+          f,
           record {
-            app = b.0;
-            first = a;
-            built = b.1;
-            orders = o.orders;
-            read = o.read;
-            image = o.output.image;
-            of_application = image_is_of text.0 b.0 a b.1 o.output.image o.output.of_application;
-            good = o.output.good;
-            written = both o.output.listed o.output.traced;
+            app = app;
+            image = image;
+            is = record {
+              of_text = accepted text e;
+              made = made;
+              of_application = good.of_application;
+              runnable = good.runnable;
+              good = good.good;
+            };
+            script = asked;
+            read = subst (λ m. script.IsScriptText (names_of app) m asked) (same more f) read;
+            written = written;
           },
-        );
-  }
+        ))
+    run_decided own same s b (replies.refused refusal line met says) =
+        script_decided refusal line (λ more f. subst (λ m. script.IsRefused (names_of app) m refusal) (same more f) met) says
 
-  pub stop_decides : (rose rose_second : Type 0) (ended : Status) → Stops rose_second ended → Decides Run v rose rose_second (reply.Stop ended)
-  stop_decides rose rose_second ended (inl is) = inl is
-  stop_decides rose rose_second ended (inr (is, f)) = inr (is, inr (omega arith, f))
-
--- `run` reads two sources
-pub run_kept : (t : Inputs) (kept : Type 0) → (IsFirstRefused Run t → kept) → (reads Run ≤ 1) ⊎ IsFirstRefused Run t → kept
-run_kept t kept keeps (inl few) = absurd (omega (arith, few))
-run_kept t kept keeps (inr r) = keeps r
+-- a command that reads two sources
+pub two_kept : (c : Command) (t : Inputs) (kept : Type 0) → 2 ≤ reads c → (IsFirstRefused c t → kept) → (reads c ≤ 1) ⊎ IsFirstRefused c t → kept
+two_kept c t kept two keeps (inl few) = absurd (omega (arith, two, few))
+two_kept c t kept two keeps (inr r) = keeps r
 
 -- what is decided of a command is decided of one that equals it
 pub decides_as : (c k : code.Command) → c ≡ k → (t : Inputs) (first second : Type 0) (r : Reply) → Decides (meant k) t first second r → Decides (meant c) t first second r

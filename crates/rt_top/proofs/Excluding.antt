@@ -1,24 +1,37 @@
 -- A text is refused or is read, not both, and the status that is due is one.
 use Rattle.std.proofs.Common.{◌≡◌, ℕ, ◌⊎◌, Bool, true, false, List, Option, Some, None, inl, inr, refl, sym, ap, subst, ◌∙◌, arith}
+use Rattle.rt_ids.specs.Names.{Names}
 use Rattle.rt_ids.specs.declared.status.Status.{Status}
 use Rattle.rt_ids.specs.declared.status.Status.TheVariants as status
 use Rattle.rt_ast.specs.Tree as tree
 use Rattle.rt_grammar.specs.Text.{IsText}
 use Rattle.rt_parse.proofs.WholeOnly.{text_only}
+use Rattle.rt_app.specs.Names.{names_of}
 use Rattle.rt_app.specs.Tree.{App}
 use Rattle.rt_app.specs.Violation.{IsFirst}
+use Rattle.rt_baker.specs.Audit.{IsVerdict}
+use Rattle.rt_baker.specs.declared.verdict.Verdict.{Verdict}
+use Rattle.rt_baker.specs.declared.verdict.Verdict.TheVariants as judged
 use Rattle.rt_build.specs.Accepted.{broken, IsApplication}
+use Rattle.rt_build.specs.Form.{has_image}
 use Rattle.rt_build.proofs.Firsts.{no_first}
 use Rattle.rt_resolve.specs.Resolved.{resolved}
-use Rattle.rt_first.specs.Application as form
-use Rattle.rt_first.specs.Form.{HasFirstForm, app_of}
-use Rattle.rt_first.specs.FirstForm as first
-use Rattle.rt_first.specs.Script.{script_of}
-use Rattle.rt_first.specs.declared.script.Order.{Order}
-use Rattle.rt_build.specs.Form.{has_image}
+use Rattle.rt_script.specs.Text as script
+use Rattle.rt_script.specs.declared.line.Line.{Line}
+use Rattle.rt_script.specs.declared.refusal.ScriptRefused.{ScriptRefused}
+use Rattle.rt_script.specs.declared.refusal.ScriptRefused.TheVariants as in_script
+use Rattle.rt_script.specs.declared.words.Wrong.TheVariants as script_wrong
+use Rattle.rt_script.proofs.OneWay as scripts
+use Rattle.rt_trace.specs.Reading as trace
+use Rattle.rt_trace.specs.Trace.{Trace}
+use Rattle.rt_trace.specs.declared.operand.Wrong.TheVariants as trace_wrong
+use Rattle.rt_trace.specs.declared.refusal.TraceRefused.{TraceRefused}
+use Rattle.rt_trace.specs.declared.refusal.TraceRefused.TheVariants as in_trace
+use Rattle.rt_trace.proofs.OneWay as traces
 use Rattle.rt_top.specs.Words.{Command, Run, Check, Fmt, Build, Audit, Live, Soak, Demo}
-use Rattle.rt_top.specs.Refusal.{RefusesText, RefusesApplication, RefusesForm, RefusesImage}
-use Rattle.rt_top.specs.Outputs.{IsBuiltForm, IsRun, RefusesScript}
+use Rattle.rt_top.specs.Refusal.{RefusesText, RefusesApplication, RefusesBuilding}
+use Rattle.rt_top.specs.SecondRefusal.{SaysScript, SaysTrace, RefusesScript, RefusesTrace}
+use Rattle.rt_top.specs.Outputs.{IsRun, Says, IsAudited}
 use Rattle.rt_top.specs.Defined.{Inputs, RefusesFirst, RefusesSecond, Writes, Defined, refused, faulty, output, IsTold, IsFirstRefused, AreTold}
 use Rattle.rt_top.proofs.Refused.{not_refused}
 
@@ -37,8 +50,7 @@ application_only : (text : List ℕ) (a b : App) → IsApplication text a → Is
 application_only text a b one other =
     one.kept.same ∙ (ap resolved (text_only text one.tree other.tree one.text other.text) ∙ sym other.kept.same)
 
-pub image_passes : (text line : List ℕ) (app : App) → IsApplication text app → has_image app ≡ true
-    → RefusesApplication text line ⊎ RefusesImage text line → ⊥
+pub image_passes : (text line : List ℕ) (app : App) → IsApplication text app → has_image app ≡ true → RefusesBuilding text line → ⊥
 image_passes text line app is made (inl r) = application_passes text line app is r
 image_passes text line app is made (inr r) =
     not_made (has_image app) made (subst (λ a. has_image a ≡ false) (application_only text r.app app r.of_text is) r.none)
@@ -46,34 +58,54 @@ image_passes text line app is made (inr r) =
     not_made : (b : Bool) → b ≡ true → b ≡ false → ⊥
     not_made b one other = cc
 
-application_of : (text : List ℕ) (app : App) (built : form.App) → IsBuiltForm text app built → IsApplication text app
-application_of text app built is = record { tree = is.tree; text = is.spelled; kept = is.kept }
-
-pub form_passes : (text line : List ℕ) (app : App) (built : form.App) → IsBuiltForm text app built → RefusesApplication text line ⊎ RefusesForm text line → ⊥
-form_passes text line app built is (inl r) = application_passes text line app (application_of text app built is) r
-form_passes text line app built is (inr r) =
-    r.none built (subst (λ t. HasFirstForm t built) (text_only text is.tree r.tree is.spelled r.spelled) is.form)
-
--- the form of a tree is one
-same_form : (a : tree.App) (x y : form.App) → HasFirstForm a x → HasFirstForm a y → x ≡ y
-same_form a x y one other =
-    let same : one.tree ≡ other.tree = some (first.first_form a) one.tree other.tree one.form other.form in
-    one.resolved ∙ ap app_of same ∙ sym other.resolved
-  where
-    some : (o : Option first.Tree) (t u : first.Tree) → o ≡ Some t → o ≡ Some u → t ≡ u
-    some o t u e f = cc
-
-same_built : (text : List ℕ) (app other : App) (x y : form.App) → IsBuiltForm text app x → IsBuiltForm text other y → x ≡ y
-same_built text app other x y one two =
-    same_form two.tree x y (subst (λ t. HasFirstForm t x) (text_only text one.tree two.tree one.spelled two.spelled) one.form) two.form
-
--- a script is not both of the form and not
-not_both : (orders : Option (List Order)) (some : List Order) → orders ≡ Some some → orders ≡ None → ⊥
-not_both orders some is_some is_none = cc
+-- a script, over the names
+script_read : (names : Names) (more line : List ℕ) (s : List Line) (refusal : ScriptRefused) → script.IsScriptText names more s
+    → script.IsRefused names more refusal → SaysScript refusal line → ⊥
+script_read names more line s in_script.TooLong is met says = omega (arith, is.short, met)
+script_read names more line s (in_script.BadLine n) is met says = scripts.read_one_way.not_both names more s n (script.Alone script_wrong.Form) is met
+script_read names more line s (in_script.UnknownInterrupt n) is met says =
+    scripts.read_one_way.not_both names more s n (script.Alone script_wrong.Interrupt) is met
+script_read names more line s (in_script.TooManyEvents n) is met says = scripts.read_one_way.not_both names more s n script.Events is met
+script_read names more line s (in_script.TooManyDevices n) is met says =
+    scripts.read_one_way.not_both names more s n (script.Alone script_wrong.Device) is met
+script_read names more line s in_script.NoMemory is met says = says
 
 script_passes : (text more line bytes : List ℕ) → IsRun text more bytes → RefusesScript text more line → ⊥
 script_passes text more line bytes run r =
-    not_both (script_of r.first more) run.orders (subst (λ a. script_of a more ≡ Some run.orders) (same_built text run.app r.app run.first r.first run.built r.built) run.read) r.none
+    script_read (names_of r.app) more line run.script r.refusal
+    (subst (λ a. script.IsScriptText (names_of a) more run.script) (application_only text run.app r.app run.is.of_text r.of_text) run.read)
+    r.refused r.says
+
+-- a trace, over the names
+trace_read : (names : Names) (more line : List ℕ) (shown : Trace) (refusal : TraceRefused) → trace.IsTraceText names more shown
+    → trace.IsRefused names more refusal → SaysTrace refusal line → ⊥
+trace_read names more line shown in_trace.TooLong is met says = omega (arith, is.short, met)
+trace_read names more line shown (in_trace.BadLine n) is met says = traces.read_one_way.not_both names more shown n trace_wrong.Form is met
+trace_read names more line shown (in_trace.UnknownName n) is met says = traces.read_one_way.not_both names more shown n trace_wrong.Name is met
+trace_read names more line shown in_trace.NoMemory is met says = says
+
+trace_passes : (text more line bytes : List ℕ) (ended : Status) → IsAudited text more ended bytes → RefusesTrace text more line → ⊥
+trace_passes text more line bytes ended audited r =
+    trace_read (names_of r.app) more line audited.trace r.refusal
+    (subst (λ a. trace.IsTraceText (names_of a) more audited.trace) (application_only text audited.app r.app audited.of_text r.of_text) audited.read)
+    r.refused r.says
+
+-- a trace is judged in one way
+one_verdict : (app : App) (shown : Trace) (v w : Verdict) (a b : Status) (x y : List ℕ) → IsVerdict app shown v → IsVerdict app shown w
+    → Says shown v a x → Says shown w b y → a ≡ b
+one_verdict app shown judged.Yes judged.Yes a b x y is other s t = s.0 ∙ sym t.0
+one_verdict app shown judged.Yes (judged.No n) a b x y is other s t = absurd (other.not_judged is.judged)
+one_verdict app shown (judged.No m) judged.Yes a b x y is other s t = absurd (is.not_judged other.judged)
+one_verdict app shown (judged.No m) (judged.No n) a b x y is other s t = s.0 ∙ sym t.0
+
+audited_once : (text more : List ℕ) (a b : Status) (x y : List ℕ) → IsAudited text more a x → IsAudited text more b y → a ≡ b
+audited_once text more a b x y one other =
+    let app : other.app ≡ one.app = application_only text other.app one.app other.of_text one.of_text in
+    let read = subst (λ p. trace.IsTraceText (names_of p) more other.trace) app other.read in
+    let same : other.trace ≡ one.trace = traces.read_one_way.one_trace (names_of one.app) more other.trace one.trace read one.read in
+    let is = subst (λ t. IsVerdict one.app t other.verdict) same (subst (λ p. IsVerdict p other.trace other.verdict) app other.is) in
+    let says = subst (λ t. Says t other.verdict b y) same other.says in
+    one_verdict one.app one.trace one.verdict other.verdict a b x y one.is is one.says says
 
 -- The ways to end exclude each other.
 
@@ -81,25 +113,26 @@ some_same : (o : Option (List ℕ)) (a b : List ℕ) → o ≡ Some a → o ≡ 
 some_same o a b e f = cc
 
 refused_no_second : (c : Command) (text more line other : List ℕ) → RefusesFirst c text line → RefusesSecond c text more other → ⊥
-refused_no_second Run text more line other r s = form_passes text line s.app s.first s.built r
+refused_no_second Run text more line other r s = image_passes text line s.app s.of_text s.made r
 refused_no_second Check text more line other r s = s
 refused_no_second Fmt text more line other r s = s
 refused_no_second Build text more line other r s = s
-refused_no_second Audit text more line other r s = s
+refused_no_second Audit text more line other r s = application_passes text line s.app s.of_text r
 refused_no_second Live text more line other r s = s
 refused_no_second (Soak number count workers) text more line other r s = s
 refused_no_second (Demo n) text more line other r s = s
 
 refused_no_output : (c : Command) (t : Inputs) (text line : List ℕ) (ended : Status) (bytes : List ℕ) → t.first ≡ Some text → RefusesFirst c text line → Writes c t ended bytes → ⊥
 refused_no_output Run t text line ended bytes e r (is, text', more, e', h, run) =
-    form_passes text' line run.app run.first run.built (subst (λ s. RefusesFirst Run s line) (some_same t.first text text' e e') r)
+    image_passes text' line run.app run.is.of_text run.is.made (subst (λ s. RefusesFirst Run s line) (some_same t.first text text' e e') r)
 refused_no_output Check t text line ended bytes e r (is, text', e', (app, accepted, says)) =
     application_passes text' line app accepted (subst (λ s. RefusesApplication s line) (some_same t.first text text' e e') r)
 refused_no_output Fmt t text line ended bytes e r (is, text', e', (a, spelled, says)) =
     tree_passes text' line a spelled (subst (λ s. RefusesText s line) (some_same t.first text text' e e') r)
 refused_no_output Build t text line ended bytes e r (is, text', e', w) =
-    image_passes text' line w.app w.of_text w.made (subst (λ s. RefusesFirst Build s line) (some_same t.first text text' e e') r)
-refused_no_output Audit t text line ended bytes e r w = w
+    image_passes text' line w.app w.is.of_text w.is.made (subst (λ s. RefusesFirst Build s line) (some_same t.first text text' e e') r)
+refused_no_output Audit t text line ended bytes e r (text', more, e', h, audited) =
+    application_passes text' line audited.app audited.of_text (subst (λ s. RefusesApplication s line) (some_same t.first text text' e e') r)
 refused_no_output Live t text line ended bytes e r w = w
 refused_no_output (Soak number count workers) t text line ended bytes e r w = w
 refused_no_output (Demo n) t text line ended bytes e r w = w
@@ -111,20 +144,24 @@ faulty_no_output Run t text more line ended bytes e f s (is, text', more', e', f
 faulty_no_output Check t text more line ended bytes e f s w = s
 faulty_no_output Fmt t text more line ended bytes e f s w = s
 faulty_no_output Build t text more line ended bytes e f s w = s
-faulty_no_output Audit t text more line ended bytes e f s w = s
+faulty_no_output Audit t text more line ended bytes e f s (text', more', e', f', audited) =
+    trace_passes text' more' line bytes ended audited
+    (subst (λ m. RefusesTrace text' m line) (some_same t.second more more' f f') (subst (λ u. RefusesTrace u more line) (some_same t.first text text' e e') s))
 faulty_no_output Live t text more line ended bytes e f s w = s
 faulty_no_output (Soak number count workers) t text more line ended bytes e f s w = s
 faulty_no_output (Demo n) t text more line ended bytes e f s w = s
 
-output_done : (c : Command) (t : Inputs) (ended : Status) (bytes : List ℕ) → Writes c t ended bytes → ended ≡ status.Done
-output_done Run t ended bytes w = w.0
-output_done Check t ended bytes w = w.0
-output_done Fmt t ended bytes w = w.0
-output_done Build t ended bytes w = w.0
-output_done Audit t ended bytes w = absurd w
-output_done Live t ended bytes w = absurd w
-output_done (Soak number count workers) t ended bytes w = absurd w
-output_done (Demo n) t ended bytes w = absurd w
+one_output : (c : Command) (t : Inputs) (a b : Status) (x y : List ℕ) → Writes c t a x → Writes c t b y → a ≡ b
+one_output Run t a b x y w v = w.0 ∙ sym v.0
+one_output Check t a b x y w v = w.0 ∙ sym v.0
+one_output Fmt t a b x y w v = w.0 ∙ sym v.0
+one_output Build t a b x y w v = w.0 ∙ sym v.0
+one_output Audit t a b x y (text, more, e, f, one) (text', more', e', f', other) =
+    audited_once text more a b x y one
+    (subst (λ u. IsAudited u more b y) (some_same t.first text' text e' e) (subst (λ m. IsAudited text' m b y) (some_same t.second more' more f' f) other))
+one_output Live t a b x y w v = absurd w
+one_output (Soak number count workers) t a b x y w v = absurd w
+one_output (Demo n) t a b x y w v = absurd w
 
 pub one_due : (c : Command) (t : Inputs) (a b : Status) (x y : List ℕ) → Defined c t a x → Defined c t b y → a ≡ b
 one_due c t a b x y (refused text line e r) (refused text' line' e' r') = refl
@@ -135,7 +172,7 @@ one_due c t a b x y (faulty text more line e f s) (faulty text' more' line' e' f
 one_due c t a b x y (faulty text more line e f s) (output ended bytes w) = absurd (faulty_no_output c t text more line ended bytes e f s w)
 one_due c t a b x y (output ended bytes w) (refused text line e r) = absurd (refused_no_output c t text line ended bytes e r w)
 one_due c t a b x y (output ended bytes w) (faulty text more line e f s) = absurd (faulty_no_output c t text more line ended bytes e f s w)
-one_due c t a b x y (output ended bytes w) (output ended' bytes' w') = output_done c t ended bytes w ∙ sym (output_done c t ended' bytes' w')
+one_due c t a b x y (output ended bytes w) (output ended' bytes' w') = one_output c t ended ended' bytes bytes' w w'
 
 -- What is due tells the sources that it comes from.
 
@@ -147,7 +184,7 @@ told_output Run t ended bytes (is, text, more, e, f, run) = (λ _. is_told t.fir
 told_output Check t ended bytes (is, text, e, w) = (λ _. is_told t.first text e, λ few. absurd (omega (arith, few)))
 told_output Fmt t ended bytes (is, text, e, w) = (λ _. is_told t.first text e, λ few. absurd (omega (arith, few)))
 told_output Build t ended bytes (is, text, e, w) = (λ _. is_told t.first text e, λ few. absurd (omega (arith, few)))
-told_output Audit t ended bytes w = absurd w
+told_output Audit t ended bytes (text, more, e, f, audited) = (λ _. is_told t.first text e, λ _. is_told t.second more f)
 told_output Live t ended bytes w = absurd w
 told_output (Soak number count workers) t ended bytes w = absurd w
 told_output (Demo n) t ended bytes w = absurd w

@@ -1,5 +1,5 @@
 -- From a source that tells to its text, and from the tree of a text to what is said of the text.
-use Rattle.std.proofs.Common.{◌≡◌, ℕ, ◌≤◌, List, ◌++◌, length, Option, Some, None, Result, Ok, Err, IfOk, IfErr, inl, inr, ap, subst, ◌∙◌, arith}
+use Rattle.std.proofs.Common.{◌≡◌, ℕ, ◌≤◌, false, List, ◌++◌, length, Option, Some, None, Result, Ok, Err, IfOk, IfErr, inl, inr, ap, subst, ◌∙◌, arith}
 use Rattle.std.proofs.lemmas.List.{length-append}
 use Rattle.rt_ids.specs.declared.refusal.Fault.{Fault}
 use Rattle.rt_ids.specs.declared.status.Status.TheVariants as status
@@ -10,11 +10,9 @@ use Rattle.rt_app.specs.declared.app.App as code
 use Rattle.rt_app.specs.Tree.{App}
 use Rattle.rt_app.specs.View.{app_of}
 use Rattle.rt_build.specs.Accepted.{KeepsRules, IsApplication}
-use Rattle.rt_first.specs.Application as form
-use Rattle.rt_first.specs.Form.{HasFirstForm}
-use Rattle.rt_top.specs.Refusal.{refusal_line, RefusesText, RefusesApplication}
-use Rattle.rt_top.specs.Outputs.{IsBuiltForm}
-use Rattle.rt_top.specs.Inside.Decides.{Tells, Halts, IsBrokenBy, IsUnbuiltBy, RefusesRun}
+use Rattle.rt_build.specs.Form.{has_image}
+use Rattle.rt_top.specs.Refusal.{refusal_line, unbuilt_line, RefusesText, RefusesApplication, RefusesBuilding}
+use Rattle.rt_top.specs.Inside.Decides.{Tells, Halts, IsBrokenBy}
 use Rattle.rt_top.specs.declared.reply.Reply.{Reply}
 use Rattle.rt_top.specs.declared.reply.Reply.TheVariants as reply
 
@@ -69,21 +67,9 @@ module _ (told : Option (List ℕ)) (failed : Type 0) (a : tree.App) (own : List
   accepted_result (Ok app) kept text e = record { tree = a; text = subst (λ t. IsText t a) (same text e) spelled; kept = kept }
   accepted_result (Err r) kept text e = tt
 
-  pub broken_run : (r : Reply) → Tells status.App (IsBrokenBy own a) r → Halts told RefusesRun failed r
-  broken_run r tells = halts_as told RefusesApplication RefusesRun failed (λ text line is. inl is) r (broken_halts r tells)
-
-  module _ (app : App) (kept : KeepsRules a app) where
-    unbuilt_refuses : (text line : List ℕ) → told ≡ Some text → IsUnbuiltBy a line → RefusesRun text line
-    unbuilt_refuses text line e u =
-        inr (record { tree = a; spelled = subst (λ t. IsText t a) (same text e) spelled; app = app; kept = kept; none = u.none; says = u.says })
-
-    pub unbuilt_result : {B : Type 0} (r : Result B Reply) → IfErr r (Tells status.App (IsUnbuiltBy a)) → IfErr r (Halts told RefusesRun failed)
-    unbuilt_result (Ok built) tells = tt
-    unbuilt_result (Err r) tells = tells_halts told RefusesRun failed (IsUnbuiltBy a) unbuilt_refuses r tells
-
-    pub built_result : (r : Result form.App Reply) → IfOk r (HasFirstForm a) → (text : List ℕ) → told ≡ Some text → IfOk r (λ first. (other : App) × IsBuiltForm text other first)
-    built_result (Ok built) is text e = (app, record { tree = a; spelled = subst (λ t. IsText t a) (same text e) spelled; kept = kept; form = is })
-    built_result (Err r) is text e = tt
-
-pub text_runs : (text line : List ℕ) → RefusesText text line → RefusesRun text line
-text_runs text line is = inl (text_refuses text line is)
+-- an application of which no image is made
+pub unbuilt_halts : (told : Option (List ℕ)) (failed : Type 0) (app : App) → ((text : List ℕ) → told ≡ Some text → IsApplication text app) → has_image app ≡ false
+    → (r : Reply) → Tells status.App (λ line. line ≡ unbuilt_line) r → Halts told RefusesBuilding failed r
+unbuilt_halts told failed app accepted none r tells =
+    tells_halts told RefusesBuilding failed (λ line. line ≡ unbuilt_line)
+    (λ text line e says. inr (record { app = app; of_text = accepted text e; none = none; says = says })) r tells

@@ -3,7 +3,8 @@ mod CommandWords
 mod Deciding
 mod Ending
 mod Excluding
-mod ImageOf
 mod FirstText
 mod Refused
 mod Listed
+mod Ran
+mod Audited

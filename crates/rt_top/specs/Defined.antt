@@ -3,11 +3,11 @@
 use Rattle.std.specs.Prelude.{◌≡◌, ℕ, ◌≤◌, ◌⊎◌, List, Option, Some, None}
 use Rattle.rt_ids.specs.declared.status.Status.{Status}
 use Rattle.rt_ids.specs.declared.status.Status.TheVariants as status
-use Rattle.rt_outside.specs.Faults.{Rose}
 use Rattle.rt_outside.specs.Bytes.{Took, TookPrefix}
-use Rattle.rt_top.specs.Words.{Command, Run, Check, Fmt, Build, Names, IsBuilt, reads}
-use Rattle.rt_top.specs.Refusal.{RefusesText, RefusesApplication, RefusesForm, RefusesImage}
-use Rattle.rt_top.specs.Outputs.{IsFormatted, IsChecked, IsListed, IsRun, RefusesScript}
+use Rattle.rt_top.specs.Words.{Command, Run, Check, Fmt, Build, Audit, Names, IsBuilt, reads}
+use Rattle.rt_top.specs.Refusal.{RefusesText, RefusesApplication, RefusesBuilding}
+use Rattle.rt_top.specs.SecondRefusal.{RefusesScript, RefusesTrace}
+use Rattle.rt_top.specs.Outputs.{IsFormatted, IsChecked, IsListed, IsRun, IsAudited}
 
 -- what the sources have left, where they tell
 pub record Inputs : Type 0 where
@@ -20,15 +20,17 @@ inputs first second third = record { first = first; second = second; third = thi
 
 -- the line refuses the first text
 abbrev pub RefusesFirst : Command → List ℕ → List ℕ → Type 0
-RefusesFirst Run text line = RefusesApplication text line ⊎ RefusesForm text line
+RefusesFirst Run text line = RefusesBuilding text line
 RefusesFirst Check text line = RefusesApplication text line
 RefusesFirst Fmt text line = RefusesText text line
-RefusesFirst Build text line = RefusesApplication text line ⊎ RefusesImage text line
+RefusesFirst Build text line = RefusesBuilding text line
+RefusesFirst Audit text line = RefusesApplication text line
 RefusesFirst other text line = ⊥
 
 -- the line refuses the second text, where the first is not refused
 abbrev pub RefusesSecond : Command → List ℕ → List ℕ → List ℕ → Type 0
 RefusesSecond Run text more line = RefusesScript text more line
+RefusesSecond Audit text more line = RefusesTrace text more line
 RefusesSecond other text more line = ⊥
 
 -- with this status these bytes are the output for texts that are not refused
@@ -39,6 +41,8 @@ Writes Run t ended bytes =
 Writes Check t ended bytes = (ended ≡ status.Done) × (text : List ℕ) × (t.first ≡ Some text) × IsChecked text bytes
 Writes Fmt t ended bytes = (ended ≡ status.Done) × (text : List ℕ) × (t.first ≡ Some text) × IsFormatted text bytes
 Writes Build t ended bytes = (ended ≡ status.Done) × (text : List ℕ) × (t.first ≡ Some text) × IsListed text bytes
+Writes Audit t ended bytes =
+    (text more : List ℕ) × (t.first ≡ Some text) × (t.second ≡ Some more) × IsAudited text more ended bytes
 Writes other t ended bytes = ⊥
 
 pub data Defined (c : Command) (t : Inputs) : Status → List ℕ → Type 0 where
@@ -89,14 +93,3 @@ WroteAll c t ended before after = (bytes : List ℕ) × Defined c t ended bytes 
 abbrev pub WrotePart : Command → Inputs → Option (List ℕ) → Option (List ℕ) → Type 0
 WrotePart c t before after =
     (ended : Status) × (bytes : List ℕ) × Defined c t ended bytes × TookPrefix before after bytes
-
--- all bytes were written and the status is the wanted one, or the sink failed behind a beginning of them
-abbrev pub Wrote : Option (List ℕ) → Option (List ℕ) → ℕ → ℕ → Status → Status → List ℕ → Type 0
-Wrote before after faults_before faults_after wanted ended bytes =
-    ((ended ≡ wanted) × Took before after bytes)
-    ⊎ ((ended ≡ status.Write) × Rose faults_before faults_after × TookPrefix before after bytes)
-
--- a source that the program did not come to: it has all that it had, and no new fault
-pub record IsKept {S : Type 0} (left : S → Option (List ℕ)) (faults : S → ℕ) (old new : S) : Type 0 where
-  pub has_all : left new ≡ left old
-  pub no_fault : faults new ≡ faults old

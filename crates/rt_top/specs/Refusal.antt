@@ -1,5 +1,5 @@
 -- The line that refuses an application text: where it stands, its number, and what is wrong.
-use Rattle.std.specs.Prelude.{◌≡◌, ℕ, false, List, ◌++◌, codes, decimal}
+use Rattle.std.specs.Prelude.{◌≡◌, ◌⊎◌, ℕ, false, List, ◌++◌, codes, decimal}
 use Rattle.rt_ids.specs.declared.limit.Limit.{Limit}
 use Rattle.rt_ids.specs.declared.limit.Limit.TheVariants as limit
 use Rattle.rt_ids.specs.declared.refusal.Fault.{Fault}
@@ -7,13 +7,10 @@ use Rattle.rt_ids.specs.declared.refusal.Refusal.{Refusal}
 use Rattle.rt_ids.specs.declared.refusal.Refusal.TheVariants as refusal
 use Rattle.rt_ids.specs.declared.rule.Rule.{Rule}
 use Rattle.rt_ids.specs.declared.rule.Rule.TheVariants as rule
-use Rattle.rt_ast.specs.Tree as tree
-use Rattle.rt_grammar.specs.Text.{IsText, IsRefused}
+use Rattle.rt_grammar.specs.Text.{IsRefused}
 use Rattle.rt_app.specs.Tree.{App}
-use Rattle.rt_build.specs.Accepted.{KeepsRules, IsApplication, IsRefusedText}
+use Rattle.rt_build.specs.Accepted.{IsApplication, IsRefusedText}
 use Rattle.rt_build.specs.Form.{has_image}
-use Rattle.rt_first.specs.Application as form
-use Rattle.rt_first.specs.Form.{HasFirstForm}
 
 abbrev pub limit_word : Limit → List ℕ
 limit_word limit.Tasks = codes "tasks"
@@ -61,7 +58,7 @@ refusal_line fault =
     decimal fault.place.line ++ codes ":" ++ decimal fault.place.col ++ codes " "
     ++ refusal_words fault.refusal ++ codes "\n"
 
--- the line for an application of no form that is built
+-- the line for an application of which no image is made
 abbrev pub unbuilt_line : List ℕ
 unbuilt_line = codes "1:1 E00 not built\n"
 
@@ -73,18 +70,13 @@ RefusesText text line = (fault : Fault) × IsRefused text fault × (line ≡ ref
 abbrev pub RefusesApplication : List ℕ → List ℕ → Type 0
 RefusesApplication text line = (fault : Fault) × IsRefusedText text fault × (line ≡ refusal_line fault)
 
--- or an application that is of no form that is built
-pub record RefusesForm (text line : List ℕ) : Type 0 where
-  pub tree : tree.App
-  pub spelled : IsText text tree
-  pub app : App
-  pub kept : KeepsRules tree app
-  pub none : (first : form.App) → HasFirstForm tree first → ⊥
-  pub says : line ≡ unbuilt_line
-
--- or an application that no image is made of
+-- or an application of which no image is made
 pub record RefusesImage (text line : List ℕ) : Type 0 where
   pub app : App
   pub of_text : IsApplication text app
   pub none : has_image app ≡ false
   pub says : line ≡ unbuilt_line
+
+-- the line refuses a text where an image is wanted
+abbrev pub RefusesBuilding : List ℕ → List ℕ → Type 0
+RefusesBuilding text line = RefusesApplication text line ⊎ RefusesImage text line

@@ -65,6 +65,7 @@ IsBuilt Run = Unit {0}
 IsBuilt Check = Unit {0}
 IsBuilt Fmt = Unit {0}
 IsBuilt Build = Unit {0}
+IsBuilt Audit = Unit {0}
 IsBuilt other = ⊥
 
 -- the words name a command that is built

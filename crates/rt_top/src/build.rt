@@ -7,10 +7,9 @@ ghost use Rattle.rt_build.specs.Form.{has_image};
 ghost use Rattle.rt_top.specs.Defined.{inputs};
 ghost use Rattle.rt_top.specs.Inside.Decides.{Decides, Lists};
 
-use crate::reading::{UNBUILT, read_accepted};
-use crate::reply::{Reply, line, text};
+use crate::reading::read_imaged;
+use crate::reply::{Reply, text};
 use rt_app::App;
-use rt_build::has_image;
 use rt_ids::{NoMemory, Status};
 use rt_listing::listing;
 use rt_outside::Source;
@@ -21,13 +20,10 @@ pub(crate) fn build<A: Source>(alloc: Global, app: &mut A) -> Reply
     ensures { (second third : Option (List ℕ)) → Decides word.Build (inputs (A.left app.old) second third)
         (Rose (A.faults app.old) (A.faults app.new)) ⊥ result }
 {
-    let accepted = match read_accepted(alloc, app) {
+    let accepted = match read_imaged(alloc, app) {
         Ok(accepted) => accepted,
         Err(reply) => return reply,
     };
-    if !has_image(&accepted) {
-        return line(alloc, Status::App, UNBUILT);
-    }
     match listed(alloc, &accepted) {
         Ok(bytes) => text(alloc, Status::Done, bytes),
         Err(_) => Reply::Stop(Status::Memory),

@@ -14,6 +14,8 @@ pub(crate) enum Command {
     Fmt,
     /// `build APP`
     Build,
+    /// `audit APP TRACE`
+    Audit,
 }
 
 /// The command that the words name, None where that is none that is built.
@@ -29,6 +31,8 @@ pub(crate) fn command_of(words: &[&str]) -> Option<Command>
         Some(Command::Fmt)
     } else if is_build(words) {
         Some(Command::Build)
+    } else if is_audit(words) {
+        Some(Command::Audit)
     } else {
         None
     }
@@ -70,6 +74,16 @@ fn is_build(words: &[&str]) -> bool
 {
     match words {
         [verb, _] => *verb == "build",
+        _ => false,
+    }
+}
+
+/// Whether the words are `audit APP TRACE`.
+fn is_audit(words: &[&str]) -> bool
+    ensures { IsTrue result ↔ Names (texts words.now) word.Audit }
+{
+    match words {
+        [verb, _, _] => *verb == "audit",
         _ => false,
     }
 }

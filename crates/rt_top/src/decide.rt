@@ -1,9 +1,11 @@
 ghost use Rattle.std.specs.Prelude.{◌≤◌, ◌⊎◌, ℕ, List, Option};
 ghost use Rattle.rt_outside.specs.Faults.{Rose};
 ghost use Rattle.rt_top.specs.Words.{reads};
-ghost use Rattle.rt_top.specs.Defined.{inputs, IsFirstRefused, IsKept};
+ghost use Rattle.rt_top.specs.Ends.{IsKept};
+ghost use Rattle.rt_top.specs.Defined.{inputs, IsFirstRefused};
 ghost use Rattle.rt_top.specs.Inside.Decides.{meant, Decides};
 
+use crate::audit::audit;
 use crate::build::build;
 use crate::check::check;
 use crate::command::Command;
@@ -32,5 +34,6 @@ pub(crate) fn decide<A: Source, B: Source>(
         Command::Check => check(alloc, app),
         Command::Fmt => fmt(alloc, app),
         Command::Build => build(alloc, app),
+        Command::Audit => audit(alloc, app, second),
     }
 }

@@ -1,6 +1,7 @@
 // The top call: from the program's words, sources and sink to its status.
 #![tactic(auto)]
 
+mod audit;
 mod build;
 mod check;
 mod command;

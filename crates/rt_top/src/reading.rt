@@ -1,30 +1,27 @@
-ghost use Rattle.std.specs.Prelude.{◌≡◌, ℕ, List, Some, IfOk, IfErr};
+ghost use Rattle.std.specs.Prelude.{◌≡◌, ◌<◌, ◌-◌, ◌^◌, ℕ, List, Some, true, length, IfOk, IfErr, IfSome, IfNone};
 ghost use Rattle.rt_ids.specs.declared.status.Status.TheVariants as status;
 ghost use Rattle.rt_outside.specs.Faults.{Rose};
 ghost use Rattle.rt_ast.specs.View.{app_of};
 ghost use Rattle.rt_grammar.specs.Text.{IsText};
-ghost use Rattle.rt_app.specs.Tree as application;
 ghost use Rattle.rt_app.specs.View as resolved;
 ghost use Rattle.rt_app.specs.Accepted.{IsAccepted};
 ghost use Rattle.rt_build.specs.Accepted.{KeepsRules, IsApplication};
-ghost use Rattle.rt_first.specs.Form.{HasFirstForm};
-ghost use Rattle.rt_top.specs.Outputs.{IsBuiltForm};
-ghost use Rattle.rt_top.specs.Refusal.{RefusesText, RefusesApplication};
-ghost use Rattle.rt_top.specs.Inside.Decides.{Tells, Halts, IsBrokenBy, IsUnbuiltBy, RefusesRun};
+ghost use Rattle.rt_build.specs.Form.{has_image};
+ghost use Rattle.rt_top.specs.Refusal.{RefusesText, RefusesApplication, RefusesBuilding};
+ghost use Rattle.rt_top.specs.Inside.Decides.{Tells, Stops, Halts, IsBrokenBy};
 
 use crate::reply::{Reply, line, refuse};
 use rt_app::App;
 use rt_ast::AppTree;
-use rt_build::judge;
-use rt_first::Application;
+use rt_build::{has_image, judge};
 use rt_ids::limits::TEXT_BYTES;
 use rt_ids::{Fault, Place, Refusal, Refused, Status};
 use rt_outside::{ReadFail, Source, read_text};
 use rt_parse::parse;
 use std::alloc::Global;
 
-/// The line for an application that is of no form that is built.
-pub(crate) const UNBUILT: &[u8] = b"1:1 E00 not built\n";
+/// The line for an application of which no image is made.
+const UNBUILT: &[u8] = b"1:1 E00 not built\n";
 
 /// A text that is too long is refused at its first byte.
 const TOO_LONG: Fault = Fault {
@@ -73,18 +70,6 @@ fn judged(alloc: Global, written: &Written) -> Result<App, Reply>
     }
 }
 
-/// The application of a tree where it is of the form that is built.
-fn of_form(alloc: Global, tree: &AppTree) -> Result<Application, Reply>
-    ensures form { IfOk result (HasFirstForm (app_of tree.now)) }
-    ensures unbuilt { IfErr result (Tells status.App (IsUnbuiltBy (app_of tree.now))) }
-{
-    match Application::of(alloc, tree) {
-        Ok(Some(application)) => Ok(application),
-        Ok(None) => Err(line(alloc, Status::App, UNBUILT)),
-        Err(_) => Err(Reply::Stop(Status::Memory)),
-    }
-}
-
 /// Reads the application, where it breaks no rule.
 pub(crate) fn read_accepted<A: Source>(alloc: Global, app: &mut A) -> Result<App, Reply>
     ensures accepted { (text : List ℕ) → A.left app.old ≡ Some text →
@@ -99,18 +84,43 @@ pub(crate) fn read_accepted<A: Source>(alloc: Global, app: &mut A) -> Result<App
     }
 }
 
-/// Reads the application where it breaks no rule and is of the form that is built.
-pub(crate) fn read_built<A: Source>(alloc: Global, app: &mut A) -> Result<Application, Reply>
-    ensures built { (text : List ℕ) → A.left app.old ≡ Some text →
-        IfOk result (λ first. (app : application.App) × IsBuiltForm text app first) }
-    ensures halts { IfErr result (Halts (A.left app.old) RefusesRun (Rose (A.faults app.old) (A.faults app.new))) }
+/// Reads the application, where it breaks no rule and an image is made of it.
+pub(crate) fn read_imaged<A: Source>(alloc: Global, app: &mut A) -> Result<App, Reply>
+    ensures accepted { (text : List ℕ) → A.left app.old ≡ Some text →
+        IfOk result (λ app. IsApplication text (resolved.app_of app)) }
+    ensures kept { IfOk result (λ app. IsAccepted (resolved.app_of app)) }
+    ensures image { IfOk result (λ app. has_image (resolved.app_of app) ≡ true) }
+    ensures halts { IfErr result (Halts (A.left app.old) RefusesBuilding
+        (Rose (A.faults app.old) (A.faults app.new))) }
 {
-    let written = match read_tree(alloc, app) {
-        Ok(written) => written,
+    let accepted = match read_accepted(alloc, app) {
+        Ok(accepted) => accepted,
         Err(reply) => return Err(reply),
     };
-    match judged(alloc, &written) {
-        Ok(_) => of_form(alloc, &written.tree),
-        Err(reply) => Err(reply),
+    if has_image(&accepted) {
+        Ok(accepted)
+    } else {
+        Err(line(alloc, Status::App, UNBUILT))
+    }
+}
+
+/// Reads the second text, None where it has more bytes than the limit. An error is the status to end with.
+pub(crate) fn read_second<B: Source>(
+    alloc: Global,
+    second: &mut B,
+    limit: u32,
+) -> Result<Option<Vec<u8>>, Status>
+    requires { limit < 2 ^ 32 - 1 }
+    ensures whole { (text : List ℕ) → B.left second.old ≡ Some text →
+        IfOk result (λ read. IfSome read (λ own. own.items ≡ text)) }
+    ensures long { (text : List ℕ) → B.left second.old ≡ Some text →
+        IfOk result (λ read. IfNone read (limit < length text)) }
+    ensures err { IfErr result (Stops (Rose (B.faults second.old) (B.faults second.new))) }
+{
+    match read_text(alloc, second, limit) {
+        Ok(text) => Ok(Some(text)),
+        Err(ReadFail::TooLong) => Ok(None),
+        Err(ReadFail::Fault) => Err(Status::Read),
+        Err(ReadFail::NoMemory) => Err(Status::Memory),
     }
 }

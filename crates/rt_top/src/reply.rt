@@ -1,12 +1,17 @@
-ghost use Rattle.std.specs.Prelude.{◌≡◌};
+ghost use Rattle.std.specs.Prelude.{◌≡◌, ◌++◌, decimal, IfOk};
 ghost use Rattle.rt_top.specs.Refusal.{refusal_line};
-ghost use Rattle.rt_top.specs.Defined.{Wrote};
+ghost use Rattle.rt_top.specs.SecondRefusal.{script_line, SaysScript, trace_line, SaysTrace};
+ghost use Rattle.rt_top.specs.Ends.{Wrote};
 ghost use Rattle.rt_top.specs.Inside.Decides.{Tells, Finishes};
 ghost use Rattle.rt_ids.specs.declared.status.Status.TheVariants as status;
 
 use crate::refusal::refusal_line;
-use rt_ids::{Fault, Status};
+use itoa::Buffer;
+use rt_ids::{Fault, NoMemory, Status};
 use rt_outside::{Sink, put_all};
+use rt_script::ScriptRefused;
+use rt_text::push_bytes;
+use rt_trace::TraceRefused;
 use std::alloc::Global;
 
 /// What a command replies. Nothing is written yet.
@@ -51,6 +56,78 @@ pub(crate) fn refuse(alloc: Global, fault: Fault) -> Reply
         Ok(line) => text(alloc, Status::App, line),
         Err(_) => Reply::Stop(Status::Memory),
     }
+}
+
+/// The reply of a line that has a number between two texts.
+pub(crate) fn numbered(
+    alloc: Global,
+    status: Status,
+    front: &[u8],
+    number: u64,
+    back: &[u8],
+) -> Reply
+    ensures { Tells status (λ bytes. bytes ≡ front.now ++ decimal number ++ back.now) result }
+{
+    match numbered_line(alloc, front, number, back) {
+        Ok(line) => text(alloc, status, line),
+        Err(_) => Reply::Stop(Status::Memory),
+    }
+}
+
+/// A number between two texts.
+fn numbered_line(alloc: Global, front: &[u8], number: u64, back: &[u8]) -> Result<Vec<u8>, NoMemory>
+    ensures { IfOk result (λ line. line.items ≡ front.now ++ decimal number ++ back.now) }
+{
+    let mut buffer = Buffer::new();
+    let mut line = Vec::new(alloc);
+    push_bytes(&mut line, front)?;
+    push_bytes(&mut line, buffer.format(number).as_bytes())?;
+    push_bytes(&mut line, back)?;
+    Ok(line)
+}
+
+/// The reply of a refusal of a script.
+pub(crate) fn refuse_script(alloc: Global, refusal: ScriptRefused) -> Reply
+    ensures { Tells status.Text (SaysScript refusal) result }
+{
+    match refusal {
+        ScriptRefused::TooLong => script_line(alloc, 1, b" 1 too long\n"),
+        ScriptRefused::BadLine(line) => script_line(alloc, line, b" 2 bad line\n"),
+        ScriptRefused::UnknownInterrupt(line) => script_line(
+            alloc,
+            line,
+            b" 3 unknown interrupt\n",
+        ),
+        ScriptRefused::TooManyEvents(line) => script_line(alloc, line, b" 4 too many events\n"),
+        ScriptRefused::TooManyDevices(line) => script_line(alloc, line, b" 5 too many devices\n"),
+        ScriptRefused::NoMemory => Reply::Stop(Status::Memory),
+    }
+}
+
+/// The reply that a line of a script is refused in these words.
+fn script_line(alloc: Global, line: u32, words: &[u8]) -> Reply
+    ensures { Tells status.Text (λ bytes. bytes ≡ script_line line words.now) result }
+{
+    numbered(alloc, Status::Text, b"script:", u64::from(line), words)
+}
+
+/// The reply of a refusal of a trace.
+pub(crate) fn refuse_trace(alloc: Global, refusal: TraceRefused) -> Reply
+    ensures { Tells status.Text (SaysTrace refusal) result }
+{
+    match refusal {
+        TraceRefused::TooLong => trace_line(alloc, 1, b" 1 too long\n"),
+        TraceRefused::BadLine(line) => trace_line(alloc, line, b" 2 bad line\n"),
+        TraceRefused::UnknownName(line) => trace_line(alloc, line, b" 3 unknown name\n"),
+        TraceRefused::NoMemory => Reply::Stop(Status::Memory),
+    }
+}
+
+/// The reply that a line of a trace is refused in these words.
+fn trace_line(alloc: Global, line: u32, words: &[u8]) -> Reply
+    ensures { Tells status.Text (λ bytes. bytes ≡ trace_line line words.now) result }
+{
+    numbered(alloc, Status::Text, b"trace:", u64::from(line), words)
 }
 
 /// Writes a reply, and answers the status that the program ends with.

@@ -3,7 +3,8 @@ ghost use Rattle.rt_outside.specs.Faults.{Rose};
 ghost use Rattle.rt_outside.specs.Bytes.{Took};
 ghost use Rattle.rt_top.specs.Words.{Command, texts, Names, IsBuilt, IsCommand, reads, usage_line};
 ghost use Rattle.rt_top.specs.Defined.{inputs, IsDue, IsAnswer, IsFirstRefused, AreTold, AreReadTold};
-ghost use Rattle.rt_top.specs.Defined.{SkipsFirst, SkipsSecond, WroteAll, WrotePart, Wrote, IsKept};
+ghost use Rattle.rt_top.specs.Defined.{SkipsFirst, SkipsSecond, WroteAll, WrotePart};
+ghost use Rattle.rt_top.specs.Ends.{Wrote, IsKept};
 
 use crate::command::command_of;
 use crate::decide::decide;
@@ -20,7 +21,7 @@ const USAGE: &[u8] =
 | soak APP NUMBER COUNT WORKERS | demo N\n";
 
 /// Runs the command that the words name, and answers its status. `app` is the source of the application, `second` of
-/// the script; `third` is read by no command yet. All that is written goes to `out`.
+/// the script or the trace; `third` is read by no command yet. All that is written goes to `out`.
 pub fn rtic<R: Threads + Sync, A: Source, B: Source, C: Source, K: Sink + Send, G: Gate + Sync>(
     _rt: &R,
     alloc: Global,
@@ -31,11 +32,18 @@ pub fn rtic<R: Threads + Sync, A: Source, B: Source, C: Source, K: Sink + Send, 
     out: &mut K,
     _gate: &G,
 ) -> Status
-    // With an answer all that is defined was written, and nothing else. For `build` at `Done` it is the listing of an
-    // image of the application, and for every list of fewer than 2^31 events in which only declared interrupts arrive
-    // the image's trace is a run of Baker's machine, no lock is found taken, waiting and stack keep within the printed
-    // bounds, and nothing traps. For `run`, which takes fewer applications, it is the listing of an image and that
-    // image's trace, and the trace of each such list is a run, within the stack bound and without a trap.
+    // With an answer all that is defined was written, and nothing else.
+    //
+    // At `Done`, `build` has written the listing of an image of the application, and `run` that and the image's trace
+    // on the model of an ARMv7-M core under the script's events. Of that image they promise: for every list of fewer
+    // than 2^31 events in which only declared interrupts arrive, its trace is a run of Baker's machine on the
+    // application and shows just these events, sections are exclusive, no lock is found taken, waiting and stack keep
+    // within the bounds that `check` prints, nothing traps, and a shared resource is touched only where it may be.
+    //
+    // `audit` judges a trace, whatever made it. With `yes N` and `Done` the trace, of N items, is a run of Baker's
+    // machine on the application with each depth within the stack bound, so sections were exclusive, no lock was found
+    // taken, and waiting kept within its bound. With `no N` and `No` it is none, and N is the number of the first item
+    // that is wrong, from 1, or one more than there are items where only the total is.
     ensures answered { (c : Command) → IsBuilt c → Names (texts words.now) c → IsAnswer result →
         let t = inputs (A.left app.old) (B.left second.old) (C.left third.old) in
         AreReadTold c t result → WroteAll c t result (K.taken out.old) (K.taken out.new) }

@@ -1,4 +1,5 @@
--- What a command replies, said before anything is written: a text with its status, or why the program stops.
+-- What a command replies, said of its sources before anything is written: a text with its status, or why the program
+-- stops.
 use Rattle.std.specs.Prelude.{◌≡◌, ℕ, ◌≤◌, ◌⊎◌, List, [], ◌++◌, Option, Some}
 use Rattle.rt_ids.specs.declared.refusal.Fault.{Fault}
 use Rattle.rt_ids.specs.declared.status.Status.{Status}
@@ -11,14 +12,11 @@ use Rattle.rt_build.specs.Image.{IsImageOf}
 use Rattle.rt_code.specs.Image.{Image}
 use Rattle.rt_code.specs.Runnable.{IsRunnable}
 use Rattle.rt_listing.specs.Listing.{listing}
-use Rattle.rt_first.specs.Application as form
-use Rattle.rt_first.specs.Form.{HasFirstForm}
-use Rattle.rt_first.specs.Output.{IsOutput}
-use Rattle.rt_first.specs.Script.{script_of}
-use Rattle.rt_first.specs.declared.script.Order.{Order}
 use Rattle.rt_top.specs.Words as word
-use Rattle.rt_top.specs.Refusal.{refusal_line, unbuilt_line, RefusesApplication, RefusesForm}
-use Rattle.rt_top.specs.Defined.{Inputs, Defined, IsFirstRefused, AreReadTold, Wrote}
+use Rattle.rt_top.specs.Refusal.{refusal_line}
+use Rattle.rt_top.specs.Ends.{Wrote}
+use Rattle.rt_top.specs.Defined.{Inputs, Defined, IsFirstRefused, AreReadTold}
+use Rattle.rt_top.specs.Inside.Replies.{Replies}
 use Rattle.rt_top.specs.declared.command.Command.{Command}
 use Rattle.rt_top.specs.declared.command.Command.TheVariants as command
 use Rattle.rt_top.specs.declared.reply.Reply.{Reply}
@@ -30,11 +28,11 @@ meant command.Run = word.Run
 meant command.Check = word.Check
 meant command.Fmt = word.Fmt
 meant command.Build = word.Build
+meant command.Audit = word.Audit
 
 -- the reply is with this status, and this is so of its text; or memory was wanted
 abbrev pub Tells : Status → (List ℕ → Type 0) → Reply → Type 0
-Tells wanted P (reply.Write ended first second) = (ended ≡ wanted) × P (first.items ++ second.items)
-Tells wanted P (reply.Stop ended) = ended ≡ status.Memory
+Tells wanted P r = Replies (λ ended bytes. (ended ≡ wanted) × P bytes) r
 
 -- the source failed, or memory was wanted
 abbrev pub Stops : Type 0 → Status → Type 0
@@ -52,28 +50,19 @@ pub record IsBrokenBy (text : List ℕ) (a : tree.App) (line : List ℕ) : Type 
   pub broken : IsBroken text a fault
   pub says : line ≡ refusal_line fault
 
--- the line says that this tree is of no form that is built
-pub record IsUnbuiltBy (a : tree.App) (line : List ℕ) : Type 0 where
-  pub none : (first : form.App) → HasFirstForm a first → ⊥
-  pub says : line ≡ unbuilt_line
-
--- the line refuses a text for `run`
-abbrev pub RefusesRun : List ℕ → List ℕ → Type 0
-RefusesRun text line = RefusesApplication text line ⊎ RefusesForm text line
-
 -- the bytes are the listing of an image of the application, which a core runs
 abbrev pub Lists : App → List ℕ → Type 0
 Lists app bytes = (image : Image) × IsImageOf app image × IsRunnable image × (bytes ≡ listing image)
 
--- the output of an application under a script text
-pub record Outputs (app : form.App) (script first second : List ℕ) : Type 0 where
-  pub orders : List Order
-  pub read : script_of app script ≡ Some orders
-  pub output : IsOutput app orders first second
+-- a status behind the first text, which is not refused then
+pub data IsPast : Status → Type 0 where
+  is_done : IsPast status.Done
+  is_text : IsPast status.Text
+  is_no : IsPast status.No
 
 -- These bytes and this status are due: the first text is refused, or is not, and the status tells which.
 pub record IsDecided (c : word.Command) (t : Inputs) (ended : Status) (bytes : List ℕ) : Type 0 where
-  pub which : (ended ≡ status.App) ⊎ (((ended ≡ status.Done) ⊎ (ended ≡ status.Text)) × (IsFirstRefused c t → ⊥))
+  pub which : (ended ≡ status.App) ⊎ (IsPast ended × (IsFirstRefused c t → ⊥))
   pub defined : AreReadTold c t ended → Defined c t ended bytes
 
 -- What a command replies: what is due, or that it stops, for memory, or since the first or the second source failed so.

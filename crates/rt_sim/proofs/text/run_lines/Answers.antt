@@ -7,8 +7,7 @@ use Rattle.rt_code.specs.Image.{Image}
 use Rattle.rt_core.specs.Core.{Core}
 use Rattle.rt_script.specs.declared.line.Line.{Line}
 use Rattle.rt_sim.specs.Inside.Writing.{Writes}
-use Rattle.rt_script.specs.Script.{events}
-use Rattle.rt_sim.specs.Written.{HasName}
+use Rattle.rt_script.specs.Script.{events, HasName}
 use Rattle.rt_sim.proofs.Advancing.{stands_still, still_writable}
 use Rattle.rt_sim.proofs.Happened.{fresh_known}
 use Rattle.rt_sim.proofs.Scripted.{room, line_more, steps_below}

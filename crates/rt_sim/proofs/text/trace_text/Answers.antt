@@ -2,11 +2,10 @@ use Rattle.std.proofs.Common.{◌<◌, ◌^◌, List, [], ◌++◌, length, arit
 use Rattle.rt_ids.specs.Event.{steps}
 use Rattle.rt_ids.specs.declared.limits.TheConstants.{SCRIPT_EVENTS}
 use Rattle.rt_core.specs.Machine.{Machine}
-use Rattle.rt_script.specs.Script.{IsScript, events}
+use Rattle.rt_script.specs.Script.{IsScript, HasNames, events}
 use Rattle.rt_script.specs.declared.line.Line.{Line}
 use Rattle.rt_trace.specs.Text.{total_text}
 use Rattle.rt_sim.specs.Inside.Writing.{Writes}
-use Rattle.rt_sim.specs.Written.{HasNames}
 use Rattle.rt_sim.proofs.Scripted.{events_length, steps_below, finished}
 use Rattle.rt_sim.proofs.text.trace_text.Goals as goal
 

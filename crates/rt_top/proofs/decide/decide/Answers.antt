@@ -1,9 +1,10 @@
 use Rattle.std.proofs.Common.{refl, arith}
 use Rattle.rt_outside.specs.Faults.{Rose}
-use Rattle.rt_top.specs.Words.{Check, Fmt, Build}
-use Rattle.rt_top.specs.Defined.{inputs, IsKept}
+use Rattle.rt_top.specs.Words.{Run, Check, Fmt, Build, Audit}
+use Rattle.rt_top.specs.Ends.{IsKept}
+use Rattle.rt_top.specs.Defined.{inputs}
 use Rattle.rt_top.specs.declared.command.Command.TheVariants as command
-use Rattle.rt_top.proofs.Deciding.{only_first, run_kept, decides_as, kept_as}
+use Rattle.rt_top.proofs.Deciding.{only_first, two_kept, decides_as, kept_as}
 use Rattle.rt_top.proofs.decide.decide.Goals as goal
 
 pub returns-in-Run-clause-decides : goal.returns-in-Run-clause-decides
@@ -17,7 +18,7 @@ pub returns-in-Run-clause-kept : goal.returns-in-Run-clause-kept
 returns-in-Run-clause-kept g c third either =
     kept_as c.args.command command.Run c.in-Run.is (inputs (g.A.Source.left c.args.app.now) (g.B.Source.left c.args.second.now) third)
     (IsKept g.B.Source.left g.B.Source.faults c.args.second.now c.run.new.second)
-    (run_kept (inputs (g.A.Source.left c.args.app.now) (g.B.Source.left c.args.second.now) third) (IsKept g.B.Source.left g.B.Source.faults c.args.second.now c.run.new.second) (c.run.ensures.kept third)) either
+    (two_kept Run (inputs (g.A.Source.left c.args.app.now) (g.B.Source.left c.args.second.now) third) (IsKept g.B.Source.left g.B.Source.faults c.args.second.now c.run.new.second) (omega arith) (c.run.ensures.kept third)) either
 
 pub returns-in-Check-clause-decides : goal.returns-in-Check-clause-decides
 returns-in-Check-clause-decides g c third =
@@ -51,3 +52,16 @@ returns-in-Build-clause-decides g c third =
     (Rose (g.A.Source.faults c.args.app.now) (g.A.Source.faults c.build.new.app) × IsKept g.B.Source.left g.B.Source.faults c.args.second.now c.args.second.now)
     (Rose (g.B.Source.faults c.args.second.now) (g.B.Source.faults c.args.second.now))
     (λ h. (h, record { has_all = refl; no_fault = refl })) c.build.result (c.build.ensures (g.B.Source.left c.args.second.now) third))
+
+pub returns-in-Audit-clause-decides : goal.returns-in-Audit-clause-decides
+returns-in-Audit-clause-decides g c third =
+    decides_as c.args.command command.Audit c.in-Audit.is (inputs (g.A.Source.left c.args.app.now) (g.B.Source.left c.args.second.now) third)
+    (Rose (g.A.Source.faults c.args.app.now) (g.A.Source.faults c.audit.new.app) × IsKept g.B.Source.left g.B.Source.faults c.args.second.now c.audit.new.second)
+    (Rose (g.B.Source.faults c.args.second.now) (g.B.Source.faults c.audit.new.second))
+    c.audit.result (c.audit.ensures.decides third)
+
+pub returns-in-Audit-clause-kept : goal.returns-in-Audit-clause-kept
+returns-in-Audit-clause-kept g c third either =
+    kept_as c.args.command command.Audit c.in-Audit.is (inputs (g.A.Source.left c.args.app.now) (g.B.Source.left c.args.second.now) third)
+    (IsKept g.B.Source.left g.B.Source.faults c.args.second.now c.audit.new.second)
+    (two_kept Audit (inputs (g.A.Source.left c.args.app.now) (g.B.Source.left c.args.second.now) third) (IsKept g.B.Source.left g.B.Source.faults c.args.second.now c.audit.new.second) (omega arith) (c.audit.ensures.kept third)) either

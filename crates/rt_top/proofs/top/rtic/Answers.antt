@@ -1,6 +1,7 @@
 use Rattle.rt_outside.specs.Faults.{Rose}
 use Rattle.rt_top.specs.Words.{texts}
-use Rattle.rt_top.specs.Defined.{inputs, IsKept}
+use Rattle.rt_top.specs.Ends.{IsKept}
+use Rattle.rt_top.specs.Defined.{inputs}
 use Rattle.rt_top.proofs.Clauses.{answered, complete, no_usage, is_command, first_unread, second_unread, read, silent, write, part, no_words}
 use Rattle.rt_top.proofs.top.rtic.Goals as goal
 

@@ -1,0 +1,58 @@
+-- What a command replies of its texts alone, said before anything is written.
+use Rattle.std.specs.Prelude.{◌≡◌, ℕ, List, ◌++◌, codes}
+use Rattle.rt_ids.specs.declared.status.Status.{Status}
+use Rattle.rt_ids.specs.declared.status.Status.TheVariants as status
+use Rattle.rt_app.specs.Names.{names_of}
+use Rattle.rt_app.specs.Tree.{App}
+use Rattle.rt_baker.specs.Audit.{IsVerdict}
+use Rattle.rt_baker.specs.declared.verdict.Verdict.{Verdict}
+use Rattle.rt_build.specs.Image.{IsImageOf}
+use Rattle.rt_code.specs.Image.{Image}
+use Rattle.rt_code.specs.Runnable.{IsRunnable}
+use Rattle.rt_listing.specs.Listing.{listing}
+use Rattle.rt_script.specs.Text as script
+use Rattle.rt_script.specs.declared.line.Line.{Line}
+use Rattle.rt_script.specs.declared.refusal.ScriptRefused.{ScriptRefused}
+use Rattle.rt_sim.specs.Good.{Good}
+use Rattle.rt_sim.specs.Written.{text_of}
+use Rattle.rt_trace.specs.Reading as trace
+use Rattle.rt_trace.specs.Trace.{Trace}
+use Rattle.rt_trace.specs.declared.refusal.TraceRefused.{TraceRefused}
+use Rattle.rt_top.specs.Outputs.{Says}
+use Rattle.rt_top.specs.SecondRefusal.{SaysScript, SaysTrace}
+use Rattle.rt_top.specs.declared.reply.Reply.{Reply}
+use Rattle.rt_top.specs.declared.reply.Reply.TheVariants as reply
+
+-- this is so of the reply's status and text, or memory was wanted
+abbrev pub Replies : (Status → List ℕ → Type 0) → Reply → Type 0
+Replies P (reply.Write ended first second) = P ended (first.items ++ second.items)
+Replies P (reply.Stop ended) = ended ≡ status.Memory
+
+-- the listing of the image, and its trace under the script
+abbrev pub run_text : Image → List Line → List ℕ
+run_text image asked = listing image ++ codes "trace\n" ++ text_of image asked
+
+-- the image is a good one of the application, which a core runs
+pub record IsGoodOf (app : App) (image : Image) : Type 0 where
+  pub of_application : IsImageOf app image
+  pub runnable : IsRunnable image
+  pub good : Good app image
+
+-- what `run` answers to a script's text
+pub data AnswersRun (app : App) (more : List ℕ) : Status → List ℕ → Type 0 where
+  ran : (image : Image) (asked : List Line) (bytes : List ℕ) → IsGoodOf app image
+      → script.IsScriptText (names_of app) more asked → bytes ≡ run_text image asked
+      → AnswersRun app more status.Done bytes
+  refused : (refusal : ScriptRefused) (line : List ℕ) → script.IsRefused (names_of app) more refusal
+      → SaysScript refusal line → AnswersRun app more status.Text line
+
+-- what `audit` answers to a trace, and to a trace's text
+abbrev pub AnswersVerdict : App → Trace → Status → List ℕ → Type 0
+AnswersVerdict app shown ended bytes =
+    (verdict : Verdict) × IsVerdict app shown verdict × Says shown verdict ended bytes
+
+pub data AnswersAudit (app : App) (more : List ℕ) : Status → List ℕ → Type 0 where
+  judged : (shown : Trace) (ended : Status) (bytes : List ℕ) → trace.IsTraceText (names_of app) more shown
+      → AnswersVerdict app shown ended bytes → AnswersAudit app more ended bytes
+  refused : (refusal : TraceRefused) (line : List ℕ) → trace.IsRefused (names_of app) more refusal
+      → SaysTrace refusal line → AnswersAudit app more status.Text line
