@@ -1,6 +1,5 @@
-// Runs the tables of commands that stand in data/, and prints a line for each case: its name, and `ok` or what
-// differs. What
-// reports, refusals and traces are to be comes from an independent implementation.
+// Runs the tables of commands that stand in data/, and prints a line for each case: its name, and `ok` or what differs.
+// What reports, refusals, listings, traces and verdicts are to be comes from an independent implementation.
 #![tactic(auto)]
 
 use anyhow::Result;
@@ -31,5 +30,8 @@ fn main(rt: HostRuntime) -> Result<()> {
     run(&rt, "reports", "check app")?;
     run(&rt, "refusals", "check app")?;
     run(&rt, "runs", "run app script")?;
+    run(&rt, "builds", "build app")?;
+    run(&rt, "scripts", "run app script")?;
+    run(&rt, "audits", "audit app trace")?;
     run(&rt, "commands", "")
 }
