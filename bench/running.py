@@ -1,0 +1,119 @@
+#!/usr/bin/env python3
+"""Prints the times of `rtic run` beside those of a plain simulator, and of `rtic audit` beside `wc -w` and a plain reader.
+
+    python3 running.py PROGRAM SIMULATOR READER FOLDER
+
+PROGRAM is rtic, SIMULATOR and READER are bench/simulator.rs and bench/reader.rs, FOLDER takes the texts. The programs take
+turns, and of five turns the least time of each counts, from start to end of the process. What the simulator writes is
+compared with what rtic writes, byte for byte.
+"""
+
+import os
+import subprocess
+import sys
+
+from reading import peak, run
+
+TURNS = 5
+EVENTS = 1_000_000
+
+BODIES = """\
+idle(shared = [low], local = [turns]) { lock low { turns = turns + low; } }
+task slow(binds = SLOW, priority = 1, shared = [low, high]) {
+    lock low {
+        for i in 0..4 { low = low + i; }
+        lock high { high = low; }
+    }
+    emit low;
+}
+task fast(binds = FAST, priority = 2, shared = [high]) { lock high { high = high * 3; emit high; } }
+"""
+
+
+def application(irqs, has_bodies):
+    """So many declared interrupts, of which two are served; without bodies the thread waits."""
+    more = "".join(f", X{n} = {n}" for n in range(2, irqs))
+    bodies = BODIES if has_bodies else BODIES[BODIES.index("task") :]
+    return (
+        f"app bench(bits = 4);\ninterrupts {{ SLOW = 0, FAST = 1{more} }}\n"
+        f"shared {{ low = 1, high = 2 }}\nlocal {{ turns = 0 }}\n{bodies}"
+    )
+
+
+def write(folder, name, text):
+    path = os.path.join(folder, name)
+    with open(path, "w", encoding="ascii") as to:
+        to.write(text)
+    return path
+
+
+def output(words, path):
+    with open(path, "wb") as to:
+        subprocess.run(words, stdout=to, check=True)
+    return path
+
+
+def turns(*programs):
+    """The least time of each of these, in seconds."""
+    times = [[run(words) for words in programs] for _ in range(TURNS)]
+    return [min(column) for column in zip(*times)]
+
+
+def measure_run(program, simulator, folder, irqs, name, script):
+    app = write(folder, "app", application(irqs, name != "waiting"))
+    events = write(folder, "script", script)
+    listing = output([program, "build", app], os.path.join(folder, "listing"))
+    ours = output([program, "run", app, events], os.path.join(folder, "ours"))
+    plain = output([simulator, listing, events], os.path.join(folder, "plain"))
+    if open(ours, "rb").read() != open(plain, "rb").read():
+        sys.exit(f"running.py: the simulator writes another trace, {name}, {irqs} interrupts")
+    words = [program, "run", app, events]
+    seconds, other = turns(words, [simulator, listing, events])
+    print(
+        f"run, {name}, {irqs} interrupts, {EVENTS} events: {seconds * 1000:.0f} ms, {seconds / other:.2f} times a plain "
+        f"simulator ({other * 1000:.0f} ms); {peak(words, folder)} KiB for {os.path.getsize(ours) // 1024} KiB of output"
+    )
+
+
+def trace_of(program, folder, app, items):
+    """A trace of so many items: rounds of one pend of each task and sixty steps, each as `rtic run` has it."""
+    once = write(folder, "script", "step 1\npend SLOW\nstep 9\npend FAST\nstep 60\n")
+    told = subprocess.run([program, "run", app, once], capture_output=True, check=True).stdout.decode("ascii")
+    rows = [line.split(" ", 1) for line in told.split("\ntrace\n")[1].splitlines()]
+    rounds = [(int(step) - 1, what) for step, what in rows[1:-1]]
+    lines, at = [f"{rows[0][0]} {rows[0][1]}"], 1
+    while len(lines) < items:
+        lines += [f"{at + step} {what}" for step, what in rounds]
+        at += 69
+    lines = lines[:items]
+    return write(folder, "trace", "\n".join(lines) + "\n")
+
+
+def measure_audit(program, reader, folder, items):
+    app = write(folder, "app", application(2, False))
+    trace = trace_of(program, folder, app, items)
+    told = subprocess.run([program, "audit", app, trace], capture_output=True, check=False).stdout
+    if told != f"yes {items}\n".encode("ascii"):
+        sys.exit(f"running.py: the audit of {items} items says {told}")
+    words = [program, "audit", app, trace]
+    seconds, counted, read = turns(words, ["wc", "-w", trace], [reader, trace])
+    memory = peak(words, folder) * 1024
+    size = os.path.getsize(trace)
+    print(
+        f"audit, {items} items, {size // 1024} KiB: {seconds * 1000:.0f} ms, {seconds / items * 1e9:.0f} ns an item, "
+        f"1/{seconds / counted:.1f} of the speed of wc -w, {seconds / read:.1f} times a plain reader; "
+        f"{(memory - size) / items:.0f} bytes of memory an item beside the text"
+    )
+
+
+def main(program, simulator, reader, folder):
+    busy = "pend SLOW\nstep 9\npend FAST\nstep 29\n" * (EVENTS // 40)
+    for irqs in 2, 240:
+        measure_run(program, simulator, folder, irqs, "waiting", f"step {EVENTS}\n")
+        measure_run(program, simulator, folder, irqs, "spinning", f"step {EVENTS}\n")
+        measure_run(program, simulator, folder, irqs, "busy", busy)
+    for items in 500_000, 1_000_000:
+        measure_audit(program, reader, folder, items)
+
+
+main(*sys.argv[1:])

@@ -1,0 +1,328 @@
+// A plain simulator of images of hardware tasks, for bench/run: `simulator LISTING SCRIPT` writes the listing, the line
+// `trace`, and the trace of the image under the script, as `rtic run` does. It has no proofs, checks no limit, and traps
+// by a panic.
+use std::collections::{BTreeSet, HashMap};
+use std::env;
+use std::error::Error;
+use std::fs;
+use std::io::{self, Write};
+
+enum Instr {
+    Set(usize, u32),
+    Copy(usize, usize),
+    Calc(fn(u32, u32) -> u32, usize, usize, usize),
+    Load(usize, usize),
+    Store(usize, usize),
+    Jump(usize),
+    JumpZ(usize, usize),
+    Emit(usize),
+    Post(usize),
+    Clock(usize),
+    Raise(usize, u32),
+    Restore(usize),
+    Mask(usize),
+    Unmask(usize),
+    Mark,
+    Serve,
+    Wait,
+    Ret,
+}
+
+enum Note {
+    Enter(String),
+    Leave(String, Option<usize>),
+    End(String),
+}
+
+struct Irq {
+    name: String,
+    number: u16,
+    // its priority value, entry and frame
+    handler: Option<(u32, usize, usize)>,
+}
+
+struct Image {
+    thread_words: usize,
+    cells: Vec<(u32, String)>,
+    irqs: Vec<Irq>,
+    code: Vec<(Instr, Option<Note>)>,
+}
+
+fn operation(word: &str) -> Option<fn(u32, u32) -> u32> {
+    Some(match word {
+        "add" => u32::wrapping_add,
+        "sub" => u32::wrapping_sub,
+        "mul" => u32::wrapping_mul,
+        "div" => |a, b| a.checked_div(b).unwrap_or(0),
+        "rem" => |a, b| a.checked_rem(b).unwrap_or(a),
+        "and" => |a, b| a & b,
+        "or" => |a, b| a | b,
+        "xor" => |a, b| a ^ b,
+        "shl" => |a, b| a.checked_shl(b).unwrap_or(0),
+        "shr" => |a, b| a.checked_shr(b).unwrap_or(0),
+        "eq" => |a, b| (a == b).into(),
+        "ne" => |a, b| (a != b).into(),
+        "lt" => |a, b| (a < b).into(),
+        "le" => |a, b| (a <= b).into(),
+        "gt" => |a, b| (a > b).into(),
+        "ge" => |a, b| (a >= b).into(),
+        _ => return None,
+    })
+}
+
+fn instr(words: &[&str], irqs: &HashMap<String, usize>) -> Result<Instr, Box<dyn Error>> {
+    let number = |place: usize| words[place].parse::<u32>();
+    let place = |place: usize| words[place].parse::<usize>();
+    if let Some(apply) = operation(words[0]) {
+        return Ok(Instr::Calc(apply, place(1)?, place(2)?, place(3)?));
+    }
+    Ok(match words[0] {
+        "set" => Instr::Set(place(1)?, number(2)?),
+        "copy" => Instr::Copy(place(1)?, place(2)?),
+        "load" => Instr::Load(place(1)?, place(2)?),
+        "store" => Instr::Store(place(1)?, place(2)?),
+        "jump" => Instr::Jump(place(1)?),
+        "jumpz" => Instr::JumpZ(place(1)?, place(2)?),
+        "emit" => Instr::Emit(place(1)?),
+        "post" => Instr::Post(irqs[words[1]]),
+        "clock" => Instr::Clock(place(1)?),
+        "raise" => Instr::Raise(place(1)?, number(2)?),
+        "restore" => Instr::Restore(place(1)?),
+        "mask" => Instr::Mask(place(1)?),
+        "unmask" => Instr::Unmask(place(1)?),
+        "mark" => Instr::Mark,
+        "serve" => Instr::Serve,
+        "wait" => Instr::Wait,
+        "ret" => Instr::Ret,
+        other => return Err(format!("no instruction {other}").into()),
+    })
+}
+
+fn read_image(text: &str) -> Result<Image, Box<dyn Error>> {
+    let mut image = Image { thread_words: 0, cells: Vec::new(), irqs: Vec::new(), code: Vec::new() };
+    let mut numbers = HashMap::new();
+    let mut cells = HashMap::new();
+    for line in text.lines() {
+        let (line, told) = match line.split_once(" ; ") {
+            Some((line, told)) => (line, Some(told)),
+            None => (line, None),
+        };
+        let words: Vec<&str> = line.split(' ').collect();
+        match words[0] {
+            "image" => image.thread_words = words[4].parse()?,
+            "cell" => {
+                cells.insert(words[3].to_string(), image.cells.len());
+                image.cells.push((words[2].parse()?, words[3].to_string()));
+            }
+            "irq" => {
+                numbers.insert(words[1].to_string(), image.irqs.len());
+                let handler = match words.len() {
+                    4 => None,
+                    _ => Some((words[3].parse()?, words[4].parse()?, words[5].parse()?)),
+                };
+                image.irqs.push(Irq { name: words[1].to_string(), number: words[2].parse()?, handler });
+            }
+            "code" => {
+                let note = told.map(|told| {
+                    let (verb, what) = told.split_once(' ').expect("a note has two words");
+                    let what = what.to_string();
+                    match verb {
+                        "enter" => Note::Enter(what),
+                        "leave" => {
+                            let cell = cells.get(&what).copied();
+                            Note::Leave(what, cell)
+                        }
+                        _ => Note::End(what),
+                    }
+                });
+                image.code.push((instr(&words[2..], &numbers)?, note));
+            }
+            other => return Err(format!("no line {other}").into()),
+        }
+    }
+    Ok(image)
+}
+
+// What an exception entry saves.
+struct Context {
+    address: usize,
+    frame: usize,
+    irq: Option<usize>,
+}
+
+struct Core<'a> {
+    image: &'a Image,
+    cells: Vec<u32>,
+    stack: Vec<u32>,
+    frame: usize,
+    contexts: Vec<Context>,
+    running: Option<usize>,
+    // those that are enabled and pending, by priority value and number, with their row
+    ready: BTreeSet<(u32, u16, usize)>,
+    address: usize,
+    basepri: u32,
+    primask: bool,
+    time: u32,
+    steps: u64,
+}
+
+impl<'a> Core<'a> {
+    fn new(image: &'a Image) -> Core<'a> {
+        Core {
+            image,
+            cells: image.cells.iter().map(|cell| cell.0).collect(),
+            stack: vec![0; image.thread_words],
+            frame: image.thread_words,
+            contexts: Vec::new(),
+            running: None,
+            ready: BTreeSet::new(),
+            address: 0,
+            basepri: 0,
+            primask: true,
+            time: 0,
+            steps: 0,
+        }
+    }
+
+    fn pend(&mut self, irq: usize) {
+        let row = &self.image.irqs[irq];
+        if let Some((value, _, _)) = row.handler {
+            self.ready.insert((value, row.number, irq));
+        }
+    }
+
+    // The execution priority, 256 where nothing runs or masks.
+    fn execution(&self) -> u32 {
+        let own = match self.running {
+            Some(irq) => self.image.irqs[irq].handler.map_or(256, |handler| handler.0),
+            None => 256,
+        };
+        let masked = if self.primask { 0 } else { 256 };
+        let based = if self.basepri == 0 { 256 } else { self.basepri };
+        own.min(masked).min(based)
+    }
+
+    fn slots(&mut self) -> &mut [u32] {
+        let base = self.stack.len() - self.frame;
+        &mut self.stack[base..]
+    }
+
+    fn slot(&self, slot: usize) -> u32 {
+        self.stack[self.stack.len() - self.frame + slot]
+    }
+
+    fn set(&mut self, slot: usize, value: u32) {
+        self.slots()[slot] = value;
+    }
+
+    fn enter(&mut self, irq: usize, out: &mut Vec<u8>) -> io::Result<()> {
+        let (value, entry, frame) = self.image.irqs[irq].handler.expect("it is enabled");
+        self.ready.remove(&(value, self.image.irqs[irq].number, irq));
+        self.contexts.push(Context { address: self.address, frame: self.frame, irq: self.running });
+        self.stack.resize(self.stack.len() + 8 + frame, 0);
+        (self.address, self.frame, self.running) = (entry, frame, Some(irq));
+        writeln!(out, "{} take {} {}", self.steps, self.image.irqs[irq].name, self.stack.len() * 4)
+    }
+
+    fn leave(&mut self, out: &mut Vec<u8>) -> io::Result<()> {
+        let irq = self.running.expect("a handler runs");
+        let context = self.contexts.pop().expect("it was entered");
+        self.stack.truncate(self.stack.len() - self.frame - 8);
+        (self.address, self.frame, self.running) = (context.address, context.frame, context.irq);
+        writeln!(out, "{} ret {}", self.steps, self.image.irqs[irq].name)
+    }
+
+    fn execute(&mut self, out: &mut Vec<u8>) -> io::Result<()> {
+        let (instr, note) = &self.image.code[self.address];
+        self.address += 1;
+        match *instr {
+            Instr::Set(slot, value) => self.set(slot, value),
+            Instr::Copy(slot, from) => self.set(slot, self.slot(from)),
+            Instr::Calc(apply, slot, a, b) => self.set(slot, apply(self.slot(a), self.slot(b))),
+            Instr::Load(slot, cell) => self.set(slot, self.cells[cell]),
+            Instr::Store(cell, from) => self.cells[cell] = self.slot(from),
+            Instr::Jump(to) => self.address = to,
+            Instr::JumpZ(slot, to) if self.slot(slot) == 0 => self.address = to,
+            Instr::JumpZ(_, _) | Instr::Mark => {}
+            Instr::Emit(slot) => writeln!(out, "{} emit {}", self.steps, self.slot(slot))?,
+            Instr::Post(irq) => {
+                self.pend(irq);
+                writeln!(out, "{} post {}", self.steps, self.image.irqs[irq].name)?;
+            }
+            Instr::Clock(slot) => {
+                self.set(slot, self.time);
+                writeln!(out, "{} clock {}", self.steps, self.time)?;
+            }
+            Instr::Raise(slot, value) => {
+                self.set(slot, self.basepri);
+                self.basepri = value;
+            }
+            Instr::Restore(slot) => self.basepri = self.slot(slot),
+            Instr::Mask(slot) => {
+                self.set(slot, self.primask.into());
+                self.primask = true;
+            }
+            Instr::Unmask(slot) => self.primask = self.slot(slot) == 1,
+            Instr::Serve => self.primask = false,
+            Instr::Wait => self.address -= 1,
+            Instr::Ret => self.leave(out)?,
+        }
+        match note {
+            None => Ok(()),
+            Some(Note::Enter(section)) => writeln!(out, "{} enter {section}", self.steps),
+            Some(Note::Leave(section, Some(cell))) => {
+                writeln!(out, "{} leave {section} {}", self.steps, self.cells[*cell])
+            }
+            Some(Note::Leave(section, None)) => writeln!(out, "{} leave {section}", self.steps),
+            Some(Note::End(body)) => writeln!(out, "{} end {body}", self.steps),
+        }
+    }
+
+    fn step(&mut self, out: &mut Vec<u8>) -> io::Result<()> {
+        match self.ready.first() {
+            Some(&(value, _, irq)) if value < self.execution() => self.enter(irq, out)?,
+            _ => self.execute(out)?,
+        }
+        self.steps += 1;
+        Ok(())
+    }
+}
+
+fn main() -> Result<(), Box<dyn Error>> {
+    let words: Vec<String> = env::args().collect();
+    let listing = fs::read_to_string(&words[1])?;
+    let script = fs::read_to_string(&words[2])?;
+    let image = read_image(&listing)?;
+    let names: HashMap<&str, usize> = image.irqs.iter().enumerate().map(|(i, irq)| (irq.name.as_str(), i)).collect();
+    let mut core = Core::new(&image);
+    let mut out = Vec::new();
+    for line in script.lines().filter(|line| !line.is_empty() && !line.starts_with('#')) {
+        let words: Vec<&str> = line.split(' ').collect();
+        match words[0] {
+            "step" => {
+                for _ in 0..words[1].parse::<u32>()? {
+                    core.step(&mut out)?;
+                }
+            }
+            "tick" => {
+                for _ in 0..words[1].parse::<u32>()? {
+                    core.time += 1;
+                    writeln!(out, "{} tick", core.steps)?;
+                }
+            }
+            _ => {
+                let irq = names[words[1]];
+                for _ in 0..words.get(2).map_or(Ok(1), |count| count.parse::<u32>())? {
+                    core.pend(irq);
+                    writeln!(out, "{} pend {}", core.steps, words[1])?;
+                }
+            }
+        }
+    }
+    writeln!(out, "total {}", core.steps)?;
+    let mut stdout = io::stdout().lock();
+    stdout.write_all(listing.as_bytes())?;
+    stdout.write_all(b"trace\n")?;
+    stdout.write_all(&out)?;
+    Ok(())
+}
