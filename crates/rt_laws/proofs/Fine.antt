@@ -216,7 +216,7 @@ module _ (app : App) (vs : Values) (queued : Queued app vs) where
       record { ready = queued.ready; timer = queued.timer; out = queued.out }
 
 -- what is put at one section is elsewhere not seen
-same_section : (x y : Section) → is_same_section x y ≡ true → x ≡ y
+pub same_section : (x y : Section) → is_same_section x y ≡ true → x ≡ y
 same_section (section.Res a) (section.Res b) h = ap section.Res (eqb-true a b h)
 same_section (section.Free a) (section.Free b) h = ap section.Free (eqb-true a b h)
 same_section (section.Ready a) (section.Ready b) h = ap section.Ready (eqb-true a b h)

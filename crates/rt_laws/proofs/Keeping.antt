@@ -21,7 +21,7 @@ use Rattle.rt_laws.proofs.Waiting.{waits_well}
 use Rattle.rt_laws.proofs.Serving.{serves_well}
 
 module _ (app : App) (accepted : IsAccepted app) where
-  next_well : (s : State) (v : Sight) (label : Label) → StateWell app s v → May app s label
+  pub next_well : (s : State) (v : Sight) (label : Label) → StateWell app s v → May app s label
       → StateWell app (after app s label) (sees app v label)
   next_well s v label well may = after_well app accepted s v well label (happens app accepted s v well label may)
 

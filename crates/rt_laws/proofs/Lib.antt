@@ -3,6 +3,7 @@ pub mod RowParts
 pub mod RowsLocks
 pub mod RowsRuns
 pub mod RowsQueues
+pub mod RowsServed
 pub mod Outermost
 pub mod Fine
 pub mod FineBodies
@@ -16,5 +17,14 @@ pub mod Free
 pub mod Waiting
 pub mod Serving
 pub mod Keeping
+pub mod Readying
+pub mod Dispatchers
+pub mod ReadyServed
+pub mod ReadySteps
+pub mod ReadyRuns
+pub mod Timing
+pub mod TimerServed
+pub mod TimerSteps
+pub mod TimerRuns
 pub mod ByItems
 pub mod Silent

@@ -1,5 +1,5 @@
 -- What is asked of the actions of queues stays as others run, since each queue is changed inside its section alone.
-use Rattle.std.proofs.Common.{◌≡◌, ℕ, ◌≤◌, ◌⊎◌, List, [], ◌∷◌, Option, Some, None, IfSome, refl, subst, le_refl, inl, inr, arith}
+use Rattle.std.proofs.Common.{◌≡◌, ℕ, ◌≤◌, List, [], ◌∷◌, Option, Some, None, IfSome, refl, subst, le_refl, inl, inr, arith}
 use Rattle.rt_ids.specs.Choice.{IsIn}
 use Rattle.rt_ids.specs.Holder.{Guarded}
 use Rattle.rt_ids.specs.Content.{Values}
@@ -12,6 +12,7 @@ use Rattle.rt_laws.specs.State.{Role, Init, Idle, Waiting, Serving, Job, State, 
 use Rattle.rt_laws.specs.Level.{level, greatest_ceiling}
 use Rattle.rt_laws.specs.Acting.{answer}
 use Rattle.rt_laws.specs.Queues.{queue_of, NextKeepsOrder, AllKeepOrder}
+use Rattle.rt_laws.specs.Served.{IsOpen}
 use Rattle.rt_laws.proofs.Fine.{IsQueue, Within, IsFine, order_kept}
 use Rattle.rt_laws.proofs.Well.{IsAbove}
 use Rattle.rt_laws.proofs.Free.{within_greatest}
@@ -40,11 +41,6 @@ pub answer_now : (s : State) (action : Action) → answer s action ≤ s.time
 answer_now s Clocks = le_refl s.time
 answer_now s action = omega arith
 
--- a section that some job has open
-abbrev pub InSome : List Job → Section → Type 0
-InSome [] x = ⊥
-InSome (job ∷ others) x = IsIn job.sections x ⊎ InSome others x
-
 module _ (app : App) where
   -- what is left to do keeps the order as it comes to its action
   pub next_order : (role : Role) (q n time : ℕ) (held : List Section) (rest : Doing Values) (vs base : Values)
@@ -69,7 +65,7 @@ module _ (app : App) where
   )
 
   pub all_kept : (time later : ℕ) (js : List Job) (vs ws : Values) → time ≤ later
-      → ((x : Section) → IsQueue x → InSome js x → ws (Guarded x) ≡ vs (Guarded x))
+      → ((x : Section) → IsQueue x → IsOpen js x → ws (Guarded x) ≡ vs (Guarded x))
       → AllKeepOrder app time vs js → AllKeepOrder app later ws js
   all_kept time later [] vs ws le same order = tt
   all_kept time later (job ∷ others) vs ws le same order = (
@@ -77,7 +73,7 @@ module _ (app : App) where
     all_kept time later others vs ws le (λ x queue is. same x queue (inr is)) order.1,
   )
 
-  some_level : (js : List Job) (x : Section) → InSome js x → ceiling app x ≤ level app js
+  pub some_level : (js : List Job) (x : Section) → IsOpen js x → ceiling app x ≤ level app js
   some_level [] x is = absurd is
   some_level (job ∷ others) x (inl is) = let here : ceiling app x ≤ greatest_ceiling app job.sections =
       within_greatest (ceiling app) job.sections x is in omega arith
@@ -86,10 +82,10 @@ module _ (app : App) where
 
   -- no job below has a section open that the job above may be in
   pub apart_below : (role : Role) (q : ℕ) (others : List Job) (x : Section) → IsAbove app role q others
-      → Within role q (ceiling app x) → InSome others x → ⊥
-  apart_below Init q others x above within is = subst (λ js. InSome js x) above is
-  apart_below Idle q others x above within is = subst (λ js. InSome js x) above.0 is
-  apart_below Waiting q others x above within is = subst (λ js. InSome js x) above.0 is
+      → Within role q (ceiling app x) → IsOpen others x → ⊥
+  apart_below Init q others x above within is = subst (λ js. IsOpen js x) above is
+  apart_below Idle q others x above within is = subst (λ js. IsOpen js x) above.0 is
+  apart_below Waiting q others x above within is = subst (λ js. IsOpen js x) above.0 is
   apart_below (Serving irq) q others x above within is =
       let most = some_level others x is in
       let over = above.1 in

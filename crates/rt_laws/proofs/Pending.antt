@@ -40,11 +40,11 @@ found_passes {X} test (x ∷ xs) y h = one (test x) refl (found_passes test xs y
     one true own before is = subst (λ z. test z ≡ true) (same_Some x y is) own
     one false own before is = before is
 
-some_number : (o : Option ℕ) (n : ℕ) → is_some_and (λ k. k == n) o ≡ true → o ≡ Some n
+pub some_number : (o : Option ℕ) (n : ℕ) → is_some_and (λ k. k == n) o ≡ true → o ≡ Some n
 some_number None n h = cc
 some_number (Some k) n h = ap Some (eqb-true k n h)
 
-made_number : {X : Type 0} (f : X → ℕ) (o : Option X) (n : ℕ) → option_map f o ≡ Some n
+pub made_number : {X : Type 0} (f : X → ℕ) (o : Option X) (n : ℕ) → option_map f o ≡ Some n
     → (x : X) × (o ≡ Some x) × (f x ≡ n)
 made_number f None n h = absurd (none-some n h)
 made_number f (Some x) n h = (x, refl, same_Some (f x) n h)

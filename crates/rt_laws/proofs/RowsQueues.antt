@@ -17,7 +17,7 @@ use Rattle.rt_laws.proofs.RowParts.{irq, listing, hardware, software, last, play
 -- app one(bits = 4, dispatchers = [D])  interrupts { A = 0, D = 1 }
 -- task a(binds = A, priority = 2) { spawn t(7); spawn t(8); }
 -- task t(priority = 1, capacity = 1) with x { emit x; }
-one : App
+unfoldable pub one : App
 one = record {
   bits = 4;
   irqs = irq (codes "A") 0 ∷ irq (codes "D") 1 ∷ [];
@@ -50,7 +50,7 @@ one_place = refl
 -- app timed(bits = 4, dispatchers = [D])  interrupts { A = 0, D = 1, T = 2 }  monotonic(binds = T, priority = 3)
 -- task a(binds = A, priority = 1) { spawn_after(2) t(5); }
 -- task t(priority = 2, capacity = 1) with x { emit x; }
-timed : App
+unfoldable pub timed : App
 timed = record {
   bits = 4;
   irqs = irq (codes "A") 0 ∷ irq (codes "D") 1 ∷ irq (codes "T") 2 ∷ [];
@@ -67,7 +67,7 @@ timed = record {
 }
 
 -- the message is armed for the time 2, and the alarm is set
-arming : List What
+unfoldable pub arming : List What
 arming =
     what.End body.Init ∷ what.Take 0 0
     ∷ what.Enter (section.Free 1) ∷ what.Placed 1 ∷ what.Leave (section.Free 1) None
@@ -78,7 +78,7 @@ arms_it : play 40 timed (after timed (first timed) (Arrived 0)) ≡ arming
 unfolding timed arming
 arms_it = refl
 
-armed : State
+unfoldable pub armed : State
 armed = after_all timed (first timed) (Arrived 0 ∷ labels_of arming)
 
 -- A tick makes the alarm due at the time 2, not before. Then it is owed.

@@ -9,6 +9,7 @@ use Rattle.rt_laws.specs.State.{Job, first}
 use Rattle.rt_laws.specs.Run.{RunsOn, Judged}
 use Rattle.rt_laws.specs.ByItems.{after_all}
 use Rattle.rt_laws.specs.Queues.{KeepsQueues}
+use Rattle.rt_laws.specs.Served.{ServesReady, ServesDue}
 use Rattle.rt_laws.specs.Properties.{SectionsNest, KeepsLaws}
 
 -- sections are exclusive, no job finds one taken, and none waits for more than one section of one lower job
@@ -41,3 +42,15 @@ abbrev pub RunsKeepQueues : Type 0
 RunsKeepQueues =
     (app : App) → IsAccepted app → (labels : List Label) → RunsOn app (first app) labels
     → KeepsQueues app (after_all app (first app) labels)
+
+-- messages that are ready are served: see `Served`
+abbrev pub RunsServeReady : Type 0
+RunsServeReady =
+    (app : App) → IsAccepted app → (labels : List Label) → RunsOn app (first app) labels
+    → ServesReady app (after_all app (first app) labels)
+
+-- and so are messages that are due
+abbrev pub RunsServeDue : Type 0
+RunsServeDue =
+    (app : App) → IsAccepted app → (labels : List Label) → RunsOn app (first app) labels
+    → ServesDue app (after_all app (first app) labels)

@@ -11,4 +11,5 @@ pub mod Waiting
 pub mod Properties
 pub mod Silent
 pub mod Queues
+pub mod Served
 pub mod Laws

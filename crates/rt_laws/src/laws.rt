@@ -4,6 +4,8 @@ ghost use Rattle.rt_laws.specs.Laws.{
   RunsKeepLaws,
   RunsKeepQueues,
   RunsNestSections,
+  RunsServeDue,
+  RunsServeReady,
   TheHighestRuns,
 };
 ghost use Rattle.rt_laws.specs.Level.{CandidateIsHighest};
@@ -48,6 +50,18 @@ pub fn runs_nest_sections()
 /// became ready, and of armed messages the least fires, not before its instant.
 pub fn runs_keep_queues()
     ensures { RunsKeepQueues }
+{}
+
+/// In every run messages that are ready are served: where no job has the section of their queue open, the dispatcher of
+/// their level is pending, or has started and stands before that section.
+pub fn runs_serve_ready_messages()
+    ensures { RunsServeReady }
+{}
+
+/// In every run messages that are due are served: where no alarm is owed and no job has the section of the timer queue
+/// open, the interrupt of the monotonic is pending, or its handler has started and stands before that section.
+pub fn runs_serve_due_messages()
+    ensures { RunsServeDue }
 {}
 
 /// How many silent steps may pass, and what they lead to, is told from the costs at once.

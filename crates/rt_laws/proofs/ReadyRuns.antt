@@ -1,0 +1,192 @@
+-- Every run of an accepted application serves the messages that are ready.
+use Rattle.std.proofs.Common.{◌≡◌, ℕ, ◌≤◌, ◌==◌, ◌^◌, Bool, true, false, Contains, List, [], ◌∷◌, slice_set, length-set, Option, Some, None, option_map, refl, sym, ap, subst, ◌∙◌, inl, inr, arith}
+use Rattle.std.proofs.lemmas.Bool.{eqb-true}
+use Rattle.std.proofs.lemmas.Option.{none-some}
+use Rattle.rt_lemmas.proofs.Lists.{find_has}
+use Rattle.rt_ids.specs.Lists.{or_zero}
+use Rattle.rt_ids.specs.Holder.{Guarded}
+use Rattle.rt_ids.specs.Content.{Values, messages}
+use Rattle.rt_ids.specs.Doing.{Doing}
+use Rattle.rt_ids.specs.declared.ids.Section.{Section}
+use Rattle.rt_ids.specs.declared.ids.Section.TheVariants as section
+use Rattle.rt_trace.specs.Label.{Label, Arrived, Ticked, Rang, Stepped}
+use Rattle.rt_trace.specs.declared.item.What.{What}
+use Rattle.rt_trace.specs.declared.item.What.TheVariants as what
+use Rattle.rt_app.specs.Tree.{App}
+use Rattle.rt_app.specs.Ceiling.{ceiling}
+use Rattle.rt_app.specs.Level.{levels}
+use Rattle.rt_app.specs.Handlers.{Dispatches, Service, services}
+use Rattle.rt_app.specs.Sending.{dispatcher_number}
+use Rattle.rt_app.specs.Doings.{init_doing, handler_doing}
+use Rattle.rt_app.specs.Accepted.{IsAccepted}
+use Rattle.rt_laws.specs.Services.{service_at, priority_of, timer_number, handler_cost}
+use Rattle.rt_laws.specs.State.{Init, Serving, Job, State, begun, reached, first_values, first}
+use Rattle.rt_laws.specs.Level.{level, candidate}
+use Rattle.rt_laws.specs.Giving.{item_given}
+use Rattle.rt_laws.specs.Acting.{spent}
+use Rattle.rt_laws.specs.Allowed.{MayStep, May, started, stepped, given, after}
+use Rattle.rt_laws.specs.Run.{RunsOn}
+use Rattle.rt_laws.specs.ByItems.{after_all}
+use Rattle.rt_laws.specs.Sight.{Seen, Sight, first_sight, sees}
+use Rattle.rt_laws.specs.Queues.{AllKeepOrder}
+use Rattle.rt_laws.specs.Served.{IsOpen, BeginsWith}
+use Rattle.rt_laws.specs.Laws.{RunsServeReady}
+use Rattle.rt_laws.proofs.Order.{some_level}
+use Rattle.rt_laws.proofs.Pending.{priority_is, starts_above, still_beside}
+use Rattle.rt_laws.proofs.Fine.{IsFine, Queued, reached_same}
+use Rattle.rt_laws.proofs.FineHandlers.{init_fine, services_fine}
+use Rattle.rt_laws.proofs.Well.{StackWell, StateWell}
+use Rattle.rt_laws.proofs.Happens.{first_well}
+use Rattle.rt_laws.proofs.Keeping.{next_well}
+use Rattle.rt_laws.proofs.Dispatchers.{dispatcher_serves, dispatcher_small}
+use Rattle.rt_laws.proofs.Readying.{init_serves, handler_serves}
+use Rattle.rt_laws.proofs.ReadyServed.{JobServes, IsOutside, IsInside, LevelServed, Open, Nothing, Posted, Stands, Keeps, KeepsState, keeps_level, all_kept, posts_kept}
+use Rattle.rt_laws.proofs.ReadySteps.{differ, outside, inside_too}
+
+module _ (app : App) (accepted : IsAccepted app) (p : ℕ) (of_level : Contains (levels app) p) where
+  abbrev queue : Section
+  queue = section.Ready p
+
+  abbrev dispatcher : ℕ
+  dispatcher = dispatcher_number app p
+
+  first_kept : KeepsState app p (first app)
+  first_kept = record {
+    long = refl;
+    all = (
+      IsOutside (λ is. none-some queue is.1) (init_serves app p (first_values app)),
+      tt,
+    );
+    served = Nothing (ap messages (reached_same app Init (2 ^ app.bits) 0 [] (init_doing app (first_values app))
+        (first_values app) (init_fine app accepted 0 (first_values app)
+        (record { ready = λ p. tt; timer = tt; out = λ n. omega arith })) queue tt));
+  }
+
+  -- the handling of an interrupt has started
+  abbrev ServedBehind : State → ℕ → Service → Type 0
+  ServedBehind s irq x =
+      LevelServed app p (slice_set s.pending irq false) (reached (handler_doing app x.handler s.values) s.values)
+      (begun (Serving irq) x.level (handler_cost app x.handler) (handler_doing app x.handler s.values) ∷ s.jobs)
+
+  -- an interrupt is taken that is not the dispatcher's, where a job is inside
+  takes : (s : State) → Queued app s.values → KeepsState app p s → (irq : ℕ) → candidate app s ≡ Some irq
+      → (o : Option Service) → service_at app irq ≡ o
+      → KeepsState app p (started app (record s { pending = slice_set s.pending irq false }) irq o)
+  takes s queued keeps irq is None at =
+      let over = starts_above app s irq is in
+      let none : priority_of app irq ≡ 0 = ap (λ o. or_zero (option_map (λ (x : Service). x.level) o)) at in
+      absurd (omega arith)
+  takes s queued keeps irq is (Some x) at = record {
+    long = length-set s.pending irq false ∙ keeps.long;
+    all = (
+      IsOutside (λ is. none-some queue is.1) (handler_serves app p x.handler s.values),
+      all_kept app p s.pending later s.values (reached rest s.values) s.jobs
+          (λ there. (λ yet. still_beside s.pending irq dispatcher false (beside there) yet, same)) keeps.all,
+    );
+    served = go keeps.served;
+  }
+    where
+      later : List Bool
+      later = slice_set s.pending irq false
+
+      rest : Doing Values
+      rest = handler_doing app x.handler s.values
+
+      fine : IsFine app (Serving irq) x.level 0 [] s.values rest
+      fine = find_has (λ (x : Service). (n : ℕ) (vs : Values) → Queued app vs
+          → IsFine app (Serving irq) x.level n [] vs (handler_doing app x.handler vs)) _ (services app) x
+          (services_fine app accepted irq) at 0 s.values queued
+
+      same : messages (reached rest s.values (Guarded queue)) ≡ messages (s.values (Guarded queue))
+      same = ap messages (reached_same app (Serving irq) x.level 0 [] rest s.values fine queue tt)
+
+      is_its : irq ≡ dispatcher → (x.handler ≡ Dispatches p) × (x.level ≡ p)
+      is_its equal = dispatcher_serves app accepted p of_level x (subst (λ i. service_at app i ≡ Some x) equal at)
+
+      beside : IsOpen s.jobs queue → ¬ (irq ≡ dispatcher)
+      beside there equal =
+          let most : ceiling app queue ≤ level app s.jobs = some_level app s.jobs queue there in
+          let least : p ≤ ceiling app queue = omega arith in
+          let over = starts_above app s irq is in
+          let level_is : priority_of app irq ≡ x.level = priority_is app irq x at in
+          let own = (is_its equal).1 in
+          absurd (omega (arith, most, least, over, level_is, own))
+
+      go : LevelServed app p s.pending s.values s.jobs
+          → ServedBehind s irq x
+      go (Open there) = Open (inr there)
+      go (Nothing none) = Nothing (same ∙ none)
+      go (Stands there) = Stands (inr there)
+      go (Posted yet) = by (irq == dispatcher) refl
+        where
+          by : (b : Bool) → (irq == dispatcher) ≡ b → ServedBehind s irq x
+          by true test =
+              let equal = eqb-true irq dispatcher test in
+              Stands (inl (
+                ap Serving equal,
+                subst (λ h. BeginsWith queue (handler_doing app h s.values)) (sym (is_its equal).0) refl,
+              ))
+          by false test = Posted (still_beside s.pending irq dispatcher false (differ irq dispatcher test) yet)
+
+  -- a silent step
+  silent_kept : (s : State) (js : List Job) → MayStep js → Keeps app p s.pending s.values js
+      → KeepsState app p (stepped s js)
+  silent_kept s [] may keeps = absurd may
+  silent_kept s (job ∷ others) may keeps = record {
+    long = keeps.long;
+    all = (on keeps.all.0, keeps.all.1);
+    served = go keeps.served;
+  }
+    where
+      on : JobServes app p s.pending s.values job → JobServes app p s.pending s.values (spent job)
+      on (IsOutside out good) = IsOutside out good
+      on (IsInside posted outer is out known good) = IsInside posted outer is out known good
+
+      go : LevelServed app p s.pending s.values (job ∷ others)
+          → LevelServed app p s.pending s.values (spent job ∷ others)
+      go (Open there) = Open there
+      go (Nothing none) = Nothing none
+      go (Posted yet) = Posted yet
+      go (Stands there) = Stands there
+
+  -- a step that gives an item
+  given_kept : (s : State) (js : List Job) (vs : List Seen) → StackWell app js vs → Queued app s.values
+      → AllKeepOrder app s.time s.values js → MayStep js → (w : What) → item_given s js ≡ Some w
+      → Keeps app p s.pending s.values js → KeepsState app p (given app s js)
+  given_kept s [] vs stack queued order may w is keeps = absurd may
+  given_kept s (job ∷ others) [] stack queued order may w is keeps = absurd stack
+  given_kept s (job ∷ others) (seen ∷ seens) stack queued order may w is keeps = go keeps.all.0
+    where
+      go : JobServes app p s.pending s.values job → KeepsState app p (given app s (job ∷ others))
+      go (IsOutside out good) =
+          outside app accepted p s keeps.long (dispatcher_small app accepted p of_level) queued job.role job.priority
+          job.left job.sections job.lefts others seen stack.1 keeps.all.1 job.rest stack.0 order.0 out good
+          keeps.served w is
+      go (IsInside posted outer in_it out known good) =
+          inside_too app accepted p s keeps.long (dispatcher_small app accepted p of_level) queued job.role
+          job.priority job.left job.sections job.lefts others seen stack.1 keeps.all.1 job.rest stack.0 order.0
+          posted outer in_it out known good w is
+
+  next_kept : (s : State) (v : Sight) (label : Label) → StateWell app s v → KeepsState app p s → May app s label
+      → KeepsState app p (after app s label)
+  next_kept s v (Arrived irq) well keeps may = posts_kept app p s.pending s.values s.jobs irq keeps
+  next_kept s v Ticked well keeps may = keeps
+  next_kept s v Rang well keeps may = posts_kept app p s.pending s.values s.jobs (timer_number app) keeps
+  next_kept s v (Stepped None) well keeps may = silent_kept s s.jobs may.step keeps
+  next_kept s v (Stepped (Some (what.Take irq depth))) well keeps may =
+      takes s well.queued keeps irq may.1 (service_at app irq) refl
+  next_kept s v (Stepped (Some w)) well keeps may =
+      given_kept s s.jobs v.jobs well.stack well.queued well.order may.0.step w may.1 keeps
+
+  all_served : (labels : List Label) (s : State) (v : Sight) → StateWell app s v → KeepsState app p s
+      → RunsOn app s labels → KeepsState app p (after_all app s labels)
+  all_served [] s v well keeps runs = keeps
+  all_served (label ∷ labels) s v well keeps runs =
+      all_served labels (after app s label) (sees app v label) (next_well app accepted s v label well runs.0)
+      (next_kept s v label well keeps runs.0) runs.1
+
+pub runs_serve_ready : RunsServeReady
+runs_serve_ready app accepted labels runs p of_level =
+    keeps_level app p (after_all app (first app) labels)
+    (all_served app accepted p of_level labels (first app) (first_sight app) (first_well app accepted)
+    (first_kept app accepted p of_level) runs)

@@ -1,0 +1,219 @@
+-- Every run of an accepted application serves the messages that are due.
+use Rattle.std.proofs.Common.{◌≡◌, ℕ, ◌≤◌, ◌<◌, ◌==◌, ◌^◌, Bool, true, false, List, [], ◌∷◌, length, slice_set, slice_index_or, length-set, Option, Some, None, option_map, refl, sym, ap, subst, ◌∙◌, inl, inr, arith}
+use Rattle.std.proofs.lemmas.Bool.{eqb-true}
+use Rattle.std.proofs.lemmas.Option.{none-some}
+use Rattle.rt_lemmas.proofs.Lists.{find_has}
+use Rattle.rt_ids.specs.Lists.{or_zero}
+use Rattle.rt_ids.specs.Content.{Values, delays, least_instant}
+use Rattle.rt_ids.specs.Doing.{Doing}
+use Rattle.rt_ids.specs.declared.ids.Section.{Section}
+use Rattle.rt_ids.specs.declared.ids.Section.TheVariants as section
+use Rattle.rt_ids.specs.declared.limits.TheConstants.{IRQ_NUMBERS}
+use Rattle.rt_trace.specs.Label.{Label, Arrived, Ticked, Rang, Stepped}
+use Rattle.rt_trace.specs.declared.item.What.{What}
+use Rattle.rt_trace.specs.declared.item.What.TheVariants as what
+use Rattle.rt_app.specs.declared.app.Mono.{Mono}
+use Rattle.rt_app.specs.Tree.{App}
+use Rattle.rt_app.specs.Ceiling.{ceiling}
+use Rattle.rt_app.specs.Handlers.{Times, Service, services}
+use Rattle.rt_app.specs.Doings.{init_doing, handler_doing}
+use Rattle.rt_app.specs.Accepted.{IsAccepted}
+use Rattle.rt_laws.specs.Services.{service_at, priority_of, timer_number, handler_cost}
+use Rattle.rt_laws.specs.State.{Init, Serving, Job, State, begun, reached, first_values, first}
+use Rattle.rt_laws.specs.Level.{level, candidate}
+use Rattle.rt_laws.specs.Giving.{is_due, item_given}
+use Rattle.rt_laws.specs.Acting.{spent}
+use Rattle.rt_laws.specs.Allowed.{MayStep, May, started, stepped, given, after}
+use Rattle.rt_laws.specs.Run.{RunsOn}
+use Rattle.rt_laws.specs.ByItems.{after_all}
+use Rattle.rt_laws.specs.Sight.{Seen, Sight, first_sight, sees}
+use Rattle.rt_laws.specs.Queues.{AllKeepOrder}
+use Rattle.rt_laws.specs.Served.{IsOpen, BeginsWith}
+use Rattle.rt_laws.specs.Laws.{RunsServeDue}
+use Rattle.rt_laws.proofs.Order.{some_level}
+use Rattle.rt_laws.proofs.Pending.{priority_is, starts_above, still_beside}
+use Rattle.rt_laws.proofs.Fine.{IsFine, Queued, reached_same}
+use Rattle.rt_laws.proofs.FineHandlers.{init_fine, services_fine}
+use Rattle.rt_laws.proofs.Well.{StackWell, StateWell}
+use Rattle.rt_laws.proofs.Happens.{first_well}
+use Rattle.rt_laws.proofs.Keeping.{next_well}
+use Rattle.rt_laws.proofs.Dispatchers.{timer_serves, timer_small}
+use Rattle.rt_laws.proofs.Timing.{init_serves, handler_serves}
+use Rattle.rt_laws.proofs.TimerServed.{armed, set_kept, JobServes, IsOutside, IsInside, QueueServed, Open, Ready, Stands, Keeps, KeepsState, keeps_due, all_kept, posts_kept, alarm_comes}
+use Rattle.rt_laws.proofs.ReadySteps.{differ, now_set}
+use Rattle.rt_laws.proofs.TimerSteps.{outside, inside_too}
+
+-- the interrupt of the monotonic is pending, where it becomes so
+posted : (pending : List Bool) (irq : ℕ) → length pending ≡ IRQ_NUMBERS → irq < IRQ_NUMBERS
+    → slice_index_or (slice_set pending irq true) irq false ≡ true
+posted pending irq long small = now_set pending irq (omega (arith, long, small))
+
+module _ (app : App) (accepted : IsAccepted app) (mono : Mono) (timed : app.mono ≡ Some mono) where
+  abbrev queue : Section
+  queue = section.Timer
+
+  abbrev timer : ℕ
+  timer = timer_number app
+
+  first_kept : KeepsState app (first app)
+  first_kept = record {
+    owed = refl;
+    keeps = record {
+      long = refl;
+      all = (IsOutside (λ is. none-some queue is.1) (init_serves app (first_values app)), tt);
+      served = Ready (inl (sym (ap (λ c. least_instant (delays c))
+          (reached_same app Init (2 ^ app.bits) 0 [] (init_doing app (first_values app))
+          (first_values app) (init_fine app accepted 0 (first_values app)
+          (record { ready = λ p. tt; timer = tt; out = λ n. omega arith })) queue tt))));
+    };
+  }
+
+  -- the handling of an interrupt has started
+  abbrev ServedBehind : State → ℕ → Service → Type 0
+  ServedBehind s irq x =
+      QueueServed app (slice_set s.pending irq false) s.alarm (reached (handler_doing app x.handler s.values) s.values)
+      (begun (Serving irq) x.level (handler_cost app x.handler) (handler_doing app x.handler s.values) ∷ s.jobs)
+
+  -- an interrupt is taken that is not the monotonic's, where a job is inside
+  takes : (s : State) → Queued app s.values → Keeps app s.pending s.alarm s.values s.jobs → (irq : ℕ)
+      → candidate app s ≡ Some irq → (x : Service) → service_at app irq ≡ Some x
+      → Keeps app (slice_set s.pending irq false) s.alarm (reached (handler_doing app x.handler s.values) s.values)
+      (begun (Serving irq) x.level (handler_cost app x.handler) (handler_doing app x.handler s.values) ∷ s.jobs)
+  takes s queued kept irq is x at = record {
+    long = length-set s.pending irq false ∙ kept.long;
+    all = (
+      IsOutside (λ is. none-some queue is.1) (handler_serves app x.handler s.values),
+      all_kept app s.pending later s.alarm s.alarm s.values ws s.jobs
+          (λ there. set_kept app s.pending later s.alarm s.values ws
+          (λ yet. still_beside s.pending irq timer false (beside there) yet) same) kept.all,
+    );
+    served = go kept.served;
+  }
+    where
+      later : List Bool
+      later = slice_set s.pending irq false
+
+      rest : Doing Values
+      rest = handler_doing app x.handler s.values
+
+      ws : Values
+      ws = reached rest s.values
+
+      fine : IsFine app (Serving irq) x.level 0 [] s.values rest
+      fine = find_has (λ (x : Service). (n : ℕ) (vs : Values) → Queued app vs
+          → IsFine app (Serving irq) x.level n [] vs (handler_doing app x.handler vs)) _ (services app) x
+          (services_fine app accepted irq) at 0 s.values queued
+
+      same : armed ws ≡ armed s.values
+      same = ap (λ c. least_instant (delays c))
+          (reached_same app (Serving irq) x.level 0 [] rest s.values fine queue tt)
+
+      is_its : irq ≡ timer → (x.handler ≡ Times) × (x.level ≡ mono.priority)
+      is_its equal = timer_serves app accepted mono timed x (subst (λ i. service_at app i ≡ Some x) equal at)
+
+      beside : IsOpen s.jobs queue → ¬ (irq ≡ timer)
+      beside there equal =
+          let most : ceiling app queue ≤ level app s.jobs = some_level app s.jobs queue there in
+          let here : or_zero (option_map (λ (m : Mono). m.priority) app.mono) ≡ mono.priority =
+          ap (λ o. or_zero (option_map (λ (m : Mono). m.priority) o)) timed in
+          let least : mono.priority ≤ ceiling app queue = omega arith in
+          let over = starts_above app s irq is in
+          let level_is : priority_of app irq ≡ x.level = priority_is app irq x at in
+          let own = (is_its equal).1 in
+          absurd (omega (arith, most, least, over, level_is, own))
+
+      go : QueueServed app s.pending s.alarm s.values s.jobs → ServedBehind s irq x
+      go (Open there) = Open (inr there)
+      go (Ready (inl set)) = Ready (inl (set ∙ sym same))
+      go (Stands there) = Stands (inr there)
+      go (Ready (inr yet)) = by (irq == timer) refl
+        where
+          by : (b : Bool) → (irq == timer) ≡ b → ServedBehind s irq x
+          by true test =
+              let equal = eqb-true irq timer test in
+              Stands (inl (
+                ap Serving equal,
+                subst (λ h. BeginsWith queue (handler_doing app h s.values)) (sym (is_its equal).0) refl,
+              ))
+          by false test =
+              Ready (inr (still_beside s.pending irq timer false (differ irq timer test) yet))
+
+  takes_kept : (s : State) → Queued app s.values → KeepsState app s → (irq : ℕ) → candidate app s ≡ Some irq
+      → (o : Option Service) → service_at app irq ≡ o
+      → KeepsState app (started app (record s { pending = slice_set s.pending irq false }) irq o)
+  takes_kept s queued kept irq is None at =
+      let over = starts_above app s irq is in
+      let none : priority_of app irq ≡ 0 = ap (λ o. or_zero (option_map (λ (x : Service). x.level) o)) at in
+      absurd (omega arith)
+  takes_kept s queued kept irq is (Some x) at =
+      record { owed = kept.owed; keeps = takes s queued kept.keeps irq is x at }
+
+  -- a silent step
+  silent_kept : (s : State) (js : List Job) → MayStep js → Keeps app s.pending s.alarm s.values js
+      → s.owing ≡ is_due s.time s.alarm → KeepsState app (stepped s js)
+  silent_kept s [] may kept owed = absurd may
+  silent_kept s (job ∷ others) may kept owed = record {
+    owed = owed;
+    keeps = record { long = kept.long; all = (on kept.all.0, kept.all.1); served = go kept.served };
+  }
+    where
+      on : JobServes app s.pending s.alarm s.values job → JobServes app s.pending s.alarm s.values (spent job)
+      on (IsOutside out good) = IsOutside out good
+      on (IsInside set outer is out known good) = IsInside set outer is out known good
+
+      go : QueueServed app s.pending s.alarm s.values (job ∷ others)
+          → QueueServed app s.pending s.alarm s.values (spent job ∷ others)
+      go (Open there) = Open there
+      go (Ready set) = Ready set
+      go (Stands there) = Stands there
+
+  -- a step that gives an item
+  given_kept : (s : State) (js : List Job) (vs : List Seen) → StackWell app js vs → Queued app s.values
+      → AllKeepOrder app s.time s.values js → s.owing ≡ false → MayStep js → (w : What)
+      → item_given s js ≡ Some w → Keeps app s.pending s.alarm s.values js → s.owing ≡ is_due s.time s.alarm
+      → KeepsState app (given app s js)
+  given_kept s [] vs stack queued order not_owing may w is kept owed = absurd may
+  given_kept s (job ∷ others) [] stack queued order not_owing may w is kept owed = absurd stack
+  given_kept s (job ∷ others) (seen ∷ seens) stack queued order not_owing may w is kept owed = go kept.all.0
+    where
+      go : JobServes app s.pending s.alarm s.values job → KeepsState app (given app s (job ∷ others))
+      go (IsOutside out good) =
+          outside app accepted s kept.long (timer_small app accepted mono timed) not_owing owed queued job.role
+          job.priority job.left job.sections job.lefts others seen stack.1 kept.all.1 job.rest stack.0 order.0 out good
+          kept.served w is
+      go (IsInside set outer in_it out known good) =
+          inside_too app accepted s kept.long (timer_small app accepted mono timed) not_owing owed queued job.role
+          job.priority job.left job.sections job.lefts others seen stack.1 kept.all.1 job.rest stack.0 order.0
+          set outer in_it out known good w is
+
+  next_kept : (s : State) (v : Sight) (label : Label) → StateWell app s v → KeepsState app s → May app s label
+      → KeepsState app (after app s label)
+  next_kept s v (Arrived irq) well kept may =
+      record { owed = kept.owed; keeps = posts_kept app s.pending s.alarm s.values s.jobs irq kept.keeps }
+  next_kept s v Ticked well kept may = record { owed = refl; keeps = kept.keeps }
+  next_kept s v Rang well kept may = record {
+    owed = refl;
+    keeps = alarm_comes app (slice_set s.pending timer true) s.alarm None s.values s.jobs
+        (posted s.pending timer kept.keeps.long (timer_small app accepted mono timed))
+        (posts_kept app s.pending s.alarm s.values s.jobs timer kept.keeps);
+  }
+  next_kept s v (Stepped None) well kept may = silent_kept s s.jobs may.step kept.keeps kept.owed
+  next_kept s v (Stepped (Some (what.Take irq depth))) well kept may =
+      takes_kept s well.queued kept irq may.1 (service_at app irq) refl
+  next_kept s v (Stepped (Some w)) well kept may =
+      given_kept s s.jobs v.jobs well.stack well.queued well.order may.0.not_owing may.0.step w may.1 kept.keeps
+      kept.owed
+
+  all_served : (labels : List Label) (s : State) (v : Sight) → StateWell app s v → KeepsState app s
+      → RunsOn app s labels → KeepsState app (after_all app s labels)
+  all_served [] s v well kept runs = kept
+  all_served (label ∷ labels) s v well kept runs =
+      all_served labels (after app s label) (sees app v label) (next_well app accepted s v label well runs.0)
+      (next_kept s v label well kept runs.0) runs.1
+
+pub runs_serve_due : RunsServeDue
+runs_serve_due app accepted labels runs mono timed =
+    keeps_due app (after_all app (first app) labels)
+    (all_served app accepted mono timed labels (first app) (first_sight app) (first_well app accepted)
+    (first_kept app accepted mono timed) runs)
+    mono timed

@@ -1,0 +1,231 @@
+-- A step of the running job keeps the messages that are due served, whichever its action is.
+use Rattle.std.proofs.Common.{◌≡◌, ℕ, ◌<◌, arith, length-set, Bool, true, false, if◌then◌else◌, List, [], ◌∷◌, drop, length, slice_set, Option, Some, None, refl, sym, ap, subst, ◌∙◌, inl, inr}
+use Rattle.std.specs.List.{AllByRecursion}
+use Rattle.std.proofs.lemmas.Option.{none-some}
+use Rattle.rt_ids.specs.Choice.{IsIn}
+use Rattle.rt_ids.specs.Content.{Values, delays, least_instant}
+use Rattle.rt_ids.specs.Action.{Action, Enters, Leaves, Posts, Clocks, Arms, Fires, SetsAlarm, Ends, Returns, effect}
+use Rattle.rt_ids.specs.Doing.{Doing, over, does}
+use Rattle.rt_ids.specs.declared.ids.BodyId.TheVariants as body
+use Rattle.rt_ids.specs.declared.ids.Section.{Section}
+use Rattle.rt_ids.specs.declared.ids.Section.TheVariants as section
+use Rattle.rt_ids.specs.declared.limits.TheConstants.{IRQ_NUMBERS}
+use Rattle.rt_trace.specs.declared.item.What.{What}
+use Rattle.rt_app.specs.Tree.{App, Body}
+use Rattle.rt_app.specs.Ceiling.{ceiling}
+use Rattle.rt_app.specs.Accepted.{IsAccepted}
+use Rattle.rt_laws.specs.Services.{timer_number}
+use Rattle.rt_laws.specs.State.{Role, Idle, Job, State, reached}
+use Rattle.rt_laws.specs.Giving.{next_instant, is_due, next_item}
+use Rattle.rt_laws.specs.Acting.{spent, pended, idling, answer, acted}
+use Rattle.rt_laws.specs.Sight.{Seen}
+use Rattle.rt_laws.specs.Queues.{NextKeepsOrder}
+use Rattle.rt_laws.specs.Served.{IsOpen, BeginsWith}
+use Rattle.rt_laws.proofs.Order.{apart_below}
+use Rattle.rt_laws.proofs.Fine.{Within, reached_same, effect_beside, Queued, IsFine, held_after, queued_effect}
+use Rattle.rt_laws.proofs.FineHandlers.{idle_fine}
+use Rattle.rt_laws.proofs.Well.{IsAbove, JobWell}
+use Rattle.rt_laws.proofs.Timing.{Away, Inside, Serves, idle_serves}
+use Rattle.rt_laws.proofs.ReadyServed.{no_drop, no_more}
+use Rattle.rt_laws.proofs.ReadySteps.{now_set}
+use Rattle.rt_laws.proofs.TimerServed.{armed, IsSet, set_kept, AllServe, QueueServed, Open, Ready, Stands, Keeps, KeepsState, posts_kept, goes_outside, goes_inside, goes_out}
+
+never : false ≡ true → ⊥
+never same = cc
+
+module _ (app : App) (accepted : IsAccepted app) (s : State) (long : length s.pending ≡ IRQ_NUMBERS)
+    (small : timer_number app < IRQ_NUMBERS) (not_owing : s.owing ≡ false) (owed : s.owing ≡ is_due s.time s.alarm)
+    (queued : Queued app s.values)
+    (role : Role) (q left : ℕ) (sections : List Section) (lefts : List ℕ) (others : List Job) (seen : Seen)
+    (above : IsAbove app role q others) (all : AllServe app s.pending s.alarm s.values others) where
+  abbrev running : Doing Values → Job
+  running rest = record { role = role; priority = q; rest = rest; left = left; sections = sections; lefts = lefts }
+
+  abbrev queue : Section
+  queue = section.Timer
+
+  abbrev Asked : Doing Values → Type 0
+  Asked rest = NextKeepsOrder app s.time s.values sections rest
+
+  -- the state behind what is to be done first
+  abbrev Kept : Doing Values → Type 0
+  Kept rest = KeepsState app (acted app s (running rest) others rest)
+
+  module _ (action : Action) (made : Values) (next : ℕ → Values → Doing Values)
+      (well : JobWell app (running (does action made next)) seen) (asked : Asked (does action made next)) where
+    abbrev vs : Values
+    vs = effect action s.values
+
+    abbrev rest : Doing Values
+    rest = next (answer s action) vs
+
+    rest_fine : IsFine app role q (answer s action) (held_after sections action) vs rest
+    rest_fine = well.fine.5 (answer s action) vs
+        (queued_effect app s.values queued role q sections action well.fine.1 s.time asked.1)
+
+    reached_is : armed (reached rest vs) ≡ armed vs
+    reached_is = ap (λ c. least_instant (delays c))
+        (reached_same app role q (answer s action) (held_after sections action) rest vs rest_fine queue tt)
+
+    untouched : ¬ IsIn sections queue → armed (reached rest vs) ≡ armed s.values
+    untouched out = reached_is
+        ∙ ap (λ c. least_instant (delays c)) (effect_beside action s.values sections queue asked.0 out)
+
+    away : ¬ IsIn sections queue → ¬ BeginsWith queue (does action made next) → (after : Job)
+        → ¬ IsIn after.sections queue → Serves Away after.rest
+        → QueueServed app s.pending s.alarm s.values (running (does action made next) ∷ others)
+        → Keeps app s.pending s.alarm (reached rest vs) (after ∷ others)
+    away out before after still good served =
+        goes_outside app s.pending long s.alarm s.values (reached rest vs) (running (does action made next)) after
+        others out before still good (untouched out) all served
+
+    -- no other is inside where it is
+    alone : (outer : List Section) → sections ≡ queue ∷ outer → IsOpen others queue → ⊥
+    alone outer is = apart_below app role q others queue above
+        (subst (λ xs. AllByRecursion (λ x. Within role q (ceiling app x)) xs) is well.within).0
+
+    inside : (later : List Bool) → length later ≡ IRQ_NUMBERS → (new : Option ℕ) (after : Job) (set : Bool)
+        (outer : List Section) → sections ≡ queue ∷ outer
+        → after.sections ≡ queue ∷ outer → ¬ IsIn outer queue → (set ≡ true → IsSet app later new (reached rest vs))
+        → Serves (Inside set) after.rest → Keeps app later new (reached rest vs) (after ∷ others)
+    inside later still new after set outer was is out known good =
+        goes_inside app s.pending later still s.alarm new s.values (reached rest vs) after others set outer is out
+        known good (alone outer was) all
+
+  -- the thread begins `idle`, or waits
+  restarts : (o : Option Body) (left_to_do : Doing Values) → ¬ IsIn sections queue → ¬ BeginsWith queue left_to_do
+      → QueueServed app s.pending s.alarm s.values (running left_to_do ∷ others)
+      → Keeps app s.pending s.alarm (reached (idling app s.values o).rest s.values) (idling app s.values o ∷ others)
+  restarts None left_to_do out before served =
+      goes_outside app s.pending long s.alarm s.values s.values (running left_to_do) (idling app s.values None) others
+      out before (λ is. none-some queue is.1) tt refl all served
+  restarts (Some b) left_to_do out before served =
+      goes_outside app s.pending long s.alarm s.values (reached (idling app s.values (Some b)).rest s.values)
+      (running left_to_do) (idling app s.values (Some b)) others out before (λ is. none-some queue is.1)
+      (idle_serves app s.values)
+      (ap (λ c. least_instant (delays c)) (reached_same app Idle 0 0 [] (idling app s.values (Some b)).rest s.values
+      (idle_fine app accepted 0 s.values queued) queue tt)) all served
+
+  -- a job that is outside
+  pub outside : (rest : Doing Values) → JobWell app (running rest) seen → Asked rest → ¬ IsIn sections queue
+      → Serves Away rest → QueueServed app s.pending s.alarm s.values (running rest ∷ others)
+      → (w : What) → next_item s role rest ≡ Some w → Kept rest
+  outside over well asked out good served w is = absurd (none-some w is)
+  outside (does (Enters section.Timer cost) made next) well asked out good served w is = record {
+    owed = owed;
+    keeps = goes_inside app s.pending s.pending long s.alarm s.alarm s.values (reached (next 0 s.values) s.values) _
+        others false sections refl out (λ yet. absurd (never yet)) (good 0 s.values)
+        (apart_below app role q others queue above well.fine.1.within) all;
+  }
+  outside (does (Enters (section.Res r) cost) made next) well asked out good served w is =
+      let apart : ¬ (section.Res r ≡ section.Timer) = λ same. cc in record {
+        owed = owed;
+        keeps = away (Enters (section.Res r) cost) made next well asked out apart _
+            (no_more (section.Res r) queue sections apart out) (good 0 s.values) served;
+      }
+  outside (does (Enters (section.Free r) cost) made next) well asked out good served w is =
+      let apart : ¬ (section.Free r ≡ section.Timer) = λ same. cc in record {
+        owed = owed;
+        keeps = away (Enters (section.Free r) cost) made next well asked out apart _
+            (no_more (section.Free r) queue sections apart out) (good 0 s.values) served;
+      }
+  outside (does (Enters (section.Ready r) cost) made next) well asked out good served w is =
+      let apart : ¬ (section.Ready r ≡ section.Timer) = λ same. cc in record {
+        owed = owed;
+        keeps = away (Enters (section.Ready r) cost) made next well asked out apart _
+            (no_more (section.Ready r) queue sections apart out) (good 0 s.values) served;
+      }
+  outside (does (Leaves x) made next) well asked out good served w is = record {
+    owed = owed;
+    keeps = away (Leaves x) made next well asked out (λ no_entry. no_entry) _ (no_drop sections queue out)
+        (good 0 s.values) served;
+  }
+  outside (does (Posts irq) made next) well asked out good served w is = record {
+    owed = owed;
+    keeps = posts_kept app s.pending s.alarm _ _ irq
+        (away (Posts irq) made next well asked out (λ no_entry. no_entry) _ out (good 0 s.values) served);
+  }
+  outside (does SetsAlarm made next) well asked out good served w is = absurd good
+  outside (does (Ends body.Init) made next) well asked out good served w is =
+      record { owed = owed; keeps = restarts app.idle (does (Ends body.Init) made next) out (λ none. none) served }
+  outside (does (Ends body.Idle) made next) well asked out good served w is =
+      record { owed = owed; keeps = restarts app.idle (does (Ends body.Idle) made next) out (λ none. none) served }
+  outside (does (Ends (body.Task n)) made next) well asked out good served w is = record {
+    owed = owed;
+    keeps =
+        away (Ends (body.Task n)) made next well asked out (λ no_entry. no_entry) _ out (good 0 s.values) served;
+  }
+  outside (does Returns made next) well asked out good served w is =
+      record { owed = owed; keeps = record { long = long; all = all; served = go served } }
+    where
+      go : QueueServed app s.pending s.alarm s.values (running (does Returns made next) ∷ others)
+          → QueueServed app s.pending s.alarm s.values others
+      go (Open (inl is)) = absurd (out is)
+      go (Open (inr is)) = Open is
+      go (Ready set) = Ready set
+      go (Stands (inl is)) = absurd is.1
+      go (Stands (inr is)) = Stands is
+  outside (does Clocks made next) well asked out good served w is = record {
+    owed = owed;
+    keeps = away Clocks made next well asked out (λ no_entry. no_entry) _ out (good s.time s.values) served;
+  }
+  outside (does action made next) well asked out good served w is = record {
+    owed = owed;
+    keeps =
+        away action made next well asked out (λ no_entry. no_entry) _ out (good 0 (effect action s.values)) served;
+  }
+
+  -- a job that is inside
+  pub inside_too : (rest : Doing Values) → JobWell app (running rest) seen → Asked rest → (set : Bool)
+      → (outer : List Section) → sections ≡ queue ∷ outer → ¬ IsIn outer queue
+      → (set ≡ true → IsSet app s.pending s.alarm s.values) → Serves (Inside set) rest
+      → (w : What) → next_item s role rest ≡ Some w → Kept rest
+  inside_too over well asked set outer in_it out known good w is = absurd (none-some w is)
+  inside_too (does (Arms i m) made next) well asked set outer in_it out known good w is = record {
+    owed = owed;
+    keeps = inside (Arms i m) made next well asked s.pending long s.alarm _ false outer in_it in_it out
+        (λ yet. absurd (never yet)) (good 0 (effect (Arms i m) s.values));
+  }
+  inside_too (does (Fires m) made next) well asked set outer in_it out known good w is = record {
+    owed = owed;
+    keeps = inside (Fires m) made next well asked s.pending long s.alarm _ false outer in_it in_it out
+        (λ yet. absurd (never yet)) (good 0 (effect (Fires m) s.values));
+  }
+  inside_too (does Clocks made next) well asked set outer in_it out known good w is = record {
+    owed = owed;
+    keeps = inside Clocks made next well asked s.pending long s.alarm _ set outer in_it in_it out
+        (λ yet. set_kept app s.pending s.pending s.alarm s.values (reached (next s.time s.values) s.values) (λ yet. yet)
+        (reached_is Clocks made next well asked) (known yet)) (good s.time s.values);
+  }
+  inside_too (does SetsAlarm made next) well asked set outer in_it out known good w is =
+      go (is_due s.time (next_instant s)) refl
+    where
+      on : State
+      on = record s {
+        jobs = record (spent (running (does SetsAlarm made next))) { rest = next 0 s.values } ∷ others;
+        values = reached (next 0 s.values) s.values;
+      }
+
+      within : timer_number app < length s.pending
+      within = omega (arith, small, long)
+
+      go : (due : Bool) → is_due s.time (next_instant s) ≡ due → KeepsState app
+          (if due then pended (timer_number app) (record on { alarm = None }) else record on { alarm = next_instant s })
+      go true test = record {
+        owed = not_owing;
+        keeps = inside SetsAlarm made next well asked (slice_set s.pending (timer_number app) true)
+            (length-set s.pending (timer_number app) true ∙ long) None _ true outer in_it in_it out
+            (λ yet. inr (now_set s.pending (timer_number app) within)) (good 0 s.values);
+      }
+      go false test = record {
+        owed = not_owing ∙ sym test;
+        keeps = inside SetsAlarm made next well asked s.pending long (next_instant s) _ true outer in_it in_it out
+            (λ yet. inl (sym (reached_is SetsAlarm made next well asked))) (good 0 s.values);
+      }
+  inside_too (does (Leaves x) made next) well asked set outer in_it out known good w is = record {
+    owed = owed;
+    keeps = goes_out app s.pending long s.alarm s.values (reached (next 0 s.values) s.values) _ others
+        (subst (λ xs. ¬ IsIn (drop 1 xs) queue) (sym in_it) out) (good.1 0 s.values)
+        (reached_is (Leaves x) made next well asked) (known good.0) all;
+  }
+  inside_too (does action made next) well asked set outer in_it out known good w is = absurd good

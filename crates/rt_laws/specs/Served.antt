@@ -1,0 +1,56 @@
+-- That messages are served, in every run (Baker, Stack-Based Scheduling of Realtime Processes, 1991; the RTIC 1 book,
+-- software tasks and the monotonic). Where a message is ready and no job has the section of its ready queue open, the
+-- dispatcher of the level is about to enter that section: its interrupt is pending, or it has started and stands before
+-- the section. So is the timer handler, where a message is due and no job has the section of the timer queue open. The
+-- code posts the interrupt, or sets the alarm, inside the section.
+use Rattle.std.specs.Prelude.{◌≡◌, ℕ, ◌⊎◌, true, false, Contains, List, [], ◌∷◌, slice_index_or, Some}
+use Rattle.rt_ids.specs.Choice.{IsIn}
+use Rattle.rt_ids.specs.Holder.{Guarded}
+use Rattle.rt_ids.specs.Content.{Values, messages}
+use Rattle.rt_ids.specs.Action.{Enters}
+use Rattle.rt_ids.specs.Doing.{Doing, over, does}
+use Rattle.rt_ids.specs.declared.ids.Section.{Section}
+use Rattle.rt_ids.specs.declared.ids.Section.TheVariants as section
+use Rattle.rt_app.specs.declared.app.Mono.{Mono}
+use Rattle.rt_app.specs.Tree.{App}
+use Rattle.rt_app.specs.Level.{levels}
+use Rattle.rt_app.specs.Sending.{dispatcher_number}
+use Rattle.rt_laws.specs.Services.{timer_number}
+use Rattle.rt_laws.specs.State.{Serving, Job, State}
+use Rattle.rt_laws.specs.Giving.{next_instant, is_due}
+
+-- some job has the section open
+abbrev pub IsOpen : List Job → Section → Type 0
+IsOpen [] x = ⊥
+IsOpen (job ∷ others) x = IsIn job.sections x ⊎ IsOpen others x
+
+-- what is left to do begins with entering the section
+abbrev pub BeginsWith : Section → Doing Values → Type 0
+BeginsWith x over = ⊥
+BeginsWith x (does (Enters y cost) made next) = y ≡ x
+BeginsWith x (does action made next) = ⊥
+
+-- some started job serves the interrupt, and stands before the section
+abbrev pub StandsBefore : List Job → ℕ → Section → Type 0
+StandsBefore [] irq x = ⊥
+StandsBefore (job ∷ others) irq x =
+    ((job.role ≡ Serving irq) × BeginsWith x job.rest) ⊎ StandsBefore others irq x
+
+-- the interrupt is pending, or a job that serves it stands before the section
+abbrev pub IsServed : State → ℕ → Section → Type 0
+IsServed s irq x = (slice_index_or s.pending irq false ≡ true) ⊎ StandsBefore s.jobs irq x
+
+-- a level of software tasks
+abbrev pub ServesLevel : App → State → ℕ → Type 0
+ServesLevel app s p =
+    ¬ (messages (s.values (Guarded (section.Ready p))) ≡ []) → ¬ IsOpen s.jobs (section.Ready p)
+    → IsServed s (dispatcher_number app p) (section.Ready p)
+
+abbrev pub ServesReady : App → State → Type 0
+ServesReady app s = (p : ℕ) → Contains (levels app) p → ServesLevel app s p
+
+-- the monotonic: an alarm that is owed comes first
+abbrev pub ServesDue : App → State → Type 0
+ServesDue app s =
+    (mono : Mono) → app.mono ≡ Some mono → s.owing ≡ false → is_due s.time (next_instant s) ≡ true
+    → ¬ IsOpen s.jobs section.Timer → IsServed s (timer_number app) section.Timer
