@@ -1,7 +1,9 @@
 -- What the parts of an image make of it.
-use Rattle.std.proofs.Common.{◌≡◌, ℕ, ◌<◌, ◌≤◌, true, List, [], ◌++◌, length, append-nil, Some, slice_index, sym, ap, subst, ◌∙◌, arith}
+use Rattle.std.proofs.Common.{◌≡◌, ℕ, ◌<◌, ◌≤◌, true, List, [], ◌++◌, length, append-nil, Some, slice_index, Contains}
+use Rattle.std.proofs.Common.{sym, ap, subst, ◌∙◌, arith}
 use Rattle.std.specs.List.{AllByRecursion}
 use Rattle.std.proofs.lemmas.Option.{slice_get_within}
+use Rattle.rt_lemmas.proofs.Membership.{contains_none}
 use Rattle.rt_ids.specs.Names.{Names}
 use Rattle.rt_ids.specs.Storage.{Starting}
 use Rattle.rt_ids.specs.declared.limits.TheConstants.{CODE_SIZE}
@@ -30,7 +32,7 @@ use Rattle.rt_build.specs.Image.{IdleStands, irq_rows, HasTables, HasCode, IsIma
 use Rattle.rt_build.specs.Inside.Plan.{IsHardwarePlan}
 use Rattle.rt_build.specs.Inside.Code.{Line, HasThread, HasTasks, entries_of}
 use Rattle.rt_build.specs.declared.code.Code.{Code}
-use Rattle.rt_build.proofs.Hardware.{bodies_none}
+use Rattle.rt_build.proofs.Hardware.{no_levels, bodies_none}
 use Rattle.rt_build.proofs.ImageCells.{resource_numbers}
 use Rattle.rt_build.proofs.ImageSizes.{runnable, lines}
 
@@ -86,14 +88,16 @@ module _ (plan : Plan) (made : Code) (words bytes : ℕ) (irqs : List IrqRow) (n
   has_code : HasThread app made.lines.items made.idle → HasTasks app made.lines.items made.tasks.items
       → length made.tasks.items ≡ length app.tasks → HasCode app (entries_of made) img
   has_code thread tasks counted = record {
-    init = subst (λ (all : List Line). StandsFrom (storage app) all img.bodies made.idle Starting
+    init = λ bodies. subst (λ (all : List Line). StandsFrom (storage app) all bodies made.idle Starting
         (length (memory app)) (thread_words app) 0 (cost_of (cost_measure app) app.init) (init_doing app))
-        whole_code (thread.init [] img.bodies);
-    idle = subst (λ (all : List Line). IdleStands app all img.bodies made.idle app.idle) whole_code
-        (thread.idle [] img.bodies);
+        whole_code (thread.init [] bodies);
+    idle = λ bodies. subst (λ (all : List Line). IdleStands app all bodies made.idle app.idle) whole_code
+        (thread.idle [] bodies);
     tasks = λ n t there hardware. (let within = slice_get_within app.tasks n t there in
         subst (λ (all : List Line). TaskStands app n (Some t) all (slice_index made.tasks.items n)) whole_code
         (tasks n t (omega arith) there []));
+    dispatchers = λ p is.
+        absurd (contains_none p (subst (λ ps. Contains ps p) (no_levels app planned.software) is));
   }
 
   assembled : HasTables app (entries_of made) img → HasCode app (entries_of made) img

@@ -11,6 +11,7 @@ pub mod Placed
 pub mod Hardware
 pub mod Served
 pub mod Grown
+pub mod LevelRows
 pub mod ImageCells
 pub mod ImageRows
 pub mod ImageSizes

@@ -3,15 +3,17 @@
 -- costs and in the printed frames (the RTIC 1 book: `init` runs first and then `idle`, and a task in its interrupt;
 -- ARMv7-M Architecture Reference Manual, section B1.5, on vectors and priorities). Which code that is, and where it
 -- lies, is the compiler's choice.
-use Rattle.std.specs.Prelude.{◌≡◌, ℕ, ◌+◌, false, List, [], ◌∷◌, ◌++◌, length, slice_get, Option, Some, None, option_map, if◌then◌else◌}
+use Rattle.std.specs.Prelude.{◌≡◌, ℕ, ◌+◌, Bool, false, List, [], ◌∷◌, ◌++◌, length, map, slice_get}
+use Rattle.std.specs.Prelude.{Option, Some, None, option_map, if◌then◌else◌, Contains}
+use Rattle.rt_ids.specs.Lists.{is_some_and}
 use Rattle.rt_ids.specs.Priority.{hardware}
 use Rattle.rt_ids.specs.Storage.{Starting, AtLevel}
 use Rattle.rt_app.specs.declared.app.IrqDecl.{IrqDecl}
 use Rattle.rt_app.specs.declared.costs.TheConstants.{DISPATCHER_WORDS, TIMER_WORDS}
 use Rattle.rt_app.specs.Tree.{Body, Task, App}
-use Rattle.rt_app.specs.Level.{is_software}
-use Rattle.rt_app.specs.BodyCost.{cost_measure, body_cost, cost_of}
-use Rattle.rt_app.specs.Doings.{init_doing, idle_doing}
+use Rattle.rt_app.specs.Level.{is_software, is_of_level, levels}
+use Rattle.rt_app.specs.BodyCost.{cost_measure, body_cost, cost_of, dispatcher_cost}
+use Rattle.rt_app.specs.Doings.{init_doing, idle_doing, dispatcher_doing}
 use Rattle.rt_app.specs.Frame.{frame_words}
 use Rattle.rt_app.specs.Handlers.{Handler, Runs, Dispatches, Times, Service, service_of}
 use Rattle.rt_app.specs.Holding.{storage}
@@ -58,6 +60,12 @@ IdleStands app code bodies entry (Some b) =
     StandsFrom (storage app) code bodies entry (AtLevel 0) (length (memory app)) (thread_words app) entry
     (body_cost (cost_measure app) b) (idle_doing app)
 
+-- The rows of bodies as code sees them that calls bodies of some tasks alone, those that pass: any other leads to an
+-- address behind all code.
+abbrev pub rows_for : App → (Task → Bool) → ℕ → List BodyRow → List BodyRow
+rows_for app test behind rows =
+    map (λ row. if is_some_and test (slice_get app.tasks row.task) then row else record row { entry = behind }) rows
+
 module _ (app : App) (at : Entries) where
   abbrev pub handler_row : Service → row.Handler
   handler_row s = record {
@@ -92,12 +100,19 @@ module _ (app : App) (at : Entries) where
     pub irqs : img.irqs ≡ irq_rows 0 app.irqs
     pub bodies : img.bodies ≡ body_rows 0 app.tasks
 
+  -- The thread and hardware tasks call no body, and a dispatcher those of its level alone. That a called body stands is
+  -- part of this: it is code that the dispatcher runs.
   pub record HasCode (img : Image) : Type 0 where
-    pub init : StandsFrom (storage app) img.code img.bodies at.idle Starting (length (memory app)) (thread_words app) 0
+    pub init : (bodies : List BodyRow)
+        → StandsFrom (storage app) img.code bodies at.idle Starting (length (memory app)) (thread_words app) 0
         (cost_of (cost_measure app) app.init) (init_doing app)
-    pub idle : IdleStands app img.code img.bodies at.idle app.idle
+    pub idle : (bodies : List BodyRow) → IdleStands app img.code bodies at.idle app.idle
     pub tasks : (n : ℕ) (t : Task) → slice_get app.tasks n ≡ Some t → is_software t ≡ false
         → TaskStands app n (Some t) img.code (at.task n)
+    pub dispatchers : (p : ℕ) → Contains (levels app) p → (thread : ℕ)
+        → StandsFrom (storage app) img.code (rows_for app (is_of_level p) (length img.code) img.bodies) thread
+        (AtLevel p) (length (memory app)) DISPATCHER_WORDS (at.dispatcher p) (dispatcher_cost app p)
+        (dispatcher_doing app p)
 
 pub record IsImageOf (app : App) (img : Image) : Type 0 where
   pub at : Entries

@@ -31,6 +31,7 @@ use Rattle.rt_sim.specs.Inside.Moment.{Part, Moment, runner_of, spot_of, section
 use Rattle.rt_sim.specs.Inside.States.{core_of, state_of}
 use Rattle.rt_sim.specs.Inside.PartFits.{who, StandsBy}
 use Rattle.rt_sim.specs.Inside.Fits.{IsStacked, Fits}
+use Rattle.rt_sim.proofs.Alike.{with_rows}
 use Rattle.rt_sim.proofs.Plain.{IsWorking, is_at}
 
 -- a section that is open stands among the sections
@@ -110,7 +111,8 @@ module _ (app : App) (img : Image) (thread : ℕ) (m : Moment) (fits : Fits app 
       owned_seen v well r (subst (λ home. MayStore (storage app) (who m.running)
       (spot_of m.cells m.queues m.running) home) (home_is cell r within same) may)
 
-  no_steps : Stands (storage app) img.code img.bodies thread (who m.running) zero (spot_of m.cells m.queues m.running)
+  no_steps : Stands (storage app) img.code m.running.rows thread (who m.running) zero
+      (spot_of m.cells m.queues m.running)
       → ⊥
   unfolding Stands
   no_steps s = s
@@ -121,12 +123,12 @@ module _ (app : App) (img : Image) (thread : ℕ) (m : Moment) (fits : Fits app 
   access_is_guarded v well early = by_pick (pick img (core_of app.bits m)) refl
     where
       working : IsWorking m.running.role → pick img (core_of app.bits m) ≡ None → (n : ℕ)
-          → Stands (storage app) img.code img.bodies thread (who m.running) n (spot_of m.cells m.queues m.running)
+          → Stands (storage app) img.code m.running.rows thread (who m.running) n (spot_of m.cells m.queues m.running)
           → IsGuarded app v.jobs (access img (core_of app.bits m))
       working works picked zero stands = absurd (no_steps stands)
       working works picked (suc n) stands =
           may_is_guarded v well (access img (core_of app.bits m))
-          (standing_leads (storage app) img thread (who m.running) (core_of app.bits m)
+          (standing_leads (storage app) (with_rows img m.running.rows) thread (who m.running) (core_of app.bits m)
           (spot_of m.cells m.queues m.running) n refl picked early
           (is_at app img thread m fits works) stands).touches
 

@@ -1,11 +1,12 @@
 -- A plain instruction that does the running job's next action is a step of Baker's machine.
-use Rattle.std.proofs.Common.{◌≡◌, ℕ, ◌||◌, ◌++◌, Bool, true, List, [], ◌∷◌, length, map, slice_set, Option, Some}
+use Rattle.std.proofs.Common.{◌≡◌, ℕ, ◌+◌, ◌||◌, ◌++◌, Bool, true, List, [], ◌∷◌, length, map, slice_set, Option, Some}
 use Rattle.std.proofs.Common.{None, refl, ap, subst, ◌∙◌, if◌then◌else◌, length-set}
 use Rattle.std.specs.List.{list_any}
 use Rattle.rt_ids.specs.Holder.{Holder, Guarded, Own, is_same_section}
 use Rattle.rt_ids.specs.Content.{Values, delays, least_instant}
 use Rattle.rt_ids.specs.Action.{Action, Emits, Posts, Clocks, Refuses, SetsAlarm, effect}
 use Rattle.rt_ids.specs.Doing.{Doing, over, does}
+use Rattle.rt_ids.specs.Entry.{Entry, count}
 use Rattle.rt_ids.specs.Storage.{Runner}
 use Rattle.rt_ids.specs.declared.ids.Section.{Section}
 use Rattle.rt_ids.specs.declared.ids.Section.TheVariants as section
@@ -31,11 +32,13 @@ use Rattle.rt_laws.specs.Acting.{acted, alarm_set}
 use Rattle.rt_laws.specs.Allowed.{Turn}
 use Rattle.rt_sim.specs.Inside.Moment.{Moment, spot_of, sections_of, job_of}
 use Rattle.rt_sim.specs.Inside.States.{core_of, state_of}
-use Rattle.rt_sim.specs.Inside.Sparing.{owns_in, held_after, IsActionOf, Spares, IsSparing}
-use Rattle.rt_sim.specs.Inside.PartFits.{who, handles, AgreesWith}
+use Rattle.rt_sim.specs.Inside.Counts.{hands, IsOnce}
+use Rattle.rt_sim.specs.Inside.Sparing.{owns_in, held_after, IsActionOf, IsEntered, Spares, IsSparing}
+use Rattle.rt_sim.specs.Inside.Calling.{handles}
+use Rattle.rt_sim.specs.Inside.PartFits.{who, AgreesWith}
 use Rattle.rt_sim.specs.Inside.Fits.{Fits}
 use Rattle.rt_sim.specs.Inside.Agrees.{StepsBoth}
-use Rattle.rt_sim.proofs.Others.{ChangesItsOwn, IsLeftOrOwned, touches_its_own}
+use Rattle.rt_sim.proofs.Others.{ChangesItsOwn, QueuesItsOwn, ValuesItsOwn, IsLeftOrOwned, touches_its_own}
 use Rattle.rt_sim.proofs.Plain.{IsWorking, moment_behind, plain_fits, may_turn}
 
 pub any_mapped : (held : List Held) (x : Section)
@@ -67,7 +70,7 @@ pending_fits app img thread m pending long fits = record {
   basepri = fits.basepri;
   primask = fits.primask;
   memory = fits.memory;
-  no_messages = fits.no_messages;
+  once = fits.once;
   numbers = long ∙ fits.numbers;
 }
 
@@ -77,7 +80,7 @@ module _ (app : App) (img : Image) (thread : ℕ) (m : Moment) (fits : Fits app 
   Spotted = spot_of m.cells m.queues m.running
 
   abbrev Later : ℕ → Spot → Type 0
-  Later n t = Stands (storage app) img.code img.bodies thread (who m.running) n t
+  Later n t = Stands (storage app) img.code m.running.rows thread (who m.running) n t
 
   -- a step that is known changes what the running job owns alone
   pub changes_by : (c : Core) (shown : Option What) → step img (core_of app.bits m) ≡ (c, shown)
@@ -85,9 +88,9 @@ module _ (app : App) (img : Image) (thread : ℕ) (m : Moment) (fits : Fits app 
       → ChangesItsOwn app img thread m.running m.cells c.processor.cells
   changes_by c shown is may cell =
       subst (λ (r : Core × Option What). IsLeftOrOwned app
-      (who m.running) m.running.held m.cells r.0.processor.cells cell) is
+      (who m.running) m.running.held m.running.places m.cells r.0.processor.cells cell) is
       (touches_its_own app img (core_of app.bits m) (who m.running)
-      (spot_of m.cells m.queues m.running) fits.parts.0.empty may cell)
+      (spot_of m.cells m.queues m.running) may cell)
 
   module _ (action : Action) (values : Values) (follows : ℕ → Values → Doing Values)
       (is : m.running.rest ≡ does action values follows) where
@@ -97,7 +100,8 @@ module _ (app : App) (img : Image) (thread : ℕ) (m : Moment) (fits : Fits app 
         (who m.running) m.running.held m.values rest) is fits.parts.0.agrees
 
     pub spared : IsActionOf app (who m.running) (handles m.running.role) action
-        × ((n : ℕ) (vs : Values) → Spares app (who m.running) (handles m.running.role)
+        × ((n : ℕ) (vs : Values) → IsEntered app action vs
+        → Spares app (who m.running) (handles m.running.role)
         (held_after app (who m.running) (handles m.running.role) (sections_of m.running.held) action) vs
         (follows n vs)
         × IsSparing app (who m.running) (handles m.running.role)
@@ -114,29 +118,49 @@ module _ (app : App) (img : Image) (thread : ℕ) (m : Moment) (fits : Fits app 
         ≡ acted app (state_of m) (job_of m.running) (map job_of m.below) (does action values follows)
     acts_as = ap (acted app (state_of m) (job_of m.running) (map job_of m.below)) is
 
-  -- where the action opens no section and changes no queue
-  pub acts_fit : (q : Processor) (n : ℕ) (action : Action) (answer : ℕ)
+  -- where the action opens no section, and these places and queues are behind it
+  pub acts_fit : (q : Processor) (n : ℕ) (action : Action) (answer : ℕ) (places : List Entry)
+      (queues : Holder → List Entry)
       → GoesPlainly (spot_of m.cells m.queues m.running) (core_of app.bits m).processor q
       → ChangesItsOwn app img thread m.running m.cells q.cells
-      → (acts : Acts (storage app) img.bodies (who m.running) action answer
+      → (acts : Acts (storage app) m.running.rows (who m.running) action answer
+      (record (moved (passed (spot_of m.cells m.queues m.running)) q) { places = places; queues = queues })
+      (λ t. Stands (storage app) img.code m.running.rows thread (who m.running) n t))
+      → ValuesItsOwn app img thread m.running m.values (effect action m.values)
+      → QueuesItsOwn app img thread m.running m.queues queues
+      → IsOnce queues (λ e. count e places + hands m.below e)
+      → ((held : List Section) → held_after app (who m.running) (handles m.running.role) held action ≡ held)
+      → IsEntered app action (effect action m.values)
+      → Fits app img thread (moment_behind app img thread m q n (acts.follows answer (effect action m.values))
+      (reached (acts.follows answer (effect action m.values)) (effect action m.values)) places queues)
+  acts_fit q n action answer places queues plain changes acts kept moves once closed entered =
+      let vs : Values = effect action m.values in
+      let rest = acts.follows answer vs in
+      let spares = subst (λ held. Spares app (who m.running) (handles m.running.role) held vs rest
+      × IsSparing app (who m.running) (handles m.running.role) held rest)
+      (closed (sections_of m.running.held))
+      ((spared action acts.values acts.follows acts.is).1 answer vs entered) in
+      plain_fits app img thread m fits works q n rest (reached rest vs) places queues plain changes
+      (λ h away. spares.0 h (owns_alike app (who m.running) (handles m.running.role) m.running.held h ∙ away)
+      ∙ kept h away) moves once
+      (acts.on m.values (agreed action acts.values acts.follows acts.is))
+      (agrees_reached app img thread (who m.running) m.running.held rest vs) spares.1
+
+  -- where no queue changes
+  acts_plainly : (q : Processor) (n : ℕ) (action : Action) (answer : ℕ)
+      → GoesPlainly (spot_of m.cells m.queues m.running) (core_of app.bits m).processor q
+      → ChangesItsOwn app img thread m.running m.cells q.cells
+      → (acts : Acts (storage app) m.running.rows (who m.running) action answer
       (moved (passed (spot_of m.cells m.queues m.running)) q)
-      (λ t. Stands (storage app) img.code img.bodies thread (who m.running) n t))
+      (λ t. Stands (storage app) img.code m.running.rows thread (who m.running) n t))
       → ((vs : Values) → effect action vs ≡ vs)
       → ((held : List Section) → held_after app (who m.running) (handles m.running.role) held action ≡ held)
-      → Fits app img thread (moment_behind app img thread m q n (acts.follows answer m.values)
-      (reached (acts.follows answer m.values) m.values))
-  acts_fit q n action answer plain changes acts same closed =
-      let rest = acts.follows answer m.values in
-      let spares = subst (λ held. Spares app (who m.running) (handles m.running.role) held m.values rest
-      × IsSparing app (who m.running) (handles m.running.role) held rest)
-      (closed (sections_of m.running.held)) ((spared action acts.values acts.follows acts.is).1 answer m.values) in
-      plain_fits app img thread m fits works q n rest (reached rest m.values) plain changes
-      (λ h away. spares.0 h (owns_alike app (who m.running) (handles m.running.role) m.running.held h ∙ away))
-      (subst (λ vs. Stands (storage app) img.code img.bodies thread (who m.running) n
-      (record (moved (passed (spot_of m.cells m.queues m.running)) q) { rest = acts.follows answer vs }))
-      (same m.values)
-      (acts.on m.values (agreed action acts.values acts.follows acts.is)))
-      (agrees_reached app img thread (who m.running) m.running.held rest m.values) spares.1
+      → IsEntered app action (effect action m.values)
+      → Fits app img thread (moment_behind app img thread m q n (acts.follows answer (effect action m.values))
+      (reached (acts.follows answer (effect action m.values)) (effect action m.values)) m.running.places m.queues)
+  acts_plainly q n action answer plain changes acts same closed entered =
+      acts_fit q n action answer m.running.places m.queues plain changes acts
+      (λ h away. ap (λ (vs : Values). vs h) (same m.values)) (λ h away. refl) fits.once closed entered
 
   module _ (n : ℕ) (none : candidate app (state_of m) ≡ None) (left : HaveLeft (m.running.lefts ++ m.running.left ∷ []))
       (may : MayAccess (storage app) (who m.running) (spot_of m.cells m.queues m.running)
@@ -146,15 +170,18 @@ module _ (app : App) (img : Image) (thread : ℕ) (m : Moment) (fits : Fits app 
     turn = may_turn app img thread m fits works none left
 
     abbrev ActsBy : Action → ℕ → Type 0
-    ActsBy action answer = Acts (storage app) img.bodies (who m.running) action answer
+    ActsBy action answer = Acts (storage app) m.running.rows (who m.running) action answer
         (moved (passed (spot_of m.cells m.queues m.running)) q)
-        (λ t. Stands (storage app) img.code img.bodies thread (who m.running) n t)
+        (λ t. Stands (storage app) img.code m.running.rows thread (who m.running) n t)
 
     abbrev Both : Type 0
     Both = StepsBoth app img thread (core_of app.bits m) (state_of m)
 
+    abbrev Behind : Doing Values → Values → Moment
+    Behind rest vs = moment_behind app img thread m q n rest (reached rest vs) m.running.places m.queues
+
     pub silent : step img (core_of app.bits m) ≡ (with_processor (core_of app.bits m) q, None)
-        → Stands (storage app) img.code img.bodies thread (who m.running) n
+        → Stands (storage app) img.code m.running.rows thread (who m.running) n
         (moved (passed (spot_of m.cells m.queues m.running)) q) → Both
     silent is stands = record {
       core = with_processor (core_of app.bits m) q;
@@ -162,11 +189,12 @@ module _ (app : App) (img : Image) (thread : ℕ) (m : Moment) (fits : Fits app 
       is = is;
       may = turn;
       agrees = record {
-        moment = moment_behind app img thread m q n m.running.rest m.values;
+        moment = moment_behind app img thread m q n m.running.rest m.values m.running.places m.queues;
         core = refl;
         state = refl;
-        fits = plain_fits app img thread m fits works q n m.running.rest m.values plain (changes_by _ _ is may)
-            (λ h away. refl) stands fits.parts.0.agrees fits.parts.0.sparing;
+        fits = plain_fits app img thread m fits works q n m.running.rest m.values m.running.places m.queues plain
+            (changes_by _ _ is may) (λ h away. refl) (λ h away. refl) fits.once stands fits.parts.0.agrees
+            fits.parts.0.sparing;
       };
     }
 
@@ -178,11 +206,10 @@ module _ (app : App) (img : Image) (thread : ℕ) (m : Moment) (fits : Fits app 
       is = is;
       may = (turn, gives_item (Emits value) acts.values acts.follows acts.is);
       agrees = record {
-        moment = moment_behind app img thread m q n (acts.follows 0 m.values)
-            (reached (acts.follows 0 m.values) m.values);
+        moment = Behind (acts.follows 0 m.values) m.values;
         core = refl;
         state = acts_as (Emits value) acts.values acts.follows acts.is;
-        fits = acts_fit q n (Emits value) 0 plain (changes_by _ _ is may) acts (λ vs. refl) (λ held. refl);
+        fits = acts_plainly q n (Emits value) 0 plain (changes_by _ _ is may) acts (λ vs. refl) (λ held. refl) tt;
       };
     }
 
@@ -194,11 +221,10 @@ module _ (app : App) (img : Image) (thread : ℕ) (m : Moment) (fits : Fits app 
       is = is;
       may = (turn, gives_item Clocks acts.values acts.follows acts.is);
       agrees = record {
-        moment = moment_behind app img thread m q n (acts.follows m.time m.values)
-            (reached (acts.follows m.time m.values) m.values);
+        moment = Behind (acts.follows m.time m.values) m.values;
         core = refl;
         state = acts_as Clocks acts.values acts.follows acts.is;
-        fits = acts_fit q n Clocks m.time plain (changes_by _ _ is may) acts (λ vs. refl) (λ held. refl);
+        fits = acts_plainly q n Clocks m.time plain (changes_by _ _ is may) acts (λ vs. refl) (λ held. refl) tt;
       };
     }
 
@@ -210,11 +236,10 @@ module _ (app : App) (img : Image) (thread : ℕ) (m : Moment) (fits : Fits app 
       is = is;
       may = (turn, gives_item (Refuses t) acts.values acts.follows acts.is);
       agrees = record {
-        moment = moment_behind app img thread m q n (acts.follows 0 m.values)
-            (reached (acts.follows 0 m.values) m.values);
+        moment = Behind (acts.follows 0 m.values) m.values;
         core = refl;
         state = acts_as (Refuses t) acts.values acts.follows acts.is;
-        fits = acts_fit q n (Refuses t) 0 plain (changes_by _ _ is may) acts (λ vs. refl) (λ held. refl);
+        fits = acts_plainly q n (Refuses t) 0 plain (changes_by _ _ is may) acts (λ vs. refl) (λ held. refl) tt;
       };
     }
 
@@ -226,21 +251,21 @@ module _ (app : App) (img : Image) (thread : ℕ) (m : Moment) (fits : Fits app 
       is = is;
       may = (turn, gives_item (Posts irq) acts.values acts.follows acts.is);
       agrees = record {
-        moment = record (moment_behind app img thread m q n (acts.follows 0 m.values)
-            (reached (acts.follows 0 m.values) m.values)) { pending = slice_set m.pending irq true };
+        moment = record (Behind (acts.follows 0 m.values) m.values) { pending = slice_set m.pending irq true };
         core = refl;
         state = acts_as (Posts irq) acts.values acts.follows acts.is;
-        fits = pending_fits app img thread _ (slice_set m.pending irq true) (length-set m.pending irq true)
-            (acts_fit q n (Posts irq) 0 plain (changes_by _ _ is may) acts (λ vs. refl) (λ held. refl));
+        fits = pending_fits app img thread (Behind (acts.follows 0 m.values) m.values) (slice_set m.pending irq true)
+            (length-set m.pending irq true)
+            (acts_plainly q n (Posts irq) 0 plain (changes_by _ _ is may) acts (λ vs. refl) (λ held. refl) tt);
       };
     }
 
     -- nothing is armed, and so no alarm is set
     pub sets_none : step img (core_of app.bits m) ≡
         (record (core_of app.bits m) { processor = q; alarm = None }, Some what.AlarmSet)
-        → SetsTheAlarm (storage app) img.bodies (who m.running) None
+        → SetsTheAlarm (storage app) m.running.rows (who m.running) None
         (moved (passed (spot_of m.cells m.queues m.running)) q)
-        (λ t. Stands (storage app) img.code img.bodies thread (who m.running) n t) → Both
+        (λ t. Stands (storage app) img.code m.running.rows thread (who m.running) n t) → Both
     sets_none is sets =
         let acts = sets.acts in
         let instant : least_instant (delays (m.values (Guarded section.Timer))) ≡ None
@@ -259,13 +284,10 @@ module _ (app : App) (img : Image) (thread : ℕ) (m : Moment) (fits : Fits app 
                 ∙ ap (λ o. Some (if is_due m.time o then what.Alarm else what.AlarmSet)) instant,
           );
           agrees = record {
-            moment = moment_behind app img thread m q n (acts.follows 0 m.values)
-                (reached (acts.follows 0 m.values) m.values);
+            moment = Behind (acts.follows 0 m.values) m.values;
             core = refl;
             state = acts_as SetsAlarm acts.values acts.follows acts.is
-                ∙ ap (λ o. alarm_set app o (state_of
-                (moment_behind app img thread m q n (acts.follows 0 m.values)
-                (reached (acts.follows 0 m.values) m.values)))) instant;
-            fits = acts_fit q n SetsAlarm 0 plain (changes_by _ _ is may) acts (λ vs. refl) (λ held. refl);
+                ∙ ap (λ o. alarm_set app o (state_of (Behind (acts.follows 0 m.values) m.values))) instant;
+            fits = acts_plainly q n SetsAlarm 0 plain (changes_by _ _ is may) acts (λ vs. refl) (λ held. refl) tt;
           };
         }

@@ -1,29 +1,24 @@
 -- The core and Baker's machine take the same interrupt: the rows of an image say what serves each, and its priority.
 use Rattle.std.proofs.Common.{◌≡◌, ℕ, suc, ◌+◌, ◌^◌, ◌<◌, ◌≤◌, ◌==◌, ◌&&◌, ◌||◌, inl, inr, nat_lt, Bool, true, false}
-use Rattle.std.proofs.Common.{if◌then◌else◌, List, [], ◌∷◌, length, map, filter, find, flat_map, slice_get}
-use Rattle.std.proofs.Common.{slice_index_or, Option, Some, None, option_map, is_none, refl, sym, ap, subst, ◌∙◌}
+use Rattle.std.proofs.Common.{if◌then◌else◌, List, [], ◌∷◌, length, map, filter, find, slice_get}
+use Rattle.std.proofs.Common.{slice_index_or, Option, Some, None, option_map, refl, sym, ap, subst, ◌∙◌}
 use Rattle.std.proofs.Common.{arith, eq-eqb}
-use Rattle.std.specs.List.{AllByRecursion, list_any}
+use Rattle.std.specs.List.{AllByRecursion}
 use Rattle.std.proofs.lemmas.Bool.{cases_lt, eqb-true}
 use Rattle.std.proofs.lemmas.Bool.Decides.{nat_tests}
 use Rattle.std.proofs.lemmas.Option.{same_Some}
-use Rattle.rt_lemmas.proofs.Bools.{true_and_false, not_true, and_left}
+use Rattle.rt_lemmas.proofs.Bools.{true_and_false}
 use Rattle.rt_lemmas.proofs.Lists.{find_has, mapped_at}
-use Rattle.rt_lemmas.proofs.Membership.{all_append, all_weaker, any_passes, any_one}
+use Rattle.rt_lemmas.proofs.Membership.{all_weaker}
 use Rattle.rt_lemmas.proofs.Places.{there_is}
 use Rattle.rt_ids.specs.Lists.{is_some_and, or_zero}
 use Rattle.rt_ids.specs.Choice.{best, better_of}
 use Rattle.rt_ids.specs.Priority.{hardware}
 use Rattle.rt_ids.proofs.Hardware.{hardware_of_none, hardware_order, hardware_same}
 use Rattle.rt_app.specs.declared.app.IrqDecl.{IrqDecl}
-use Rattle.rt_app.specs.declared.app.Mono.{Mono}
-use Rattle.rt_app.specs.Tree.{Task, App}
+use Rattle.rt_app.specs.Tree.{App}
 use Rattle.rt_app.specs.Acceptance.{IsSound}
-use Rattle.rt_app.specs.Handlers.{Service, Runs, services, service_of, task_services, bound_service}
-use Rattle.rt_app.specs.Handlers.{dispatcher_service, dispatcher_of, timer_service, irq_number, has_no_software}
-use Rattle.rt_app.specs.Handlers.{has_no_monotonic}
-use Rattle.rt_app.specs.Level.{is_software, is_of_level, levels}
-use Rattle.rt_app.proofs.SoundCeilings.{those_all}
+use Rattle.rt_app.specs.Handlers.{Service, services, service_of, irq_number}
 use Rattle.rt_build.specs.Image.{Entries, handler_row, irq_rows}
 use Rattle.rt_code.specs.Image.{Image}
 use Rattle.rt_code.specs.declared.image.IrqRow.{IrqRow}
@@ -215,64 +210,3 @@ module _ (app : App) (at : Entries) (few : 3 ≤ app.bits) (many : app.bits ≤ 
             (may_start app s) precedes (goes_before app) passes_alike beats_alike o → IfServed o
         if_served None is = tt
         if_served (Some r) is = is
-
-module _ (app : App) (no_software : has_no_software app ≡ true) (no_monotonic : has_no_monotonic app ≡ true) where
-  -- a service is a hardware task's
-  pub record IsOfTask (s : Service) : Type 0 where
-    pub task : ℕ
-    pub body : Task
-    pub there : slice_get app.tasks task ≡ Some body
-    pub hardware_task : is_software body ≡ false
-    pub is : s ≡ record { irq = s.irq; handler = Runs task; level = body.priority }
-
-  pub not_software : (n : ℕ) (t : Task) → slice_get app.tasks n ≡ Some t → is_software t ≡ false
-  not_software n t there = not_so (is_software t)
-      (λ is. true_and_false (list_any is_software app.tasks) (any_passes is_software app.tasks n t there is)
-      (not_true _ no_software))
-
-  pub no_levels : levels app ≡ []
-  no_levels = none (levels app) (those_all (λ p. ⊥) (λ p. list_any (is_of_level p) app.tasks) _ (λ p below is.
-      let one = any_one (is_of_level p) app.tasks is in
-      true_and_false _ (and_left (is_software one.1) _ one.3) (not_software one.0 one.1 one.2)))
-    where
-      none : (ps : List ℕ) → AllByRecursion (λ p. ⊥) ps → ps ≡ []
-      none [] all = refl
-      none (p ∷ ps) all = absurd all.0
-
-  tasks_serve : (n : ℕ) (ts : List Task) → ((k : ℕ) (t : Task) → slice_get ts k ≡ Some t → slice_get app.tasks
-      (n + k) ≡ Some t) → AllByRecursion IsOfTask (task_services n ts)
-  tasks_serve n [] are = tt
-  tasks_serve n (t ∷ ts) are =
-      let here : n + 0 ≡ n = omega arith in
-      all_append IsOfTask (bound_service n t t.binds) (task_services (n + 1) ts)
-      (by t.binds (ap (slice_get app.tasks) (sym here) ∙ are 0 t refl))
-      (tasks_serve (n + 1) ts (λ k u is. let next : n + 1 + k ≡ n + suc k = omega arith in
-      ap (slice_get app.tasks) next ∙ are (suc k) u is))
-    where
-      by : (o : Option ℕ) → slice_get app.tasks n ≡ Some t → AllByRecursion IsOfTask (bound_service n t o)
-      by None there = tt
-      by (Some irq) there = (
-        record {
-          task = n;
-          body = t;
-          there = there;
-          hardware_task = not_software n t there;
-          is =
-              refl;
-        },
-        tt,
-      )
-
-  pub all_of_tasks : AllByRecursion IsOfTask (services app)
-  all_of_tasks =
-      all_append IsOfTask (task_services 0 app.tasks) _
-      (tasks_serve 0 app.tasks (λ k t is. let same : 0 + k ≡ k = omega arith in ap (slice_get app.tasks) same ∙ is))
-      (all_append IsOfTask (flat_map (λ p. dispatcher_service p (dispatcher_of app p)) (levels app))
-      (timer_service app.mono)
-      (subst (λ ps. AllByRecursion IsOfTask (flat_map (λ p. dispatcher_service p (dispatcher_of app p)) ps))
-      (sym no_levels) tt)
-      (by app.mono no_monotonic))
-    where
-      by : (o : Option Mono) → is_none o ≡ true → AllByRecursion IsOfTask (timer_service o)
-      by None is = tt
-      by (Some mono) is = absurd (cc (is))

@@ -1,12 +1,11 @@
 -- The stack in use is within the bound: each level counts once, with what exception entry pushes and the greatest frame
 -- of its handlers.
-use Rattle.std.proofs.Common.{◌≡◌, ℕ, zero, suc, ◌+◌, ◌*◌, ◌^◌, ◌<◌, ◌≤◌, ◌⊎◌, inl, inr, true, if◌then◌else◌, List}
-use Rattle.std.proofs.Common.{[], ◌∷◌, length, sum_by, None, refl, ap, subst, ◌∙◌, arith}
-use Rattle.std.specs.List.{AllByRecursion}
+use Rattle.std.proofs.Common.{◌≡◌, ℕ, zero, suc, ◌+◌, ◌*◌, ◌/◌, ◌^◌, nat_le, ◌<◌, ◌≤◌, ◌⊎◌, inl, inr, true}
+use Rattle.std.proofs.Common.{if◌then◌else◌, List}
+use Rattle.std.proofs.Common.{[], ◌∷◌, length, sum_by, refl, ap, subst, ◌∙◌, arith}
 use Rattle.std.proofs.Math.Pow.{pow_mono}
-use Rattle.std.proofs.lemmas.Bool.{cases_lt}
+use Rattle.std.proofs.lemmas.Bool.{cases_lt, le-leb}
 use Rattle.std.proofs.lemmas.List.Sums.{sum_by-cons}
-use Rattle.rt_lemmas.proofs.Membership.{all_weaker}
 use Rattle.rt_ids.specs.Priority.{hardware}
 use Rattle.rt_app.specs.Tree.{App}
 use Rattle.rt_app.specs.declared.costs.TheConstants.{PRIORITIES, ENTRY_BYTES}
@@ -16,22 +15,20 @@ use Rattle.rt_code.specs.Stack as stack
 use Rattle.rt_core.specs.Core.{Context, context_words, used, depth}
 use Rattle.rt_sim.specs.Inside.Moment.{Part, Moment, irq_of}
 use Rattle.rt_sim.specs.Inside.States.{contexts, core_of, words_under}
-use Rattle.rt_sim.specs.Inside.PartFits.{PartFits}
 use Rattle.rt_sim.specs.Inside.Fits.{IsStacked, Fits}
 
--- no body is called, so each frame stands alone
-abbrev AreAlone : List Part → Type 0
-AreAlone ps = AllByRecursion (λ (q : Part). q.caller ≡ None) ps
-
-words_are : (bits entry irq value : ℕ) (ps : List Part) → AllByRecursion (λ (q : Part). q.caller ≡ None) ps
+words_are : (bits entry irq value : ℕ) (ps : List Part)
     → sum_by (context_words entry) (contexts bits irq value ps) ≡ words_under entry ps
-words_are bits entry irq value [] alone = refl
-words_are bits entry irq value (q ∷ ps) alone =
-    let none : length (stack.words_of q.caller) ≡ 0 = ap (λ o. length (stack.words_of o)) alone.0 in
-    let more = words_are bits entry (irq_of q.role) (hardware bits q.priority) ps alone.1 in
+words_are bits entry irq value [] = refl
+words_are bits entry irq value (q ∷ ps) =
+    let more = words_are bits entry (irq_of q.role) (hardware bits q.priority) ps in
     let here : Context = record { irq = irq; value = value; address = q.address; slots = q.slots; caller = q.caller } in
     sum_by-cons (context_words entry) here (contexts bits (irq_of q.role) (hardware bits q.priority) ps)
-    ∙ omega (arith, none, more)
+    ∙ omega (arith, more)
+
+-- a region of so many bytes has room for so many words
+pub room_of : (used more bytes : ℕ) → 4 * (used + more) ≤ bytes → nat_le (used + more) (bytes / 4) ≡ true
+room_of used more bytes within = le-leb (used + more) (bytes / 4) (omega arith)
 
 -- the greatest priority is below the number of priorities
 top_small : (b : ℕ) → b ≤ 7 → 2 ^ b ≤ 128
@@ -39,14 +36,12 @@ top_small b many = let e : 2 ^ b ≤ 2 ^ 7 = pow_mono many in omega (arith, e)
 
 module _ (app : App) (img : Image) (thread : ℕ) where
   pub used_is : (m : Moment) → Fits app img thread m
-      → used img (core_of app.bits m) ≡ length m.running.slots + words_under (entry_words img) m.below
+      → used img (core_of app.bits m)
+      ≡ length (stack.words_of m.running.caller) + length m.running.slots + words_under (entry_words img) m.below
   used_is m fits =
-      let alone = all_weaker (PartFits app img thread m.cells m.queues m.values) (λ (q : Part). q.caller ≡ None)
-      (λ q f. f.own_frame) (m.running ∷ m.below) fits.parts in
-      let none : length (stack.words_of m.running.caller) ≡ 0 = ap (λ o. length (stack.words_of o)) alone.0 in
       let more = words_are app.bits (entry_words img) (irq_of m.running.role)
-      (hardware app.bits m.running.priority) m.below alone.1 in
-      omega (arith, none, more)
+      (hardware app.bits m.running.priority) m.below in
+      omega (arith, more)
 
   level_counts : (p : ℕ) → bytes_below app (suc p) ≡ bytes_below app p + level_bytes app p
   unfolding bytes_below
@@ -67,9 +62,11 @@ module _ (app : App) (img : Image) (thread : ℕ) where
   level_is p has = ap (λ b. if b then ENTRY_BYTES + 4 * need app p else 0) has
 
   stack_within : (p : Part) (ps : List Part) → IsStacked app img thread p ps
-      → 4 * (length p.slots + words_under (entry_words img) ps) ≤ 4 * thread_words app + bytes_below app
-      (suc p.priority)
-  stack_within p [] is = omega (arith, is.frame)
+      → 4 * (length (stack.words_of p.caller) + length p.slots + words_under (entry_words img) ps)
+      ≤ 4 * thread_words app + bytes_below app (suc p.priority)
+  stack_within p [] is =
+      let none : length (stack.words_of p.caller) ≡ 0 = ap (λ o. length (stack.words_of o)) is.own_frame in
+      omega (arith, is.frame, none)
   stack_within p (q ∷ ps) is =
       let before = stack_within q ps is.1 in
       let rise = bytes_rise (suc q.priority) p.priority (omega (arith, is.0.above)) in
@@ -80,9 +77,13 @@ module _ (app : App) (img : Image) (thread : ℕ) where
   depth_within many m fits = by m.below fits.stack (used_is m fits)
     where
       by : (ps : List Part) → IsStacked app img thread m.running ps
-          → used img (core_of app.bits m) ≡ length m.running.slots + words_under (entry_words img) ps
+          → used img (core_of app.bits m)
+          ≡ length (stack.words_of m.running.caller) + length m.running.slots + words_under (entry_words img) ps
           → depth img (core_of app.bits m) ≤ stack_bytes app
-      by [] is used = omega (arith, is.frame, used)
+      by [] is used =
+          let none : length (stack.words_of m.running.caller) ≡ 0
+          = ap (λ o. length (stack.words_of o)) is.own_frame in
+          omega (arith, is.frame, used, none)
       by (q ∷ ps) is used =
           let small : 2 ^ app.bits ≤ 128 = top_small app.bits many in
           let rise = bytes_rise (suc m.running.priority) PRIORITIES (omega (arith, is.0.most, small)) in

@@ -1,7 +1,7 @@
 -- `init` or `idle` ends: the thread goes on at its address, with `idle` from its beginning, or waits where that is
 -- absent.
 use Rattle.std.proofs.Common.{◌≡◌, ℕ, ◌||◌, inl, inr, true, false, List, [], ◌∷◌, ◌++◌, slice_index, Option, Some}
-use Rattle.std.proofs.Common.{None, refl, sym, ap, subst, ◌∙◌}
+use Rattle.std.proofs.Common.{None, length, refl, sym, ap, subst, ◌∙◌, ◌+◌, ◌≤◌, arith}
 use Rattle.rt_ids.specs.Holder.{Holder}
 use Rattle.rt_ids.specs.Content.{Values}
 use Rattle.rt_ids.specs.Action.{Ends}
@@ -15,6 +15,7 @@ use Rattle.rt_app.specs.Doings.{idle_doing}
 use Rattle.rt_app.specs.Holding.{storage, is_kept, is_constant, IsHeld}
 use Rattle.rt_build.specs.Image.{IdleStands}
 use Rattle.rt_code.specs.Image.{Image}
+use Rattle.rt_code.specs.declared.image.BodyRow.{BodyRow}
 use Rattle.rt_code.specs.Standing.{Finishes, HaveLeft, Stands, passed}
 use Rattle.rt_core.specs.Core.{Core}
 use Rattle.rt_core.specs.Leading.{with_processor, served, at_address}
@@ -29,16 +30,19 @@ use Rattle.rt_sim.specs.Inside.Moment.{Part, Moment, runner_of, spot_of, job_of}
 use Rattle.rt_sim.specs.Inside.States.{core_of, state_of}
 use Rattle.rt_sim.specs.Inside.Chains.{is_init, base_inside, mask_inside}
 use Rattle.rt_sim.specs.Inside.Sparing.{SparesAlways}
+use Rattle.rt_sim.specs.Inside.Counts.{hands}
 use Rattle.rt_sim.specs.Inside.PartFits.{who}
 use Rattle.rt_sim.specs.Inside.Fits.{Fits}
 use Rattle.rt_sim.specs.Inside.Agrees.{StepsBoth}
+use Rattle.rt_sim.proofs.Counting.{fewer_once}
+use Rattle.rt_sim.proofs.BodyRows.{no_rows, calls_none}
 use Rattle.rt_sim.proofs.Plain.{IsWorking, may_turn}
 use Rattle.rt_sim.proofs.Acts.{owns_alike, agrees_reached, gives_item, acts_as}
 use Rattle.rt_sim.proofs.Returns.{given_back}
 
 -- the thread as it begins `idle`, or waits, in this frame
-abbrev pub thread_part : App → Option Body → ℕ → List ℕ → Values → Part
-thread_part app None address slots vs = record {
+abbrev pub thread_part : App → Image → Option Body → ℕ → List ℕ → Values → Part
+thread_part app img None address slots vs = record {
   role = Waiting;
   priority = 0;
   rest = over;
@@ -50,8 +54,10 @@ thread_part app None address slots vs = record {
   slots = slots;
   caller = None;
   steps = 0;
+  rows = no_rows app img;
+  own = length slots;
 }
-thread_part app (Some b) address slots vs = record {
+thread_part app img (Some b) address slots vs = record {
   role = Idle;
   priority = 0;
   rest = idle_doing app vs;
@@ -63,16 +69,19 @@ thread_part app (Some b) address slots vs = record {
   slots = slots;
   caller = None;
   steps = cost_of (cost_measure app) app.idle;
+  rows = no_rows app img;
+  own = length slots;
 }
 
-module _ (app : App) (img : Image) (thread : ℕ) (idle : IdleStands app img.code img.bodies thread app.idle)
+module _ (app : App) (img : Image) (thread : ℕ)
+    (idle : (bodies : List BodyRow) → IdleStands app img.code bodies thread app.idle)
     (held_there : (p : ℕ) (h : Holder) → (is_kept app (AtLevel p) h || is_constant app (AtLevel p) h) ≡ true
     → IsHeld app h)
     (sparing : SparesAlways app (AtLevel 0) false [] (idle_doing app)) where
   module _ (m : Moment) (fits : Fits app img thread (record m { below = [] })) (works : IsWorking m.running.role)
       (none : candidate app (state_of (record m { below = [] })) ≡ None)
       (left : HaveLeft (m.running.lefts ++ m.running.left ∷ []))
-      (b : BodyId) (ends : Finishes (storage app) img.code img.bodies thread (who m.running) (Ends b)
+      (b : BodyId) (ends : Finishes (storage app) img.code m.running.rows thread (who m.running) (Ends b)
       (passed (spot_of m.cells m.queues m.running))) where
     abbrev m0 : Moment
     m0 = record m { below = [] }
@@ -83,10 +92,10 @@ module _ (app : App) (img : Image) (thread : ℕ) (idle : IdleStands app img.cod
 
     abbrev moment_of : Option Body → Moment
     moment_of o = record m {
-      running = thread_part app o thread m.running.slots m.values;
+      running = thread_part app img o thread m.running.slots m.values;
       below = [];
       primask = false;
-      values = reached (thread_part app o thread m.running.slots m.values).rest m.values;
+      values = reached (thread_part app img o thread m.running.slots m.values).rest m.values;
     }
 
     fits_idle : (c : Body) → app.idle ≡ Some c → Fits app img thread (moment_of (Some c))
@@ -94,20 +103,21 @@ module _ (app : App) (img : Image) (thread : ℕ) (idle : IdleStands app img.cod
     fits_idle c is = record {
       stack = record {
         frame = fits.stack.frame;
+        own_frame = refl;
         role = inr (inl refl, refl);
         greatest = λ e. absurd (cc (e));
-        saves =
-            tt;
+        saves = tt;
       };
       parts = (
         record {
-          stands = subst (λ cost. Stands (storage app) img.code img.bodies thread (AtLevel 0) cost
-              (record (spot_of m.cells m.queues (thread_part app (Some c) thread m.running.slots m.values)) {
+          stands = subst (λ cost. Stands (storage app) img.code (no_rows app img) thread (AtLevel 0) cost
+              (record (spot_of m.cells m.queues (thread_part app img (Some c) thread m.running.slots m.values)) {
                 lefts =
                     cost ∷ [];
               }))
               (ap (cost_of (cost_measure app)) (sym is))
-              (subst (λ o. IdleStands app img.code img.bodies thread o) is idle m.running.slots m.cells m.queues
+              (subst (λ o. IdleStands app img.code (no_rows app img) thread o) is (idle (no_rows app img))
+              m.running.slots m.cells m.queues
               m.values fits.stack.frame fits.memory
               (λ h reads. all_spelled h (held_there 0 h reads)));
           agrees = agrees_reached app img thread (AtLevel 0) [] (idle_doing app m.values) m.values;
@@ -115,8 +125,9 @@ module _ (app : App) (img : Image) (thread : ℕ) (idle : IdleStands app img.cod
           sparing = (sparing m.values).1;
           opened = tt;
           kinds = tt;
-          empty = refl;
-          own_frame = refl;
+          once = tt;
+          calls = calls_none app img Idle 0 (length m.running.slots);
+          own = refl;
         },
         tt,
       );
@@ -126,7 +137,7 @@ module _ (app : App) (img : Image) (thread : ℕ) (idle : IdleStands app img.cod
       basepri = fits.basepri ∙ ap (λ held. base_inside app held 0) ends.closed;
       primask = refl;
       memory = fits.memory;
-      no_messages = fits.no_messages;
+      once = fewer_once m.queues (hands (m.running ∷ [])) (λ e. 0) (λ e. omega arith) fits.once;
       numbers = fits.numbers;
     }
 
@@ -134,15 +145,15 @@ module _ (app : App) (img : Image) (thread : ℕ) (idle : IdleStands app img.cod
     fits_waiting is = record {
       stack = record {
         frame = fits.stack.frame;
+        own_frame = refl;
         role = inr (inr refl, refl);
         greatest = λ e. absurd (cc (e));
-        saves =
-            tt;
+        saves = tt;
       };
       parts = (
         record {
           stands = record {
-            code = subst (λ o. IdleStands app img.code img.bodies thread o) is idle;
+            code = subst (λ o. IdleStands app img.code (no_rows app img) thread o) is (idle (no_rows app img));
             over =
                 refl;
             closed = refl;
@@ -153,8 +164,9 @@ module _ (app : App) (img : Image) (thread : ℕ) (idle : IdleStands app img.cod
           sparing = tt;
           opened = tt;
           kinds = tt;
-          empty = refl;
-          own_frame = refl;
+          once = tt;
+          calls = calls_none app img Waiting 0 (length m.running.slots);
+          own = refl;
         },
         tt,
       );
@@ -162,7 +174,7 @@ module _ (app : App) (img : Image) (thread : ℕ) (idle : IdleStands app img.cod
       basepri = fits.basepri ∙ ap (λ held. base_inside app held 0) ends.closed;
       primask = refl;
       memory = fits.memory;
-      no_messages = fits.no_messages;
+      once = fewer_once m.queues (hands (m.running ∷ [])) (λ e. 0) (λ e. omega arith) fits.once;
       numbers = fits.numbers;
     }
 
@@ -170,14 +182,15 @@ module _ (app : App) (img : Image) (thread : ℕ) (idle : IdleStands app img.cod
     fits_thread None is = fits_waiting is
     fits_thread (Some c) is = fits_idle c is
 
-    idling_is : (o : Option Body) → idling app m.values o ≡ job_of (thread_part app o thread m.running.slots m.values)
+    idling_is : (o : Option Body)
+        → idling app m.values o ≡ job_of (thread_part app img o thread m.running.slots m.values)
     idling_is None = refl
     idling_is (Some c) = refl
 
     core_is : (o : Option Body) → with_processor (core_of app.bits m0) (record
         (core_of app.bits m0).processor { address = thread; primask = false }) ≡ core_of app.bits (moment_of o)
-    core_is None = ap (λ k. record (core_of app.bits (moment_of None)) { caller = k }) fits.parts.0.own_frame
-    core_is (Some c) = ap (λ k. record (core_of app.bits (moment_of (Some c))) { caller = k }) fits.parts.0.own_frame
+    core_is None = ap (λ k. record (core_of app.bits (moment_of None)) { caller = k }) ends.own_frame
+    core_is (Some c) = ap (λ k. record (core_of app.bits (moment_of (Some c))) { caller = k }) ends.own_frame
 
     abbrev State_of : Job → State
     State_of j = record (state_of m0) { jobs = j ∷ []; values = reached j.rest m.values }
@@ -206,7 +219,7 @@ module _ (app : App) (img : Image) (thread : ℕ) (idle : IdleStands app img.cod
 
   pub ends_init : (m : Moment) (fits : Fits app img thread (record m { below = [] })) (works : IsWorking m.running.role)
       → candidate app (state_of (record m { below = [] })) ≡ None → HaveLeft (m.running.lefts ++ m.running.left ∷ [])
-      → Finishes (storage app) img.code img.bodies thread (who m.running) (Ends body.Init)
+      → Finishes (storage app) img.code m.running.rows thread (who m.running) (Ends body.Init)
       (passed (spot_of m.cells m.queues m.running))
       → step img (core_of app.bits (record m { below = [] })) ≡
       (served (core_of app.bits (record m { below = [] })) thread, Some (what.End body.Init))
@@ -224,7 +237,8 @@ module _ (app : App) (img : Image) (thread : ℕ) (idle : IdleStands app img.cod
 
   pub ends_idle : (m : Moment) (fits : Fits app img thread (record m { below = [] })) (works : IsWorking m.running.role)
       → candidate app (state_of (record m { below = [] })) ≡ None → HaveLeft (m.running.lefts ++ m.running.left ∷ [])
-      → who m.running ≡ AtLevel 0 → Finishes (storage app) img.code img.bodies thread (who m.running) (Ends body.Idle)
+      → who m.running ≡ AtLevel 0
+      → Finishes (storage app) img.code m.running.rows thread (who m.running) (Ends body.Idle)
       (passed (spot_of m.cells m.queues m.running))
       → step img (core_of app.bits (record m { below = [] })) ≡
       (at_address (core_of app.bits (record m { below = [] })) thread, Some (what.End body.Idle))

@@ -1,31 +1,33 @@
 -- A section opens: the masks are set and what they were is kept, what the section guards is taken over from the others,
 -- and Baker's machine enters it.
 use Rattle.std.proofs.Common.{◌≡◌, ◌≢◌, ℕ, suc, ◌-◌, ◌<◌, inl, inr, Bool, true, false, List, [], ◌∷◌, ◌++◌, length}
-use Rattle.std.proofs.Common.{map, slice_index, slice_set, sum_by, Contains, Some, None, refl, sym, ap, subst, ◌∙◌}
+use Rattle.std.proofs.Common.{map, slice_get, slice_index, slice_set, Contains, Some, None, refl, sym, ap, subst, ◌∙◌}
 use Rattle.std.proofs.Common.{arith, length-set, get_or-set_same, get_or-set_other}
 use Rattle.std.specs.List.{AllByRecursion}
-use Rattle.std.proofs.lemmas.List.Sums.{sum_by-cons}
 use Rattle.rt_lemmas.proofs.Bools.{left_of_none, true_and_false, or_neither}
+use Rattle.rt_lemmas.proofs.Lists.{all_map}
 use Rattle.rt_lemmas.proofs.Membership.{contains_here, contains_there, all_weaker}
-use Rattle.rt_ids.specs.Holder.{Holder, Guarded}
-use Rattle.rt_ids.specs.Content.{Values}
-use Rattle.rt_ids.specs.Entry.{Entry, count}
+use Rattle.rt_ids.specs.Holder.{Guarded}
+use Rattle.rt_ids.specs.Lists.{is_some_and}
+use Rattle.rt_ids.specs.Content.{Content, Values, messages}
 use Rattle.rt_ids.specs.Action.{Enters}
 use Rattle.rt_ids.specs.Doing.{Doing}
 use Rattle.rt_ids.specs.Operation.{number_of}
 use Rattle.rt_ids.specs.Priority.{hardware}
 use Rattle.rt_ids.specs.Storage.{Runner, Starting, AtLevel}
 use Rattle.rt_ids.specs.declared.ids.Section.{Section}
+use Rattle.rt_ids.specs.declared.ids.Section.TheVariants as section
 use Rattle.rt_app.specs.Tree.{App}
 use Rattle.rt_app.specs.Ceiling.{ceiling}
-use Rattle.rt_app.specs.Holding.{storage, IsHeld}
+use Rattle.rt_app.specs.Holding.{storage, IsHeld, message_at}
+use Rattle.rt_app.specs.Level.{is_of_level}
 use Rattle.rt_code.specs.Image.{Image}
 use Rattle.rt_code.specs.Masking.{NobodyKeeps, GoesIn, TakesOver, saving}
 use Rattle.rt_code.specs.Owning.{Kind, Marked, Raised, Masked, Held, is_open, saved_slot, saved_slots}
 use Rattle.rt_code.specs.Processor.{Processor}
 use Rattle.rt_code.specs.Standing.{Stands, HaveLeft, passed}
 use Rattle.rt_code.specs.declared.instr.Instr.{Instr}
-use Rattle.rt_code.proofs.Mine.{owns_more}
+use Rattle.rt_code.proofs.Mine.{owns_more, queued_more}
 use Rattle.rt_core.specs.Leading.{with_processor}
 use Rattle.rt_core.specs.Masks.{mask_of, with_mask, opened}
 use Rattle.rt_core.specs.Stepping.{step}
@@ -34,14 +36,18 @@ use Rattle.rt_laws.specs.State.{reached}
 use Rattle.rt_laws.specs.Level.{candidate}
 use Rattle.rt_sim.specs.Inside.Moment.{Part, Moment, spot_of, sections_of}
 use Rattle.rt_sim.specs.Inside.States.{core_of, state_of}
-use Rattle.rt_sim.specs.Inside.Sparing.{Spares, IsSparing}
+use Rattle.rt_sim.specs.Inside.Counts.{hands}
+use Rattle.rt_sim.specs.Inside.Sparing.{IsEntered, Spares, IsSparing}
 use Rattle.rt_sim.specs.Inside.Chains.{is_init, base_by, mask_by, base_inside, mask_inside, base_under, mask_under}
 use Rattle.rt_sim.specs.Inside.Chains.{Saves}
-use Rattle.rt_sim.specs.Inside.PartFits.{who, handles, Owns, Reads, AreApart}
+use Rattle.rt_sim.specs.Inside.Calling.{handles}
+use Rattle.rt_sim.specs.Inside.PartFits.{who, Owns, Reads, AreApart}
 use Rattle.rt_sim.specs.Inside.Fits.{IsStacked, Fits}
 use Rattle.rt_sim.specs.Inside.Agrees.{StepsBoth}
-use Rattle.rt_sim.proofs.Others.{others_kept, not_so}
-use Rattle.rt_sim.proofs.Plain.{IsWorking, lefts_passed, length-passed, saves_kept, apart_of, stands_by, may_turn}
+use Rattle.rt_sim.proofs.Counting.{open_once}
+use Rattle.rt_sim.proofs.Others.{all_clear, others_kept, not_so}
+use Rattle.rt_sim.proofs.Plain.{IsWorking, lefts_passed, length-passed, saves_kept, own_kept, apart_of, stands_by}
+use Rattle.rt_sim.proofs.Plain.{may_turn}
 use Rattle.rt_sim.proofs.Acts.{owns_alike, agrees_reached, agreed, spared, gives_item, acts_as}
 use Rattle.rt_sim.proofs.Entering.{owns_less, reads_less, free_below}
 
@@ -57,13 +63,6 @@ saving_long : (kind : Kind) (v : ℕ) (slots : List ℕ) → length (saving kind
 saving_long Marked v slots = refl
 saving_long (Raised slot) v slots = length-set slots slot v
 saving_long (Masked slot) v slots = length-set slots slot v
-
-queued_none : (queues : Holder → List Entry) → ((h : Holder) → queues h ≡ []) → (e : Entry) (held : List Held)
-    → sum_by (λ h. count e (queues (Guarded h.section))) held ≡ 0
-queued_none queues none e [] = refl
-queued_none queues none e (h ∷ held) =
-    let here : count e (queues (Guarded h.section)) ≡ 0 = ap (count e) (none (Guarded h.section)) in
-    sum_by-cons (λ h. count e (queues (Guarded h.section))) h held ∙ omega (arith, here, queued_none queues none e held)
 
 module _ (app : App) where
   -- the slot of the section that opens keeps what its mask was, and those of the others what they kept
@@ -107,6 +106,21 @@ not_kept : (app : App) (runner : Runner) (x : Section) → NobodyKeeps (storage 
 not_kept app Starting x nobody = nobody
 not_kept app (AtLevel p) x nobody = (nobody p).0
 
+-- behind the opening of a ready queue its messages are of its level, as its cells spell them
+entered_well : (app : App) (m : Moment) (x : Section) (cost : ℕ)
+    → (storage app).Spells (Guarded x) (slice_index m.cells) (m.queues (Guarded x)) (m.values (Guarded x))
+    → IsEntered app (Enters x cost) m.values
+unfolding storage
+entered_well app m (section.Res r) cost spells = tt
+entered_well app m (section.Free n) cost spells = tt
+entered_well app m section.Timer cost spells = tt
+entered_well app m (section.Ready p) cost spells =
+    subst (λ (content : Content). AllByRecursion
+    (λ m. is_some_and (is_of_level p) (slice_get app.tasks m.task) ≡ true) (messages content)) (sym spells.1.messages)
+    (all_map (message_at app (slice_index m.cells)) _
+    (λ m. is_some_and (is_of_level p) (slice_get app.tasks m.task) ≡ true) (λ e is. is.0)
+    (m.queues (Guarded (section.Ready p))) spells.1.places)
+
 module _ (app : App) (img : Image) (thread : ℕ) where
   -- the running job inside a section more
   abbrev pub with_section : Part → Section → Kind → ℕ → ℕ → ℕ → Doing Values → Part
@@ -149,6 +163,7 @@ module _ (app : App) (img : Image) (thread : ℕ) where
       → IsStacked app img thread p ps → IsStacked app img thread (with_section p x kind (mask_of c kind) cost n rest) ps
   stack_more p [] x kind cost n rest c free slot base mask is = record {
     frame = saving_long kind (mask_of c kind) p.slots ∙ is.frame;
+    own_frame = is.own_frame;
     role = is.role;
     greatest = is.greatest;
     saves = saves_more app p.slots p.held x kind 0 (is_init p.role) c slot base mask is.saves;
@@ -172,7 +187,7 @@ module _ (app : App) (img : Image) (thread : ℕ) where
       (none : candidate app (state_of m) ≡ None)
       (left : HaveLeft (m.running.lefts ++ m.running.left ∷ [])) (x : Section) (i : Instr)
       (goes : GoesIn (storage app) (who m.running) x i (passed (spot_of m.cells m.queues m.running))
-      (λ t. Stands (storage app) img.code img.bodies thread (who m.running) n t)) where
+      (λ t. Stands (storage app) img.code m.running.rows thread (who m.running) n t)) where
     abbrev saved : ℕ
     saved = mask_of (core_of app.bits m).processor goes.kind
 
@@ -215,20 +230,21 @@ module _ (app : App) (img : Image) (thread : ℕ) where
             (λ o f. left_of_none (Owns app img thread o (Guarded x)) _ f) m.below free,
       );
       once = λ e.
-          let hands : count e m.running.places ≡ 0 = ap (count e) fits.parts.0.empty in
-          let queued = queued_none m.queues fits.no_messages e
-          (record { section = x; kind = Marked } ∷ m.running.held) in
-          omega (arith, hands, queued);
+          let all = open_once m.queues (hands (m.running ∷ m.below)) fits.once e x m.running.held fits.parts.0.once
+          goes.once in
+          let more = queued_more m.queues e (record { section = x; kind = Marked }) m.running.held in
+          omega (arith, all, more);
     }
 
-    stands : Stands (storage app) img.code img.bodies thread (who m.running) n (spot_of m.cells m.queues Inside)
-    stands = subst (λ ls. Stands (storage app) img.code img.bodies thread (who m.running) n
+    stands : Stands (storage app) img.code m.running.rows thread (who m.running) n (spot_of m.cells m.queues Inside)
+    stands = subst (λ ls. Stands (storage app) img.code m.running.rows thread (who m.running) n
         (record (spot_of m.cells m.queues Inside) { lefts = (goes.cost - 1) ∷ ls }))
         (lefts_passed m.running.lefts m.running.left) (goes.on saved m.values m.cells m.queues takes)
 
     spares : Spares app (who m.running) (handles m.running.role) (sections_of Inside.held) m.values rest
         × IsSparing app (who m.running) (handles m.running.role) (sections_of Inside.held) rest
     spares = (spared app img thread m fits works (Enters x goes.cost) goes.values goes.follows goes.is).1 0 m.values
+        (entered_well app m x goes.cost takes.spelled)
 
     fits_inside : Fits app img thread moment_inside
     fits_inside = record {
@@ -242,13 +258,17 @@ module _ (app : App) (img : Image) (thread : ℕ) where
           sparing = spares.1;
           opened = (record { within = goes.within; is_held = is_held; shared = goes.shared }, fits.parts.0.opened);
           kinds = (goes.mask, fits.parts.0.kinds);
-          empty = fits.parts.0.empty;
-          own_frame = fits.parts.0.own_frame;
+          once = (goes.once, fits.parts.0.once);
+          calls = fits.parts.0.calls;
+          own = own_kept m.running.caller m.running.slots Inside.slots
+              (saving_long goes.kind saved m.running.slots) ∙ fits.parts.0.own;
         },
-        others_kept app img thread m.running Inside m.cells m.cells m.queues m.values (reached rest m.values) m.below
+        others_kept app img thread m.running Inside m.cells m.cells m.queues m.queues m.values
+            (reached rest m.values) m.below
             (apart_of app img thread m.running m.below fits.stack)
             (apart_more m.running x goes.kind saved goes.cost n rest m.below free
-            (apart_of app img thread m.running m.below fits.stack)) refl (λ cell. inl refl)
+            (apart_of app img thread m.running m.below fits.stack))
+            (all_clear app img thread m.queues m.running m.below fits.once) refl (λ cell. inl refl) (λ h away. refl)
             (λ h away. spares.0 h (owns_alike app (who m.running) (handles m.running.role) Inside.held h
             ∙ away)) fits.parts.1,
       );
@@ -264,7 +284,7 @@ module _ (app : App) (img : Image) (thread : ℕ) where
       basepri = base_set app (core_of app.bits m).processor goes.kind x _ fits.basepri;
       primask = mask_set app (core_of app.bits m).processor goes.kind _ _ fits.primask;
       memory = fits.memory;
-      no_messages = fits.no_messages;
+      once = fits.once;
       numbers = fits.numbers;
     }
 

@@ -1,4 +1,4 @@
--- Every image of an accepted application of hardware tasks is good.
+-- Every image of an accepted application without a monotonic is good.
 use Rattle.std.proofs.Common.{◌≡◌, ℕ, zero, suc, ◌^◌, ◌<◌, ◌≤◌, Bool, true, false, if◌then◌else◌, List, [], ◌∷◌}
 use Rattle.std.proofs.Common.{length, take, Some, None, refl, sym, ap, subst, arith}
 use Rattle.std.specs.List.{AllByRecursion}
@@ -14,7 +14,7 @@ use Rattle.rt_trace.specs.declared.item.What.TheVariants as what
 use Rattle.rt_app.specs.Tree.{App}
 use Rattle.rt_app.specs.Accepted.{IsAccepted}
 use Rattle.rt_app.specs.Acceptance.{IsSound}
-use Rattle.rt_app.specs.Handlers.{has_no_software, has_no_monotonic}
+use Rattle.rt_app.specs.Handlers.{has_no_monotonic}
 use Rattle.rt_app.specs.Stack.{stack_bytes}
 use Rattle.rt_app.proofs.Sound.{accepted_are_sound}
 use Rattle.rt_build.specs.Image.{IsImageOf}
@@ -40,7 +40,7 @@ use Rattle.rt_sim.specs.Inside.States.{core_of, state_of}
 use Rattle.rt_sim.specs.Inside.Fits.{Fits}
 use Rattle.rt_sim.specs.Inside.Agrees.{StepsBoth}
 use Rattle.rt_sim.proofs.Access.{access_is_guarded}
-use Rattle.rt_sim.proofs.Bodies.{init_sparing, idle_sparing, task_sparing}
+use Rattle.rt_sim.proofs.Bodies.{init_sparing, idle_sparing, task_sparing, dispatcher_sparing}
 use Rattle.rt_sim.proofs.Depth.{depth_within}
 use Rattle.rt_sim.proofs.Running.{Reaches, reaches}
 use Rattle.rt_sim.proofs.Starting.{agrees_first}
@@ -121,24 +121,25 @@ front_short events zero = omega arith
 front_short [] (suc n) = omega arith
 front_short (e ∷ events) (suc n) = omega (arith, front_short events n)
 
-module _ (app : App) (img : Image) (accepted : IsAccepted app) (no_software : has_no_software app ≡ true)
+module _ (app : App) (img : Image) (accepted : IsAccepted app)
     (no_monotonic : has_no_monotonic app ≡ true) (is_image : IsImageOf app img) where
   sound : IsSound app
   sound = accepted_are_sound app accepted
 
   steps_both : (m : Moment) → Fits app img is_image.at.idle m → m.time < 2 ^ 31
       → StepsBoth app img is_image.at.idle (core_of app.bits m) (state_of m)
-  steps_both = step_both app img accepted sound no_software no_monotonic is_image
+  steps_both = step_both app img accepted sound no_monotonic is_image
       (resource_numbers app is_image.at img is_image.tables sound)
-      (idle_sparing app accepted sound no_software no_monotonic)
-      (task_sparing app accepted sound no_software no_monotonic)
+      (idle_sparing app accepted sound no_monotonic)
+      (task_sparing app accepted sound no_monotonic)
+      (dispatcher_sparing app accepted sound no_monotonic)
 
   reached_by : (events : List Event) → length events < 2 ^ 31 → AreDeclared app events
       → Reaches app img is_image.at.idle steps_both (reset img) (first app) events
   reached_by events few declared =
       reaches app img is_image.at.idle steps_both events (reset img) (first app)
-      (agrees_first app img accepted sound no_software no_monotonic is_image
-      (init_sparing app accepted sound no_software no_monotonic)) (omega (arith, few)) declared
+      (agrees_first app img accepted sound is_image (init_sparing app accepted sound no_monotonic))
+      (omega (arith, few)) declared
 
   runs_well : (events : List Event) → length events < 2 ^ 31 → AreDeclared app events → RunsWell app img events
   runs_well events few declared =
@@ -175,7 +176,7 @@ module _ (app : App) (img : Image) (accepted : IsAccepted app) (no_software : ha
       }
 
 pub images_are_good : ImagesAreGood
-images_are_good app img accepted no_software no_monotonic is_image = record {
+images_are_good app img accepted no_monotonic is_image = record {
   size = is_image.tables.stack;
-  each = runs_well app img accepted no_software no_monotonic is_image;
+  each = runs_well app img accepted no_monotonic is_image;
 }

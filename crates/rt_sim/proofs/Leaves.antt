@@ -36,10 +36,11 @@ use Rattle.rt_sim.specs.Inside.Moment.{Part, Moment, spot_of, sections_of}
 use Rattle.rt_sim.specs.Inside.States.{core_of, state_of}
 use Rattle.rt_sim.specs.Inside.Sparing.{Spares, IsSparing}
 use Rattle.rt_sim.specs.Inside.Chains.{base_inside, mask_inside, base_under, mask_under, base_by, mask_by, SavesBy}
-use Rattle.rt_sim.specs.Inside.PartFits.{who, handles, Owns, AreApart}
+use Rattle.rt_sim.specs.Inside.Calling.{handles}
+use Rattle.rt_sim.specs.Inside.PartFits.{who, Owns, AreApart}
 use Rattle.rt_sim.specs.Inside.Fits.{IsStacked, Fits}
 use Rattle.rt_sim.specs.Inside.Agrees.{StepsBoth}
-use Rattle.rt_sim.proofs.Others.{others_kept}
+use Rattle.rt_sim.proofs.Others.{all_clear, others_kept}
 use Rattle.rt_sim.proofs.Plain.{IsWorking, lefts_passed, length-passed, apart_of, stands_by, may_turn}
 use Rattle.rt_sim.proofs.Acts.{owns_alike, agrees_reached, agreed, spared, gives_item, acts_as}
 use Rattle.rt_sim.proofs.Entering.{owns_less}
@@ -119,10 +120,10 @@ module _ (app : App) (img : Image) (thread : ℕ) where
       → IsStacked app img thread (without_section p outer n rest) ps
   stack_less p [] h outer n rest is = record {
     frame = is.frame;
+    own_frame = is.own_frame;
     role = is.role;
     greatest = is.greatest;
-    saves =
-        is.saves.1;
+    saves = is.saves.1;
   }
   stack_less p (q ∷ ps) h outer n rest stack = (
     record {
@@ -170,7 +171,7 @@ module _ (app : App) (img : Image) (thread : ℕ) where
       (values : Values) (follows : ℕ → Values → Doing Values) (is : m.running.rest ≡ does (Leaves x) values follows)
       (spelled : (storage app).Spells (Guarded x) (slice_index m.cells) (m.queues (Guarded x)) (values (Guarded x)))
       (on : (vs : Values) → Agree (storage app) (who m.running) outer vs values
-      → Stands (storage app) img.code img.bodies thread (who m.running) n
+      → Stands (storage app) img.code m.running.rows thread (who m.running) n
       (record (spot_of m.cells m.queues m.running) {
         held = outer;
         lefts =
@@ -198,13 +199,13 @@ module _ (app : App) (img : Image) (thread : ℕ) where
 
     spares : Spares app (who m.running) (handles m.running.role) (sections_of outer) m.values (follows 0 m.values)
         × IsSparing app (who m.running) (handles m.running.role) (sections_of outer) (follows 0 m.values)
-    spares = (spared app img thread (with_held m x kind outer) fits works (Leaves x) values follows is).1 0 m.values
+    spares = (spared app img thread (with_held m x kind outer) fits works (Leaves x) values follows is).1 0 m.values tt
 
     counted : length (map (λ n. n - 1) m.running.lefts) ≡ suc (length outer)
     counted = length-passed m.running.lefts ∙ fits.parts.0.counted
 
-    stands : Stands (storage app) img.code img.bodies thread (who m.running) n (spot_of m.cells m.queues Outside)
-    stands = subst (λ ls. Stands (storage app) img.code img.bodies thread (who m.running) n
+    stands : Stands (storage app) img.code m.running.rows thread (who m.running) n (spot_of m.cells m.queues Outside)
+    stands = subst (λ ls. Stands (storage app) img.code m.running.rows thread (who m.running) n
         (record (spot_of m.cells m.queues Outside) { lefts = ls }))
         (ap (drop 1) (lefts_passed m.running.lefts m.running.left)
         ∙ drop_front (map (λ n. n - 1) m.running.lefts) (length outer) (m.running.left - 1) counted)
@@ -241,16 +242,18 @@ module _ (app : App) (img : Image) (thread : ℕ) where
               sparing = spares.1;
               opened = fits.parts.0.opened.1;
               kinds = fits.parts.0.kinds.1;
-              empty = fits.parts.0.empty;
-              own_frame = fits.parts.0.own_frame;
+              once = fits.parts.0.once.1;
+              calls = fits.parts.0.calls;
+              own = fits.parts.0.own;
             },
             others_kept app img thread
-                (record m.running { held = inner ∷ outer }) Outside m.cells m.cells m.queues m.values
+                (record m.running { held = inner ∷ outer }) Outside m.cells m.cells m.queues m.queues m.values
                 (reached (follows 0 m.values) m.values) m.below
                 (apart_of app img thread (record m.running { held = inner ∷ outer }) m.below fits.stack)
                 (apart_less m.running inner outer n (follows 0 m.values) m.below
-                (apart_of app img thread (record m.running { held = inner ∷ outer }) m.below fits.stack)) refl
-                (λ cell. inl refl)
+                (apart_of app img thread (record m.running { held = inner ∷ outer }) m.below fits.stack))
+                (all_clear app img thread m.queues (record m.running { held = inner ∷ outer }) m.below fits.once) refl
+                (λ cell. inl refl) (λ h away. refl)
                 (λ h away. spares.0 h (owns_alike app (who m.running) (handles m.running.role) outer h
                 ∙ away)) fits.parts.1,
           );
@@ -263,7 +266,7 @@ module _ (app : App) (img : Image) (thread : ℕ) where
           primask = mask_put app (core_of app.bits m).processor kind
               (base_inside app outer (base_under app m.below)) _ saved fits.primask;
           memory = fits.memory;
-          no_messages = fits.no_messages;
+          once = fits.once;
           numbers = fits.numbers;
         }
 

@@ -1,11 +1,12 @@
 -- Behind a plain instruction of the running job the moment fits again, whatever its rest and its values are now.
-use Rattle.std.proofs.Common.{◌≡◌, ℕ, suc, ◌-◌, ◌<◌, Bool, List, [], ◌∷◌, ◌++◌, length, map, slice_index, None, refl}
+use Rattle.std.proofs.Common.{◌≡◌, ℕ, suc, ◌+◌, ◌-◌, ◌<◌, ◌≤◌, Bool, List, [], ◌∷◌, ◌++◌, length, map, slice_index}
+use Rattle.std.proofs.Common.{Option, Some, None, refl}
 use Rattle.std.proofs.Common.{sym, ap, subst, ◌∙◌, arith}
 use Rattle.std.specs.List.{AllByRecursion}
 use Rattle.rt_lemmas.proofs.Lists.{all_front, all_behind}
 use Rattle.rt_ids.specs.Holder.{Holder}
 use Rattle.rt_ids.specs.Content.{Values}
-use Rattle.rt_ids.specs.Entry.{Entry}
+use Rattle.rt_ids.specs.Entry.{Entry, count}
 use Rattle.rt_ids.specs.Doing.{Doing}
 use Rattle.rt_app.specs.Tree.{App}
 use Rattle.rt_app.specs.Holding.{storage}
@@ -21,9 +22,11 @@ use Rattle.rt_sim.specs.Inside.Moment.{Part, Moment, spot_of, sections_of}
 use Rattle.rt_sim.specs.Inside.States.{core_of, state_of}
 use Rattle.rt_sim.specs.Inside.Sparing.{IsSparing}
 use Rattle.rt_sim.specs.Inside.Chains.{base_inside, mask_inside, SavesBy, Saves}
-use Rattle.rt_sim.specs.Inside.PartFits.{who, handles, AgreesWith, StandsBy, AreApart}
+use Rattle.rt_sim.specs.Inside.Counts.{hands, IsOnce}
+use Rattle.rt_sim.specs.Inside.Calling.{handles, own_slots}
+use Rattle.rt_sim.specs.Inside.PartFits.{who, AgreesWith, StandsBy, AreApart}
 use Rattle.rt_sim.specs.Inside.Fits.{IsStacked, Fits}
-use Rattle.rt_sim.proofs.Others.{ChangesItsOwn, ValuesItsOwn, others_kept, spelling_left}
+use Rattle.rt_sim.proofs.Others.{ChangesItsOwn, QueuesItsOwn, ValuesItsOwn, all_clear, others_kept, spelling_left}
 
 -- a job that runs code
 abbrev pub IsWorking : Role → Type 0
@@ -57,24 +60,33 @@ module _ (app : App) where
       one (Raised slot) kept saves = (omega (arith, long, saves.0), kept.0 ∙ saves.1)
       one (Masked slot) kept saves = (omega (arith, long, saves.0), kept.0 ∙ saves.1)
 
+-- the frame of a job's own code is as long while the running one is
+pub own_kept : (caller : Option (List ℕ)) (slots after : List ℕ) → length after ≡ length slots
+    → length (own_slots caller after) ≡ length (own_slots caller slots)
+own_kept None slots after long = long
+own_kept (Some frame) slots after long = refl
+
 module _ (app : App) (img : Image) (thread : ℕ) where
-  -- the running job a step further, in this frame, with this rest
-  abbrev pub advanced : Part → Processor → ℕ → Doing Values → Part
-  advanced p q n rest = record p {
+  -- the running job a step further, in this frame, with this rest, and these places in its hands
+  abbrev pub advanced : Part → Processor → ℕ → Doing Values → List Entry → Part
+  advanced p q n rest places = record p {
     rest = rest;
     left = p.left - 1;
     lefts = map (λ n. n - 1) p.lefts;
+    places = places;
     address = q.address;
     slots = q.slots;
     steps = n;
   }
 
-  abbrev pub moment_behind : Moment → Processor → ℕ → Doing Values → Values → Moment
-  moment_behind m q n rest values = record m {
-    running = advanced m.running q n rest;
+  abbrev pub moment_behind : Moment → Processor → ℕ → Doing Values → Values → List Entry → (Holder → List Entry)
+      → Moment
+  moment_behind m q n rest values places queues = record m {
+    running = advanced m.running q n rest places;
     basepri = q.basepri;
     primask = q.primask;
     cells = q.cells;
+    queues = queues;
     values = values;
   }
 
@@ -83,16 +95,17 @@ module _ (app : App) (img : Image) (thread : ℕ) where
   apart_of p [] stack = tt
   apart_of p (q ∷ ps) stack = stack.0.apart
 
-  pub stack_kept : (p : Part) (ps : List Part) (q : Processor) (n : ℕ) (rest : Doing Values)
+  pub stack_kept : (p : Part) (ps : List Part) (q : Processor) (n : ℕ) (rest : Doing Values) (places : List Entry)
       → length q.slots ≡ length p.slots → KeepsSaved p.held p.slots q.slots
-      → IsStacked app img thread p ps → IsStacked app img thread (advanced p q n rest) ps
-  stack_kept p [] q n rest long kept is = record {
+      → IsStacked app img thread p ps → IsStacked app img thread (advanced p q n rest places) ps
+  stack_kept p [] q n rest places long kept is = record {
     frame = long ∙ is.frame;
+    own_frame = is.own_frame;
     role = is.role;
     greatest = is.greatest;
     saves = saves_kept app p.slots q.slots p.held 0 _ kept long is.saves;
   }
-  stack_kept p (o ∷ ps) q n rest long kept stack = (
+  stack_kept p (o ∷ ps) q n rest places long kept stack = (
     record {
       irq = stack.0.irq;
       serves = stack.0.serves;
@@ -108,7 +121,7 @@ module _ (app : App) (img : Image) (thread : ℕ) where
   )
 
   pub stands_by : (role : Role) → IsWorking role → (cells : List ℕ) (queues : Holder → List Entry) (p : Part)
-      → Stands (storage app) img.code img.bodies thread (who p) p.steps (spot_of cells queues p)
+      → Stands (storage app) img.code p.rows thread (who p) p.steps (spot_of cells queues p)
       → StandsBy app img thread role cells queues p
   stands_by Init works cells queues p s = s
   stands_by Idle works cells queues p s = s
@@ -117,54 +130,72 @@ module _ (app : App) (img : Image) (thread : ℕ) where
 
   pub stands_of : (role : Role) → IsWorking role → (cells : List ℕ) (queues : Holder → List Entry) (p : Part)
       → StandsBy app img thread role cells queues p
-      → Stands (storage app) img.code img.bodies thread (who p) p.steps (spot_of cells queues p)
+      → Stands (storage app) img.code p.rows thread (who p) p.steps (spot_of cells queues p)
   stands_of Init works cells queues p s = s
   stands_of Idle works cells queues p s = s
   stands_of Waiting works cells queues p s = absurd works
   stands_of (Serving irq) works cells queues p s = s
 
+  -- what is left is a step less
+  pub stands_passed : (p : Part) (n : ℕ) (s : Spot)
+      → Stands (storage app) img.code p.rows thread (who p) n
+      (record s { lefts = map (λ n. n - 1) (p.lefts ++ p.left ∷ []) })
+      → Stands (storage app) img.code p.rows thread (who p) n
+      (record s { lefts = map (λ n. n - 1) p.lefts ++ (p.left - 1) ∷ [] })
+  stands_passed p n s stands = subst (λ ls. Stands (storage app) img.code p.rows thread (who p) n
+      (record s { lefts = ls })) (lefts_passed p.lefts p.left) stands
+
   module _ (m : Moment) (fits : Fits app img thread m) (works : IsWorking m.running.role) where
     spot : Spot
     spot = spot_of m.cells m.queues m.running
 
-    -- what a plain instruction leads to, where what is left and the values are these
-    pub plain_fits : (q : Processor) (n : ℕ) (rest : Doing Values) (values : Values)
+    -- what a plain instruction leads to, where what is left, the values and the places are these
+    pub plain_fits : (q : Processor) (n : ℕ) (rest : Doing Values) (values : Values) (places : List Entry)
+        (queues : Holder → List Entry)
         → GoesPlainly (spot_of m.cells m.queues m.running) (core_of app.bits m).processor q
         → ChangesItsOwn app img thread m.running m.cells q.cells
         → ValuesItsOwn app img thread m.running m.values values
-        → Stands (storage app) img.code img.bodies thread (who m.running) n
-        (record (moved (passed (spot_of m.cells m.queues m.running)) q) { rest = rest })
+        → QueuesItsOwn app img thread m.running m.queues queues
+        → IsOnce queues (λ e. count e places + hands m.below e)
+        → Stands (storage app) img.code m.running.rows thread (who m.running) n
+        (record (moved (passed (spot_of m.cells m.queues m.running)) q) {
+          rest = rest;
+          places = places;
+          queues = queues;
+        })
         → AgreesWith app img thread (who m.running) m.running.held values rest
         → IsSparing app (who m.running) (handles m.running.role) (sections_of m.running.held) rest
-        → Fits app img thread (moment_behind m q n rest values)
-    plain_fits q n rest values plain changes kept stands agrees sparing = record {
-      stack = stack_kept m.running m.below q n rest plain.frame plain.saved fits.stack;
+        → Fits app img thread (moment_behind m q n rest values places queues)
+    plain_fits q n rest values places queues plain changes kept moves once stands agrees sparing = record {
+      stack = stack_kept m.running m.below q n rest places plain.frame plain.saved fits.stack;
       parts = (
         record {
-          stands = stands_by m.running.role works q.cells m.queues (advanced m.running q n rest)
-              (subst (λ ls. Stands (storage app) img.code img.bodies thread (who m.running) n
-              (record (spot_of q.cells m.queues (advanced m.running q n rest)) { lefts = ls }))
-              (lefts_passed m.running.lefts m.running.left) stands);
+          stands = stands_by m.running.role works q.cells queues (advanced m.running q n rest places)
+              (stands_passed m.running n (spot_of q.cells queues (advanced m.running q n rest places)) stands);
           agrees = agrees;
           counted = length-passed m.running.lefts ∙ fits.parts.0.counted;
           sparing = sparing;
           opened = fits.parts.0.opened;
           kinds = fits.parts.0.kinds;
-          empty = fits.parts.0.empty;
-          own_frame = fits.parts.0.own_frame;
+          once = fits.parts.0.once;
+          calls = fits.parts.0.calls;
+          own = own_kept m.running.caller m.running.slots q.slots plain.frame ∙ fits.parts.0.own;
         },
-        others_kept app img thread m.running m.running m.cells q.cells m.queues m.values values m.below
+        others_kept app img thread m.running m.running m.cells q.cells m.queues queues m.values values m.below
             (apart_of m.running m.below fits.stack)
-            (apart_of m.running m.below fits.stack) plain.memory changes kept fits.parts.1,
+            (apart_of m.running m.below fits.stack)
+            (all_clear app img thread m.queues m.running m.below fits.once)
+            plain.memory changes moves kept fits.parts.1,
       );
       spelled = λ h held away.
-          subst (λ content. (storage app).Spells h (slice_index q.cells) (m.queues h) content) (sym (kept h away.0))
+          subst (λ content. (storage app).Spells h (slice_index q.cells) (queues h) content) (sym (kept h away.0))
+          (subst (λ entries. (storage app).Spells h (slice_index q.cells) entries (m.values h)) (sym (moves h away.0))
           (spelling_left app img thread m.running m.cells q.cells (m.queues h) (m.values h) h
-          (fits.no_messages h) changes away.0 (fits.spelled h held away));
+          (λ e. omega (arith, fits.once.one e h)) changes away.0 (fits.spelled h held away)));
       basepri = plain.basepri ∙ fits.basepri;
       primask = plain.primask ∙ fits.primask;
       memory = plain.memory ∙ fits.memory;
-      no_messages = fits.no_messages;
+      once = once;
       numbers = fits.numbers;
     }
 

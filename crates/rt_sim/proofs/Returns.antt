@@ -1,6 +1,6 @@
 -- A job ends: it gives back what it keeps, what it interrupted runs on, and Baker's machine lets it return.
 use Rattle.std.proofs.Common.{◌≡◌, ℕ, Bool, true, false, List, [], ◌∷◌, ◌++◌, slice_index, Some, None, refl, sym, ap}
-use Rattle.std.proofs.Common.{subst, ◌∙◌}
+use Rattle.std.proofs.Common.{subst, ◌∙◌, ◌+◌, ◌≤◌, arith}
 use Rattle.std.specs.List.{AllByRecursion}
 use Rattle.rt_ids.specs.Holder.{Holder, Guarded, Own}
 use Rattle.rt_ids.specs.Action.{Action, Returns}
@@ -18,9 +18,11 @@ use Rattle.rt_laws.specs.Level.{candidate}
 use Rattle.rt_sim.specs.Inside.Moment.{Part, Moment, irq_of, spot_of}
 use Rattle.rt_sim.specs.Inside.States.{core_of, state_of}
 use Rattle.rt_sim.specs.Inside.Chains.{base_inside, mask_inside, base_under, mask_under}
+use Rattle.rt_sim.specs.Inside.Counts.{hands}
 use Rattle.rt_sim.specs.Inside.PartFits.{who, Owns}
 use Rattle.rt_sim.specs.Inside.Fits.{Fits}
 use Rattle.rt_sim.specs.Inside.Agrees.{StepsBoth}
+use Rattle.rt_sim.proofs.Counting.{fewer_once}
 use Rattle.rt_sim.proofs.Plain.{IsWorking, may_turn}
 use Rattle.rt_sim.proofs.Acts.{agreed, gives_item, acts_as}
 
@@ -33,7 +35,7 @@ owned_is_kept app runner held (Own n) closed is = is
 
 module _ (app : App) (img : Image) (thread : ℕ) where
   module _ (m : Moment) (fits : Fits app img thread m) (works : IsWorking m.running.role) (action : Action)
-      (ends : Finishes (storage app) img.code img.bodies thread (who m.running) action
+      (ends : Finishes (storage app) img.code m.running.rows thread (who m.running) action
       (passed (spot_of m.cells m.queues m.running))) where
     -- behind the last action of a job what it alone owned is spelled
     pub given_back : (h : Holder) → IsHeld app h → AllByRecursion (λ o. Owns app img thread o h ≡ false) m.below
@@ -53,7 +55,7 @@ module _ (app : App) (img : Image) (thread : ℕ) where
       (works : IsWorking m.running.role)
       (none : candidate app (state_of (record m { below = q ∷ ps })) ≡ None)
       (left : HaveLeft (m.running.lefts ++ m.running.left ∷ []))
-      (ends : Finishes (storage app) img.code img.bodies thread (who m.running) Returns
+      (ends : Finishes (storage app) img.code m.running.rows thread (who m.running) Returns
       (passed (spot_of m.cells m.queues m.running))) where
     abbrev resumed : Moment
     resumed = record m { running = q; below = ps }
@@ -66,7 +68,8 @@ module _ (app : App) (img : Image) (thread : ℕ) where
       basepri = fits.basepri ∙ ap (λ held. base_inside app held (base_under app (q ∷ ps))) ends.closed;
       primask = fits.primask ∙ ap (λ held. mask_inside app held (mask_under app m.running.role (q ∷ ps))) ends.closed;
       memory = fits.memory;
-      no_messages = fits.no_messages;
+      once = fewer_once m.queues (hands (m.running ∷ q ∷ ps)) (hands (q ∷ ps))
+          (λ e. omega arith) fits.once;
       numbers = fits.numbers;
     }
 

@@ -34,7 +34,7 @@ module _ (app : App) (img : Image) (thread : ℕ)
     basepri = fits.basepri;
     primask = fits.primask;
     memory = fits.memory;
-    no_messages = fits.no_messages;
+    once = fits.once;
     numbers = fits.numbers;
   }
 

@@ -1,42 +1,39 @@
 -- What the bodies of an accepted application have left to do is sparing: they change only what they own, and enter only
 -- sections of resources that there are.
 use Rattle.std.proofs.Common.{◌≡◌, ℕ, zero, suc, ◌+◌, ◌-◌, ◌==◌, Bool, true, false, if◌then◌else◌, List, [], ◌∷◌}
-use Rattle.std.proofs.Common.{◌++◌, map, replicate, slice_set, refl, ap, ◌∙◌}
-use Rattle.std.proofs.lemmas.Bool.{eqb-true}
+use Rattle.std.proofs.Common.{◌++◌, map, replicate, slice_get, slice_set, Some, None, option_map, Contains, refl, sym}
+use Rattle.std.proofs.Common.{ap, subst, ◌∙◌}
 use Rattle.rt_lemmas.proofs.Bools.{true_and_false}
-use Rattle.rt_ids.specs.Lists.{or_zero}
+use Rattle.rt_ids.specs.Lists.{is_some_and, or_zero}
 use Rattle.rt_ids.specs.Holder.{Holder, Guarded, Own, is_same_holder}
-use Rattle.rt_ids.specs.Content.{Content, Values, Number, put_at}
-use Rattle.rt_ids.specs.Action.{Action, Enters, Leaves, Emits, Posts}
+use Rattle.rt_ids.specs.Content.{Content, Values, Message, Number, put_at}
+use Rattle.rt_ids.specs.Action.{Action, Enters, Leaves, Emits, Posts, Takes, Refuses, Readies}
 use Rattle.rt_ids.specs.Doing.{Doing, over, does}
 use Rattle.rt_ids.specs.Storage.{Runner}
 use Rattle.rt_ids.specs.declared.ids.Section.{Section}
 use Rattle.rt_ids.specs.declared.ids.Section.TheVariants as section
 use Rattle.rt_app.specs.declared.expr.Atom.{Atom}
 use Rattle.rt_app.specs.declared.expr.Atom.TheVariants as atom
-use Rattle.rt_app.specs.Tree.{Spawn, Calc, Now, Call, Statement, Bind, Assign, Branch, Repeat, Locked, Emit, Pend}
-use Rattle.rt_app.specs.Tree.{Spawns, Block, Empty, Then, Body, App}
+use Rattle.rt_app.specs.declared.costs.TheConstants.{FREE_COST, READY_COST}
+use Rattle.rt_app.specs.Tree.{Expression, Spawn, Soon, After, Calc, Now, Call, Statement, Bind, Assign, Branch}
+use Rattle.rt_app.specs.Tree.{Repeat, Locked, Emit, Pend}
+use Rattle.rt_app.specs.Tree.{Spawns, Block, Empty, Then, Body}
+use Rattle.rt_app.specs.Tree.{Task, App}
 use Rattle.rt_app.specs.Variables.{variables, variables_in}
-use Rattle.rt_app.specs.Bodies.{Member}
+use Rattle.rt_app.specs.Bodies.{Member, task_priority}
 use Rattle.rt_app.specs.Cost.{lock_cost, block_cost}
 use Rattle.rt_app.specs.BodyCost.{cost_measure}
-use Rattle.rt_app.specs.Doings.{nothing, body_doing}
+use Rattle.rt_app.specs.Doings.{body_doing}
 use Rattle.rt_app.specs.Handlers.{irq_number}
 use Rattle.rt_app.specs.Meaning.{Later, value_in, assign, turns_from, run, run_block}
-use Rattle.rt_app.specs.Sending.{Rest, act}
+use Rattle.rt_app.specs.Holding.{IsHeld}
+use Rattle.rt_app.specs.Level.{is_software, levels}
+use Rattle.rt_app.specs.Sending.{Rest, act, act_all, has_place, take_place, dispatcher_number, ready_actions}
+use Rattle.rt_app.specs.Sending.{spawn_actions}
 use Rattle.rt_app.specs.Sound.{IsReached, IsChangeable, IsSoundSpawn, IsSoundStatement, IsSoundBlock}
-use Rattle.rt_code.proofs.Mine.{one_section}
 use Rattle.rt_sim.specs.Inside.Sparing.{owns_in, held_after, IsActionOf, Spares, IsSparing, SparesAlways}
-
--- the sections of locks of these resources
-abbrev pub sections_locked : List ℕ → List Section
-sections_locked locked = map section.Res locked
-
-same_holder : (g h : Holder) → is_same_holder g h ≡ true → g ≡ h
-same_holder (Guarded a) (Guarded b) is = ap (λ x. Guarded x) (one_section a b is)
-same_holder (Guarded a) (Own n) is = absurd (cc (is))
-same_holder (Own n) (Guarded b) is = absurd (cc (is))
-same_holder (Own n) (Own k) is = ap (λ j. Own j) (eqb-true n k is)
+use Rattle.rt_sim.proofs.Counting.{same_holder}
+use Rattle.rt_sim.proofs.Owned.{sections_locked}
 
 module _ (app : App) (who : Runner) (handles : Bool) (m : Member)
     (owns_resource : (locked fixed : List ℕ) (r : ℕ) → IsReached app m locked (atom.Shared r)
@@ -44,7 +41,9 @@ module _ (app : App) (who : Runner) (handles : Bool) (m : Member)
     → owns_in app who handles (sections_locked locked) (Guarded (section.Res r)) ≡ true)
     (owns_local : (locked : List ℕ) (n : ℕ) → IsReached app m locked (atom.Local n)
     → owns_in app who handles (sections_locked locked) (Own n) ≡ true)
-    (no_spawn : (locked : List ℕ) (s : Spawn) → IsSoundSpawn app m locked s → ⊥) where
+    (no_monotonic : app.mono ≡ None)
+    (level_is : (n : ℕ) (t : Task) → slice_get app.tasks n ≡ Some t → is_software t ≡ true
+    → Contains (levels app) t.priority) where
   abbrev Sparing : List ℕ → Rest → Type 0
   Sparing locked rest = SparesAlways app who handles (sections_locked locked) rest
 
@@ -55,7 +54,7 @@ module _ (app : App) (who : Runner) (handles : Bool) (m : Member)
   pub act_sparing : (held : List Section) (action : Action) (rest : Rest) → IsActionOf app who handles action
       → SparesAlways app who handles (held_after app who handles held action) rest
       → SparesAlways app who handles held (act action rest)
-  act_sparing held action rest is later vs = (λ h away. refl, (is, λ n ws. later ws))
+  act_sparing held action rest is later vs = (λ h away. refl, (is, λ n ws entered. later ws))
 
   -- what is put at something owned is sparing, where what follows is
   put_sparing : (held : List Section) (g : Holder) (content : Content) (rest : Doing Values) (vs : Values)
@@ -97,14 +96,59 @@ module _ (app : App) (who : Runner) (handles : Bool) (m : Member)
         after.1,
       )
 
+  -- a spawn takes a place, or finds none, and makes the message ready
+  take_sparing : (held : List Section) (n : ℕ) (granted refused : Rest) → IsHeld app (Guarded (section.Free n))
+      → SparesAlways app who handles held granted → SparesAlways app who handles held refused
+      → SparesAlways app who handles held (take_place app n granted refused)
+  take_sparing held n granted refused there gets none =
+      act_sparing held (Enters (section.Free n) FREE_COST) _ there
+      (λ vs. elim (has_place app n vs) as (λ b. Spares app who handles (section.Free n ∷ held) vs
+      (if b then act_all (Takes n ∷ Leaves (section.Free n) ∷ []) granted vs
+      else act_all (Refuses n ∷ Leaves (section.Free n) ∷ []) refused vs)
+      × IsSparing app who handles (section.Free n ∷ held)
+      (if b then act_all (Takes n ∷ Leaves (section.Free n) ∷ []) granted vs
+      else act_all (Refuses n ∷ Leaves (section.Free n) ∷ []) refused vs)) [
+        | true ↦ act_sparing (section.Free n ∷ held) (Takes n) (act (Leaves (section.Free n)) granted) tt
+            (act_sparing (section.Free n ∷ held) (Leaves (section.Free n)) granted tt gets) vs
+        | false ↦ act_sparing (section.Free n ∷ held) (Refuses n) (act (Leaves (section.Free n)) refused) tt
+            (act_sparing (section.Free n ∷ held) (Leaves (section.Free n)) refused tt none) vs
+      ])
+
+  ready_sparing : (held : List Section) (p : ℕ) (message : Message) (rest : Rest)
+      → IsHeld app (Guarded (section.Ready p)) → SparesAlways app who handles held rest
+      → SparesAlways app who handles held (act_all (ready_actions app p message) rest)
+  ready_sparing held p message rest there fine =
+      let left : Rest = act (Leaves (section.Ready p)) rest in
+      let posted : Rest = act (Posts (dispatcher_number app p)) left in
+      act_sparing held (Enters (section.Ready p) READY_COST) (act (Readies p message) posted) there
+      (act_sparing (section.Ready p ∷ held) (Readies p message) posted tt
+      (act_sparing (section.Ready p ∷ held) (Posts (dispatcher_number app p)) left tt
+      (act_sparing (section.Ready p ∷ held) (Leaves (section.Ready p)) rest tt fine)))
+
+  spawn_sparing : (held : List Section) (locked : List ℕ) (value : Expression → ℕ) (s : Spawn) (rest : ℕ → Rest)
+      → IsSoundSpawn app m locked s → ((granted : ℕ) → SparesAlways app who handles held (rest granted))
+      → SparesAlways app who handles held (spawn_actions app value s rest)
+  spawn_sparing held locked value (Soon n args at) rest sound fine =
+      let t : Task = sound.0 in
+      let level : task_priority app n ≡ t.priority =
+      ap (λ o. or_zero (option_map (λ (u : Task). u.priority) o)) sound.1.is_there in
+      take_sparing held n _ (rest 0) (ap (is_some_and is_software) sound.1.is_there ∙ sound.1.software)
+      (ready_sparing held (task_priority app n) (record { task = n; args = map value args }) (rest 1)
+      (subst (λ p. Contains (levels app) p) (sym level) (level_is n t sound.1.is_there sound.1.software)) (fine 1))
+      (fine 0)
+  spawn_sparing held locked value (After word delay n args at) rest sound fine =
+      absurd (let mono = sound.4 in cc (mono.1, no_monotonic))
+
   mutual
     statement_sparing : (s : Statement) (n : ℕ) (locked fixed : List ℕ) (later : Later)
         → IsSoundStatement app m n locked fixed s → SparingLater locked later → SparingLater locked (run app s later)
     statement_sparing (Bind x (Calc e)) n locked fixed later sound fine =
         λ vars vs. fine (slice_set vars x (value_in vars vs e)) vs
     statement_sparing (Bind x (Now at)) n locked fixed later sound fine =
-        λ vars vs. (λ h away. refl, (tt, λ time ws. fine (slice_set vars x time) ws))
-    statement_sparing (Bind x (Call s)) n locked fixed later sound fine = absurd (no_spawn locked s sound.1)
+        λ vars vs. (λ h away. refl, (tt, λ time ws entered. fine (slice_set vars x time) ws))
+    statement_sparing (Bind x (Call s)) n locked fixed later sound fine = λ vars vs.
+        spawn_sparing (sections_locked locked) locked (value_in vars vs) s (λ granted. later (slice_set vars x granted))
+        sound.1 (λ granted. fine (slice_set vars x granted)) vs
     statement_sparing (Assign x e at) n locked fixed later sound fine =
         λ vars vs. assign_sparing locked fixed x (value_in vars vs e) later sound.0 sound.1 fine vars vs
     statement_sparing (Branch e first second) n locked fixed later sound fine = λ vars vs.
@@ -128,7 +172,9 @@ module _ (app : App) (who : Runner) (handles : Bool) (m : Member)
         λ vars vs. act_sparing (sections_locked locked) (Emits (value_in vars vs e)) (later vars) tt (fine vars) vs
     statement_sparing (Pend i) n locked fixed later sound fine =
         λ vars. act_sparing (sections_locked locked) (Posts (or_zero (irq_number app i))) (later vars) tt (fine vars)
-    statement_sparing (Spawns s) n locked fixed later sound fine = absurd (no_spawn locked s sound)
+    statement_sparing (Spawns s) n locked fixed later sound fine = λ vars vs.
+        spawn_sparing (sections_locked locked) locked (value_in vars vs) s (λ granted. later vars) sound
+        (λ granted. fine vars) vs
 
     pub block_sparing : (b : Block) (n : ℕ) (locked fixed : List ℕ) (later : Later)
         → IsSoundBlock app m n locked fixed b → SparingLater locked later → SparingLater locked (run_block app b later)
@@ -137,11 +183,9 @@ module _ (app : App) (who : Runner) (handles : Bool) (m : Member)
         statement_sparing s n locked fixed (run_block app rest later) sound.0
         (block_sparing rest (n + variables_in s) locked fixed later sound.1 fine)
 
-  -- a whole body with a last action
-  pub body_sparing : (b : Body) (args : List ℕ) (last : Action) → IsSoundBlock app m m.args [] [] b.block
-      → IsActionOf app who handles last
-      → held_after app who handles [] last ≡ []
-      → SparesAlways app who handles [] (body_doing app b args (act last nothing))
-  body_sparing b args last sound is closed =
-      block_sparing b.block m.args [] [] (λ vars. act last nothing) sound
-      (λ vars. act_sparing [] last nothing is (λ vs. (λ h away. refl, tt))) (args ++ replicate (variables b.block) 0)
+  -- a whole body, where what follows is sparing
+  pub body_sparing : (b : Body) (args : List ℕ) (rest : Rest) → IsSoundBlock app m m.args [] [] b.block
+      → SparesAlways app who handles [] rest
+      → SparesAlways app who handles [] (body_doing app b args rest)
+  body_sparing b args rest sound fine =
+      block_sparing b.block m.args [] [] (λ vars. rest) sound (λ vars. fine) (args ++ replicate (variables b.block) 0)

@@ -1,16 +1,15 @@
 -- Both machines begin alike: the reset state of an image is the first state of Baker's machine, in a moment that fits.
-use Rattle.std.proofs.Common.{◌≡◌, ℕ, ◌^◌, ◌&&◌, ◌||◌, inl, nat_lt, Bool, true, false, is_none, List, [], ◌∷◌, length}
-use Rattle.std.proofs.Common.{map, replicate, slice_get, slice_index, Option, Some, None, IsSome, Contains, refl, sym}
+use Rattle.std.proofs.Common.{◌≡◌, ℕ, ◌^◌, ◌&&◌, ◌||◌, inl, nat_lt, Bool, true, false, List, [], ◌∷◌, length}
+use Rattle.std.proofs.Common.{map, replicate, slice_index, None, refl, sym}
 use Rattle.std.proofs.Common.{ap, subst, ◌∙◌}
 use Rattle.std.proofs.lemmas.Bool.{ltb-true}
 use Rattle.std.proofs.lemmas.List.{length-replicate, length-map}
-use Rattle.rt_lemmas.proofs.Bools.{and_right, true_and_false}
-use Rattle.rt_lemmas.proofs.Membership.{any_one, contains_none}
+use Rattle.rt_lemmas.proofs.Bools.{and_right}
+use Rattle.rt_lemmas.proofs.Membership.{any_one}
 use Rattle.rt_ids.specs.Holder.{Holder, Guarded, Own}
 use Rattle.rt_ids.specs.Storage.{Starting}
 use Rattle.rt_ids.specs.declared.ids.Section.TheVariants as section
 use Rattle.rt_ids.specs.declared.limits.TheConstants.{IRQ_NUMBERS}
-use Rattle.rt_app.specs.declared.app.Mono.{Mono}
 use Rattle.rt_app.specs.Tree.{App}
 use Rattle.rt_app.specs.Accepted.{IsAccepted}
 use Rattle.rt_app.specs.Acceptance.{IsSound}
@@ -18,13 +17,10 @@ use Rattle.rt_app.specs.Bodies.{members}
 use Rattle.rt_app.specs.BodyCost.{cost_measure, cost_of}
 use Rattle.rt_app.specs.Declarations.{owns}
 use Rattle.rt_app.specs.Doings.{init_doing}
-use Rattle.rt_app.specs.Handlers.{has_no_software, has_no_monotonic}
 use Rattle.rt_app.specs.Holding.{storage, Spells, is_kept, is_constant, IsHeld}
 use Rattle.rt_app.specs.Layout.{Cell, memory, row_of}
-use Rattle.rt_app.specs.Level.{is_software}
 use Rattle.rt_app.specs.Statements.{is_init}
-use Rattle.rt_app.proofs.LaidFirst.{spelled_first}
-use Rattle.rt_app.proofs.Unbroken.{is_one_that}
+use Rattle.rt_app.proofs.LaidFirst.{first_cells, first_queues, first_contents, spelled_first}
 use Rattle.rt_build.specs.Image.{IsImageOf}
 use Rattle.rt_code.specs.Image.{Image}
 use Rattle.rt_code.specs.Standing.{Stands}
@@ -35,11 +31,11 @@ use Rattle.rt_sim.specs.Inside.Sparing.{SparesAlways}
 use Rattle.rt_sim.specs.Inside.Fits.{Fits}
 use Rattle.rt_sim.specs.Inside.Agrees.{Agrees}
 use Rattle.rt_sim.proofs.Acts.{owns_alike, agrees_reached}
-use Rattle.rt_sim.proofs.Choosing.{not_software, no_levels}
+use Rattle.rt_sim.proofs.BodyRows.{no_rows, calls_none}
+use Rattle.rt_sim.proofs.FirstPlaces.{first_once}
 use Rattle.rt_sim.proofs.Keepers.{local_held}
 
 module _ (app : App) (img : Image) (accepted : IsAccepted app) (sound : IsSound app)
-    (no_software : has_no_software app ≡ true) (no_monotonic : has_no_monotonic app ≡ true)
     (is_image : IsImageOf app img) (sparing : SparesAlways app Starting false [] (init_doing app)) where
   abbrev cells_first : List ℕ
   cells_first = map (λ cell. cell.first) img.cells
@@ -57,6 +53,8 @@ module _ (app : App) (img : Image) (accepted : IsAccepted app) (sound : IsSound 
     slots = replicate img.thread_words 0;
     caller = None;
     steps = cost_of (cost_measure app) app.init;
+    rows = no_rows app img;
+    own = img.thread_words;
   }
 
   abbrev first_moment : Moment
@@ -68,7 +66,7 @@ module _ (app : App) (img : Image) (accepted : IsAccepted app) (sound : IsSound 
     basepri = 0;
     primask = true;
     cells = cells_first;
-    queues = λ h. [];
+    queues = first_queues app;
     values = reached (init_doing app (first_values app)) (first_values app);
   }
 
@@ -79,27 +77,23 @@ module _ (app : App) (img : Image) (accepted : IsAccepted app) (sound : IsSound 
       firsts [] = refl
       firsts (c ∷ cells) = ap (λ ns. c.first ∷ ns) (firsts cells)
 
+  first_contents_are : (h : Holder) → first_contents app h ≡ first_values app h
+  first_contents_are (Guarded (section.Res r)) = refl
+  first_contents_are (Guarded (section.Free n)) = refl
+  first_contents_are (Guarded (section.Ready p)) = refl
+  first_contents_are (Guarded section.Timer) = refl
+  first_contents_are (Own n) = refl
+
   -- after reset each holder's cells spell what it first holds
-  all_first : (h : Holder) → IsHeld app h → (storage app).Spells h (slice_index cells_first) [] (first_values app h)
+  all_first : (h : Holder) → IsHeld app h
+      → (storage app).Spells h (slice_index cells_first) (first_queues app h) (first_values app h)
   unfolding storage
-  all_first (Guarded (section.Res r)) has =
-      subst (λ cells. IsHeld app (Guarded (section.Res r))
-      × Spells app (slice_index cells) (Guarded (section.Res r)) [] (first_values app (Guarded (section.Res r))))
-      (sym cells_are)
-      (has, spelled_first app (Guarded (section.Res r)) has)
-  all_first (Guarded (section.Free n)) has =
-      absurd (let one = is_one_that is_software (slice_get app.tasks n) has in
-      true_and_false _ one.2 (not_software app no_software no_monotonic n one.0 one.1))
-  all_first (Guarded (section.Ready p)) has =
-      absurd (contains_none p (subst (λ ps. Contains ps p) (no_levels app no_software no_monotonic) has))
-  all_first (Guarded section.Timer) has = absurd (by app.mono no_monotonic has)
-    where
-      by : (o : Option Mono) → is_none o ≡ true → IsSome o → ⊥
-      by None is some = cc (some)
-      by (Some mono) is some = cc (is)
-  all_first (Own n) has =
-      subst (λ cells. IsHeld app (Own n) × Spells app (slice_index cells) (Own n) [] (first_values app (Own n)))
-      (sym cells_are) (has, spelled_first app (Own n) has)
+  all_first h has = (
+    has,
+    subst (λ cells. Spells app (slice_index cells) h (first_queues app h) (first_values app h)) (sym cells_are)
+        (subst (λ content. Spells app (first_cells app) h (first_queues app h) content) (first_contents_are h)
+        (spelled_first app h has)),
+  )
 
   -- what `init` keeps is there
   kept_by_init : (h : Holder) → (is_kept app Starting h || is_constant app Starting h) ≡ true → IsHeld app h
@@ -119,10 +113,12 @@ module _ (app : App) (img : Image) (accepted : IsAccepted app) (sound : IsSound 
       plain true is = refl
       plain false is = is
 
-  stands : Stands (storage app) img.code img.bodies is_image.at.idle Starting (cost_of (cost_measure app) app.init)
-      (record (spot_of cells_first (λ h. []) first_part) { rest = init_doing app (first_values app) })
+  stands : Stands (storage app) img.code (no_rows app img) is_image.at.idle Starting
+      (cost_of (cost_measure app) app.init)
+      (record (spot_of cells_first (first_queues app) first_part) { rest = init_doing app (first_values app) })
   unfolding storage
-  stands = is_image.code.init (replicate img.thread_words 0) cells_first (λ h. []) (first_values app)
+  stands = is_image.code.init (no_rows app img) (replicate img.thread_words 0) cells_first (first_queues app)
+      (first_values app)
       (length-replicate img.thread_words 0 ∙ is_image.tables.thread)
       (ap length cells_are ∙ length-map (memory app) (λ cell. cell.first))
       (λ h reads. all_first h (kept_by_init h reads))
@@ -131,6 +127,7 @@ module _ (app : App) (img : Image) (accepted : IsAccepted app) (sound : IsSound 
   fits_first = record {
     stack = record {
       frame = length-replicate img.thread_words 0 ∙ is_image.tables.thread;
+      own_frame = refl;
       role = inl refl;
       greatest = λ e. refl;
       saves = tt;
@@ -144,18 +141,19 @@ module _ (app : App) (img : Image) (accepted : IsAccepted app) (sound : IsSound 
         sparing = (sparing (first_values app)).1;
         opened = tt;
         kinds = tt;
-        empty = refl;
-        own_frame = refl;
+        once = tt;
+        calls = calls_none app img Init (2 ^ app.bits) img.thread_words;
+        own = length-replicate img.thread_words 0;
       },
       tt,
     );
     spelled = λ h held away.
-        subst (λ content. (storage app).Spells h (slice_index cells_first) [] content)
+        subst (λ content. (storage app).Spells h (slice_index cells_first) (first_queues app h) content)
         (sym ((sparing (first_values app)).0 h (owns_alike app Starting false [] h ∙ away.0))) (all_first h held);
     basepri = refl;
     primask = refl;
     memory = ap length cells_are ∙ length-map (memory app) (λ cell. cell.first);
-    no_messages = λ h. refl;
+    once = first_once app;
     numbers = length-replicate IRQ_NUMBERS false;
   }
 

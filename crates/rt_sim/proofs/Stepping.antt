@@ -1,27 +1,28 @@
 -- A core step is a step of Baker's machine, from every moment that fits: an interrupt is taken, the thread waits, or
 -- the
 -- running job goes on.
-use Rattle.std.proofs.Common.{◌≡◌, ℕ, suc, ◌-◌, ◌+◌, ◌*◌, ◌/◌, ◌^◌, ◌<◌, ◌≤◌, nat_le, true, false, if◌then◌else◌}
-use Rattle.std.proofs.Common.{List, [], ◌∷◌, ◌++◌, length, map, replicate, slice_get, Option, Some, None, option_map}
-use Rattle.std.proofs.Common.{is_none, refl, sym, ap, subst, ◌∙◌, arith}
+use Rattle.std.proofs.Common.{◌≡◌, ℕ, ◌-◌, ◌+◌, ◌*◌, ◌^◌, ◌<◌, ◌≤◌, true, false, if◌then◌else◌, List, [], ◌∷◌}
+use Rattle.std.proofs.Common.{length, map, replicate, slice_get, Option, Some, None, option_map, is_none, IsSome}
+use Rattle.std.proofs.Common.{Contains}
+use Rattle.std.proofs.Common.{refl, sym, ap, subst, ◌∙◌, arith}
 use Rattle.std.specs.List.{AllByRecursion}
-use Rattle.std.proofs.lemmas.Bool.{le-leb}
 use Rattle.std.proofs.lemmas.List.{length-replicate}
 use Rattle.rt_lemmas.proofs.Lists.{find_has}
 use Rattle.rt_ids.specs.Lists.{or_zero, then_from}
 use Rattle.rt_ids.specs.Action.{Returns}
+use Rattle.rt_ids.specs.Holder.{Guarded}
 use Rattle.rt_ids.specs.Storage.{AtLevel}
+use Rattle.rt_ids.specs.declared.ids.Section.TheVariants as section
 use Rattle.rt_app.specs.declared.app.Mono.{Mono}
 use Rattle.rt_app.specs.Tree.{Task, App}
-use Rattle.rt_app.specs.Frame.{frame_words}
 use Rattle.rt_app.specs.Accepted.{IsAccepted}
 use Rattle.rt_app.specs.Acceptance.{IsSound}
-use Rattle.rt_app.specs.Doings.{nothing, idle_doing, task_doing}
-use Rattle.rt_app.specs.Handlers.{Service, Runs, services, irq_number, has_no_software, has_no_monotonic}
-use Rattle.rt_app.specs.Holding.{storage}
-use Rattle.rt_app.specs.Level.{is_software}
+use Rattle.rt_app.specs.Doings.{nothing, idle_doing, task_doing, dispatcher_doing}
+use Rattle.rt_app.specs.Handlers.{Service, services, irq_number, has_no_monotonic}
+use Rattle.rt_app.specs.Holding.{storage, IsHeld}
+use Rattle.rt_app.specs.Level.{is_software, levels}
 use Rattle.rt_app.specs.Sending.{act}
-use Rattle.rt_build.specs.Image.{Entries, IsImageOf, handler_row, handler_words, body_rows}
+use Rattle.rt_build.specs.Image.{Entries, IsImageOf, handler_row, handler_words}
 use Rattle.rt_code.specs.Cells.{resource_cell}
 use Rattle.rt_code.specs.Image.{Image, entry_words}
 use Rattle.rt_code.specs.declared.image.IrqRow.{IrqRow}
@@ -46,9 +47,10 @@ use Rattle.rt_sim.specs.Inside.Fits.{IsStacked, Fits}
 use Rattle.rt_sim.specs.Inside.Agrees.{StepsBoth}
 use Rattle.rt_sim.proofs.Plain.{IsWorking, length-passed}
 use Rattle.rt_sim.proofs.Levels.{execution_is}
-use Rattle.rt_sim.proofs.Choosing.{picks, IfServed, IsOfTask, all_of_tasks, priority_top, not_software}
-use Rattle.rt_sim.proofs.Takes.{fits_taken, takes}
-use Rattle.rt_sim.proofs.Depth.{depth_within, used_is}
+use Rattle.rt_sim.proofs.Choosing.{picks, IfServed, priority_top}
+use Rattle.rt_sim.proofs.Takes.{IsHandler, fits_taken, takes}
+use Rattle.rt_sim.proofs.Handling.{IsHandled, all_handled}
+use Rattle.rt_sim.proofs.Depth.{depth_within, used_is, room_of}
 use Rattle.rt_sim.proofs.Keepers.{keepers_apart, kept_is_held}
 use Rattle.rt_sim.proofs.Working.{working}
 
@@ -65,7 +67,13 @@ module _ (app : App) (img : Image) (thread : ℕ) where
 
   stack_waited : (p : Part) (ps : List Part) → IsStacked app img thread p ps
       → IsStacked app img thread (record p { left = p.left - 1; lefts = map (λ n. n - 1) p.lefts }) ps
-  stack_waited p [] is = record { frame = is.frame; role = is.role; greatest = is.greatest; saves = is.saves }
+  stack_waited p [] is = record {
+    frame = is.frame;
+    own_frame = is.own_frame;
+    role = is.role;
+    greatest = is.greatest;
+    saves = is.saves;
+  }
   stack_waited p (q ∷ ps) stack = (
     record {
       irq = stack.0.irq;
@@ -100,8 +108,9 @@ module _ (app : App) (img : Image) (thread : ℕ) where
         sparing = fits.parts.0.sparing;
         opened = fits.parts.0.opened;
         kinds = fits.parts.0.kinds;
-        empty = fits.parts.0.empty;
-        own_frame = fits.parts.0.own_frame;
+        once = fits.parts.0.once;
+        calls = fits.parts.0.calls;
+        own = fits.parts.0.own;
       },
       fits.parts.1,
     );
@@ -109,7 +118,7 @@ module _ (app : App) (img : Image) (thread : ℕ) where
     basepri = fits.basepri;
     primask = fits.primask;
     memory = fits.memory;
-    no_messages = fits.no_messages;
+    once = fits.once;
     numbers = fits.numbers;
   }
 
@@ -134,16 +143,14 @@ module _ (app : App) (img : Image) (thread : ℕ) where
         agrees = record { moment = waited m; core = refl; state = refl; fits = fits_waited m fits role waits };
       }
 
--- a region of so many bytes has room for so many words
-room_of : (used more bytes : ℕ) → 4 * (used + more) ≤ bytes → nat_le (used + more) (bytes / 4) ≡ true
-room_of used more bytes within = le-leb (used + more) (bytes / 4) (omega arith)
-
 module _ (app : App) (img : Image) (accepted : IsAccepted app) (sound : IsSound app)
-    (no_software : has_no_software app ≡ true) (no_monotonic : has_no_monotonic app ≡ true)
+    (no_monotonic : has_no_monotonic app ≡ true)
     (is_image : IsImageOf app img) (named : (r : ℕ) → r < length app.shared → resource_cell img r ≡ Some r)
     (sparing_idle : SparesAlways app (AtLevel 0) false [] (idle_doing app))
     (sparing_task : (k : ℕ) (t : Task) → slice_get app.tasks k ≡ Some t → is_software t ≡ false
-    → SparesAlways app (AtLevel t.priority) true [] (task_doing app k [] (act Returns nothing))) where
+    → SparesAlways app (AtLevel t.priority) true [] (task_doing app k [] (act Returns nothing)))
+    (sparing_level : (p : ℕ) → Contains (levels app) p
+    → SparesAlways app (AtLevel p) true [] (dispatcher_doing app p)) where
   abbrev at : Entries
   at = is_image.at
 
@@ -153,84 +160,63 @@ module _ (app : App) (img : Image) (accepted : IsAccepted app) (sound : IsSound 
   many : app.bits ≤ 7
   many = accepted.limits.most_bits
 
-  no_bodies : img.bodies ≡ []
-  no_bodies = is_image.tables.bodies ∙ none 0 app.tasks
-      (λ k t there. not_software app no_software no_monotonic k t there)
+  no_mono : app.mono ≡ None
+  no_mono = by app.mono no_monotonic
     where
-      none : (n : ℕ) (ts : List Task) → ((k : ℕ) (t : Task) → slice_get ts k ≡ Some t → is_software t ≡ false)
-          → body_rows app is_image.at n ts ≡ []
-      none n [] hw = refl
-      none n (t ∷ ts) hw =
-          ap (λ b. (if b then record {
-            task = n;
-            entry = is_image.at.task n;
-            frame = frame_words t.args t.body;
-            args =
-                t.args;
-          } ∷ [] else []) ++ body_rows app is_image.at (n + 1) ts) (hw 0 t refl)
-          ∙ none (n + 1) ts (λ k u there. hw (suc k) u there)
+      by : (o : Option Mono) → is_none o ≡ true → o ≡ None
+      by None is = refl
+      by (Some mono) is = absurd (cc (is))
 
   no_timer : (storage app).timer ≡ None
   unfolding storage
-  no_timer = by app.mono no_monotonic
+  no_timer = ap (λ o. then_from o (λ mono. irq_number app mono.irq)) no_mono
+
+  no_timer_queue : IsHeld app (Guarded section.Timer) → ⊥
+  no_timer_queue has = by app.mono no_mono has
     where
-      by : (o : Option Mono) → is_none o ≡ true → then_from o (λ mono. irq_number app mono.irq) ≡ None
-      by None is = refl
-      by (Some mono) is = absurd (cc (is))
+      by : (o : Option Mono) → o ≡ None → IsSome o → ⊥
+      by None is some = cc (some)
+      by (Some mono) is some = cc (is)
 
   -- a row that is picked is taken
   taking : (m : Moment) → Fits app img at.idle m → (r : IrqRow) → pick img (core_of app.bits m) ≡ Some r
       → candidate app (state_of m) ≡ Some r.number
       → (o : Option Service) → service_at app r.number ≡ o → r.handler ≡ option_map (handler_row app at) o
       → StepsBoth app img at.idle (core_of app.bits m) (state_of m)
-  taking m fits r picked next None serves has =
+  taking m fits r picked next None serves served =
       absurd (let above = starts_above app (state_of m) r.number next in
       let none : priority_of app r.number ≡ 0 =
       ap (λ (o : Option Service). or_zero (option_map (λ s. s.level) o)) serves in omega (arith, above, none))
-  taking m fits r picked next (Some v) serves has =
-      let of_task : IsOfTask app no_software no_monotonic v =
-      find_has _ _ (services app) v (all_of_tasks app no_software no_monotonic) serves in
-      taken v of_task serves has
-    where
-      taken : (v : Service) (of_task : IsOfTask app no_software no_monotonic v) → service_at app r.number ≡ Some v
-          → r.handler ≡ Some (handler_row app at v)
-          → StepsBoth app img at.idle (core_of app.bits m) (state_of m)
-      taken v of_task serves has =
-          let k : ℕ = of_task.task in
-          let t : Task = of_task.body in
-          let s : Service = record { irq = v.irq; handler = Runs k; level = t.priority } in
-          let there : service_at app r.number ≡ Some s = serves ∙ ap (λ x. Some x) of_task.is in
-          let level_is : priority_of app r.number ≡ t.priority =
-          ap (λ (o : Option Service). or_zero (option_map (λ s. s.level) o)) there in
-          let most : t.priority ≤ 2 ^ app.bits = subst (λ p. p ≤ 2 ^ app.bits) level_is
-          (priority_top app at few many sound r.number) in
-          let above : level app (jobs_of m.running m.below) < t.priority =
-          subst (λ p. level app (jobs_of m.running m.below) < p) level_is
-          (starts_above app (state_of m) r.number next) in
-          let h : row.Handler = handler_row app at s in
-          let handler : r.handler ≡ Some h = has ∙ ap (λ x. Some (handler_row app at x)) of_task.is in
-          let c : Core = core_of app.bits m in
-          let fit = fits_taken app img at.idle at few many (keepers_apart app accepted sound)
-          (kept_is_held app accepted sound) r.number v.irq k t of_task.there of_task.hardware_task there most
-          (is_image.code.tasks k t of_task.there of_task.hardware_task)
-          (sparing_task k t of_task.there of_task.hardware_task) m fits above in
-          let deep = depth_within app img at.idle many _ fit in
-          let words = used_is app img at.idle _ fit in
-          let before = used_is app img at.idle m fits in
-          let zeros : List ℕ = replicate (handler_words app (Runs k)) 0 in
-          let long : length zeros ≡ handler_words app (Runs k) = length-replicate (handler_words app (Runs k)) 0 in
-          let fitting : 4 * (used img c + (entry_words img + h.frame)) ≤ img.stack_bytes =
-          omega (arith, deep, words, before, long, is_image.tables.stack) in
-          let room : has_room img c (entry_words img + h.frame) ≡ true =
-          room_of (used img c) (entry_words img + h.frame) img.stack_bytes fitting in
-          takes app img at.idle at few many (keepers_apart app accepted sound)
-          (kept_is_held app accepted sound) r.number v.irq k t of_task.there of_task.hardware_task there most
-          (is_image.code.tasks k t of_task.there of_task.hardware_task)
-          (sparing_task k t of_task.there of_task.hardware_task) m fits above next
-          (steps_by_cause.entry img c r refl picked
-          ∙ ap (λ o. settle (enter img c r.number o)) handler
-          ∙ ap (λ b. settle (if b then Done (entered c r.number h)
-          (Some (what.Take r.number (depth img (entered c r.number h)))) else Trapped c trap.Stack)) room)
+  taking m fits r picked next (Some v) serves served =
+      let level_is : priority_of app r.number ≡ v.level =
+      ap (λ (o : Option Service). or_zero (option_map (λ s. s.level) o)) serves in
+      let most : v.level ≤ 2 ^ app.bits = subst (λ p. p ≤ 2 ^ app.bits) level_is
+      (priority_top app at few many sound r.number) in
+      let has : IsHandler app img at.idle at v =
+      find_has (IsHandled app img sound no_monotonic is_image sparing_task sparing_level) _ (services app) v
+      (all_handled app img sound no_monotonic is_image sparing_task sparing_level) serves most in
+      let above : level app (jobs_of m.running m.below) < v.level =
+      subst (λ p. level app (jobs_of m.running m.below) < p) level_is
+      (starts_above app (state_of m) r.number next) in
+      let h : row.Handler = handler_row app at v in
+      let c : Core = core_of app.bits m in
+      let fit = fits_taken app img at.idle at few many (keepers_apart app accepted sound)
+      (kept_is_held app accepted sound) r.number v serves has m fits above in
+      let deep = depth_within app img at.idle many _ fit in
+      let words = used_is app img at.idle _ fit in
+      let before = used_is app img at.idle m fits in
+      let zeros : List ℕ = replicate (handler_words app v.handler) 0 in
+      let long : length zeros ≡ handler_words app v.handler = length-replicate (handler_words app v.handler) 0 in
+      let fitting : 4 * (used img c + (entry_words img + h.frame)) ≤ img.stack_bytes =
+      omega (arith, deep, words, before, long, is_image.tables.stack) in
+      let room : has_room img c (entry_words img + h.frame) ≡ true =
+      room_of (used img c) (entry_words img + h.frame) img.stack_bytes fitting in
+      takes app img at.idle at few many (keepers_apart app accepted sound)
+      (kept_is_held app accepted sound) r.number v serves has m fits above next
+      (steps_by_cause.entry img c r refl picked
+      ∙ ap (λ o. settle (enter img c r.number o)) served
+      ∙ ap (λ b. settle (if b then Done (entered c r.number h)
+      (Some (what.Take r.number (depth img (entered c r.number h)))) else Trapped c trap.Stack)) room)
 
   -- every core step
   pub step_both : (m : Moment) → Fits app img at.idle m → m.time < 2 ^ 31
@@ -243,7 +229,7 @@ module _ (app : App) (img : Image) (accepted : IsAccepted app) (sound : IsSound 
       on_with : IsWorking m.running.role → pick img (core_of app.bits m) ≡ None → candidate app (state_of m) ≡ None
           → StepsBoth app img at.idle (core_of app.bits m) (state_of m)
       on_with works picked none =
-          working app img at.idle no_bodies no_timer named is_image.code.idle
+          working app img at.idle many is_image.tables.stack no_timer no_timer_queue named is_image.code.idle
           (kept_is_held app accepted sound) sparing_idle m fits works picked none early
 
       goes_on : (role : Role) → m.running.role ≡ role → pick img (core_of app.bits m) ≡ None

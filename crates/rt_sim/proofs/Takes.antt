@@ -1,37 +1,31 @@
 -- An interrupt is taken: its handler starts as a job above all others, in a frame of its own, with what its level
 -- keeps.
-use Rattle.std.proofs.Common.{◌≡◌, ℕ, ◌^◌, option_map, ◌<◌, ◌≤◌, ◌==◌, ◌||◌, ◌⊎◌, inl, inr, min, Bool, true, false}
-use Rattle.std.proofs.Common.{not, List, [], ◌∷◌, length, replicate, slice_get, slice_set, slice_index, Some, None}
-use Rattle.std.proofs.Common.{refl, sym, ap, subst, ◌∙◌, arith, length-set, eq-eqb}
+use Rattle.std.proofs.Common.{◌≡◌, ℕ, ◌^◌, ◌<◌, ◌≤◌, ◌==◌, ◌||◌, ◌⊎◌, inl, inr, min, Bool, true, false}
+use Rattle.std.proofs.Common.{List, [], ◌∷◌, length, replicate, slice_set, slice_index, Some, None}
+use Rattle.std.proofs.Common.{refl, sym, ap, subst, ◌∙◌, arith, length-set}
 use Rattle.std.specs.List.{AllByRecursion}
 use Rattle.std.proofs.lemmas.List.{length-replicate}
-use Rattle.rt_lemmas.proofs.Bools.{true_and_false, or_cases, or_left, and_both}
-use Rattle.rt_lemmas.proofs.Membership.{any_passes, all_weaker}
-use Rattle.rt_ids.specs.Lists.{greatest}
+use Rattle.rt_lemmas.proofs.Bools.{true_and_false, or_cases, or_left}
+use Rattle.rt_lemmas.proofs.Membership.{all_weaker}
 use Rattle.rt_ids.specs.Holder.{Holder, Guarded, Own, is_same_section}
 use Rattle.rt_ids.specs.Content.{Values}
 use Rattle.rt_ids.specs.Entry.{Entry}
-use Rattle.rt_ids.specs.Action.{Returns}
 use Rattle.rt_ids.specs.Priority.{hardware}
 use Rattle.rt_ids.specs.Storage.{Runner, AtLevel}
 use Rattle.rt_ids.specs.declared.ids.Section.{Section}
-use Rattle.rt_ids.proofs.Greatest.{greatest_has}
 use Rattle.rt_ids.proofs.Hardware.{hardware_falls}
-use Rattle.rt_app.specs.Tree.{Task, App}
-use Rattle.rt_app.specs.BodyCost.{cost_measure, body_cost, cost_of}
-use Rattle.rt_app.specs.Doings.{nothing, task_doing}
-use Rattle.rt_app.specs.Frame.{frame_words}
-use Rattle.rt_app.specs.Handlers.{Runs}
+use Rattle.rt_app.specs.Tree.{App}
+use Rattle.rt_app.specs.Doings.{handler_doing}
+use Rattle.rt_app.specs.Handlers.{Service}
 use Rattle.rt_app.specs.Holding.{storage, is_kept, is_constant, IsHeld}
-use Rattle.rt_app.specs.Level.{is_software}
-use Rattle.rt_app.specs.Sending.{act}
-use Rattle.rt_app.specs.Stack.{is_bound_at, frames_of, is_timed_at}
-use Rattle.rt_gen_body.specs.Bodies.{TaskStands}
-use Rattle.rt_build.specs.Image.{Entries, handler_words, task_words, handler_row}
+use Rattle.rt_app.specs.Layout.{memory}
+use Rattle.rt_app.specs.Stack.{has_handler, need}
+use Rattle.rt_build.specs.Image.{Entries, entry_of, handler_words, handler_row}
 use Rattle.rt_code.specs.Image.{Image}
 use Rattle.rt_code.specs.Masking.{NobodyKeeps}
 use Rattle.rt_code.specs.Owning.{Held, owns, reads, is_open}
-use Rattle.rt_code.specs.Standing.{Stands}
+use Rattle.rt_code.specs.Standing.{Stands, StandsFrom}
+use Rattle.rt_code.specs.declared.image.BodyRow.{BodyRow}
 use Rattle.rt_code.proofs.Mine.{one_section}
 use Rattle.rt_core.specs.Core.{depth}
 use Rattle.rt_core.specs.Priority.{base_value, mask_value, running_value}
@@ -46,28 +40,33 @@ use Rattle.rt_sim.specs.Inside.Moment.{Part, Moment, spot_of, jobs_of}
 use Rattle.rt_sim.specs.Inside.States.{contexts_of, core_of, state_of}
 use Rattle.rt_sim.specs.Inside.Chains.{base_of, mask_of}
 use Rattle.rt_sim.specs.Inside.Sparing.{SparesAlways}
+use Rattle.rt_sim.specs.Inside.Counts.{hands}
+use Rattle.rt_sim.specs.Inside.Calling.{CallsWithin}
 use Rattle.rt_sim.specs.Inside.PartFits.{who, Owns, Reads, AreApart, IsOpenWell, AreOfKind, PartFits}
 use Rattle.rt_sim.specs.Inside.Fits.{IsStacked, Fits}
 use Rattle.rt_sim.specs.Inside.Agrees.{StepsBoth}
-use Rattle.rt_sim.proofs.Others.{others_kept, not_so}
+use Rattle.rt_sim.proofs.Counting.{fewer_once}
+use Rattle.rt_sim.proofs.Others.{all_clear, others_kept, not_so}
 use Rattle.rt_sim.proofs.Acts.{owns_alike, agrees_reached}
 use Rattle.rt_sim.proofs.Entering.{at_level}
 use Rattle.rt_sim.proofs.Levels.{held_off, masks_are}
 
--- the job that a hardware task of this number starts
-abbrev pub task_part : App → Entries → ℕ → ℕ → ℕ → Values → Part
-task_part app at irq k p vs = record {
+-- the job that a handler of an interrupt starts
+abbrev pub handler_part : App → Entries → ℕ → Service → List BodyRow → Values → Part
+handler_part app at irq v rows vs = record {
   role = Serving irq;
-  priority = p;
-  rest = task_doing app k [] (act Returns nothing) vs;
-  left = handler_cost app (Runs k);
+  priority = v.level;
+  rest = handler_doing app v.handler vs;
+  left = handler_cost app v.handler;
   lefts = [];
   held = [];
   places = [];
-  address = at.task k;
-  slots = replicate (handler_words app (Runs k)) 0;
+  address = entry_of at v.handler;
+  slots = replicate (handler_words app v.handler) 0;
   caller = None;
-  steps = handler_cost app (Runs k);
+  steps = handler_cost app v.handler;
+  rows = rows;
+  own = handler_words app v.handler;
 }
 
 module _ (app : App) (img : Image) (thread : ℕ) where
@@ -161,16 +160,20 @@ module _ (app : App) (img : Image) (thread : ℕ) where
         (subst (λ w. AllByRecursion (IsOpenWell app img thread w) o.held) runner fits.opened))
 
     -- from every job of a stack that it is above
-    pub apart_all : (at : Entries) (irq k top : ℕ) (vs : Values) (p : Part) (ps : List Part) (cells : List ℕ)
-        (queues : Holder → List Entry) (values : Values)
-        → top ≤ 2 ^ app.bits → level app (jobs_of p ps) < top → IsStacked app img thread p ps
+    pub apart_all : (at : Entries) (irq : ℕ) (v : Service) (rows : List BodyRow) (vs : Values) (p : Part)
+        (ps : List Part) (cells : List ℕ) (queues : Holder → List Entry) (values : Values)
+        → v.level ≤ 2 ^ app.bits → level app (jobs_of p ps) < v.level → IsStacked app img thread p ps
         → AllByRecursion (PartFits app img thread cells queues values) (p ∷ ps)
-        → AllByRecursion (AreApart app img thread (task_part app at irq k top vs)) (p ∷ ps)
-    apart_all at irq k top vs p [] cells queues values most above is fits =
-        (apart_one top p cells queues values (at_level app img thread p [] top most above is) (omega arith) fits.0, tt)
-    apart_all at irq k top vs p (q ∷ ps) cells queues values most above is fits = (
-      apart_one top p cells queues values (at_level app img thread p (q ∷ ps) top most above is) (omega arith) fits.0,
-      apart_all at irq k top vs q ps cells queues values most (omega arith) is.1 fits.1,
+        → AllByRecursion (AreApart app img thread (handler_part app at irq v rows vs)) (p ∷ ps)
+    apart_all at irq v rows vs p [] cells queues values most above is fits = (
+      apart_one v.level p cells queues values (at_level app img thread p [] v.level most above is)
+          (omega (arith, above)) fits.0,
+      tt,
+    )
+    apart_all at irq v rows vs p (q ∷ ps) cells queues values most above is fits = (
+      apart_one v.level p cells queues values (at_level app img thread p (q ∷ ps) v.level most above is)
+          (omega (arith, above)) fits.0,
+      apart_all at irq v rows vs q ps cells queues values most (omega (arith, above)) is.1 fits.1,
     )
 
   -- where an interrupt can be taken, PRIMASK is not set
@@ -190,64 +193,66 @@ module _ (app : App) (img : Image) (thread : ℕ) where
           (jobs_of m.running m.below)) top few many above most in omega (arith, is, less))
       go false is = refl
 
+-- what there is of a handler that an image has: its code, and the rows of bodies that it calls by
+pub record IsHandler (app : App) (img : Image) (thread : ℕ) (at : Entries) (v : Service) : Type 0 where
+  pub rows : List BodyRow
+  pub most : v.level ≤ 2 ^ app.bits
+  pub code : StandsFrom (storage app) img.code rows thread (AtLevel v.level) (length (memory app))
+      (handler_words app v.handler) (entry_of at v.handler) (handler_cost app v.handler) (handler_doing app v.handler)
+  pub sparing : SparesAlways app (AtLevel v.level) true [] (handler_doing app v.handler)
+  pub calls : (irq : ℕ) → CallsWithin app img (Serving irq) v.level (handler_words app v.handler) rows
+  pub handled : has_handler app v.level ≡ true
+  pub words : handler_words app v.handler ≤ need app v.level
+
 module _ (app : App) (img : Image) (thread : ℕ) (at : Entries) (few : 3 ≤ app.bits) (many : app.bits ≤ 7)
     (apart : (p q : ℕ) → ¬ (p ≡ q) → (h : Holder) → is_kept app (AtLevel p) h ≡ true
     → (is_kept app (AtLevel q) h || is_constant app (AtLevel q) h) ≡ true → ⊥)
     (held_there : (p : ℕ) (h : Holder) → (is_kept app (AtLevel p) h || is_constant app (AtLevel p) h) ≡ true
     → IsHeld app h)
-    (irq i k : ℕ) (t : Task) (there : slice_get app.tasks k ≡ Some t) (hardware_task : is_software t ≡ false)
-    (serves : service_at app irq ≡ Some (record { irq = i; handler = Runs k; level = t.priority }))
-    (most : t.priority ≤ 2 ^ app.bits)
-    (code : TaskStands app k (Some t) img.code (at.task k))
-    (sparing : SparesAlways app (AtLevel t.priority) true [] (task_doing app k [] (act Returns nothing))) where
+    (irq : ℕ) (v : Service) (serves : service_at app irq ≡ Some v) (has : IsHandler app img thread at v) where
   module _ (m : Moment) (fits : Fits app img thread m)
-      (above : level app (jobs_of m.running m.below) < t.priority) where
+      (above : level app (jobs_of m.running m.below) < v.level) where
     abbrev Taken : Part
-    Taken = task_part app at irq k t.priority m.values
+    Taken = handler_part app at irq v has.rows m.values
 
     abbrev taken : Moment
     taken = record m {
-      running = task_part app at irq k t.priority m.values;
+      running = handler_part app at irq v has.rows m.values;
       below = m.running ∷ m.below;
       pending = slice_set m.pending irq false;
-      values = reached (task_doing app k [] (act Returns nothing) m.values) m.values;
+      values = reached (handler_doing app v.handler m.values) m.values;
     }
 
     is_apart : AllByRecursion (AreApart app img thread Taken) (m.running ∷ m.below)
-    is_apart = apart_all app img thread apart at irq k t.priority m.values m.running m.below m.cells m.queues m.values
-        most above fits.stack fits.parts
+    is_apart = apart_all app img thread apart at irq v has.rows m.values m.running m.below m.cells m.queues m.values
+        has.most above fits.stack fits.parts
 
-    none_owns : (h : Holder) → reads (storage app) (AtLevel t.priority) [] h ≡ true → (ps : List Part)
+    none_owns : (h : Holder) → reads (storage app) (AtLevel v.level) [] h ≡ true → (ps : List Part)
         → AllByRecursion (AreApart app img thread Taken) ps
         → AllByRecursion (λ o. Owns app img thread o h ≡ false) ps
     none_owns h read [] all = tt
     none_owns h read (o ∷ ps) all = (not_so _ (λ owned. all.0.1 h owned read), none_owns h read ps all.1)
 
     -- what its level keeps or reads is spelled
-    kept_spelled : (h : Holder) → ((storage app).is_kept (AtLevel t.priority) h || (storage app).is_constant
-        (AtLevel t.priority) h) ≡ true
+    kept_spelled : (h : Holder) → ((storage app).is_kept (AtLevel v.level) h || (storage app).is_constant
+        (AtLevel v.level) h) ≡ true
         → (storage app).Spells h (slice_index m.cells) (m.queues h) (m.values h)
     unfolding storage
-    kept_spelled h reads_it = fits.spelled h (held_there t.priority h reads_it)
+    kept_spelled h reads_it = fits.spelled h (held_there v.level h reads_it)
         (none_owns h (reads_of h reads_it) (m.running ∷ m.below) is_apart)
       where
-        reads_of : (h : Holder) → (is_kept app (AtLevel t.priority) h || is_constant app
-            (AtLevel t.priority) h) ≡ true → reads (storage app) (AtLevel t.priority) [] h ≡ true
+        reads_of : (h : Holder) → (is_kept app (AtLevel v.level) h || is_constant app
+            (AtLevel v.level) h) ≡ true → reads (storage app) (AtLevel v.level) [] h ≡ true
         reads_of (Guarded x) is = is
         reads_of (Own n) is = is
 
-    words : handler_words app (Runs k) ≡ frame_words t.args t.body
-    words = ap task_words there
+    long : length {A = ℕ} (replicate (handler_words app v.handler) 0) ≡ handler_words app v.handler
+    long = length-replicate (handler_words app v.handler) 0
 
-    cost : handler_cost app (Runs k) ≡ body_cost (cost_measure app) t.body
-    cost = ap (λ o. cost_of (cost_measure app) (option_map (λ (u : Task). u.body) o)) there
-
-    stands : Stands (storage app) img.code img.bodies thread (AtLevel t.priority) (handler_cost app (Runs k))
+    stands : Stands (storage app) img.code has.rows thread (AtLevel v.level) (handler_cost app v.handler)
         (spot_of m.cells m.queues Taken)
-    stands = subst (λ c. Stands (storage app) img.code img.bodies thread (AtLevel t.priority) c
-        (record (spot_of m.cells m.queues Taken) { lefts = c ∷ [] })) (sym cost)
-        (code img.bodies thread (replicate (handler_words app (Runs k)) 0) m.cells m.queues m.values
-        (length-replicate (handler_words app (Runs k)) 0 ∙ words) fits.memory kept_spelled)
+    stands = has.code (replicate (handler_words app v.handler) 0) m.cells m.queues m.values long fits.memory
+        kept_spelled
 
     pub fits_taken : Fits app img thread taken
     fits_taken = record {
@@ -256,19 +261,11 @@ module _ (app : App) (img : Image) (thread : ℕ) (at : Entries) (few : 3 ≤ ap
           irq = irq;
           serves = refl;
           above = above;
-          most = most;
+          most = has.most;
           apart = is_apart;
-          unmasked = unmasked app img thread few many m fits t.priority most above;
-          handled = or_left _ (is_timed_at t.priority app)
-              (any_passes (λ u. u.priority == t.priority) app.tasks k t there (eq-eqb t.priority t.priority refl));
-          frame =
-              let zeros : List ℕ = replicate (handler_words app (Runs k)) 0 in
-              let long : length zeros ≡ handler_words app (Runs k) = length-replicate (handler_words app (Runs k)) 0 in
-              let most : frame_words t.args t.body ≤ greatest (frames_of (is_bound_at t.priority) app)
-              = greatest_has (λ (u : Task). frame_words u.args u.body) (is_bound_at t.priority) app.tasks k t there
-              (and_both (not (is_software t)) (t.priority == t.priority) (ap not hardware_task)
-              (eq-eqb t.priority t.priority refl)) in
-              omega (arith, long, words, most);
+          unmasked = unmasked app img thread few many m fits v.level has.most above;
+          handled = has.handled;
+          frame = omega (arith, long, has.words);
           saves = tt;
         },
         fits.stack,
@@ -276,45 +273,45 @@ module _ (app : App) (img : Image) (thread : ℕ) (at : Entries) (few : 3 ≤ ap
       parts = (
         record {
           stands = stands;
-          agrees = agrees_reached app img thread (AtLevel t.priority) []
-              (task_doing app k [] (act Returns nothing) m.values) m.values;
+          agrees = agrees_reached app img thread (AtLevel v.level) [] (handler_doing app v.handler m.values) m.values;
           counted = refl;
-          sparing = (sparing m.values).1;
+          sparing = (has.sparing m.values).1;
           opened = tt;
           kinds = tt;
-          empty = refl;
-          own_frame = refl;
+          once = tt;
+          calls = has.calls irq;
+          own = long;
         },
-        others_kept app img thread Taken Taken m.cells m.cells m.queues m.values
-            (reached (task_doing app k [] (act Returns nothing) m.values) m.values) (m.running ∷ m.below)
-            is_apart is_apart refl (λ cell. inl refl)
-            (λ h away. (sparing m.values).0 h (owns_alike app (AtLevel t.priority) true [] h ∙ away)) fits.parts,
+        others_kept app img thread Taken Taken m.cells m.cells m.queues m.queues m.values
+            (reached (handler_doing app v.handler m.values) m.values) (m.running ∷ m.below)
+            is_apart is_apart
+            (all_clear app img thread m.queues Taken (m.running ∷ m.below)
+            (fewer_once m.queues (hands (m.running ∷ m.below)) (hands (Taken ∷ m.running ∷ m.below))
+            (λ e. omega arith) fits.once))
+            refl (λ cell. inl refl) (λ h away. refl)
+            (λ h away. (has.sparing m.values).0 h (owns_alike app (AtLevel v.level) true [] h ∙ away)) fits.parts,
       );
       spelled = λ h held away.
           subst (λ content. (storage app).Spells h (slice_index m.cells) (m.queues h) content)
-          (sym ((sparing m.values).0 h (owns_alike app (AtLevel t.priority) true [] h ∙ away.0)))
+          (sym ((has.sparing m.values).0 h (owns_alike app (AtLevel v.level) true [] h ∙ away.0)))
           (fits.spelled h held away.1);
       basepri = fits.basepri;
       primask = fits.primask;
       memory = fits.memory;
-      no_messages = fits.no_messages;
+      once = fewer_once m.queues (hands (m.running ∷ m.below)) (hands (Taken ∷ m.running ∷ m.below))
+          (λ e. omega arith) fits.once;
       numbers = length-set m.pending irq false ∙ fits.numbers;
     }
 
     pub takes : candidate app (state_of m) ≡ Some irq
         → step img (core_of app.bits m) ≡ (
-          entered (core_of app.bits m) irq
-              (handler_row app at (record { irq = i; handler = Runs k; level = t.priority })),
-          Some (what.Take irq (depth img (entered (core_of app.bits m) irq
-              (handler_row app at (record { irq = i; handler = Runs k; level = t.priority }))))),
+          entered (core_of app.bits m) irq (handler_row app at v),
+          Some (what.Take irq (depth img (entered (core_of app.bits m) irq (handler_row app at v)))),
         )
         → StepsBoth app img thread (core_of app.bits m) (state_of m)
     takes next is = record {
-      core = entered (core_of app.bits m) irq (handler_row app at
-          (record { irq = i; handler = Runs k; level = t.priority }));
-      shown = Some (what.Take irq (depth img
-          (entered (core_of app.bits m) irq (handler_row app at
-          (record { irq = i; handler = Runs k; level = t.priority })))));
+      core = entered (core_of app.bits m) irq (handler_row app at v);
+      shown = Some (what.Take irq (depth img (entered (core_of app.bits m) irq (handler_row app at v))));
       is = is;
       may = (refl, next);
       agrees = record {

@@ -1,26 +1,39 @@
 -- Where no interrupt is taken, a core step is a step of Baker's machine: case by case of what code that stands leads
 -- to.
-use Rattle.std.proofs.Common.{◌≡◌, ℕ, zero, suc, ◌^◌, ◌<◌, ◌||◌, inl, inr, true, false, List, [], ◌∷◌, ◌++◌, length}
-use Rattle.std.proofs.Common.{slice_get, Some, None, refl, sym, ap, subst, ◌∙◌, arith}
-use Rattle.rt_ids.specs.Holder.{Holder, Guarded}
+use Rattle.std.proofs.Common.{◌≡◌, ℕ, zero, suc, ◌^◌, ◌<◌, ◌≤◌, ◌||◌, inl, inr, true, false, List, [], ◌∷◌, ◌++◌}
+use Rattle.std.proofs.Common.{length}
+use Rattle.std.proofs.Common.{slice_get, Option, Some, None, refl, sym, ap, subst, ◌∙◌, arith}
+use Rattle.std.specs.List.{AllByRecursion}
+use Rattle.rt_lemmas.proofs.Bools.{or_cases}
+use Rattle.rt_ids.specs.Holder.{Holder, Guarded, is_same_section}
 use Rattle.rt_ids.specs.Storage.{Starting, AtLevel}
 use Rattle.rt_ids.specs.Action.{Returns, Ends}
 use Rattle.rt_ids.specs.declared.ids.BodyId.TheVariants as body
 use Rattle.rt_ids.specs.declared.ids.Section.TheVariants as section
 use Rattle.rt_app.specs.Tree.{App}
 use Rattle.rt_app.specs.Doings.{idle_doing}
+use Rattle.rt_app.specs.Stack.{stack_bytes}
 use Rattle.rt_app.specs.Holding.{storage, is_kept, is_constant, IsHeld}
 use Rattle.rt_build.specs.Image.{IdleStands}
 use Rattle.rt_code.specs.Acting.{Noted}
 use Rattle.rt_code.specs.Cells.{resource_cell}
 use Rattle.rt_code.specs.Image.{Image}
-use Rattle.rt_code.specs.Owning.{Spot, MayAccess}
-use Rattle.rt_code.specs.Processor.{Processor}
+use Rattle.rt_code.specs.Effect.{effect}
+use Rattle.rt_code.specs.Owning.{Held, Spot, is_open, MayAccess}
+use Rattle.rt_code.specs.Processor.{Processor, Effect, Traps, Leads}
 use Rattle.rt_code.specs.Standing.{Stands, HaveLeft, Finishes, moved, passed}
+use Rattle.rt_code.specs.declared.image.BodyRow.{BodyRow}
+use Rattle.rt_code.specs.declared.instr.Instr.{Instr}
 use Rattle.rt_code.specs.declared.instr.Note.{Note}
 use Rattle.rt_code.specs.declared.instr.Note.TheVariants as note
+use Rattle.rt_code.specs.declared.processor.Request.{Request}
+use Rattle.rt_code.specs.declared.processor.Request.TheVariants as request
+use Rattle.rt_code.proofs.Mine.{one_section}
+use Rattle.rt_code.proofs.StandingLaws.{standing_laws}
 use Rattle.rt_core.specs.Access.{access}
 use Rattle.rt_core.specs.Core.{Context}
+use Rattle.rt_gen_body.proofs.Stored.{stored}
+use Rattle.rt_core.specs.Masks.{closed}
 use Rattle.rt_core.specs.Leading.{GoesPlainly, with_processor, at_address, served, in_context, item_of}
 use Rattle.rt_core.specs.Priority.{pick}
 use Rattle.rt_core.specs.Standing.{StepsBy, BySilence, ByNote, ByEmit, ByPost, ByClock, ByAlarm, ByNoAlarm, ByEnter}
@@ -32,27 +45,27 @@ use Rattle.rt_laws.specs.Level.{candidate}
 use Rattle.rt_sim.specs.Inside.Moment.{Part, Moment, runner_of, spot_of}
 use Rattle.rt_sim.specs.Inside.States.{core_of, state_of}
 use Rattle.rt_sim.specs.Inside.Sparing.{SparesAlways}
-use Rattle.rt_sim.specs.Inside.PartFits.{who, handles}
-use Rattle.rt_sim.specs.Inside.Fits.{IsThread, Fits}
+use Rattle.rt_sim.specs.Inside.PartFits.{who, IsOpenWell}
+use Rattle.rt_sim.specs.Inside.Fits.{Fits}
 use Rattle.rt_sim.specs.Inside.Agrees.{StepsBoth}
+use Rattle.rt_sim.proofs.Alike.{with_rows, left_alike, CallsAlike, LeadsAlike, step_alike}
 use Rattle.rt_sim.proofs.Plain.{IsWorking, stands_of, is_at}
 use Rattle.rt_sim.proofs.Acts.{spared, silent, emits, clocks, finds_none, posts, sets_none}
+use Rattle.rt_sim.proofs.Moves.{takes_place, makes_ready, starts_message, gives_back}
+use Rattle.rt_sim.proofs.Calls.{no_handler, callable_by, calls_body, comes_back}
 use Rattle.rt_sim.proofs.Enters.{enters}
 use Rattle.rt_sim.proofs.Leaves.{leaves_at}
 use Rattle.rt_sim.proofs.Returns.{returns_to}
 use Rattle.rt_sim.proofs.EndsOfThread.{ends_init, ends_idle}
 
-not_filled : {X : Type 0} (before : List X) (x : X) (behind : List X) → [] ≡ before ++ x ∷ behind → ⊥
-not_filled [] x behind is = cc (is)
-not_filled (y ∷ before) x behind is = cc (is)
-
-module _ (app : App) (img : Image) (thread : ℕ) (no_bodies : img.bodies ≡ []) (no_timer : (storage app).timer ≡ None)
+module _ (app : App) (img : Image) (thread : ℕ) (many : app.bits ≤ 7) (sized : img.stack_bytes ≡ stack_bytes app)
+    (no_timer : (storage app).timer ≡ None) (no_monotonic : IsHeld app (Guarded section.Timer) → ⊥)
     (named : (r : ℕ) → r < length app.shared → resource_cell img r ≡ Some r)
-    (idle : IdleStands app img.code img.bodies thread app.idle)
+    (idle : (bodies : List BodyRow) → IdleStands app img.code bodies thread app.idle)
     (held_there : (p : ℕ) (h : Holder) → (is_kept app (AtLevel p) h || is_constant app (AtLevel p) h) ≡ true
     → IsHeld app h)
     (sparing : SparesAlways app (AtLevel 0) false [] (idle_doing app)) where
-  no_steps : (m : Moment) → Stands (storage app) img.code img.bodies thread (who m.running) zero
+  no_steps : (m : Moment) → Stands (storage app) img.code m.running.rows thread (who m.running) zero
       (spot_of m.cells m.queues m.running) → ⊥
   unfolding Stands
   no_steps m s = s
@@ -66,36 +79,51 @@ module _ (app : App) (img : Image) (thread : ℕ) (no_bodies : img.bodies ≡ []
     Both = StepsBoth app img thread (core_of app.bits m) (state_of m)
 
     abbrev Later : Spot → Type 0
-    Later t = Stands (storage app) img.code img.bodies thread (who m.running) n t
+    Later t = Stands (storage app) img.code m.running.rows thread (who m.running) n t
+
+    -- no section of a timer queue is open
+    timer_closed : is_open m.running.held section.Timer ≡ true → ⊥
+    timer_closed inside = go m.running.held fits.parts.0.opened inside
+      where
+        go : (held : List Held) → AllByRecursion (IsOpenWell app img thread (who m.running)) held
+            → is_open held section.Timer ≡ true → ⊥
+        go [] all is = cc (is)
+        go (h ∷ outer) all is = elim (or_cases (is_same_section h.section section.Timer)
+            (is_open outer section.Timer) is) [
+              | inl here ↦ no_monotonic (subst (λ x. IsHeld app (Guarded x)) (one_section h.section section.Timer here)
+                  all.0.is_held)
+              | inr there ↦ go outer all.1 there
+            ]
 
     by_note : (p : Processor) → GoesPlainly (spot_of m.cells m.queues m.running) (core_of app.bits m).processor p
         → (told : Note)
-        → (noted : Noted (storage app) img.bodies (who m.running) told
+        → (noted : Noted (storage app) m.running.rows (who m.running) told
         (moved (passed (spot_of m.cells m.queues m.running)) p)
-        (λ t. Stands (storage app) img.code img.bodies thread (who m.running) n t))
+        (λ t. Stands (storage app) img.code m.running.rows thread (who m.running) n t))
         → step img (core_of app.bits m) ≡ (
           with_processor (core_of app.bits m) p,
-          Some (item_of (storage app) img.bodies (who m.running)
-              (λ t. Stands (storage app) img.code img.bodies thread (who m.running) n t) told
+          Some (item_of (storage app) m.running.rows (who m.running)
+              (λ t. Stands (storage app) img.code m.running.rows thread (who m.running) n t) told
               (moved (passed (spot_of m.cells m.queues m.running)) p) noted),
         ) → Both
-    by_note p plain (note.Placed t) noted gives = absurd (cc (noted.first, fits.no_messages (Guarded (section.Free t))))
+    by_note p plain (note.Placed t) noted gives =
+        takes_place app img thread m fits works n none left may p plain t gives noted
     by_note p plain (note.Full t) noted gives =
         finds_none app img thread m fits works n none left may p plain t gives noted.acts
-    by_note p plain (note.Ready t) noted gives = absurd (cc (noted.in_hands, fits.parts.0.empty))
+    by_note p plain (note.Ready t) noted gives =
+        makes_ready app img thread m fits works n none left may p plain t gives noted
     by_note p plain (note.Start t from) noted gives =
-        absurd (cc (noted.first, fits.no_messages (Guarded (section.Ready noted.level))))
-    by_note p plain (note.Free t) noted gives = absurd (cc (noted.in_hands, fits.parts.0.empty))
-    by_note p plain (note.Arm t slot) noted gives = absurd (cc (noted.in_hands, fits.parts.0.empty))
-    by_note p plain (note.Fire t) noted gives =
-        absurd (not_filled noted.before noted.entry noted.behind
-        (sym (fits.no_messages (Guarded section.Timer)) ∙ noted.stands))
+        starts_message app img thread m fits works n none left may p plain t from noted gives
+    by_note p plain (note.Free t) noted gives =
+        gives_back app img thread m fits works n none left may p plain t gives noted
+    by_note p plain (note.Arm t slot) noted gives = absurd (timer_closed noted.inside)
+    by_note p plain (note.Fire t) noted gives = absurd (timer_closed noted.inside)
     by_note p plain (note.Enter x) noted gives = absurd noted
     by_note p plain (note.Leave x) noted gives = absurd noted
     by_note p plain (note.End b) noted gives = absurd noted
 
     -- the ends of the thread's bodies: it is alone then
-    of_init : who m.running ≡ Starting → Finishes (storage app) img.code img.bodies thread (who m.running)
+    of_init : who m.running ≡ Starting → Finishes (storage app) img.code m.running.rows thread (who m.running)
         (Ends body.Init) (passed (spot_of m.cells m.queues m.running))
         → (ps : List Part) → Fits app img thread (record m { below = ps })
         → candidate app (state_of (record m { below = ps })) ≡ None
@@ -108,7 +136,7 @@ module _ (app : App) (img : Image) (thread : ℕ) (no_bodies : img.bodies ≡ []
         absurd (let one : AtLevel m.running.priority ≡ Starting =
         sym (ap (λ r. runner_of r m.running.priority) fit.stack.0.serves) ∙ starts in cc (one))
 
-    of_idle : who m.running ≡ AtLevel 0 → Finishes (storage app) img.code img.bodies thread (who m.running)
+    of_idle : who m.running ≡ AtLevel 0 → Finishes (storage app) img.code m.running.rows thread (who m.running)
         (Ends body.Idle) (passed (spot_of m.cells m.queues m.running))
         → (ps : List Part) → Fits app img thread (record m { below = ps })
         → candidate app (state_of (record m { below = ps })) ≡ None
@@ -123,16 +151,7 @@ module _ (app : App) (img : Image) (thread : ℕ) (no_bodies : img.bodies ≡ []
         let zero_is : m.running.priority ≡ 0 = cc (one) in
         omega (arith, zero_is, fit.stack.0.above))
 
-    no_handler : (p : Part) → IsThread app img thread p → handles p.role ≡ true → ⊥
-    no_handler p is h = elim is.role [
-      | inl init ↦ cc (ap handles init, h)
-      | inr low ↦ elim low.0 [
-        | inl rests ↦ cc (ap handles rests, h)
-        | inr waits ↦ cc (ap handles waits, h)
-      ]
-    ]
-
-    of_return : Finishes (storage app) img.code img.bodies thread (who m.running) Returns
+    of_return : Finishes (storage app) img.code m.running.rows thread (who m.running) Returns
         (passed (spot_of m.cells m.queues m.running))
         → (ps : List Part) → Fits app img thread (record m { below = ps })
         → candidate app (state_of (record m { below = ps })) ≡ None
@@ -141,34 +160,69 @@ module _ (app : App) (img : Image) (thread : ℕ) (no_bodies : img.bodies ≡ []
         (in_context (core_of app.bits (record m { below = ps })) x others, Some (what.Ret x.irq)))
         → StepsBoth app img thread (core_of app.bits (record m { below = ps })) (state_of (record m { below = ps }))
     of_return ends [] fit quiet gives =
-        absurd (no_handler m.running fit.stack (spared app img thread
+        absurd (no_handler app img thread m.running fit.stack (spared app img thread
         (record m { below = [] }) fit works Returns ends.values ends.follows ends.is).0)
     of_return ends (q ∷ ps) fit quiet gives =
         returns_to app img thread m q ps fit works quiet left ends (gives _ _ refl)
 
-    by : StepsBy img (storage app) thread (who m.running) (core_of app.bits m) (spot_of m.cells m.queues m.running)
-        (λ t. Stands (storage app) img.code img.bodies thread (who m.running) n t) → Both
-    by (BySilence p plain gives stands) = silent app img thread m fits works n none left may p plain gives stands
-    by (ByNote p plain told noted gives) = by_note p plain told noted gives
-    by (ByEmit p plain value gives acts) = emits app img thread m fits works n none left may p plain value gives acts
-    by (ByPost p plain irq gives acts) = posts app img thread m fits works n none left may p plain irq gives acts
-    by (ByClock p plain gives acts) = clocks app img thread m fits works n none left may p plain gives acts
-    by (ByAlarm p plain instant irq timer gives sets) = absurd (cc (timer, no_timer))
-    by (ByNoAlarm p plain gives sets) = sets_none app img thread m fits works n none left may p plain gives sets
-    by (ByEnter x i goes gives) = enters app img thread m fits works n none left x i goes gives
-    by (ByLeave x i comes gives) =
+    -- a step beside the rows that the job calls by is one of the image
+    by : step (with_rows img m.running.rows) (core_of app.bits m) ≡ step img (core_of app.bits m)
+        → StepsBy (with_rows img m.running.rows) (storage app) thread (who m.running) (core_of app.bits m)
+        (spot_of m.cells m.queues m.running)
+        (λ t. Stands (storage app) img.code m.running.rows thread (who m.running) n t) → Both
+    by same (BySilence p plain gives stands) =
+        silent app img thread m fits works n none left may p plain (sym same ∙ gives) stands
+    by same (ByNote p plain told noted gives) = by_note p plain told noted (sym same ∙ gives)
+    by same (ByEmit p plain value gives acts) =
+        emits app img thread m fits works n none left may p plain value (sym same ∙ gives) acts
+    by same (ByPost p plain irq gives acts) =
+        posts app img thread m fits works n none left may p plain irq (sym same ∙ gives) acts
+    by same (ByClock p plain gives acts) =
+        clocks app img thread m fits works n none left may p plain (sym same ∙ gives) acts
+    by same (ByAlarm p plain instant irq timer gives sets) = absurd (cc (timer, no_timer))
+    by same (ByNoAlarm p plain gives sets) =
+        sets_none app img thread m fits works n none left may p plain (sym same ∙ gives) sets
+    by same (ByEnter x i goes gives) = enters app img thread m fits works n none left x i goes (sym same ∙ gives)
+    by same (ByLeave x i comes gives) =
         subst (λ held. Fits app img thread (record m { running = record m.running { held = held } })
         → candidate app (state_of (record m { running = record m.running { held = held } })) ≡ None
         → StepsBoth app img thread (core_of app.bits m)
         (state_of (record m { running = record m.running { held = held } }))) (sym comes.innermost)
         (λ fit quiet. leaves_at app img thread named m x comes.kind comes.outer fit works n quiet left comes.values
-        comes.follows comes.is comes.spelled comes.on gives) fits none
-    by (ByCall row from calls gives) = absurd (let there : slice_get [] row ≡ Some calls.called = ap
-        (λ bodies. slice_get bodies row) (sym no_bodies) ∙ calls.is_there in cc (there))
-    by (ByBack t back gives) = absurd (cc (back.caller, fits.parts.0.own_frame))
-    by (ByEndOfInit starts ends gives) = of_init starts ends m.below fits none gives
-    by (ByEndOfIdle low ends gives) = of_idle low ends m.below fits none gives
-    by (ByReturn ends gives) = of_return ends m.below fits none gives
+        comes.follows comes.is comes.spelled comes.on
+        (λ can. sym same ∙ gives can ∙ ap (λ v. (
+          with_processor (core_of app.bits m) (closed (core_of app.bits m).processor comes.kind),
+          Some (what.Leave x v),
+        )) (left_alike img m.running.rows fits.parts.0.calls.arguments (core_of app.bits m) x))) fits none
+    by same (ByCall row from calls gives) =
+        calls_body app img thread many sized m fits works n none left row from calls
+        (λ deep room. sym same ∙ gives deep room)
+    by same (ByBack t back gives) =
+        comes_back app img thread many sized m fits works n none left t back (sym same ∙ gives)
+    by same (ByEndOfInit starts ends gives) = of_init starts ends m.below fits none (sym same ∙ gives)
+    by same (ByEndOfIdle low ends gives) = of_idle low ends m.below fits none (sym same ∙ gives)
+    by same (ByReturn ends gives) = of_return ends m.below fits none (λ x others is. sym same ∙ gives x others is)
+
+  -- what an instruction of the running job calls by is a row of the image
+  leads_alike : (m : Moment) (fits : Fits app img thread m) → m.time < 2 ^ 31 → (n : ℕ)
+      → Stands (storage app) img.code m.running.rows thread (who m.running) (suc n) (spot_of m.cells m.queues m.running)
+      → (i : Instr) (told : Option Note) → slice_get img.code m.running.address ≡ Some (i, told)
+      → LeadsAlike img m.running.rows fits.parts.0.calls.arguments (effect i m.time (core_of app.bits m).processor)
+  leads_alike m fits early n stands i told is = by (effect i m.time (core_of app.bits m).processor) refl
+    where
+      asked_by : (p : Processor) (asked : Request) → effect i m.time (core_of app.bits m).processor ≡ Leads p asked
+          → CallsAlike img m.running.rows fits.parts.0.calls.arguments asked
+      asked_by p (request.Call row from) leads =
+          let frames = (standing_laws (storage app) (stored app)).frames img.code m.running.rows thread
+          (who m.running) n (spot_of m.cells m.queues m.running) stands in
+          let calls = frames.call i told is m.time m.basepri row from m.primask p (early, leads) in
+          calls.is_there ∙ sym (callable_by app img thread m fits n row from calls).same
+      asked_by p _ leads = tt
+
+      by : (e : Effect) → effect i m.time (core_of app.bits m).processor ≡ e
+          → LeadsAlike img m.running.rows fits.parts.0.calls.arguments e
+      by (Traps t) leads = tt
+      by (Leads p asked) leads = asked_by p asked leads
 
   -- a job that runs code
   pub working : (m : Moment) → Fits app img thread m → IsWorking m.running.role → pick img (core_of app.bits m) ≡ None
@@ -177,11 +231,13 @@ module _ (app : App) (img : Image) (thread : ℕ) (no_bodies : img.bodies ≡ []
   working m fits works picked none early =
       go m.running.steps (stands_of app img thread m.running.role works m.cells m.queues m.running fits.parts.0.stands)
     where
-      go : (n : ℕ) → Stands (storage app) img.code img.bodies thread (who m.running) n
+      go : (n : ℕ) → Stands (storage app) img.code m.running.rows thread (who m.running) n
           (spot_of m.cells m.queues m.running) → StepsBoth app img thread (core_of app.bits m) (state_of m)
       go zero stands = absurd (no_steps m stands)
       go (suc n) stands =
-          let leads = standing_leads (storage app) img thread (who m.running) (core_of app.bits m)
-          (spot_of m.cells m.queues m.running) n refl picked early
+          let leads = standing_leads (storage app) (with_rows img m.running.rows) thread (who m.running)
+          (core_of app.bits m) (spot_of m.cells m.queues m.running) n refl picked early
           (is_at app img thread m fits works) stands in
-          by m fits works none n leads.left leads.touches leads.by
+          by m fits works none n leads.left leads.touches
+          (step_alike img m.running.rows fits.parts.0.calls.arguments (core_of app.bits m) refl picked
+          (leads_alike m fits early n stands)) leads.by

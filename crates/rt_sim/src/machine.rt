@@ -14,8 +14,8 @@ use rt_core::Core;
 use rt_ids::NoMemory;
 use std::alloc::Global;
 
-/// A core after reset with a good image of an application that is accepted and has neither software tasks nor a monotonic.
-/// No event has come, and the lines of its traces can be written.
+/// A core after reset with a good image of an application that is accepted and has neither software tasks nor a
+/// monotonic. No event has come, and the lines of its traces can be written.
 pub fn prepare(alloc: Global, app: &App) -> Result<Core, NoMemory>
     requires accepted { IsAccepted (app_of app.now) }
     requires software { has_no_software (app_of app.now) ≡ true }

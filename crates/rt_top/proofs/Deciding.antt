@@ -180,7 +180,7 @@ module _ (first second third : Option (List ℕ)) (app : App) (accepted : (text 
               made = made;
               of_application = of_application;
               runnable = runnable;
-              good = images_are_good app image is_accepted (parts made).0 (parts made).1 of_application;
+              good = images_are_good app image is_accepted (parts made).1 of_application;
             };
             written = same ∙ says;
           },

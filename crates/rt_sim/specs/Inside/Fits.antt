@@ -1,6 +1,7 @@
 -- What holds at each moment of a run of an image: jobs own different things, priorities rise, masks and frames are as
 -- the open sections and levels say, and what no started job owns is spelled in memory.
-use Rattle.std.specs.Prelude.{◌≡◌, ℕ, ◌^◌, ◌<◌, ◌≤◌, ◌⊎◌, true, false, List, [], ◌∷◌, length, slice_index}
+use Rattle.std.specs.Prelude.{◌≡◌, ℕ, ◌+◌, ◌^◌, ◌<◌, ◌≤◌, ◌⊎◌, true, false, None, List, [], ◌∷◌, length}
+use Rattle.std.specs.Prelude.{slice_index}
 use Rattle.std.specs.List.{AllByRecursion}
 use Rattle.rt_ids.specs.Holder.{Holder}
 use Rattle.rt_ids.specs.Content.{Values}
@@ -11,9 +12,11 @@ use Rattle.rt_app.specs.Holding.{storage, IsHeld}
 use Rattle.rt_app.specs.Layout.{memory}
 use Rattle.rt_app.specs.Stack.{thread_words, has_handler, need}
 use Rattle.rt_code.specs.Image.{Image}
+use Rattle.rt_code.specs.Stack.{words_of}
 use Rattle.rt_laws.specs.State.{Init, Idle, Waiting, Serving}
 use Rattle.rt_laws.specs.Level.{level}
 use Rattle.rt_sim.specs.Inside.Moment.{Part, Moment, jobs_of}
+use Rattle.rt_sim.specs.Inside.Counts.{hands, IsOnce}
 use Rattle.rt_sim.specs.Inside.Chains.{is_init, base_of, mask_of, Saves}
 use Rattle.rt_sim.specs.Inside.PartFits.{Owns, AreApart, PartFits}
 
@@ -21,6 +24,7 @@ module _ (app : App) (img : Image) (thread : ℕ) where
   -- the thread, which runs `init` at the greatest priority and then `idle` at 0
   pub record IsThread (p : Part) : Type 0 where
     pub frame : length p.slots ≡ thread_words app
+    pub own_frame : p.caller ≡ None
     pub role : (p.role ≡ Init) ⊎ (((p.role ≡ Idle) ⊎ (p.role ≡ Waiting)) × (p.priority ≡ 0))
     pub greatest : p.role ≡ Init → p.priority ≡ 2 ^ app.bits
     pub saves : Saves app p.slots p.held 0 (is_init p.role)
@@ -34,7 +38,7 @@ module _ (app : App) (img : Image) (thread : ℕ) where
     pub apart : AllByRecursion (AreApart app img thread p) (q ∷ ps)
     pub unmasked : mask_of app q ps ≡ false
     pub handled : has_handler app p.priority ≡ true
-    pub frame : length p.slots ≤ need app p.priority
+    pub frame : length (words_of p.caller) + length p.slots ≤ need app p.priority
     pub saves : Saves app p.slots p.held (base_of app q ps) (mask_of app q ps)
 
   abbrev pub IsStacked : Part → List Part → Type 0
@@ -54,5 +58,5 @@ module _ (app : App) (img : Image) (thread : ℕ) where
     pub basepri : m.basepri ≡ base_of app m.running m.below
     pub primask : m.primask ≡ mask_of app m.running m.below
     pub memory : length m.cells ≡ length (memory app)
-    pub no_messages : (h : Holder) → m.queues h ≡ []
+    pub once : IsOnce m.queues (hands (m.running ∷ m.below))
     pub numbers : length m.pending ≡ IRQ_NUMBERS

@@ -8,6 +8,7 @@ use Rattle.rt_ids.specs.Doing.{Doing}
 use Rattle.rt_ids.specs.Storage.{Runner, Starting, AtLevel}
 use Rattle.rt_ids.specs.declared.ids.Section.{Section}
 use Rattle.rt_code.specs.Owning.{Held, Spot}
+use Rattle.rt_code.specs.declared.image.BodyRow.{BodyRow}
 use Rattle.rt_laws.specs.State.{Role, Init, Serving, Job}
 
 -- a started job, and where its code is: in the running frame, or in the one that was interrupted
@@ -24,9 +25,13 @@ pub record Part : Type 0 where
   pub places : List Entry
   pub address : ℕ
   pub slots : List ℕ
+  -- where a called body runs, the frame of the handler that called it
   pub caller : Option (List ℕ)
-  -- its code stands for so many steps
+  -- its code stands for so many steps, beside these rows of bodies
   pub steps : ℕ
+  pub rows : List BodyRow
+  -- the words of its own frame, on which a called body has another
+  pub own : ℕ
 
 pub record Moment : Type 0 where
   pub running : Part

@@ -1,8 +1,7 @@
 -- What holds of each job at a moment of a run: its code stands for what it has left to do, the values that it made on
 -- its way are there yet, and its open sections are of the kinds that are asked for. It is said by "stands" alone, and
 -- follows no instruction.
-use Rattle.std.specs.Prelude.{◌≡◌, ℕ, Bool, true, false, List, [], ◌∷◌, length}
-use Rattle.std.specs.Prelude.{slice_get, Some, None}
+use Rattle.std.specs.Prelude.{◌≡◌, ℕ, Bool, true, false, List, [], ◌∷◌, length, slice_get, Some, None}
 use Rattle.std.specs.List.{AllByRecursion}
 use Rattle.rt_ids.specs.Holder.{Holder, Guarded}
 use Rattle.rt_ids.specs.Content.{Values}
@@ -13,20 +12,21 @@ use Rattle.rt_app.specs.Tree.{App}
 use Rattle.rt_app.specs.Holding.{storage, IsHeld}
 use Rattle.rt_code.specs.Image.{Image}
 use Rattle.rt_code.specs.Masking.{IsKindFor, IsWithin, NobodyKeeps}
-use Rattle.rt_code.specs.Owning.{Held, owns, reads, Agree}
+use Rattle.rt_code.specs.Owning.{Held, owns, reads, is_open, Agree}
 use Rattle.rt_code.specs.Standing.{Stands}
 use Rattle.rt_code.specs.declared.instr.Instr.TheVariants as instr
-use Rattle.rt_laws.specs.State.{Role, Waiting, Serving}
+use Rattle.rt_laws.specs.State.{Role, Waiting}
 use Rattle.rt_sim.specs.Inside.Moment.{Part, runner_of, sections_of, spot_of}
 use Rattle.rt_sim.specs.Inside.Sparing.{IsSparing}
+use Rattle.rt_sim.specs.Inside.Calling.{handles, own_slots, CallsWithin}
 
 abbrev pub who : Part → Runner
 who p = runner_of p.role p.priority
 
--- a handler of an interrupt, which returns
-abbrev pub handles : Role → Bool
-handles (Serving irq) = true
-handles role = false
+-- no section is open twice
+abbrev pub AreOnce : List Held → Type 0
+AreOnce [] = Unit {0}
+AreOnce (h ∷ outer) = (is_open outer h.section ≡ false) × AreOnce outer
 
 module _ (app : App) (img : Image) (thread : ℕ) where
   abbrev pub Owns : Part → Holder → Bool
@@ -65,7 +65,7 @@ module _ (app : App) (img : Image) (thread : ℕ) where
   abbrev pub StandsBy : Role → List ℕ → (Holder → List Entry) → Part → Type 0
   StandsBy Waiting cells queues p = WaitsAt p
   StandsBy role cells queues p =
-      Stands (storage app) img.code img.bodies thread (who p) p.steps (spot_of cells queues p)
+      Stands (storage app) img.code p.rows thread (who p) p.steps (spot_of cells queues p)
 
   -- the values that a job made on its way are there yet, in what it reads
   abbrev pub AgreesWith : Runner → List Held → Values → Doing Values → Type 0
@@ -79,6 +79,6 @@ module _ (app : App) (img : Image) (thread : ℕ) where
     pub sparing : IsSparing app (who p) (handles p.role) (sections_of p.held) p.rest
     pub opened : AllByRecursion (IsOpenWell (who p)) p.held
     pub kinds : AreOfKind (who p) p.held
-    -- no software task: nothing is in hands, and no body is called
-    pub empty : p.places ≡ []
-    pub own_frame : p.caller ≡ None
+    pub once : AreOnce p.held
+    pub calls : CallsWithin app img p.role p.priority p.own p.rows
+    pub own : length (own_slots p.caller p.slots) ≡ p.own

@@ -1,17 +1,27 @@
 -- What is left to do is sparing: on its way to each action it changes only what the job owns then, it enters only
 -- sections of things that there are, and only a handler returns. It is said of the meaning of bodies, not of code.
-use Rattle.std.specs.Prelude.{◌≡◌, ℕ, ◌||◌, Bool, true, false, List, ◌∷◌, drop}
-use Rattle.std.specs.List.{list_any}
+use Rattle.std.specs.Prelude.{◌≡◌, ℕ, ◌||◌, Bool, true, false, List, ◌∷◌, drop, slice_get}
+use Rattle.std.specs.List.{AllByRecursion, list_any}
+use Rattle.rt_ids.specs.Lists.{is_some_and}
 use Rattle.rt_ids.specs.Holder.{Holder, Guarded, Own, is_same_section}
-use Rattle.rt_ids.specs.Content.{Values}
+use Rattle.rt_ids.specs.Content.{Values, messages}
 use Rattle.rt_ids.specs.Action.{Action, Enters, Leaves, Returns}
 use Rattle.rt_ids.specs.Doing.{Doing, over, does}
 use Rattle.rt_ids.specs.Storage.{Runner}
 use Rattle.rt_ids.specs.declared.ids.Section.{Section}
+use Rattle.rt_ids.specs.declared.ids.Section.TheVariants as section
 use Rattle.rt_app.specs.Tree.{App}
 use Rattle.rt_app.specs.Holding.{is_kept, IsHeld}
+use Rattle.rt_app.specs.Level.{is_of_level}
 use Rattle.rt_app.specs.Sending.{Rest}
 use Rattle.rt_laws.specs.State.{reached}
+
+-- behind the opening of a ready queue its messages are of tasks of its level, as they are spelled
+abbrev pub IsEntered : App → Action → Values → Type 0
+IsEntered app (Enters (section.Ready p) cost) vs =
+    AllByRecursion (λ m. is_some_and (is_of_level p) (slice_get app.tasks m.task) ≡ true)
+    (messages (vs (Guarded (section.Ready p))))
+IsEntered app action vs = Unit {0}
 
 module _ (app : App) (who : Runner) (handles : Bool) where
   -- with these sections open
@@ -37,7 +47,7 @@ module _ (app : App) (who : Runner) (handles : Bool) where
   IsSparing held over = Unit {0}
   IsSparing held (does action made next) =
       IsActionOf action
-      × ((n : ℕ) (vs : Values) → Spares (held_after held action) vs (next n vs)
+      × ((n : ℕ) (vs : Values) → IsEntered app action vs → Spares (held_after held action) vs (next n vs)
       × IsSparing (held_after held action) (next n vs))
 
   abbrev pub SparesAlways : List Section → Rest → Type 0

@@ -1,6 +1,7 @@
 -- The states of both machines at a moment, and the words of the stack that it takes.
 use Rattle.std.specs.Prelude.{ℕ, ◌+◌, false, List, [], ◌∷◌, length, None}
 use Rattle.rt_ids.specs.Priority.{hardware}
+use Rattle.rt_code.specs.Stack.{words_of}
 use Rattle.rt_core.specs.Core.{Core, Context}
 use Rattle.rt_laws.specs.State.{State}
 use Rattle.rt_sim.specs.Inside.Moment.{Part, Moment, irq_of, jobs_of}
@@ -45,4 +46,4 @@ state_of m = record {
 -- the words of the stack that interrupted parts take, with the so many that each exception entry pushes
 abbrev pub words_under : ℕ → List Part → ℕ
 words_under entry [] = 0
-words_under entry (q ∷ ps) = entry + length q.slots + words_under entry ps
+words_under entry (q ∷ ps) = entry + (length (words_of q.caller) + length q.slots) + words_under entry ps

@@ -1,0 +1,117 @@
+-- Each interrupt that is enabled has its handler in an image: a hardware task, or the dispatcher of a level. Without a
+-- monotonic there is no other.
+use Rattle.std.proofs.Common.{◌≡◌, ℕ, suc, ◌+◌, ◌^◌, ◌<◌, ◌≤◌, ◌==◌, true, false, not, List, [], ◌∷◌, ◌++◌, length}
+use Rattle.std.proofs.Common.{flat_map, slice_get, Option, Some, None, option_map, is_none, Contains, refl, sym, ap}
+use Rattle.std.proofs.Common.{subst, ◌∙◌}
+use Rattle.std.proofs.Common.{arith, eq-eqb}
+use Rattle.std.specs.List.{AllByRecursion}
+use Rattle.rt_lemmas.proofs.Bools.{and_both, or_left}
+use Rattle.rt_lemmas.proofs.Membership.{all_append, all_flat_map, all_from_members, any_passes}
+use Rattle.rt_ids.specs.Lists.{greatest}
+use Rattle.rt_ids.specs.Storage.{AtLevel}
+use Rattle.rt_ids.proofs.Greatest.{greatest_has}
+use Rattle.rt_app.specs.declared.app.Mono.{Mono}
+use Rattle.rt_app.specs.Tree.{Task, App}
+use Rattle.rt_app.specs.Acceptance.{IsSound}
+use Rattle.rt_app.specs.BodyCost.{cost_measure, body_cost, cost_of}
+use Rattle.rt_app.specs.Doings.{nothing, task_doing, dispatcher_doing}
+use Rattle.rt_app.specs.Frame.{frame_words}
+use Rattle.rt_app.specs.Handlers.{Service, Runs, Dispatches, services, task_services, bound_service, dispatcher_of}
+use Rattle.rt_app.specs.Handlers.{dispatcher_service, timer_service, has_no_monotonic}
+use Rattle.rt_app.specs.Holding.{storage}
+use Rattle.rt_app.specs.Layout.{memory}
+use Rattle.rt_app.specs.Level.{is_software, levels}
+use Rattle.rt_app.specs.Sending.{act}
+use Rattle.rt_app.specs.Stack.{is_bound_at, frames_of, is_timed_at}
+use Rattle.rt_ids.specs.Action.{Returns}
+use Rattle.rt_build.specs.Image.{IsImageOf, handler_words, task_words}
+use Rattle.rt_code.specs.Image.{Image}
+use Rattle.rt_code.specs.Standing.{StandsFrom}
+use Rattle.rt_laws.specs.Services.{handler_cost}
+use Rattle.rt_laws.specs.State.{Serving}
+use Rattle.rt_sim.specs.Inside.Sparing.{SparesAlways}
+use Rattle.rt_sim.proofs.BodyRows.{no_rows, level_rows, calls_none, calls_of_level, level_handled, dispatcher_fits}
+use Rattle.rt_sim.proofs.Takes.{IsHandler}
+
+module _ (app : App) (img : Image) (sound : IsSound app) (no_monotonic : has_no_monotonic app ≡ true)
+    (is_image : IsImageOf app img)
+    (sparing_task : (k : ℕ) (t : Task) → slice_get app.tasks k ≡ Some t → is_software t ≡ false
+    → SparesAlways app (AtLevel t.priority) true [] (task_doing app k [] (act Returns nothing)))
+    (sparing_level : (p : ℕ) → Contains (levels app) p
+    → SparesAlways app (AtLevel p) true [] (dispatcher_doing app p)) where
+  abbrev pub IsHandled : Service → Type 0
+  IsHandled v = v.level ≤ 2 ^ app.bits → IsHandler app img is_image.at.idle is_image.at v
+
+  of_task : (irq k : ℕ) (t : Task) → slice_get app.tasks k ≡ Some t → is_software t ≡ false
+      → IsHandled (record { irq = irq; handler = Runs k; level = t.priority })
+  of_task irq k t there hardware_task most =
+      let words : handler_words app (Runs k) ≡ frame_words t.args t.body = ap task_words there in
+      let cost : handler_cost app (Runs k) ≡ body_cost (cost_measure app) t.body =
+      ap (λ o. cost_of (cost_measure app) (option_map (λ (u : Task). u.body) o)) there in
+      let greatest_of : frame_words t.args t.body ≤ greatest (frames_of (is_bound_at t.priority) app)
+      = greatest_has (λ (u : Task). frame_words u.args u.body) (is_bound_at t.priority) app.tasks k t there
+      (and_both (not (is_software t)) (t.priority == t.priority) (ap not hardware_task)
+      (eq-eqb t.priority t.priority refl)) in
+      record {
+        rows = no_rows app img;
+        most = most;
+        code = subst (λ (w : ℕ). StandsFrom (storage app) img.code (no_rows app img) is_image.at.idle
+            (AtLevel t.priority) (length (memory app)) w (is_image.at.task k) (handler_cost app (Runs k))
+            (task_doing app k [] (act Returns nothing))) (sym words)
+            (subst (λ (c : ℕ). StandsFrom (storage app) img.code (no_rows app img) is_image.at.idle
+            (AtLevel t.priority) (length (memory app)) (frame_words t.args t.body) (is_image.at.task k) c
+            (task_doing app k [] (act Returns nothing))) (sym cost)
+            (is_image.code.tasks k t there hardware_task (no_rows app img) is_image.at.idle));
+        sparing = sparing_task k t there hardware_task;
+        calls = λ irq. calls_none app img (Serving irq) t.priority (handler_words app (Runs k));
+        handled = or_left _ (is_timed_at t.priority app)
+            (any_passes (λ u. u.priority == t.priority) app.tasks k t there (eq-eqb t.priority t.priority refl));
+        words = omega (arith, words, greatest_of);
+      }
+
+  of_level : (irq p : ℕ) → Contains (levels app) p
+      → IsHandled (record { irq = irq; handler = Dispatches p; level = p })
+  of_level irq p is most = record {
+    rows = level_rows app img p;
+    most = most;
+    code = is_image.code.dispatchers p is is_image.at.idle;
+    sparing = sparing_level p is;
+    calls = calls_of_level app img is_image.at is_image.tables.bodies p is;
+    handled = level_handled app img is_image.at is_image.tables.bodies p is;
+    words = dispatcher_fits app img is_image.at is_image.tables.bodies p is;
+  }
+
+  tasks_handled : (n : ℕ) (ts : List Task) → ((k : ℕ) (t : Task) → slice_get ts k ≡ Some t → slice_get app.tasks
+      (n + k) ≡ Some t) → AllByRecursion IsHandled (task_services n ts)
+  tasks_handled n [] are = tt
+  tasks_handled n (t ∷ ts) are =
+      let here : n + 0 ≡ n = omega arith in
+      all_append IsHandled (bound_service n t t.binds) (task_services (n + 1) ts)
+      (by t.binds refl (ap (slice_get app.tasks) (sym here) ∙ are 0 t refl))
+      (tasks_handled (n + 1) ts (λ k u is. let next : n + 1 + k ≡ n + suc k = omega arith in
+      ap (slice_get app.tasks) next ∙ are (suc k) u is))
+    where
+      by : (o : Option ℕ) → t.binds ≡ o → slice_get app.tasks n ≡ Some t
+          → AllByRecursion IsHandled (bound_service n t o)
+      by None binds there = tt
+      by (Some irq) binds there = (of_task irq n t there (ap is_none binds), tt)
+
+  levels_handled : AllByRecursion IsHandled (flat_map (λ p. dispatcher_service p (dispatcher_of app p)) (levels app))
+  levels_handled = all_flat_map IsHandled (λ p. dispatcher_service p (dispatcher_of app p)) (levels app)
+      (all_from_members (λ p. AllByRecursion IsHandled (dispatcher_service p (dispatcher_of app p))) (levels app)
+      (λ p is. by p is (dispatcher_of app p)))
+    where
+      by : (p : ℕ) → Contains (levels app) p → (o : Option ℕ) → AllByRecursion IsHandled (dispatcher_service p o)
+      by p is None = tt
+      by p is (Some irq) = (of_level irq p is, tt)
+
+  pub all_handled : AllByRecursion IsHandled (services app)
+  all_handled =
+      all_append IsHandled (task_services 0 app.tasks) _
+      (tasks_handled 0 app.tasks (λ k t is. let same : 0 + k ≡ k = omega arith in ap (slice_get app.tasks) same ∙ is))
+      (all_append IsHandled (flat_map (λ p. dispatcher_service p (dispatcher_of app p)) (levels app))
+      (timer_service app.mono) levels_handled (by app.mono no_monotonic))
+    where
+      by : (o : Option Mono) → is_none o ≡ true → AllByRecursion IsHandled (timer_service o)
+      by None is = tt
+      by (Some mono) is = absurd (cc (is))

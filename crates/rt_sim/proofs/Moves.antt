@@ -1,0 +1,208 @@
+-- A note on a plain instruction that moves a place of a message is a step of Baker's machine: a place is taken, a
+-- message made ready or started, a place given back.
+use Rattle.std.proofs.Common.{◌≡◌, ℕ, ◌+◌, ◌-◌, ◌++◌, Bool, true, false, List, [], ◌∷◌, Some, None, refl}
+use Rattle.std.proofs.Common.{ap, subst, ◌∙◌, if◌then◌else◌, arith}
+use Rattle.rt_lemmas.proofs.Bools.{true_and_false}
+use Rattle.rt_ids.specs.Holder.{Holder, Guarded, is_same_holder}
+use Rattle.rt_ids.specs.Content.{Values}
+use Rattle.rt_ids.specs.Entry.{Entry, count}
+use Rattle.rt_ids.specs.Action.{Action, Takes, Readies, Starts, Frees, effect}
+use Rattle.rt_ids.specs.declared.ids.Section.{Section}
+use Rattle.rt_ids.specs.declared.ids.Section.TheVariants as section
+use Rattle.rt_app.specs.Tree.{App}
+use Rattle.rt_app.specs.Holding.{storage}
+use Rattle.rt_code.specs.Acting.{TakesPlace, MakesReady, StartsMessage, GivesPlaceBack, with_queue}
+use Rattle.rt_code.specs.Image.{Image}
+use Rattle.rt_code.specs.Owning.{Spot, is_open, MayAccess}
+use Rattle.rt_code.specs.Processor.{Processor}
+use Rattle.rt_code.specs.Standing.{Stands, HaveLeft, moved, passed}
+use Rattle.rt_code.proofs.Mine.{owns_open}
+use Rattle.rt_core.specs.Access.{access}
+use Rattle.rt_core.specs.Leading.{GoesPlainly, with_processor}
+use Rattle.rt_core.specs.Stepping.{step}
+use Rattle.rt_trace.specs.declared.item.What.TheVariants as what
+use Rattle.rt_laws.specs.Level.{candidate}
+use Rattle.rt_laws.specs.State.{reached}
+use Rattle.rt_sim.specs.Inside.Moment.{Moment, spot_of}
+use Rattle.rt_sim.specs.Inside.States.{core_of, state_of}
+use Rattle.rt_sim.specs.Inside.Counts.{hands, IsOnce}
+use Rattle.rt_sim.specs.Inside.PartFits.{who, Owns}
+use Rattle.rt_sim.specs.Inside.Fits.{Fits}
+use Rattle.rt_sim.specs.Inside.Agrees.{StepsBoth}
+use Rattle.rt_sim.proofs.Counting.{same_holder, took, put_behind, put_before, moved_once}
+use Rattle.rt_sim.proofs.Plain.{IsWorking, moment_behind, may_turn}
+use Rattle.rt_sim.proofs.Acts.{changes_by, gives_item, acts_as, acts_fit}
+
+module _ (app : App) (img : Image) (thread : ℕ) (m : Moment) (fits : Fits app img thread m)
+    (works : IsWorking m.running.role) where
+  -- what is put at an open section is not at what the running job does not own
+  beside : {X : Type 0} (x : Section) (put before : X) → is_open m.running.held x ≡ true → (h : Holder)
+      → Owns app img thread m.running h ≡ false → (if is_same_holder (Guarded x) h then put else before) ≡ before
+  beside x put before inside h away = by (is_same_holder (Guarded x) h) refl
+    where
+      by : (b : Bool) → is_same_holder (Guarded x) h ≡ b → (if b then put else before) ≡ before
+      by true same = absurd (true_and_false (Owns app img thread m.running h)
+          (subst (λ k. Owns app img thread m.running k ≡ true) (same_holder (Guarded x) h same)
+          (owns_open (storage app) (who m.running) m.running.held x inside)) away)
+      by false other = refl
+
+  module _ (n : ℕ) (none : candidate app (state_of m) ≡ None) (left : HaveLeft (m.running.lefts ++ m.running.left ∷ []))
+      (may : MayAccess (storage app) (who m.running) (spot_of m.cells m.queues m.running)
+      (access img (core_of app.bits m))) (q : Processor)
+      (plain : GoesPlainly (spot_of m.cells m.queues m.running) (core_of app.bits m).processor q) where
+    abbrev Here : Spot
+    Here = moved (passed (spot_of m.cells m.queues m.running)) q
+
+    abbrev Later : Spot → Type 0
+    Later t = Stands (storage app) img.code m.running.rows thread (who m.running) n t
+
+    abbrev Both : Type 0
+    Both = StepsBoth app img thread (core_of app.bits m) (state_of m)
+
+    once_behind : (x : Section) (places entries : List Entry)
+        → ((e : Entry) → count e places + count e entries ≡ count e m.running.places + count e (m.queues (Guarded x)))
+        → IsOnce (with_queue m.queues x entries) (λ e. count e places + hands m.below e)
+    once_behind x places entries alike =
+        moved_once m.queues x entries (hands (m.running ∷ m.below)) (λ e. count e places + hands m.below e)
+        (λ e. omega (arith, alike e)) fits.once
+
+    pub takes_place : (t : ℕ) → step img (core_of app.bits m) ≡
+        (with_processor (core_of app.bits m) q, Some (what.Placed t))
+        → TakesPlace (storage app) m.running.rows (who m.running) t
+        (moved (passed (spot_of m.cells m.queues m.running)) q)
+        (λ t. Stands (storage app) img.code m.running.rows thread (who m.running) n t) → Both
+    takes_place t is noted =
+        let acts = noted.acts in
+        let x : Section = section.Free t in
+        let places : List Entry = noted.entry ∷ m.running.places in
+        let queues : Holder → List Entry = with_queue m.queues x noted.others in
+        let vs : Values = effect (Takes t) m.values in
+        record {
+          core = with_processor (core_of app.bits m) q;
+          shown = Some (what.Placed t);
+          is = is;
+          may = (
+            may_turn app img thread m fits works none left,
+            gives_item app img thread m fits works (Takes t) acts.values acts.follows acts.is,
+          );
+          agrees = record {
+            moment = moment_behind app img thread m q n (acts.follows 0 vs) (reached (acts.follows 0 vs) vs)
+                places queues;
+            core = refl;
+            state = acts_as app img thread m fits works (Takes t) acts.values acts.follows acts.is;
+            fits = acts_fit app img thread m fits works q n (Takes t) 0 places queues plain
+                (changes_by app img thread m fits works _ _ is may) acts
+                (λ h away. beside x _ (m.values h) noted.inside h away)
+                (λ h away. beside x noted.others (m.queues h) noted.inside h away)
+                (once_behind x places noted.others
+                (λ e. took e noted.entry m.running.places noted.others (m.queues (Guarded x)) noted.first))
+                (λ held. refl) tt;
+          };
+        }
+
+    pub makes_ready : (t : ℕ) → step img (core_of app.bits m) ≡
+        (with_processor (core_of app.bits m) q, Some (what.Ready t))
+        → MakesReady (storage app) m.running.rows (who m.running) t
+        (moved (passed (spot_of m.cells m.queues m.running)) q)
+        (λ t. Stands (storage app) img.code m.running.rows thread (who m.running) n t) → Both
+    makes_ready t is noted =
+        let acts = noted.acts in
+        let x : Section = section.Ready noted.level in
+        let action : Action = Readies noted.level noted.message in
+        let entries : List Entry = m.queues (Guarded x) ++ noted.entry ∷ [] in
+        let queues : Holder → List Entry = with_queue m.queues x entries in
+        let vs : Values = effect action m.values in
+        record {
+          core = with_processor (core_of app.bits m) q;
+          shown = Some (what.Ready t);
+          is = is;
+          may = (
+            may_turn app img thread m fits works none left,
+            gives_item app img thread m fits works action acts.values acts.follows acts.is
+                ∙ ap (λ k. Some (what.Ready k)) noted.of_task.1,
+          );
+          agrees = record {
+            moment = moment_behind app img thread m q n (acts.follows 0 vs) (reached (acts.follows 0 vs) vs)
+                noted.others queues;
+            core = refl;
+            state = acts_as app img thread m fits works action acts.values acts.follows acts.is;
+            fits = acts_fit app img thread m fits works q n action 0 noted.others queues plain
+                (changes_by app img thread m fits works _ _ is may) acts
+                (λ h away. beside x _ (m.values h) noted.inside h away)
+                (λ h away. beside x entries (m.queues h) noted.inside h away)
+                (once_behind x noted.others entries
+                (λ e. put_behind e noted.entry m.running.places noted.others (m.queues (Guarded x)) noted.in_hands))
+                (λ held. refl) tt;
+          };
+        }
+
+    pub starts_message : (t from : ℕ)
+        → (noted : StartsMessage (storage app) m.running.rows (who m.running) t from
+        (moved (passed (spot_of m.cells m.queues m.running)) q)
+        (λ t. Stands (storage app) img.code m.running.rows thread (who m.running) n t))
+        → step img (core_of app.bits m) ≡
+        (with_processor (core_of app.bits m) q, Some (what.Start t noted.message.args)) → Both
+    starts_message t from noted is =
+        let acts = noted.acts in
+        let x : Section = section.Ready noted.level in
+        let action : Action = Starts noted.level noted.message in
+        let places : List Entry = noted.entry ∷ m.running.places in
+        let queues : Holder → List Entry = with_queue m.queues x noted.others in
+        let vs : Values = effect action m.values in
+        record {
+          core = with_processor (core_of app.bits m) q;
+          shown = Some (what.Start t noted.message.args);
+          is = is;
+          may = (
+            may_turn app img thread m fits works none left,
+            gives_item app img thread m fits works action acts.values acts.follows acts.is
+                ∙ ap (λ k. Some (what.Start k noted.message.args)) noted.of_task.1,
+          );
+          agrees = record {
+            moment = moment_behind app img thread m q n (acts.follows 0 vs) (reached (acts.follows 0 vs) vs)
+                places queues;
+            core = refl;
+            state = acts_as app img thread m fits works action acts.values acts.follows acts.is;
+            fits = acts_fit app img thread m fits works q n action 0 places queues plain
+                (changes_by app img thread m fits works _ _ is may) acts
+                (λ h away. beside x _ (m.values h) noted.inside h away)
+                (λ h away. beside x noted.others (m.queues h) noted.inside h away)
+                (once_behind x places noted.others
+                (λ e. took e noted.entry m.running.places noted.others (m.queues (Guarded x)) noted.first))
+                (λ held. refl) tt;
+          };
+        }
+
+    pub gives_back : (t : ℕ) → step img (core_of app.bits m) ≡
+        (with_processor (core_of app.bits m) q, Some (what.Free t))
+        → GivesPlaceBack (storage app) m.running.rows (who m.running) t
+        (moved (passed (spot_of m.cells m.queues m.running)) q)
+        (λ t. Stands (storage app) img.code m.running.rows thread (who m.running) n t) → Both
+    gives_back t is noted =
+        let acts = noted.acts in
+        let x : Section = section.Free t in
+        let entries : List Entry = noted.entry ∷ m.queues (Guarded x) in
+        let queues : Holder → List Entry = with_queue m.queues x entries in
+        let vs : Values = effect (Frees t) m.values in
+        record {
+          core = with_processor (core_of app.bits m) q;
+          shown = Some (what.Free t);
+          is = is;
+          may = (
+            may_turn app img thread m fits works none left,
+            gives_item app img thread m fits works (Frees t) acts.values acts.follows acts.is,
+          );
+          agrees = record {
+            moment = moment_behind app img thread m q n (acts.follows 0 vs) (reached (acts.follows 0 vs) vs)
+                noted.others queues;
+            core = refl;
+            state = acts_as app img thread m fits works (Frees t) acts.values acts.follows acts.is;
+            fits = acts_fit app img thread m fits works q n (Frees t) 0 noted.others queues plain
+                (changes_by app img thread m fits works _ _ is may) acts
+                (λ h away. beside x _ (m.values h) noted.inside h away)
+                (λ h away. beside x entries (m.queues h) noted.inside h away)
+                (once_behind x noted.others entries
+                (λ e. put_before e noted.entry m.running.places noted.others (m.queues (Guarded x)) noted.in_hands))
+                (λ held. refl) tt;
+          };
+        }
