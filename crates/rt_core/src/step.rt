@@ -224,7 +224,7 @@ impl Core {
             .execute(instr, self.time, &mut self.registers, &mut self.cells)
     }
 
-    /// The instruction at the code address, with its note.
+    /// The instruction at the code address, with its note. That of a thread that waits does nothing.
     fn run(&mut self) -> Result<Option<What>, Trap>
         ensures outcome { Comes result self.new.core (stepping.run self.old.image self.old.core (slice_get self.old.image.code self.old.core.processor.address)) }
         ensures rest { self.new ≡ record self.old { core = self.new.core } }
@@ -232,6 +232,9 @@ impl Core {
         let Some((instr, note)) = self.program.line(self.registers.address) else {
             return Err(Trap::Jump);
         };
+        if let (Instr::Wait, None) = (instr, note) {
+            return Ok(None);
+        }
         let asked = self.execute(instr)?;
         let shown = self.answer(asked)?;
         match (note, shown) {
