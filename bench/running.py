@@ -21,12 +21,13 @@ BODIES = """\
 idle(shared = [low], local = [turns]) { lock low { turns = turns + low; } }
 task slow(binds = SLOW, priority = 1, shared = [low, high]) {
     lock low {
+        low = 1;
         for i in 0..4 { low = low + i; }
         lock high { high = low; }
+        emit low;
     }
-    emit low;
 }
-task fast(binds = FAST, priority = 2, shared = [high]) { lock high { high = high * 3; emit high; } }
+task fast(binds = FAST, priority = 2, shared = [high]) { lock high { high = 6; emit high; } }
 """
 
 

@@ -1,6 +1,6 @@
 // A plain simulator of images of hardware tasks, for bench/run: `simulator LISTING SCRIPT` writes the listing, the line
-// `trace`, and the trace of the image under the script, as `rtic run` does. It has no proofs, checks no limit, and traps
-// by a panic.
+// `trace`, and the trace of the image under the script, as `rtic run` does. As bench/interpreter.rs it takes a step at a
+// time, which shows an item, is silent, or traps; and it has no proofs.
 use std::collections::{BTreeSet, HashMap};
 use std::env;
 use std::error::Error;
@@ -28,11 +28,30 @@ enum Instr {
     Ret,
 }
 
+// A section or a body by its place among the names, and the cell of a resource.
+#[derive(Clone, Copy)]
 enum Note {
-    Enter(String),
-    Leave(String, Option<usize>),
-    End(String),
+    Enter(usize),
+    Leave(usize, Option<usize>),
+    End(usize),
 }
+
+#[derive(Clone, Copy)]
+enum What {
+    Take(usize, usize),
+    Ret(usize),
+    Emit(u32),
+    Post(usize),
+    Clock(u32),
+    Enter(usize),
+    Leave(usize, Option<u32>),
+    End(usize),
+    Trap(u8),
+}
+
+const CELL: u8 = 1;
+const STACK: u8 = 2;
+const JUMP: u8 = 3;
 
 struct Irq {
     name: String,
@@ -46,6 +65,8 @@ struct Image {
     cells: Vec<(u32, String)>,
     irqs: Vec<Irq>,
     code: Vec<(Instr, Option<Note>)>,
+    names: Vec<String>,
+    stack_words: usize,
 }
 
 fn operation(word: &str) -> Option<fn(u32, u32) -> u32> {
@@ -99,7 +120,14 @@ fn instr(words: &[&str], irqs: &HashMap<String, usize>) -> Result<Instr, Box<dyn
 }
 
 fn read_image(text: &str) -> Result<Image, Box<dyn Error>> {
-    let mut image = Image { thread_words: 0, cells: Vec::new(), irqs: Vec::new(), code: Vec::new() };
+    let mut image = Image {
+        thread_words: 0,
+        cells: Vec::new(),
+        irqs: Vec::new(),
+        code: Vec::new(),
+        names: Vec::new(),
+        stack_words: 0,
+    };
     let mut numbers = HashMap::new();
     let mut cells = HashMap::new();
     for line in text.lines() {
@@ -109,7 +137,10 @@ fn read_image(text: &str) -> Result<Image, Box<dyn Error>> {
         };
         let words: Vec<&str> = line.split(' ').collect();
         match words[0] {
-            "image" => image.thread_words = words[4].parse()?,
+            "image" => {
+                image.stack_words = words[3].parse::<usize>()? / 4;
+                image.thread_words = words[4].parse()?;
+            }
             "cell" => {
                 cells.insert(words[3].to_string(), image.cells.len());
                 image.cells.push((words[2].parse()?, words[3].to_string()));
@@ -125,14 +156,12 @@ fn read_image(text: &str) -> Result<Image, Box<dyn Error>> {
             "code" => {
                 let note = told.map(|told| {
                     let (verb, what) = told.split_once(' ').expect("a note has two words");
-                    let what = what.to_string();
+                    let name = image.names.len();
+                    image.names.push(what.to_string());
                     match verb {
-                        "enter" => Note::Enter(what),
-                        "leave" => {
-                            let cell = cells.get(&what).copied();
-                            Note::Leave(what, cell)
-                        }
-                        _ => Note::End(what),
+                        "enter" => Note::Enter(name),
+                        "leave" => Note::Leave(name, cells.get(what).copied()),
+                        _ => Note::End(name),
                     }
                 });
                 image.code.push((instr(&words[2..], &numbers)?, note));
@@ -164,6 +193,7 @@ struct Core<'a> {
     primask: bool,
     time: u32,
     steps: u64,
+    stopped: bool,
 }
 
 impl<'a> Core<'a> {
@@ -181,6 +211,7 @@ impl<'a> Core<'a> {
             primask: true,
             time: 0,
             steps: 0,
+            stopped: false,
         }
     }
 
@@ -202,89 +233,123 @@ impl<'a> Core<'a> {
         own.min(masked).min(based)
     }
 
-    fn slots(&mut self) -> &mut [u32] {
+    fn slot(&self, slot: usize) -> Result<u32, u8> {
+        if slot >= self.frame {
+            return Err(STACK);
+        }
+        Ok(self.stack[self.stack.len() - self.frame + slot])
+    }
+
+    fn set(&mut self, slot: usize, value: u32) -> Result<(), u8> {
+        if slot >= self.frame {
+            return Err(STACK);
+        }
         let base = self.stack.len() - self.frame;
-        &mut self.stack[base..]
+        self.stack[base + slot] = value;
+        Ok(())
     }
 
-    fn slot(&self, slot: usize) -> u32 {
-        self.stack[self.stack.len() - self.frame + slot]
-    }
-
-    fn set(&mut self, slot: usize, value: u32) {
-        self.slots()[slot] = value;
-    }
-
-    fn enter(&mut self, irq: usize, out: &mut Vec<u8>) -> io::Result<()> {
-        let (value, entry, frame) = self.image.irqs[irq].handler.expect("it is enabled");
+    fn enter(&mut self, irq: usize) -> Result<Option<What>, u8> {
+        let (value, entry, frame) = self.image.irqs[irq].handler.ok_or(JUMP)?;
+        if self.stack.len() + 8 + frame > self.image.stack_words {
+            return Err(STACK);
+        }
         self.ready.remove(&(value, self.image.irqs[irq].number, irq));
         self.contexts.push(Context { address: self.address, frame: self.frame, irq: self.running });
         self.stack.resize(self.stack.len() + 8 + frame, 0);
         (self.address, self.frame, self.running) = (entry, frame, Some(irq));
-        writeln!(out, "{} take {} {}", self.steps, self.image.irqs[irq].name, self.stack.len() * 4)
+        Ok(Some(What::Take(irq, self.stack.len() * 4)))
     }
 
-    fn leave(&mut self, out: &mut Vec<u8>) -> io::Result<()> {
-        let irq = self.running.expect("a handler runs");
-        let context = self.contexts.pop().expect("it was entered");
+    fn leave(&mut self) -> Result<What, u8> {
+        let irq = self.running.ok_or(STACK)?;
+        let context = self.contexts.pop().ok_or(STACK)?;
         self.stack.truncate(self.stack.len() - self.frame - 8);
         (self.address, self.frame, self.running) = (context.address, context.frame, context.irq);
-        writeln!(out, "{} ret {}", self.steps, self.image.irqs[irq].name)
+        Ok(What::Ret(irq))
     }
 
-    fn execute(&mut self, out: &mut Vec<u8>) -> io::Result<()> {
-        let (instr, note) = &self.image.code[self.address];
-        self.address += 1;
+    fn execute(&mut self) -> Result<Option<What>, u8> {
+        let (instr, note) = self.image.code.get(self.address).ok_or(JUMP)?;
+        let mut next = self.address + 1;
+        let mut what = None;
         match *instr {
-            Instr::Set(slot, value) => self.set(slot, value),
-            Instr::Copy(slot, from) => self.set(slot, self.slot(from)),
-            Instr::Calc(apply, slot, a, b) => self.set(slot, apply(self.slot(a), self.slot(b))),
-            Instr::Load(slot, cell) => self.set(slot, self.cells[cell]),
-            Instr::Store(cell, from) => self.cells[cell] = self.slot(from),
-            Instr::Jump(to) => self.address = to,
-            Instr::JumpZ(slot, to) if self.slot(slot) == 0 => self.address = to,
-            Instr::JumpZ(_, _) | Instr::Mark => {}
-            Instr::Emit(slot) => writeln!(out, "{} emit {}", self.steps, self.slot(slot))?,
+            Instr::Set(slot, value) => self.set(slot, value)?,
+            Instr::Copy(slot, from) => self.set(slot, self.slot(from)?)?,
+            Instr::Calc(apply, slot, a, b) => self.set(slot, apply(self.slot(a)?, self.slot(b)?))?,
+            Instr::Load(slot, cell) => self.set(slot, *self.cells.get(cell).ok_or(CELL)?)?,
+            Instr::Store(cell, from) => {
+                let value = self.slot(from)?;
+                *self.cells.get_mut(cell).ok_or(CELL)? = value;
+            }
+            Instr::Jump(to) => next = to,
+            Instr::JumpZ(slot, to) => next = if self.slot(slot)? == 0 { to } else { next },
+            Instr::Mark => {}
+            Instr::Emit(slot) => what = Some(What::Emit(self.slot(slot)?)),
             Instr::Post(irq) => {
                 self.pend(irq);
-                writeln!(out, "{} post {}", self.steps, self.image.irqs[irq].name)?;
+                what = Some(What::Post(irq));
             }
             Instr::Clock(slot) => {
-                self.set(slot, self.time);
-                writeln!(out, "{} clock {}", self.steps, self.time)?;
+                self.set(slot, self.time)?;
+                what = Some(What::Clock(self.time));
             }
             Instr::Raise(slot, value) => {
-                self.set(slot, self.basepri);
+                self.set(slot, self.basepri)?;
                 self.basepri = value;
             }
-            Instr::Restore(slot) => self.basepri = self.slot(slot),
+            Instr::Restore(slot) => self.basepri = self.slot(slot)?,
             Instr::Mask(slot) => {
-                self.set(slot, self.primask.into());
+                self.set(slot, self.primask.into())?;
                 self.primask = true;
             }
-            Instr::Unmask(slot) => self.primask = self.slot(slot) == 1,
+            Instr::Unmask(slot) => self.primask = self.slot(slot)? == 1,
             Instr::Serve => self.primask = false,
-            Instr::Wait => self.address -= 1,
-            Instr::Ret => self.leave(out)?,
+            Instr::Wait => next = self.address,
+            Instr::Ret => return self.leave().map(Some),
         }
+        self.address = next;
+        Ok(what.or_else(|| note.map(|note| self.noted(note))))
+    }
+
+    fn noted(&self, note: Note) -> What {
         match note {
-            None => Ok(()),
-            Some(Note::Enter(section)) => writeln!(out, "{} enter {section}", self.steps),
-            Some(Note::Leave(section, Some(cell))) => {
-                writeln!(out, "{} leave {section} {}", self.steps, self.cells[*cell])
-            }
-            Some(Note::Leave(section, None)) => writeln!(out, "{} leave {section}", self.steps),
-            Some(Note::End(body)) => writeln!(out, "{} end {body}", self.steps),
+            Note::Enter(section) => What::Enter(section),
+            Note::Leave(section, cell) => What::Leave(section, cell.map(|cell| self.cells[cell])),
+            Note::End(body) => What::End(body),
         }
     }
 
-    fn step(&mut self, out: &mut Vec<u8>) -> io::Result<()> {
-        match self.ready.first() {
-            Some(&(value, _, irq)) if value < self.execution() => self.enter(irq, out)?,
-            _ => self.execute(out)?,
-        }
+    // One core step; behind a trap every step is silent.
+    fn step(&mut self) -> Option<What> {
         self.steps += 1;
-        Ok(())
+        if self.stopped {
+            return None;
+        }
+        let done = match self.ready.first() {
+            Some(&(value, _, irq)) if value < self.execution() => self.enter(irq),
+            _ => self.execute(),
+        };
+        done.unwrap_or_else(|trap| {
+            self.stopped = true;
+            Some(What::Trap(trap))
+        })
+    }
+}
+
+fn write_item(out: &mut Vec<u8>, image: &Image, step: u64, what: What) -> io::Result<()> {
+    let irq = |irq: usize| &image.irqs[irq].name;
+    match what {
+        What::Take(number, depth) => writeln!(out, "{step} take {} {depth}", irq(number)),
+        What::Ret(number) => writeln!(out, "{step} ret {}", irq(number)),
+        What::Emit(value) => writeln!(out, "{step} emit {value}"),
+        What::Post(number) => writeln!(out, "{step} post {}", irq(number)),
+        What::Clock(time) => writeln!(out, "{step} clock {time}"),
+        What::Enter(section) => writeln!(out, "{step} enter {}", image.names[section]),
+        What::Leave(section, None) => writeln!(out, "{step} leave {}", image.names[section]),
+        What::Leave(section, Some(value)) => writeln!(out, "{step} leave {} {value}", image.names[section]),
+        What::End(body) => writeln!(out, "{step} end {}", image.names[body]),
+        What::Trap(trap) => writeln!(out, "{step} trap {trap}"),
     }
 }
 
@@ -301,7 +366,10 @@ fn main() -> Result<(), Box<dyn Error>> {
         match words[0] {
             "step" => {
                 for _ in 0..words[1].parse::<u32>()? {
-                    core.step(&mut out)?;
+                    let before = core.steps;
+                    if let Some(what) = core.step() {
+                        write_item(&mut out, &image, before, what)?;
+                    }
                 }
             }
             "tick" => {
