@@ -1,0 +1,174 @@
+-- What a job owns of the queues: their cells where their section is opens, and nothing of them where it is not.
+use Rattle.std.proofs.Common.{◌≡◌, ℕ, ◌<◌, ◌||◌, Bool, true, false, if◌then◌else◌, List, ◌∷◌}
+use Rattle.std.proofs.Common.{length, slice_index, refl, sym, ap, subst, ◌∙◌}
+use Rattle.std.proofs.lemmas.Option.{slice_get_within}
+use Rattle.rt_lemmas.proofs.Bools.{or_left, or_neither}
+use Rattle.rt_lemmas.proofs.Places.{at_read}
+use Rattle.rt_ids.specs.Holder.{Holder, Guarded, Own, is_same_section, is_same_holder}
+use Rattle.rt_ids.specs.Content.{Content, Values, put_at}
+use Rattle.rt_ids.specs.Entry.{Entry, count}
+use Rattle.rt_ids.specs.Storage.{Runner, Starting, AtLevel, Home, At, In, Nowhere}
+use Rattle.rt_ids.specs.declared.ids.Section.{Section}
+use Rattle.rt_ids.specs.declared.ids.Section.TheVariants as section
+use Rattle.rt_app.specs.Tree.{App}
+use Rattle.rt_app.specs.Layout.{memory, home_of}
+use Rattle.rt_app.specs.Holding.{storage, SpellsFree, SpellsReady}
+use Rattle.rt_code.specs.Acting.{with_queue}
+use Rattle.rt_code.specs.Masking.{NobodyKeeps}
+use Rattle.rt_code.specs.Owning.{Held, Spot, is_open, reads, MayLoad, MayStore, Agree, LeavesMine}
+use Rattle.rt_code.proofs.Mine.{one_section, same_section, owns_reads, owns_open, reads_more}
+
+-- the sections of queues that a spawn enters
+abbrev pub IsQueue : Section → Type 0
+IsQueue (section.Res r) = ⊥
+IsQueue (section.Free n) = Unit {0}
+IsQueue (section.Ready p) = Unit {0}
+IsQueue section.Timer = ⊥
+
+kept_none : (app : App) (who : Runner) (x : Section) → IsQueue x → (storage app).is_kept who (Guarded x) ≡ false
+unfolding storage
+kept_none app who (section.Res r) queue = absurd queue
+kept_none app Starting (section.Free n) queue = refl
+kept_none app (AtLevel p) (section.Free n) queue = refl
+kept_none app Starting (section.Ready p) queue = refl
+kept_none app (AtLevel q) (section.Ready p) queue = refl
+kept_none app who section.Timer queue = absurd queue
+
+constant_none : (app : App) (who : Runner) (x : Section) → IsQueue x
+    → (storage app).is_constant who (Guarded x) ≡ false
+unfolding storage
+constant_none app who (section.Res r) queue = absurd queue
+constant_none app Starting (section.Free n) queue = refl
+constant_none app (AtLevel p) (section.Free n) queue = refl
+constant_none app Starting (section.Ready p) queue = refl
+constant_none app (AtLevel q) (section.Ready p) queue = refl
+constant_none app who section.Timer queue = absurd queue
+
+pub nobody_keeps : (app : App) (who runner : Runner) (x : Section) → IsQueue x
+    → NobodyKeeps (storage app) who runner x
+nobody_keeps app who Starting x queue = kept_none app Starting x queue
+nobody_keeps app who (AtLevel p) x queue =
+    λ q. (kept_none app (AtLevel q) x queue, constant_none app (AtLevel q) x queue)
+
+pub home_as : (app : App) (c : ℕ) → (storage app).home c ≡ home_of app c
+unfolding storage
+home_as app c = refl
+
+pub free_spelled : (app : App) (n : ℕ) (cells : ℕ → ℕ) (entries : List Entry) (content : Content)
+    → (storage app).Spells (Guarded (section.Free n)) cells entries content → SpellsFree app cells n entries content
+unfolding storage
+free_spelled app n cells entries content spells = spells.1
+
+pub free_given : (app : App) (n : ℕ) (cells other : ℕ → ℕ) (entries more : List Entry) (content before : Content)
+    → (storage app).Spells (Guarded (section.Free n)) other more before → SpellsFree app cells n entries content
+    → (storage app).Spells (Guarded (section.Free n)) cells entries content
+unfolding storage
+free_given app n cells other entries more content before old spells = (old.0, spells)
+
+pub ready_spelled : (app : App) (p : ℕ) (cells : ℕ → ℕ) (entries : List Entry) (content : Content)
+    → (storage app).Spells (Guarded (section.Ready p)) cells entries content → SpellsReady app cells p entries content
+unfolding storage
+ready_spelled app p cells entries content spells = spells.1
+
+pub ready_given : (app : App) (p : ℕ) (cells other : ℕ → ℕ) (entries more : List Entry) (content before : Content)
+    → (storage app).Spells (Guarded (section.Ready p)) other more before → SpellsReady app cells p entries content
+    → (storage app).Spells (Guarded (section.Ready p)) cells entries content
+unfolding storage
+ready_given app p cells other entries more content before old spells = (old.0, spells)
+
+-- a cell that belongs to something is in memory
+pub in_memory : (app : App) (c : ℕ) (home : Home) → home_of app c ≡ home → ¬ (Nowhere ≡ home)
+    → c < length (memory app)
+in_memory app c home is some =
+    let one = at_read (λ cell. cell.home) (memory app) c home Nowhere is some in
+    slice_get_within (memory app) c one.0 one.1
+
+pub at_in_memory : (app : App) (c : ℕ) (holder : Holder) → home_of app c ≡ At holder → c < length (memory app)
+at_in_memory app c holder is = in_memory app c (At holder) is (λ e. cc)
+
+pub place_in_memory : (app : App) (c : ℕ) (e : Entry) → home_of app c ≡ In e → c < length (memory app)
+place_in_memory app c e is = in_memory app c (In e) is (λ e. cc)
+
+module _ (app : App) (who : Runner) where
+  pub loads_open : (s : Spot) (c : ℕ) (x : Section) → home_of app c ≡ At (Guarded x) → is_open s.held x ≡ true
+      → MayLoad (storage app) who s ((storage app).home c)
+  loads_open s c x is opens =
+      subst (λ (home : Home). MayLoad (storage app) who s home) (sym (home_as app c ∙ is))
+      (owns_reads (storage app) who s.held (Guarded x) (owns_open (storage app) who s.held x opens))
+
+  pub stores_open : (s : Spot) (c : ℕ) (x : Section) → home_of app c ≡ At (Guarded x) → is_open s.held x ≡ true
+      → MayStore (storage app) who s ((storage app).home c)
+  stores_open s c x is opens =
+      subst (λ (home : Home). MayStore (storage app) who s home) (sym (home_as app c ∙ is))
+      (owns_open (storage app) who s.held x opens)
+
+  pub stores_place : (s : Spot) (c : ℕ) (e : Entry) → home_of app c ≡ In e → 0 < count e s.places
+      → MayStore (storage app) who s ((storage app).home c)
+  stores_place s c e is some =
+      subst (λ (home : Home). MayStore (storage app) who s home) (sym (home_as app c ∙ is)) some
+
+  -- a queue whose section is not opens is not read
+  pub unread : (held : List Held) (x : Section) → IsQueue x → is_open held x ≡ false
+      → reads (storage app) who held (Guarded x) ≡ false
+  unread held x queue closed =
+      or_neither (is_open held x || (storage app).is_kept who (Guarded x)) ((storage app).is_constant who (Guarded x))
+      (or_neither (is_open held x) ((storage app).is_kept who (Guarded x)) closed (kept_none app who x queue))
+      (constant_none app who x queue)
+
+  pub is_inside : (held : List Held) (h : Held) (x : Section) → h.section ≡ x → is_open (h ∷ held) x ≡ true
+  is_inside held h x is =
+      or_left (is_same_section h.section x) (is_open held x)
+      (ap (λ y. is_same_section y x) is ∙ same_section x)
+
+  same_holder : (x : Section) (h : Holder) → is_same_holder (Guarded x) h ≡ true → h ≡ Guarded x
+  same_holder x (Guarded y) is = ap Guarded (sym (one_section x y is))
+  same_holder x (Own n) is = absurd cc
+
+  -- another holder, where this section's is not read
+  pub other_holder : (held : List Held) (x : Section) (h : Holder) → reads (storage app) who held (Guarded x) ≡ false
+      → reads (storage app) who held h ≡ true → is_same_holder (Guarded x) h ≡ false
+  other_holder held x h none may = go (is_same_holder (Guarded x) h) refl
+    where
+      go : (b : Bool) → is_same_holder (Guarded x) h ≡ b → b ≡ false
+      go true is =
+          let e : reads (storage app) who held (Guarded x) ≡ true =
+          subst (λ (k : Holder). reads (storage app) who held k ≡ true) (same_holder x h is) may in
+          cc (e, none)
+      go false is = refl
+
+  pub put_here : (vs : Values) (x : Section) (content : Content) → put_at vs (Guarded x) content (Guarded x) ≡ content
+  put_here vs x content = ap (λ (b : Bool). if b then content else vs (Guarded x)) (same_section x)
+
+  pub queue_here : (queues : Holder → List Entry) (x : Section) (entries : List Entry)
+      → with_queue queues x entries (Guarded x) ≡ entries
+  queue_here queues x entries = ap (λ (b : Bool). if b then entries else queues (Guarded x)) (same_section x)
+
+  -- values behind a section: what may be read without it is as it was
+  pub agree_out : (held : List Held) (h : Held) (x : Section) (content : Content) (after us ws vs : Values)
+      → reads (storage app) who held (Guarded x) ≡ false
+      → Agree (storage app) who held after (put_at us (Guarded x) content) → Agree (storage app) who (h ∷ held) us ws
+      → Agree (storage app) who held ws vs → Agree (storage app) who held after vs
+  agree_out held h x content after us ws vs none last inner first holder may =
+      last holder may
+      ∙ ap (λ (b : Bool). if b then content else us holder) (other_holder held x holder none may)
+      ∙ inner holder (reads_more (storage app) who h held holder may) ∙ first holder may
+
+  -- what is the job's own behind a section: only cells and the queue of the section are others
+  pub leaves_out : (s : Spot) (x : Section) (cells after : List ℕ) (queues : Holder → List Entry) (entries : List Entry)
+      → reads (storage app) who s.held (Guarded x) ≡ false → LeavesMine (storage app) who s cells queues
+      → length after ≡ length cells
+      → ((c : ℕ) → ¬ (home_of app c ≡ At (Guarded x)) → slice_index after c ≡ slice_index cells c)
+      → LeavesMine (storage app) who s after (with_queue queues x entries)
+  leaves_out s x cells after queues entries none over long kept = record {
+    long = long ∙ over.long;
+    touched = λ c may.
+        kept c (λ is. closed (subst (λ (home : Home). MayLoad (storage app) who s home) (home_as app c ∙ is) may))
+        ∙ over.touched c may;
+    queued = λ holder own.
+        ap (λ (b : Bool). if b then entries else queues holder)
+        (other_holder s.held x holder none (owns_reads (storage app) who s.held holder own))
+        ∙ over.queued holder own;
+  }
+    where
+      closed : reads (storage app) who s.held (Guarded x) ≡ true → ⊥
+      closed may = cc (may, none)

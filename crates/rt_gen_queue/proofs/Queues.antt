@@ -1,0 +1,174 @@
+-- What the cells of a queue spell once a place is taken from the stack of free ones, and once a message is in the ring.
+use Rattle.std.proofs.Common.{◌≡◌, ◌≢◌, ℕ, zero, suc, ◌+◌, ◌-◌, ◌*◌, ◌%◌, ◌==◌, ◌<◌, List, [], ◌∷◌, ◌++◌, length}
+use Rattle.std.proofs.Common.{map, Some, option_map, slice_get, slice_index, Contains, refl, sym, ap, ◌∙◌, arith}
+use Rattle.std.proofs.Common.{inl, inr}
+use Rattle.std.specs.List.{AllByRecursion, range_with_len}
+use Rattle.std.proofs.lemmas.Option.{none-some, same_Some, slice_get_within}
+use Rattle.std.proofs.lemmas.List.{length-append}
+use Rattle.rt_lemmas.proofs.Bools.{and_left}
+use Rattle.rt_lemmas.proofs.Membership.{all_append}
+use Rattle.rt_lemmas.proofs.Places.{at_either}
+use Rattle.rt_ids.specs.Lists.{or_zero}
+use Rattle.rt_ids.specs.Holder.{Guarded}
+use Rattle.rt_ids.specs.Content.{Content, Message, Number, Messages, number, messages}
+use Rattle.rt_ids.specs.Entry.{Entry}
+use Rattle.rt_ids.specs.Storage.{At, In}
+use Rattle.rt_ids.specs.declared.ids.Section.TheVariants as section
+use Rattle.rt_app.specs.Tree.{Task, App}
+use Rattle.rt_app.specs.Level.{is_software, is_of_level, levels}
+use Rattle.rt_app.specs.Sending.{capacity_of}
+use Rattle.rt_app.specs.Layout.{free_at, inputs_at, ready_at, ready_room, home_of}
+use Rattle.rt_app.specs.Holding.{message_word, arguments_of, message_at, SpellsFree, SpellsReady}
+use Rattle.rt_app.proofs.LaidQueues.{capacity_is, input_is_home, ready_is_home}
+use Rattle.rt_app.proofs.Spelling.{the_task}
+use Rattle.rt_gen_queue.proofs.Numbers.{apart}
+use Rattle.rt_gen_queue.proofs.Places.{IsPlaceOf}
+use Rattle.rt_gen_queue.proofs.Spots.{Wrote}
+
+-- the first free place is taken, and the count is one less
+pub free_taken : (app : App) (n : ℕ) (e : Entry) (others : List Entry) (content : Content) (before after : List ℕ)
+    → SpellsFree app (slice_index before) n (e ∷ others) content → Wrote (free_at app n) (length others) before after
+    → SpellsFree app (slice_index after) n others (Number (number content + 1))
+free_taken app n e others content before after spells wrote =
+    let room = spells.room in
+    let out : (capacity_of app n - suc (length others)) + 1 ≡ capacity_of app n - length others = omega arith in
+    record {
+      out = ap (λ c. Number (number c + 1)) spells.out ∙ ap Number out;
+      room = omega arith;
+      places = spells.places.1;
+      count = wrote.here;
+      stack = λ i x at.
+          let within = slice_get_within others i x at in
+          let other : free_at app n + (length others - i) ≢ free_at app n = omega arith in
+          let same : free_at app n + (length others - i) ≡ free_at app n + (suc (length others) - suc i) =
+          omega arith in
+          wrote.others (free_at app n + (length others - i)) other ∙ ap (slice_index before) same
+          ∙ spells.stack (suc i) x at;
+    }
+
+map_range_alike : (f g : ℕ → ℕ) (a n : ℕ) → ((k : ℕ) → k < n → f (a + k) ≡ g (a + k))
+    → map f (range_with_len a n) ≡ map g (range_with_len a n)
+map_range_alike f g a zero same = refl
+map_range_alike f g a (suc n) same =
+    let e : a + 0 ≡ a = omega arith in
+    let here : f a ≡ g a = ap f (sym e) ∙ (same 0 (omega arith) ∙ ap g e) in
+    ap (λ x. x ∷ map f (range_with_len (a + 1) n)) here
+    ∙ ap (λ xs. g a ∷ xs) (map_range_alike f g (a + 1) n (λ k less.
+    (let d : a + 1 + k ≡ a + suc k = omega arith in ap f d ∙ (same (suc k) (omega arith) ∙ ap g (sym d)))))
+
+-- a message goes by the cells of its place alone
+pub message_alike : (app : App) (p : ℕ) (before after : ℕ → ℕ) (e : Entry) → IsPlaceOf app p e
+    → ((c : ℕ) → home_of app c ≡ In e → before c ≡ after c) → message_at app before e ≡ message_at app after e
+message_alike app p before after e is left =
+    let task = the_task (is_of_level p) app e.task is.0 in
+    let t : Task = task.0 in
+    let software = and_left (is_software t) (t.priority == p) task.2 in
+    let capacity : capacity_of app e.task ≡ t.capacity = capacity_is app e.task t task.1 in
+    let arguments : arguments_of app e.task ≡ t.args = ap (λ o. or_zero (option_map (λ t. t.args) o)) task.1 in
+    let place : e.place < t.capacity = omega (arith, is.1, capacity) in
+    let first : ℕ = inputs_at app e.task + e.place * arguments_of app e.task in
+    ap (λ args. record { task = e.task; args = args })
+    (map_range_alike before after first (arguments_of app e.task)
+    (λ k less.
+    let d : first + k ≡ inputs_at app e.task + e.place * t.args + k =
+    ap (λ a. inputs_at app e.task + e.place * a + k) arguments in
+    left (first + k)
+    (ap (home_of app) d ∙ input_is_home app e.task t task.1 software e.place k place (omega arith))))
+
+at_not_in : (app : App) (c d : ℕ) (x : _) (e : Entry) → home_of app c ≡ At x → home_of app d ≡ In e → d ≢ c
+at_not_in app c d x e at in_ same =
+    let clash : At x ≡ In e = sym at ∙ sym (ap (home_of app) same) ∙ in_ in absurd cc
+
+-- a message more in the ring
+module _ (app : App) (p : ℕ) (known : Contains (levels app) p) (entries : List Entry) (e : Entry) (content : Content)
+    (m : Message) (before mid after : List ℕ) where
+  abbrev pub ring_cell : ℕ
+  ring_cell = ready_at app p + 2 + (slice_index before (ready_at app p) + length entries) % ready_room app p
+
+  pub record PutsReady : Type 0 where
+    pub spells : SpellsReady app (slice_index before) p entries content
+    pub room : length entries < ready_room app p
+    pub place : IsPlaceOf app p e
+    pub turn : (slice_index before (ready_at app p) + length entries) % ready_room app p < ready_room app p
+    pub ring : Wrote ring_cell (message_word e) before mid
+    pub counted : Wrote (ready_at app p + 1) (length entries + 1) mid after
+    pub message : message_at app (slice_index before) e ≡ m
+
+  module _ (puts : PutsReady) where
+    ring_home : home_of app ring_cell ≡ At (Guarded (section.Ready p))
+    ring_home =
+        let turn : ℕ = (slice_index before (ready_at app p) + length entries) % ready_room app p in
+        let d : ready_at app p + 2 + turn ≡ ready_at app p + (2 + turn) = omega arith in
+        let within : 2 + turn < 2 + ready_room app p = omega (arith, puts.turn) in
+        ap (home_of app) d ∙ ready_is_home app p known (2 + turn) within
+
+    count_home : home_of app (ready_at app p + 1) ≡ At (Guarded (section.Ready p))
+    count_home = ready_is_home app p known 1 (omega arith)
+
+    left : (c : ℕ) (x : Entry) → home_of app c ≡ In x → slice_index before c ≡ slice_index after c
+    left c x is =
+        sym (puts.counted.others c (at_not_in app (ready_at app p + 1) c _ x count_home is)
+        ∙ puts.ring.others c (at_not_in app ring_cell c _ x ring_home is))
+
+    messages_put : (xs : List Entry) → AllByRecursion (IsPlaceOf app p) xs
+        → map (message_at app (slice_index before)) xs ++ m ∷ []
+        ≡ map (message_at app (slice_index after)) (xs ++ e ∷ [])
+    messages_put [] all =
+        ap (λ y. y ∷ [])
+        (sym puts.message
+        ∙ message_alike app p (slice_index before) (slice_index after) e puts.place (λ c is. left c e is))
+    messages_put (x ∷ xs) all =
+        ap (λ y. y ∷ (map (message_at app (slice_index before)) xs ++ m ∷ []))
+        (message_alike app p (slice_index before) (slice_index after) x all.0 (λ c is. left c x is))
+        ∙ ap (λ ys. message_at app (slice_index after) x ∷ ys) (messages_put xs all.1)
+
+    head_is : slice_index after (ready_at app p) ≡ slice_index before (ready_at app p)
+    head_is =
+        let one : ready_at app p ≢ ready_at app p + 1 = omega arith in
+        let two : ready_at app p ≢ ring_cell = omega arith in
+        puts.counted.others (ready_at app p) one ∙ puts.ring.others (ready_at app p) two
+
+    ring_is : (i : ℕ) (x : Entry) → slice_get (entries ++ e ∷ []) i ≡ Some x
+        → slice_index after (ready_at app p + 2 + (slice_index before (ready_at app p) + i) % ready_room app p)
+        ≡ message_word x
+    ring_is i x at =
+        let head : ℕ = slice_index before (ready_at app p) in
+        let size : ℕ = ready_room app p in
+        let c : ℕ = ready_at app p + 2 + (head + i) % size in
+        let no_count : c ≢ ready_at app p + 1 = omega arith in
+        let start : head < size = omega (arith, puts.spells.head, puts.room) in
+        puts.counted.others c no_count
+        ∙ elim (at_either entries (e ∷ []) i x at) [
+          | inl front ↦
+              (let differ : (head + i) % size ≢ (head + length entries) % size =
+              apart head i (length entries) size start front.0 puts.room in
+              let no_ring : c ≢ ring_cell =
+              (λ (same : c ≡ ring_cell). differ (omega (arith, same))) in
+              puts.ring.others c no_ring ∙ puts.spells.ring i x front.1)
+          | inr back ↦ last back.0 back.1 back.2
+        ]
+      where
+        last : (k : ℕ) → i ≡ length entries + k → slice_get (e ∷ []) k ≡ Some x
+            → slice_index mid (ready_at app p + 2 + (slice_index before (ready_at app p) + i) % ready_room app p)
+            ≡ message_word x
+        last zero is here =
+            let same : i ≡ length entries = omega arith in
+            ap
+            (λ j. slice_index mid (ready_at app p + 2 + (slice_index before (ready_at app p) + j) % ready_room app p))
+            same ∙ puts.ring.here ∙ ap message_word (same_Some e x here)
+        last (suc k) is here = absurd (none-some x here)
+
+    pub ready_put : SpellsReady app (slice_index after) p (entries ++ e ∷ []) (Messages (messages content ++ m ∷ []))
+    ready_put =
+        let long = length-append entries (e ∷ []) in
+        record {
+          messages =
+              ap (λ c. Messages (messages c ++ m ∷ [])) puts.spells.messages
+              ∙ ap Messages (messages_put entries puts.spells.places);
+          room = omega (arith, long, puts.room);
+          places = all_append (IsPlaceOf app p) entries (e ∷ []) puts.spells.places (puts.place, tt);
+          head = omega (arith, head_is, puts.spells.head);
+          count = puts.counted.here ∙ omega (arith, long);
+          ring = λ i x at.
+              ap (λ h. slice_index after (ready_at app p + 2 + (h + i) % ready_room app p)) head_is ∙ ring_is i x at;
+        }

@@ -1,0 +1,7 @@
+-- The arguments so far are stored.
+use Rattle.std.proofs.Common.{◌≡◌, ◌++◌}
+use Rattle.rt_gen_queue.specs.Inside.Lines.{store_code}
+use Rattle.rt_gen_queue.proofs.parts.store.Given as goal
+
+abbrev pub invariant-loop-place : goal.invariant-loop-place
+invariant-loop-place l = l.lines.lines ≡ l.fn.lines.lines ++ store_code l.place l.target.inputs l.slot 0

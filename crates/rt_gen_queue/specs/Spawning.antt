@@ -1,0 +1,91 @@
+-- What is promised of the code of a spawn, wherever it stands in a body: it takes a place of the task, stores the
+-- arguments, makes the message ready and pends its dispatcher, or finds no place (the RTIC 1 book, software tasks,
+-- `spawn`), within its cost, whatever others do to what is not the job's own; and what the job has is as before.
+use Rattle.std.specs.Prelude.{◌≡◌, ℕ, ◌+◌, ◌-◌, ◌^◌, ◌<◌, ◌≤◌, ◌⊎◌, max, true, false, List, length, map, take, drop}
+use Rattle.std.specs.Prelude.{slice_get, slice_index, Some}
+use Rattle.std.specs.List.{AllByRecursion}
+use Rattle.rt_ids.specs.Lists.{greatest}
+use Rattle.rt_ids.specs.Holder.{Holder}
+use Rattle.rt_ids.specs.Content.{Values}
+use Rattle.rt_ids.specs.Entry.{Entry}
+use Rattle.rt_ids.specs.Names.{Names}
+use Rattle.rt_ids.specs.Storage.{Runner, Starting, AtLevel}
+use Rattle.rt_ids.specs.declared.ids.Section.TheVariants as section
+use Rattle.rt_app.specs.declared.costs.TheConstants.{SPAWN_COST, SPAWN_WORDS}
+use Rattle.rt_app.specs.Tree.{Expression, Soon, Task, App}
+use Rattle.rt_app.specs.Level.{is_software}
+use Rattle.rt_app.specs.Ceiling.{ceiling}
+use Rattle.rt_app.specs.Sending.{Rest, spawn_actions}
+use Rattle.rt_app.specs.Layout.{memory}
+use Rattle.rt_app.specs.Holding.{storage}
+use Rattle.rt_app.specs.Accepted.{IsAccepted}
+use Rattle.rt_code.specs.Listable.{HasInstr, HasNote}
+use Rattle.rt_code.specs.Masking.{IsWithin}
+use Rattle.rt_code.specs.Owning.{Held, Spot, is_open, saved_slots, Agree, LeavesMine}
+use Rattle.rt_code.specs.Standing.{Stands}
+use Rattle.rt_code.specs.declared.image.BodyRow.{BodyRow}
+use Rattle.rt_gen_queue.specs.Inside.Lines.{Line}
+use Rattle.rt_gen_queue.specs.Inside.Code.{HasCode, spawn_code}
+
+module _ (app : App) (who : Runner) where
+  -- The level that what runs holds off, with these sections open: `init` holds off all, another runner all up to the
+  -- greatest of its level and the ceilings of its open sections.
+  abbrev pub HoldsOff : Runner → List Held → ℕ → Type 0
+  HoldsOff Starting held level = 2 ^ app.bits ≤ level
+  HoldsOff (AtLevel p) held level = level ≡ max p (greatest (map (λ h. ceiling app h.section) held))
+
+  -- A job may spawn a task from here: all its memory is there, sixteen slots of its frame keep no mask, it is in
+  -- neither of the two sections, and each may be entered by what runs; and there are the steps of a spawn.
+  pub record MaySpawn (task : ℕ) (t : Task) (level slot : ℕ) (s : Spot) : Type 0 where
+    pub cells : length s.cells ≡ length (memory app)
+    pub frame : slot + SPAWN_WORDS ≤ length s.slots
+    pub masks : AllByRecursion (λ d. d < slot) (saved_slots s.held)
+    pub closed : (is_open s.held (section.Free task) ≡ false) × (is_open s.held (section.Ready t.priority) ≡ false)
+    pub within : IsWithin (storage app) who who (section.Free task)
+        × IsWithin (storage app) who who (section.Ready t.priority)
+    pub off : HoldsOff who s.held level
+    pub steps : AllByRecursion (λ n. SPAWN_COST ≤ n) s.lefts
+
+  -- Behind the spawn: the answer is in the first slot, other slots, what the job may read, and its cells and queues
+  -- are as they were.
+  pub record HasSpawned (slot : ℕ) (s : Spot) (vs : Values) (granted used : ℕ) (slots cells : List ℕ)
+      (queues : Holder → List Entry) (ws : Values) : Type 0 where
+    pub answer : (granted ≤ 1) × (slice_index slots slot ≡ granted)
+    pub frame : length slots ≡ length s.slots
+    pub kept : (d : ℕ) → (d < slot) ⊎ (slot + SPAWN_WORDS ≤ d) → slice_index slots d ≡ slice_index s.slots d
+    pub steps : used ≤ SPAWN_COST
+    pub own : LeavesMine (storage app) who s cells queues
+    pub agree : Agree (storage app) who s.held ws vs
+
+  -- where it then is, with this left to do
+  abbrev pub behind : Spot → List Line → ℕ → List ℕ → List ℕ → (Holder → List Entry) → Rest → Values → Spot
+  behind s lines used slots cells queues rest ws = record s {
+    lefts = map (λ n. n - used) s.lefts;
+    slots = slots;
+    address = s.address + length lines;
+    cells = cells;
+    queues = queues;
+    rest = rest ws;
+  }
+
+-- what a line names is declared: the interrupt that it posts, and the task of its note or its section
+pub record IsNameable (names : Names) (line : Line) : Type 0 where
+  pub instr : HasInstr names line.0
+  pub note : HasNote names line.1
+
+-- The code of a spawn stands for its actions and for any rest, where the code behind it stands for that rest.
+abbrev pub SpawnsStand : Type 0
+SpawnsStand =
+    (app : App) (task : ℕ) (t : Task) (code : List Line) (bodies : List BodyRow) (thread : ℕ) (who : Runner)
+    (level slot n k : ℕ) (s : Spot) (value : Expression → ℕ) (args : List Expression) (place : ℕ) (rest : ℕ → Rest)
+    (vs : Values)
+    → IsAccepted app → slice_get app.tasks task ≡ Some t → is_software t ≡ true
+    → HasCode code s.address (spawn_code app task level slot s.address)
+    → MaySpawn app who task t level slot s → SPAWN_COST + n ≤ k
+    → take t.args (drop slot s.slots) ≡ map value args
+    → s.rest ≡ spawn_actions app value (Soon task args place) rest vs
+    → ((granted used m : ℕ) (slots cells : List ℕ) (queues : Holder → List Entry) (ws : Values) → n ≤ m
+    → HasSpawned app who slot s vs granted used slots cells queues ws
+    → Stands (storage app) code bodies thread who m
+    (behind app who s (spawn_code app task level slot s.address) used slots cells queues (rest granted) ws))
+    → Stands (storage app) code bodies thread who k s

@@ -1,0 +1,129 @@
+ghost use Rattle.std.specs.Prelude.{◌≡◌, ◌+◌, ◌<◌, ◌≤◌, ◌^◌, OnOk};
+ghost use Rattle.rt_gen_queue.specs.Inside.Lines as spec;
+ghost use Rattle.rt_gen_queue.specs.Inside.Making.{numbers, Appends};
+
+use crate::guard::{closing, opening};
+use crate::lines::Lines;
+use crate::target::Target;
+use rt_code::{Instr, Note};
+use rt_ids::{NoMemory, Op, Prio, Section};
+
+/// A line without a note.
+fn plain(instr: Instr) -> (Instr, Option<Note>)
+    ensures { result ≡ spec.plain instr }
+{
+    (instr, None)
+}
+
+/// A line with a note.
+fn noted(instr: Instr, note: Note) -> (Instr, Option<Note>)
+    ensures { result ≡ spec.noted instr note }
+{
+    (instr, Some(note))
+}
+
+/// The lines that take a place of the task, or lead to an address where none is left.
+pub(crate) fn take(target: &Target, level: u8, slot: u32, full: u32) -> [(Instr, Option<Note>); 8]
+    requires slots { slot + 16 < 2 ^ 32 }
+    requires cells { target.now.free + 1 < 2 ^ 32 }
+    ensures { result ≡ spec.take_lines (numbers target.now) level slot full }
+{
+    let guard = target.free_guard;
+    let (count, place, one, mask) = (slot + 4, slot + 6, slot + 7, slot + 8);
+    [
+        noted(
+            opening(guard, level, mask),
+            Note::Enter(Section::Free(target.task)),
+        ),
+        plain(Instr::Load(count, target.free)),
+        plain(Instr::JumpZ(count, full)),
+        plain(Instr::Set(one, 1)),
+        plain(Instr::Calc(Op::Sub, count, count, one)),
+        plain(Instr::Store(target.free, count)),
+        noted(
+            Instr::LoadAt(place, target.free + 1, count),
+            Note::Placed(target.task),
+        ),
+        noted(
+            closing(guard, level, mask),
+            Note::Leave(Section::Free(target.task)),
+        ),
+    ]
+}
+
+/// Appends the lines that store the arguments in the cells of the place.
+fn store(target: &Target, slot: u32, lines: &mut Lines) -> Result<(), NoMemory>
+    requires slots { slot + 16 < 2 ^ 32 }
+    requires cells { target.now.inputs + 16 < 2 ^ 32 }
+    requires few { target.now.args ≤ 4 }
+    ensures { OnOk result (Appends lines.old lines.new
+        (spec.store_code target.now.args target.now.inputs slot 0)) }
+{
+    for place in 0..u32::from(target.args) {
+        lines.push(Instr::StoreAt(target.inputs + place, slot + 7, slot + place))?;
+    }
+    Ok(())
+}
+
+/// Appends the lines that fill the place and make the word of its message.
+pub(crate) fn fill(target: &Target, level: u8, slot: u32, lines: &mut Lines) -> Result<(), NoMemory>
+    requires slots { slot + 16 < 2 ^ 32 }
+    requires cells { target.now.inputs + 16 < 2 ^ 32 }
+    requires few { target.now.args ≤ 4 }
+    ensures { OnOk result (Appends lines.old lines.new (spec.fill_lines (numbers target.now) level slot)) }
+{
+    let (place, factor) = (slot + 6, slot + 7);
+    lines.push(Instr::Set(factor, u32::from(target.args)))?;
+    lines.push(Instr::Calc(Op::Mul, factor, place, factor))?;
+    store(target, slot, lines)?;
+    lines.push(Instr::Set(factor, 16 * u32::from(target.task.0)))?;
+    lines.push(Instr::Calc(Op::Add, place, place, factor))
+}
+
+/// The lines that put the message into the ring of its level, and pend the level's dispatcher.
+pub(crate) fn ready(target: &Target, level: u8, slot: u32) -> [(Instr, Option<Note>); 12]
+    requires slots { slot + 16 < 2 ^ 32 }
+    requires cells { target.now.ready + 2 < 2 ^ 32 }
+    ensures { result ≡ spec.ready_lines (numbers target.now) level slot }
+{
+    let ring = target.level;
+    let guard = target.ready_guard;
+    let (count, index, word, size, mask) = (slot + 4, slot + 5, slot + 6, slot + 7, slot + 8);
+    [
+        noted(
+            opening(guard, level, mask),
+            Note::Enter(Section::Ready(Prio(ring))),
+        ),
+        plain(Instr::Load(count, target.ready + 1)),
+        plain(Instr::Load(index, target.ready)),
+        plain(Instr::Calc(Op::Add, index, index, count)),
+        plain(Instr::Set(size, target.room)),
+        plain(Instr::Calc(Op::Rem, index, index, size)),
+        plain(Instr::StoreAt(target.ready + 2, index, word)),
+        plain(Instr::Set(size, 1)),
+        plain(Instr::Calc(Op::Add, count, count, size)),
+        noted(
+            Instr::Store(target.ready + 1, count),
+            Note::Ready(target.task),
+        ),
+        plain(Instr::Post(target.dispatcher)),
+        noted(
+            closing(guard, level, mask),
+            Note::Leave(Section::Ready(Prio(ring))),
+        ),
+    ]
+}
+
+/// The lines of the two answers, of which the first leads to an address.
+pub(crate) fn answer(target: &Target, level: u8, slot: u32, end: u32) -> [(Instr, Option<Note>); 4]
+    requires slots { slot + 16 < 2 ^ 32 }
+    ensures { result ≡ spec.end_lines (numbers target.now) level slot end }
+{
+    let closing = closing(target.free_guard, level, slot + 8);
+    [
+        plain(Instr::Set(slot, 1)),
+        plain(Instr::Jump(end)),
+        noted(Instr::Set(slot, 0), Note::Full(target.task)),
+        noted(closing, Note::Leave(Section::Free(target.task))),
+    ]
+}

@@ -1,0 +1,92 @@
+ghost use Rattle.std.specs.Prelude.{◌≡◌, ◌+◌, ◌<◌, ◌≤◌, ◌^◌, ◌++◌, true, length, drop, slice_get};
+ghost use Rattle.std.specs.Prelude.{IfOk, OnOk, OnErr};
+ghost use Rattle.std.specs.List.{AllByRecursion};
+ghost use Rattle.rt_ids.specs.Lists.{is_some_and};
+ghost use Rattle.rt_app.specs.Accepted.{IsAccepted};
+ghost use Rattle.rt_app.specs.Level.{is_software};
+ghost use Rattle.rt_app.specs.Names.{names_of};
+ghost use Rattle.rt_app.specs.Plan.{IsPlan};
+ghost use Rattle.rt_app.specs.View.{app_of};
+ghost use Rattle.rt_app.specs.declared.costs.TheConstants.{SPAWN_COST};
+ghost use Rattle.rt_gen_queue.specs.Spawning.{IsNameable};
+ghost use Rattle.rt_gen_queue.specs.Inside.Lines.{spawn_lines};
+ghost use Rattle.rt_gen_queue.specs.Inside.Code.{spawn_code};
+ghost use Rattle.rt_gen_queue.specs.Inside.Making.{numbers, Appends};
+
+use crate::lines::Lines;
+use crate::parts::{answer, fill, ready, take};
+use crate::target::{Target, find_target};
+use rt_app::Plan;
+use rt_code::{Instr, Note};
+use rt_ids::{NoMemory, TaskId};
+use std::alloc::Global;
+
+/// The address behind code. Where it has no 32 bits there is no memory for so much code either.
+fn next_entry(code: &[(Instr, Option<Note>)]) -> Result<u32, NoMemory>
+    ensures { IfOk result (λ entry. entry ≡ length code.now) }
+{
+    u32::try_from(code.len()).ok().ok_or(NoMemory)
+}
+
+/// The address behind the lines of a spawn, by the address where they begin.
+fn next_end(target: &Target, entry: u32) -> Result<u32, NoMemory>
+    ensures { IfOk result (λ end. end ≡ entry + (28 + target.now.args)) }
+{
+    entry
+        .checked_add(28 + u32::from(target.args))
+        .ok_or(NoMemory)
+}
+
+/// Appends all lines of a spawn, the first of which will stand at an address.
+fn append_spawn(
+    target: &Target,
+    level: u8,
+    slot: u32,
+    entry: u32,
+    lines: &mut Lines,
+) -> Result<(), NoMemory>
+    requires free { target.now.free + 1 < 2 ^ 32 }
+    requires inputs { target.now.inputs + 16 < 2 ^ 32 }
+    requires ready { target.now.ready + 2 < 2 ^ 32 }
+    requires few { target.now.args ≤ 4 }
+    ensures { OnOk result (Appends lines.old lines.new (spawn_lines (numbers target.now) level slot entry)) }
+{
+    slot.checked_add(16).ok_or(NoMemory)?;
+    let end = next_end(target, entry)?;
+    lines.append(&take(target, level, slot, end - 2))?;
+    fill(target, level, slot, lines)?;
+    lines.append(&ready(target, level, slot))?;
+    lines.append(&answer(target, level, slot, end))?;
+    Ok(())
+}
+
+/// Appends the code of a spawn of a software task, at a static level, whose arguments stand in the slots from one on.
+/// It takes a place of the task, stores the arguments, puts the message into the ready queue of the task's level and
+/// pends the level's dispatcher; the answer comes into the first slot: 1, or 0 where no place is left. It writes the
+/// 16 slots from there on alone. Its lines name only what the application declares, and there are at most 128 of them.
+/// An error leaves the code as it was.
+pub fn gen_spawn(
+    alloc: Global,
+    plan: &Plan<'_>,
+    task: TaskId,
+    level: u8,
+    slot: u32,
+    code: &mut Vec<(Instr, Option<Note>)>,
+) -> Result<(), NoMemory>
+    requires accepted { IsAccepted (app_of plan.now.app.now) }
+    requires planned { IsPlan plan.now }
+    requires software { is_some_and is_software (slice_get (app_of plan.now.app.now).tasks task) ≡ true }
+    ensures code { OnOk result (code.new.items ≡ code.old.items
+        ++ spawn_code (app_of plan.now.app.now) task level slot (length code.old.items)) }
+    ensures size { OnOk result (length code.new.items ≤ length code.old.items + SPAWN_COST) }
+    ensures lines { OnOk result (AllByRecursion (IsNameable (names_of (app_of plan.now.app.now)))
+        (drop (length code.old.items) code.new.items)) }
+    ensures left { OnErr result (code.new.items ≡ code.old.items) }
+{
+    let target = find_target(plan, task);
+    let entry = next_entry(code)?;
+    let mut lines = Lines::new(alloc);
+    append_spawn(&target, level, slot, entry, &mut lines)?;
+    code.extend_from_slice(lines.as_slice())?;
+    Ok(())
+}
