@@ -1,7 +1,9 @@
 -- The cost and the size of whole bodies and handlers, and the size of all code before each body.
 use Rattle.std.specs.Prelude.{ℕ, ◌+◌, ◌*◌, min, true, false, map, filter, sum_by, Option, Some, None}
 use Rattle.rt_app.specs.declared.app.Mono.{Mono}
-use Rattle.rt_app.specs.declared.costs.TheConstants.{MESSAGE_COST, READY_COST, READY_TASK_COST, TIMER_SECTION_COST, DISPATCHER_COST, TIMER_COST, TIMER_TASK_COST, SIZED_MESSAGES, DISPATCHER_TASK_SIZE, TIMER_TASK_SIZE, THREAD_SIZE}
+use Rattle.rt_app.specs.declared.costs.TheConstants.{MESSAGE_COST, READY_COST, READY_TASK_COST, TIMER_SECTION_COST}
+use Rattle.rt_app.specs.declared.costs.TheConstants.{DISPATCHER_COST, TIMER_COST, TIMER_TASK_COST, SIZED_MESSAGES}
+use Rattle.rt_app.specs.declared.costs.TheConstants.{DISPATCHER_TASK_SIZE, TIMER_TASK_SIZE, THREAD_SIZE}
 use Rattle.rt_app.specs.Tree.{Body, App}
 use Rattle.rt_app.specs.Level.{is_of_level, levels, tasks_of_level, armed_messages, armed_tasks}
 use Rattle.rt_ids.specs.Lists.{greatest}

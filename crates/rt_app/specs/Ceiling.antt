@@ -1,7 +1,8 @@
 -- Priority ceilings (Baker, Stack-Based Scheduling of Realtime Processes, 1991; the RTIC 1 book): the greatest
 -- priority of the bodies that use what a section guards. That queues are guarded so, and by which ceilings, is this
 -- project's own. The code fills a table for each kind in one pass over the bodies.
-use Rattle.std.specs.Prelude.{ℕ, ◌+◌, ◌==◌, max, Bool, not, ◌&&◌, List, [], ◌∷◌, map, filter, length, slice_get, Option, Some, None, option_map, if◌then◌else◌}
+use Rattle.std.specs.Prelude.{ℕ, ◌+◌, ◌==◌, max, Bool, not, ◌&&◌, List, [], ◌∷◌, map, filter, length, slice_get, Option}
+use Rattle.std.specs.Prelude.{Some, None, option_map, if◌then◌else◌}
 use Rattle.std.specs.List.{list_any, range_with_len}
 use Rattle.rt_ids.specs.declared.ids.Section.{Section}
 use Rattle.rt_ids.specs.declared.ids.Section.TheVariants as section

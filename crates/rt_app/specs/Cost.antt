@@ -4,7 +4,8 @@
 use Rattle.std.specs.Prelude.{ℕ, ◌+◌, ◌-◌, ◌*◌, min, max, Bool, List, [], ◌∷◌, if◌then◌else◌}
 use Rattle.rt_ids.specs.declared.limits.TheConstants.{BODY_COST}
 use Rattle.rt_app.specs.declared.costs.TheConstants.{SPAWN_COST, SPAWN_AFTER_COST, MESSAGE_COST, LOOP_COST, TURN_COST}
-use Rattle.rt_app.specs.Tree.{Expression, Num, Read, Oper, Spawn, Soon, After, Value, Calc, Now, Call, Statement, Bind, Assign, Branch, Repeat, Locked, Emit, Pend, Spawns, Block, Empty, Then}
+use Rattle.rt_app.specs.Tree.{Expression, Num, Read, Oper, Spawn, Soon, After, Value, Calc, Now, Call, Statement, Bind}
+use Rattle.rt_app.specs.Tree.{Assign, Branch, Repeat, Locked, Emit, Pend, Spawns, Block, Empty, Then}
 
 -- what is counted
 pub record Measure : Type 0 where

@@ -1,6 +1,7 @@
 -- The rules on declarations: priorities, interrupts, dispatchers, local resources, hardware tasks. An unknown name,
 -- which is refused as such, breaks none of them.
-use Rattle.std.specs.Prelude.{ℕ, ◌==◌, ◌^◌, nat_lt, nat_le, Bool, not, ◌&&◌, ◌||◌, List, [], ◌∷◌, ◌++◌, length, map, flat_map, Option, Some, None, if◌then◌else◌}
+use Rattle.std.specs.Prelude.{ℕ, ◌==◌, ◌^◌, nat_lt, nat_le, Bool, not, ◌&&◌, ◌||◌, List, [], ◌∷◌, ◌++◌, length, map}
+use Rattle.std.specs.Prelude.{flat_map, Option, Some, None, if◌then◌else◌}
 use Rattle.std.specs.List.{list_any}
 use Rattle.rt_ids.specs.declared.rule.Rule.TheVariants as rule
 use Rattle.rt_app.specs.declared.TheConstants.{UNKNOWN}

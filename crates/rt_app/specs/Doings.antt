@@ -1,6 +1,6 @@
--- What whole bodies and handlers have to do (the RTIC 1 book: `init`, `idle`, hardware tasks, software tasks and their dispatchers, the
--- monotonic). That a dispatcher starts one message an entry, and that the timer handler makes one message ready an entry, is this
--- project's own.
+-- What whole bodies and handlers have to do (the RTIC 1 book: `init`, `idle`, hardware tasks, software tasks and their
+-- dispatchers, the monotonic). That a dispatcher starts one message an entry, and that the timer handler makes one
+-- message ready an entry, is this project's own.
 use Rattle.std.specs.Prelude.{ℕ, nat_le, List, [], ◌∷◌, ◌++◌, replicate, slice_get, Option, Some, None, if◌then◌else◌}
 use Rattle.rt_ids.specs.Lists.{is_empty, then_from}
 use Rattle.rt_ids.specs.Holder.{Guarded}
@@ -42,14 +42,15 @@ module _ (app : App) where
   abbrev pub task_doing : ℕ → List ℕ → Rest → Rest
   task_doing n args rest = declared_doing (then_from (slice_get app.tasks n) (λ t. Some t.body)) args rest
 
-  -- The oldest ready message of a level starts: its place is free before its task's body runs, and the dispatcher is pended
-  -- again where more are ready.
+  -- The oldest ready message of a level starts: its place is free before its task's body runs, and the dispatcher is
+  -- pended again where more are ready.
   abbrev pub start_doing : ℕ → List Message → Rest
   start_doing p [] = act_all (Leaves (section.Ready p) ∷ Returns ∷ []) nothing
   start_doing p (m ∷ more) =
       act_all
       (Starts p m ∷ (if is_empty more then [] else Posts (dispatcher_number app p) ∷ [])
-      ++ Leaves (section.Ready p) ∷ Enters (section.Free m.task) FREE_COST ∷ Frees m.task ∷ Leaves (section.Free m.task) ∷ [])
+      ++ Leaves (section.Ready p) ∷ Enters (section.Free m.task) FREE_COST ∷ Frees m.task ∷ Leaves (section.Free m.task)
+      ∷ [])
       (task_doing m.task m.args (act_all (Ends (body.Task m.task) ∷ Returns ∷ []) nothing))
 
   abbrev pub dispatcher_doing : ℕ → Rest
@@ -65,7 +66,8 @@ module _ (app : App) where
   abbrev pub fire_doing : Option Armed → Rest
   fire_doing None = act_all (SetsAlarm ∷ Leaves section.Timer ∷ Returns ∷ []) nothing
   fire_doing (Some a) =
-      act_all (Fires a.message ∷ SetsAlarm ∷ Leaves section.Timer ∷ ready_actions app (task_priority app a.message.task) a.message ++ Returns ∷ []) nothing
+      act_all (Fires a.message ∷ SetsAlarm ∷ Leaves section.Timer
+      ∷ ready_actions app (task_priority app a.message.task) a.message ++ Returns ∷ []) nothing
 
   abbrev pub timer_doing : Rest
   timer_doing =

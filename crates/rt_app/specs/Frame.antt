@@ -2,7 +2,8 @@
 -- project's own; frames are even, as the exception frames of ARMv7-M are multiples of 8 bytes.
 use Rattle.std.specs.Prelude.{ℕ, ◌+◌, ◌%◌, max, Bool, true, false, ◌||◌, map, if◌then◌else◌}
 use Rattle.rt_app.specs.declared.costs.TheConstants.{SPAWN_WORDS, SPAWN_AFTER_WORDS}
-use Rattle.rt_app.specs.Tree.{Expression, Num, Read, Oper, Spawn, Soon, After, Value, Calc, Now, Call, Statement, Bind, Assign, Branch, Repeat, Locked, Emit, Pend, Spawns, Block, Empty, Then, Body}
+use Rattle.rt_app.specs.Tree.{Expression, Num, Read, Oper, Spawn, Soon, After, Value, Calc, Now, Call, Statement, Bind}
+use Rattle.rt_app.specs.Tree.{Assign, Branch, Repeat, Locked, Emit, Pend, Spawns, Block, Empty, Then, Body}
 use Rattle.rt_app.specs.Variables.{variables}
 use Rattle.rt_app.specs.Spawned.{is_soon, spawns}
 use Rattle.rt_ids.specs.Lists.{greatest}
@@ -80,8 +81,9 @@ expression_words b = max (block_depth b) (if has_loop b then 1 else 0)
 abbrev pub even : ℕ → ℕ
 even n = n + n % 2
 
--- Where the parts of the frame of a body with so many arguments begin: in front stand its variables, the arguments first, then come
--- the words where expressions are evaluated, one for each depth of locking to save a mask in, and those of a spawn.
+-- Where the parts of the frame of a body with so many arguments begin: in front stand its variables, the arguments
+-- first, then come the words where expressions are evaluated, one for each depth of locking to save a mask in, and
+-- those of a spawn.
 abbrev pub first_expression_slot : ℕ → Body → ℕ
 first_expression_slot args b = args + variables b.block
 

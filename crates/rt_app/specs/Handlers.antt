@@ -1,7 +1,8 @@
--- Which interrupt serves what (the RTIC 1 book, hardware tasks, software tasks and the monotonic): a hardware task runs in the
--- interrupt that it binds, the software tasks of a level share a dispatcher, and the monotonic has an interrupt of its own. That the
--- highest level takes the dispatcher that is named first is this project's own.
-use Rattle.std.specs.Prelude.{ℕ, ◌+◌, ◌==◌, Bool, not, nat_lt, List, [], ◌∷◌, ◌++◌, length, filter, map, flat_map, slice_get, Option, Some, None, option_map, is_none}
+-- Which interrupt serves what (the RTIC 1 book, hardware tasks, software tasks and the monotonic): a hardware task runs
+-- in the interrupt that it binds, the software tasks of a level share a dispatcher, and the monotonic has an interrupt
+-- of its own. That the highest level takes the dispatcher that is named first is this project's own.
+use Rattle.std.specs.Prelude.{ℕ, ◌+◌, ◌==◌, Bool, not, nat_lt, List, [], ◌∷◌, ◌++◌, length, filter, map, flat_map}
+use Rattle.std.specs.Prelude.{slice_get, Option, Some, None, option_map, is_none}
 use Rattle.std.specs.List.{list_any, list_all}
 use Rattle.rt_app.specs.declared.app.Mono.{Mono}
 use Rattle.rt_app.specs.Tree.{Task, App}
@@ -46,7 +47,8 @@ timer_service (Some mono) = record { irq = mono.irq; handler = Times; level = mo
 
 -- the interrupts that are enabled: those of hardware tasks, of the dispatchers in use, and of the monotonic
 abbrev pub services : App → List Service
-services app = task_services 0 app.tasks ++ (flat_map (λ p. dispatcher_service p (dispatcher_of app p)) (levels app) ++ timer_service app.mono)
+services app = task_services 0 app.tasks
+    ++ (flat_map (λ p. dispatcher_service p (dispatcher_of app p)) (levels app) ++ timer_service app.mono)
 
 -- what serves an interrupt, by its place
 abbrev pub service_of : App → ℕ → List Service

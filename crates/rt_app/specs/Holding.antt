@@ -1,7 +1,9 @@
--- How what resources and queues hold is spelled in memory, who keeps what without a section, and all of it as the storage that code
--- stands over. That a job reaches a resource in its critical section alone is RTIC's (the RTIC 1 book, resources); how queues lie in
--- cells is this project's own. What the cells of the timer queue spell comes with its code.
-use Rattle.std.specs.Prelude.{◌≡◌, ℕ, ◌+◌, ◌-◌, ◌*◌, ◌%◌, ◌==◌, ◌<◌, ◌≤◌, nat_lt, Bool, true, false, not, ◌&&◌, List, length, map, slice_get, Some, option_map, Contains, IsSome}
+-- How what resources and queues hold is spelled in memory, who keeps what without a section, and all of it as the
+-- storage that code stands over. That a job reaches a resource in its critical section alone is RTIC's (the RTIC 1
+-- book, resources); how queues lie in cells is this project's own. What the cells of the timer queue spell comes with
+-- its code.
+use Rattle.std.specs.Prelude.{◌≡◌, ℕ, ◌+◌, ◌-◌, ◌*◌, ◌%◌, ◌==◌, ◌<◌, ◌≤◌, nat_lt, Bool, true, false, not, ◌&&◌, List}
+use Rattle.std.specs.Prelude.{length, map, slice_get, Some, option_map, Contains, IsSome}
 use Rattle.std.specs.List.{AllByRecursion, list_any, range_with_len}
 use Rattle.rt_ids.specs.Lists.{is_some_and, or_zero, then_from}
 use Rattle.rt_ids.specs.Holder.{Holder, Guarded, Own}
@@ -41,13 +43,16 @@ module _ (app : App) (cells : ℕ → ℕ) where
     pub room : length entries ≤ capacity_of app n
     pub places : AllByRecursion (λ e. (e.task ≡ n) × (e.place < capacity_of app n)) entries
     pub count : cells (free_at app n) ≡ length entries
-    pub stack : (i : ℕ) (e : Entry) → slice_get entries i ≡ Some e → cells (free_at app n + (length entries - i)) ≡ e.place
+    pub stack : (i : ℕ) (e : Entry) → slice_get entries i ≡ Some e → cells (free_at app n + (length entries - i))
+        ≡ e.place
 
   -- the ready messages of a level, the oldest first
   pub record SpellsReady (p : ℕ) (entries : List Entry) (content : Content) : Type 0 where
     pub messages : content ≡ Messages (map message_at entries)
     pub room : length entries ≤ ready_room app p
-    pub places : AllByRecursion (λ e. (is_some_and (is_of_level p) (slice_get app.tasks e.task) ≡ true) × (e.place < capacity_of app e.task)) entries
+    pub places : AllByRecursion
+        (λ e. (is_some_and (is_of_level p) (slice_get app.tasks e.task) ≡ true) × (e.place < capacity_of app e.task))
+        entries
     pub head : cells (ready_at app p) ≤ ready_room app p - 1
     pub count : cells (ready_at app p + 1) ≡ length entries
     pub ring : (i : ℕ) (e : Entry) → slice_get entries i ≡ Some e
@@ -66,8 +71,8 @@ module _ (app : App) where
   abbrev pub is_some_at : (Member → Bool) → ℕ → Bool
   is_some_at test p = list_any (λ m. not (is_init m.id) && ((m.priority == p) && test m)) (members app)
 
-  -- What a runner keeps from its start to its end: `init` every resource and the local ones that it lists, a level the local
-  -- resources and the `lock_free` ones that its bodies list. At most one job of a level has started at a time.
+  -- What a runner keeps from its start to its end: `init` every resource and the local ones that it lists, a level the
+  -- local resources and the `lock_free` ones that its bodies list. At most one job of a level has started at a time.
   abbrev pub is_kept : Runner → Holder → Bool
   is_kept Starting (Guarded (section.Res r)) = nat_lt r (length app.shared)
   is_kept Starting (Own n) = list_any (λ m. is_init m.id && owns n m) (members app)
@@ -77,7 +82,8 @@ module _ (app : App) where
 
   -- once `init` has ended nobody changes a resource that is listed as `&name`
   abbrev pub is_constant : Runner → Holder → Bool
-  is_constant (AtLevel p) (Guarded (section.Res r)) = list_any (λ l. (l.listed.resource == r) && l.listed.by_ref) (listings app)
+  is_constant (AtLevel p) (Guarded (section.Res r)) =
+      list_any (λ l. (l.listed.resource == r) && l.listed.by_ref) (listings app)
   is_constant runner holder = false
 
   -- A holder of the application: what it keeps has cells. A hardware task has no places.

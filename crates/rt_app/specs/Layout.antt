@@ -1,7 +1,9 @@
--- Where everything that code keeps lies in memory: one list of cells, so that no cell belongs to two things. First come the shared
--- resources, a cell each, then the local ones, then for each software task its free places and the arguments of each of its places,
--- then for each level of software tasks its ready queue. The order is this project's own. The code keeps the numbers of first cells.
-use Rattle.std.specs.Prelude.{ℕ, ◌+◌, Bool, ◌&&◌, nat_lt, List, [], ◌∷◌, ◌++◌, codes, decimal, length, map, flat_map, filter, sum_by, take, slice_index_or, if◌then◌else◌}
+-- Where everything that code keeps lies in memory: one list of cells, so that no cell belongs to two things. First come
+-- the shared resources, a cell each, then the local ones, then for each software task its free places and the arguments
+-- of each of its places, then for each level of software tasks its ready queue. The order is this project's own. The
+-- code keeps the numbers of first cells.
+use Rattle.std.specs.Prelude.{ℕ, ◌+◌, Bool, ◌&&◌, nat_lt, List, [], ◌∷◌, ◌++◌, codes, decimal, length, map, flat_map}
+use Rattle.std.specs.Prelude.{filter, sum_by, take, slice_index_or, if◌then◌else◌}
 use Rattle.std.specs.List.{range_with_len}
 use Rattle.rt_ids.specs.Holder.{Guarded, Own}
 use Rattle.rt_ids.specs.Storage.{Home, At, In, Nowhere}
@@ -29,26 +31,30 @@ resource_cells r (s ∷ more) =
 
 abbrev pub local_cells : ℕ → List Local → List Cell
 local_cells n [] = []
-local_cells n (l ∷ more) = record { name = codes "local." ++ l.name; first = l.first; home = At (Own n) } ∷ local_cells (n + 1) more
+local_cells n (l ∷ more) =
+    record { name = codes "local." ++ l.name; first = l.first; home = At (Own n) } ∷ local_cells (n + 1) more
 
 -- The free places of a task lie as a stack: how many there are, and then their numbers. At first all are free.
 abbrev pub free_cells : ℕ → Task → List Cell
 free_cells n t =
     let front : List ℕ = codes "free." ++ t.name ++ codes "." in
     record { name = front ++ codes "count"; first = t.capacity; home = At (Guarded (section.Free n)) }
-    ∷ map (λ k. record { name = front ++ decimal k; first = k; home = At (Guarded (section.Free n)) }) (range_with_len 0 t.capacity)
+    ∷ map (λ k. record { name = front ++ decimal k; first = k; home = At (Guarded (section.Free n)) })
+    (range_with_len 0 t.capacity)
 
 -- the arguments of a place
 abbrev pub place_cells : ℕ → Task → ℕ → List Cell
 place_cells n t place =
     let front : List ℕ = codes "input." ++ t.name ++ codes "." ++ decimal place ++ codes "." in
-    map (λ k. record { name = front ++ decimal k; first = 0; home = In (record { task = n; place = place }) }) (range_with_len 0 t.args)
+    map (λ k. record { name = front ++ decimal k; first = 0; home = In (record { task = n; place = place }) })
+    (range_with_len 0 t.args)
 
 -- of tasks, the first of which has this number; a hardware task has none
 abbrev pub task_cells : ℕ → List Task → List Cell
 task_cells n [] = []
 task_cells n (t ∷ more) =
-    (if is_software t then free_cells n t ++ flat_map (place_cells n t) (range_with_len 0 t.capacity) else []) ++ task_cells (n + 1) more
+    (if is_software t then free_cells n t ++ flat_map (place_cells n t) (range_with_len 0 t.capacity) else [])
+    ++ task_cells (n + 1) more
 
 -- the messages of a level that may be ready at once
 abbrev pub ready_room : App → ℕ → ℕ
@@ -58,8 +64,13 @@ ready_room app p = sum_by (λ t. t.capacity) (filter (is_of_level p) app.tasks)
 abbrev pub ready_cells : App → ℕ → List Cell
 ready_cells app p =
     let front : List ℕ = codes "ready." ++ decimal p ++ codes "." in
-    let cell : List ℕ → Cell = λ name. record { name = front ++ name; first = 0; home = At (Guarded (section.Ready p)) } in
-    cell (codes "head") ∷ cell (codes "count") ∷ map (λ k. cell (codes "at." ++ decimal k)) (range_with_len 0 (ready_room app p))
+    let cell : List ℕ → Cell = λ name. record {
+      name = front ++ name;
+      first = 0;
+      home = At (Guarded (section.Ready p));
+    } in
+    cell (codes "head") ∷ cell (codes "count")
+    ∷ map (λ k. cell (codes "at." ++ decimal k)) (range_with_len 0 (ready_room app p))
 
 -- all cells, by number
 abbrev pub memory : App → List Cell
@@ -67,8 +78,8 @@ memory app =
     resource_cells 0 app.shared
     ++ (local_cells 0 app.locals ++ (task_cells 0 app.tasks ++ flat_map (ready_cells app) (levels app)))
 
--- The numbers of first cells: of a resource, of a local resource, of the free places of a task, of the arguments of its places, of
--- the ready queue of a level.
+-- The numbers of first cells: of a resource, of a local resource, of the free places of a task, of the arguments of its
+-- places, of the ready queue of a level.
 abbrev pub resource_at : App → ℕ → ℕ
 resource_at app r = r
 

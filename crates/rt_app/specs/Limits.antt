@@ -1,8 +1,10 @@
 -- The limits of application texts, as an application with its names resolved shows them.
 use Rattle.std.specs.Prelude.{ℕ, ◌+◌, ◌-◌, ◌^◌, ◌<◌, ◌≤◌, max, length, Option, Some, None}
 use Rattle.std.specs.List.{AllByRecursion}
-use Rattle.rt_ids.specs.declared.limits.TheConstants.{TASKS, SHARED, LOCALS, IRQS, IRQ_NUMBERS, TURNS, LEAST_BITS, MOST_BITS, ARGUMENTS, CAPACITY, NESTING, STATEMENTS, DEPTH}
-use Rattle.rt_app.specs.Tree.{Expression, Num, Read, Oper, Spawn, Soon, After, Value, Calc, Now, Call, Statement, Bind, Assign, Branch, Repeat, Locked, Emit, Pend, Spawns, Block, Empty, Then, Body, Task, App}
+use Rattle.rt_ids.specs.declared.limits.TheConstants.{TASKS, SHARED, LOCALS, IRQS, IRQ_NUMBERS, TURNS, LEAST_BITS}
+use Rattle.rt_ids.specs.declared.limits.TheConstants.{MOST_BITS, ARGUMENTS, CAPACITY, NESTING, STATEMENTS, DEPTH}
+use Rattle.rt_app.specs.Tree.{Expression, Num, Read, Oper, Spawn, Soon, After, Value, Calc, Now, Call, Statement, Bind}
+use Rattle.rt_app.specs.Tree.{Assign, Branch, Repeat, Locked, Emit, Pend, Spawns, Block, Empty, Then, Body, Task, App}
 use Rattle.rt_app.specs.Frame.{block_depth}
 
 -- statements, those of inner blocks too

@@ -1,7 +1,8 @@
 -- The rules on the shared resources that bodies list (the RTIC 1 book): a resource is read as `&name` by all that
 -- list it or by none, and one that is `lock_free` is listed at one priority. A listing is judged by the first one of
 -- its resource.
-use Rattle.std.specs.Prelude.{ℕ, ◌==◌, Bool, not, ◌&&◌, ◌||◌, List, [], ◌++◌, map, flat_map, find, slice_get, Option, Some, None, if◌then◌else◌}
+use Rattle.std.specs.Prelude.{ℕ, ◌==◌, Bool, not, ◌&&◌, ◌||◌, List, [], ◌++◌, map, flat_map, find, slice_get, Option}
+use Rattle.std.specs.Prelude.{Some, None, if◌then◌else◌}
 use Rattle.rt_ids.specs.declared.rule.Rule.TheVariants as rule
 use Rattle.rt_app.specs.declared.body.Listed.{Listed}
 use Rattle.rt_app.specs.declared.violation.Violation.{Violation}

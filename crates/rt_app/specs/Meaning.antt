@@ -1,7 +1,7 @@
--- What the statements of a body mean: the actions that they come to, one at a time, each with the values that resources and
--- queues then have (the RTIC 1 book, resources and software tasks). Statements are run on the tree, at once up to the next
--- action, and what follows an action goes by the values behind it, whatever others did to them. The code runs instructions, and
--- can be interrupted between any two.
+-- What the statements of a body mean: the actions that they come to, one at a time, each with the values that resources
+-- and queues then have (the RTIC 1 book, resources and software tasks). Statements are run on the tree, at once up to
+-- the next action, and what follows an action goes by the values behind it, whatever others did to them. The code runs
+-- instructions, and can be interrupted between any two.
 use Rattle.std.specs.Prelude.{ℕ, zero, suc, ◌-◌, ◌==◌, if◌then◌else◌, List, [], ◌∷◌, slice_index, slice_set}
 use Rattle.rt_ids.specs.Lists.{or_zero}
 use Rattle.rt_ids.specs.Operation.{operate}

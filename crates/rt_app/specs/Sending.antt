@@ -1,6 +1,6 @@
--- The actions by which messages go to software tasks (the RTIC 1 book, software tasks and the monotonic): a spawn takes a place of
--- its task, where one is left, and puts the message into the ready queue of the task's level, or into the timer queue. That they are
--- these actions, in sections of these queues, is this project's own.
+-- The actions by which messages go to software tasks (the RTIC 1 book, software tasks and the monotonic): a spawn takes
+-- a place of its task, where one is left, and puts the message into the ready queue of the task's level, or into the
+-- timer queue. That they are these actions, in sections of these queues, is this project's own.
 use Rattle.std.specs.Prelude.{ℕ, ◌+◌, min, nat_lt, Bool, List, [], ◌∷◌, map, slice_get, option_map, if◌then◌else◌}
 use Rattle.rt_ids.specs.Lists.{or_zero, then_from}
 use Rattle.rt_ids.specs.Holder.{Guarded}

@@ -1,8 +1,10 @@
--- What no broken rule means for a body, in the terms of RTIC 1 (the RTIC 1 book, resources and software tasks) and of Baker
--- (Stack-Based Scheduling of Realtime Processes, 1991): the body reaches a shared resource in a section of it, or without one where it
--- may; each section's ceiling is at least the body's priority, and none stands in a section of the same resource; a loop's variable is
--- set by its loop alone. The rules are lists of violations; this follows the statements.
-use Rattle.std.specs.Prelude.{◌≡◌, ℕ, ◌+◌, ◌-◌, ◌^◌, ◌<◌, ◌≤◌, ◌⊎◌, true, false, Contains, List, [], ◌∷◌, length, map, slice_get, Option, Some, None}
+-- What no broken rule means for a body, in the terms of RTIC 1 (the RTIC 1 book, resources and software tasks) and of
+-- Baker (Stack-Based Scheduling of Realtime Processes, 1991): the body reaches a shared resource in a section of it, or
+-- without one where it may; each section's ceiling is at least the body's priority, and none stands in a section of the
+-- same resource; a loop's variable is set by its loop alone. The rules are lists of violations; this follows the
+-- statements.
+use Rattle.std.specs.Prelude.{◌≡◌, ℕ, ◌+◌, ◌-◌, ◌^◌, ◌<◌, ◌≤◌, ◌⊎◌, true, false, Contains, List, [], ◌∷◌, length, map}
+use Rattle.std.specs.Prelude.{slice_get, Option, Some, None}
 use Rattle.std.specs.List.{AllByRecursion}
 use Rattle.rt_ids.specs.Lists.{is_some_and}
 use Rattle.rt_ids.specs.declared.limits.TheConstants.{TURNS}
@@ -10,7 +12,8 @@ use Rattle.rt_ids.specs.declared.ids.Section.TheVariants as section
 use Rattle.rt_app.specs.declared.app.Mono.{Mono}
 use Rattle.rt_app.specs.declared.expr.Atom.{Atom}
 use Rattle.rt_app.specs.declared.expr.Atom.TheVariants as atom
-use Rattle.rt_app.specs.Tree.{Expression, Num, Read, Oper, Spawn, Soon, After, Value, Calc, Now, Call, Statement, Bind, Assign, Branch, Repeat, Locked, Emit, Pend, Spawns, Block, Empty, Then, Task, App}
+use Rattle.rt_app.specs.Tree.{Expression, Num, Read, Oper, Spawn, Soon, After, Value, Calc, Now, Call, Statement, Bind}
+use Rattle.rt_app.specs.Tree.{Assign, Branch, Repeat, Locked, Emit, Pend, Spawns, Block, Empty, Then, Task, App}
 use Rattle.rt_app.specs.Variables.{variables, variables_in}
 use Rattle.rt_app.specs.Bodies.{Member}
 use Rattle.rt_app.specs.Level.{is_software, is_armed}
@@ -22,7 +25,8 @@ module _ (app : App) (m : Member) where
   abbrev pub IsReached : List ℕ → Atom → Type 0
   IsReached locked (atom.Var x) = x < m.args + variables m.body.block
   IsReached locked (atom.Shared r) =
-      (r < length app.shared) × ((is_init m.id ≡ true) ⊎ ((is_free app m r ≡ true) ⊎ ((is_lockable app m r ≡ true) × Contains locked r)))
+      (r < length app.shared) × ((is_init m.id ≡ true)
+      ⊎ ((is_free app m r ≡ true) ⊎ ((is_lockable app m r ≡ true) × Contains locked r)))
   IsReached locked (atom.Local n) = (n < length app.locals) × Contains (map (λ o. o.local) m.body.local) n
 
   -- it may change it too: no variable of a loop round it, and nothing that it lists to be read alone
@@ -46,9 +50,11 @@ module _ (app : App) (m : Member) where
 
   -- and then that of the ready queue of its level, or that of the timer queue
   abbrev pub IsSoundSpawn : List ℕ → Spawn → Type 0
-  IsSoundSpawn locked (Soon n args at) = (t : Task) × SpawnsTask locked n args t × (m.priority ≤ ceiling app (section.Ready t.priority))
+  IsSoundSpawn locked (Soon n args at) =
+      (t : Task) × SpawnsTask locked n args t × (m.priority ≤ ceiling app (section.Ready t.priority))
   IsSoundSpawn locked (After word delay n args at) =
-      (t : Task) × SpawnsTask locked n args t × AreReached locked delay × (is_armed app n ≡ true) × ((mono : Mono) × (app.mono ≡ Some mono))
+      (t : Task) × SpawnsTask locked n args t × AreReached locked delay × (is_armed app n ≡ true)
+      × ((mono : Mono) × (app.mono ≡ Some mono))
       × (m.priority ≤ ceiling app section.Timer)
 
   abbrev pub IsSoundValue : List ℕ → Value → Type 0
@@ -72,7 +78,8 @@ module _ (app : App) (m : Member) where
     IsSoundStatement n locked fixed (Branch e first second) =
         AreReached locked e × IsSoundBlock n locked fixed first × IsSoundBlock (n + variables first) locked fixed second
     IsSoundStatement n locked fixed (Repeat x first last turn) =
-        (x ≡ n) × (first < 2 ^ 32) × (last < 2 ^ 32) × (last - first ≤ TURNS) × IsSoundBlock (n + 1) locked (x ∷ fixed) turn
+        (x ≡ n) × (first < 2 ^ 32) × (last < 2 ^ 32) × (last - first ≤ TURNS)
+        × IsSoundBlock (n + 1) locked (x ∷ fixed) turn
     IsSoundStatement n locked fixed (Locked r inner at) = IsSoundLock locked r × IsSoundBlock n (r ∷ locked) fixed inner
     IsSoundStatement n locked fixed (Emit e) = AreReached locked e
     IsSoundStatement n locked fixed (Pend i) = i < length app.irqs
@@ -80,7 +87,8 @@ module _ (app : App) (m : Member) where
 
     pub IsSoundBlock : ℕ → List ℕ → List ℕ → Block → Type 0
     IsSoundBlock n locked fixed Empty = Unit {0}
-    IsSoundBlock n locked fixed (Then s rest) = IsSoundStatement n locked fixed s × IsSoundBlock (n + variables_in s) locked fixed rest
+    IsSoundBlock n locked fixed (Then s rest) =
+        IsSoundStatement n locked fixed s × IsSoundBlock (n + variables_in s) locked fixed rest
 
   -- the whole body, behind its arguments
   abbrev pub IsSoundBody : Type 0

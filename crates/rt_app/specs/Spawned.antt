@@ -1,6 +1,7 @@
 -- The spawns that a body holds.
 use Rattle.std.specs.Prelude.{ℕ, Bool, true, false, List, [], ◌∷◌, ◌++◌}
-use Rattle.rt_app.specs.Tree.{Spawn, Soon, After, Value, Calc, Now, Call, Statement, Bind, Assign, Branch, Repeat, Locked, Emit, Pend, Spawns, Block, Empty, Then}
+use Rattle.rt_app.specs.Tree.{Spawn, Soon, After, Value, Calc, Now, Call, Statement, Bind, Assign, Branch, Repeat}
+use Rattle.rt_app.specs.Tree.{Locked, Emit, Pend, Spawns, Block, Empty, Then}
 
 -- of the value of a `let`
 abbrev pub value_spawns : Value → List Spawn

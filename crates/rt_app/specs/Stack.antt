@@ -1,7 +1,8 @@
 -- How deep the one stack can get. Handlers of one level never stand on each other, so each level counts once, with
 -- the greatest need of its handlers: a maximum per level, where the machine has nested frames (Baker, 1991, on
 -- sharing a stack).
-use Rattle.std.specs.Prelude.{ℕ, zero, suc, ◌+◌, ◌*◌, ◌==◌, max, Bool, not, ◌&&◌, ◌||◌, List, map, filter, Option, Some, None, if◌then◌else◌}
+use Rattle.std.specs.Prelude.{ℕ, zero, suc, ◌+◌, ◌*◌, ◌==◌, max, Bool, not, ◌&&◌, ◌||◌, List, map, filter, Option, Some}
+use Rattle.std.specs.Prelude.{None, if◌then◌else◌}
 use Rattle.std.specs.List.{list_any}
 use Rattle.rt_app.specs.declared.costs.TheConstants.{DISPATCHER_WORDS, TIMER_WORDS, ENTRY_BYTES, PRIORITIES}
 use Rattle.rt_app.specs.Tree.{Body, Task, App}

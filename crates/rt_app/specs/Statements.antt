@@ -1,6 +1,7 @@
 -- The rules on statements: shared resources (Baker, 1991; the RTIC 1 book), spawns, time, and what can be assigned
 -- to. A name that is not known, which is refused as such, breaks none of them.
-use Rattle.std.specs.Prelude.{ℕ, ◌==◌, Bool, true, false, not, ◌&&◌, ◌||◌, List, [], ◌++◌, length, flat_map, find, slice_get, Option, is_none}
+use Rattle.std.specs.Prelude.{ℕ, ◌==◌, Bool, true, false, not, ◌&&◌, ◌||◌, List, [], ◌++◌, length, flat_map, find}
+use Rattle.std.specs.Prelude.{slice_get, Option, is_none}
 use Rattle.std.specs.List.{list_any}
 use Rattle.rt_ids.specs.declared.ids.BodyId.{BodyId}
 use Rattle.rt_ids.specs.declared.ids.BodyId.TheVariants as body

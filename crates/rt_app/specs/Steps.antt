@@ -2,8 +2,10 @@
 -- parts are plain sums. The code counts up to a cap; the law below ties the two.
 use Rattle.std.specs.Prelude.{◌≡◌, ℕ, ◌+◌, ◌*◌, List, [], ◌∷◌}
 use Rattle.rt_app.specs.declared.costs.TheConstants.{SPAWN_COST, SPAWN_AFTER_COST, MESSAGE_COST, LOOP_COST, TURN_COST}
-use Rattle.rt_app.specs.Tree.{Expression, Num, Read, Oper, Spawn, Soon, After, Value, Calc, Now, Call, Statement, Bind, Assign, Branch, Repeat, Locked, Emit, Pend, Spawns, Block, Empty, Then}
-use Rattle.rt_app.specs.Cost.{Measure, capped, branch_cost, turns, expression_cost, spawn_cost, statement_cost, block_cost}
+use Rattle.rt_app.specs.Tree.{Expression, Num, Read, Oper, Spawn, Soon, After, Value, Calc, Now, Call, Statement, Bind}
+use Rattle.rt_app.specs.Tree.{Assign, Branch, Repeat, Locked, Emit, Pend, Spawns, Block, Empty, Then}
+use Rattle.rt_app.specs.Cost.{Measure, capped, branch_cost, turns, expression_cost, spawn_cost, statement_cost}
+use Rattle.rt_app.specs.Cost.{block_cost}
 
 -- one for each name, number and operation
 abbrev pub expression_steps : Expression → ℕ

@@ -6,7 +6,8 @@ use Rattle.rt_app.specs.declared.stmt.Spawn.{Spawn}
 use Rattle.rt_app.specs.declared.stmt.Spawn.TheVariants as spawn
 use Rattle.rt_app.specs.declared.stmt.Value.{Value}
 use Rattle.rt_app.specs.declared.stmt.Value.TheVariants as value
-use Rattle.rt_app.specs.declared.stmt.Stmt.{Stmt, Row_of-Stmt, end_of-Stmt, more_of-Stmt, Bind, Assign, Branch', Repeat', Locked', Emit, Pend, Call}
+use Rattle.rt_app.specs.declared.stmt.Stmt.{Stmt, Row_of-Stmt, end_of-Stmt, more_of-Stmt, Bind, Assign, Branch'}
+use Rattle.rt_app.specs.declared.stmt.Stmt.{Repeat', Locked', Emit, Pend, Call}
 use Rattle.rt_app.specs.declared.body.Body.{Body}
 use Rattle.rt_app.specs.declared.app.Task.{Task}
 use Rattle.rt_app.specs.declared.app.App.{App}

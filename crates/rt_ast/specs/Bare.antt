@@ -7,7 +7,8 @@ use Rattle.rt_ast.specs.declared.app.MonoTree.{MonoTree}
 use Rattle.rt_ast.specs.declared.app.SharedTree.{SharedTree}
 use Rattle.rt_ast.specs.declared.app.LocalTree.{LocalTree}
 use Rattle.rt_ast.specs.declared.app.ListedTree.{ListedTree}
-use Rattle.rt_ast.specs.Tree.{Expression, Num, Read, Oper, Spawn, Soon, After, Value, Calc, Now, Call, Statement, Bind, Assign, Branch, Repeat, Locked, Emit, Pend, Spawns, Block, Empty, Then, Body, Task, App}
+use Rattle.rt_ast.specs.Tree.{Expression, Num, Read, Oper, Spawn, Soon, After, Value, Calc, Now, Call, Statement, Bind}
+use Rattle.rt_ast.specs.Tree.{Assign, Branch, Repeat, Locked, Emit, Pend, Spawns, Block, Empty, Then, Body, Task, App}
 
 abbrev pub bare_name : Ident → Ident
 bare_name x = record { name = x.name; at = 0 }
@@ -60,7 +61,12 @@ abbrev pub bare_listed : ListedTree → ListedTree
 bare_listed r = record { name = bare_name r.name; by_ref = r.by_ref; at = 0 }
 
 abbrev pub bare_body : Body → Body
-bare_body b = record { shared = map bare_listed b.shared; local = map bare_name b.local; block = bare_block b.block; at = 0 }
+bare_body b = record {
+  shared = map bare_listed b.shared;
+  local = map bare_name b.local;
+  block = bare_block b.block;
+  at = 0;
+}
 
 abbrev pub bare_task : Task → Task
 bare_task t = record {

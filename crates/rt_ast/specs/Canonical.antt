@@ -21,7 +21,8 @@ dispatchers_text [] = []
 dispatchers_text (x ∷ xs) = codes ", dispatchers = " ++ bracketed name_text (x ∷ xs)
 
 abbrev pub head_text : App → List ℕ
-head_text a = codes "app " ++ name_text a.name ++ codes "(bits = " ++ decimal a.bits ++ dispatchers_text a.dispatchers ++ codes ");" ++ newline
+head_text a = codes "app " ++ name_text a.name ++ codes "(bits = " ++ decimal a.bits ++ dispatchers_text a.dispatchers
+    ++ codes ");" ++ newline
 
 abbrev pub irq_text : IrqTree → List ℕ
 irq_text irq = name_text irq.name ++ codes " = " ++ decimal irq.number.value
@@ -32,7 +33,8 @@ irqs_text irqs = codes "interrupts " ++ enclosed irq_text irqs ++ newline
 abbrev pub mono_text : Option MonoTree → List ℕ
 mono_text None = []
 mono_text (Some mono) =
-    codes "monotonic(binds = " ++ name_text mono.binds ++ codes ", priority = " ++ decimal mono.priority.value ++ codes ");" ++ newline
+    codes "monotonic(binds = " ++ name_text mono.binds ++ codes ", priority = " ++ decimal mono.priority.value
+    ++ codes ");" ++ newline
 
 abbrev pub lock_free_text : Bool → List ℕ
 lock_free_text lock_free = if lock_free then codes "lock_free " else []
@@ -61,10 +63,12 @@ arguments_text (x ∷ xs) = codes " with " ++ names_text (x ∷ xs)
 
 abbrev pub task_text : Task → List ℕ
 task_text t =
-    codes "task " ++ name_text t.name ++ options_text (task_options t) ++ arguments_text t.args ++ codes " " ++ block_text [] t.body.block ++ newline
+    codes "task " ++ name_text t.name ++ options_text (task_options t) ++ arguments_text t.args ++ codes " "
+    ++ block_text [] t.body.block ++ newline
 
 -- the whole text
 abbrev pub canonical : App → List ℕ
 canonical a =
-    head_text a ++ irqs_text a.irqs ++ mono_text a.mono ++ shared_text a.shared ++ locals_text a.locals ++ body_text (codes "init") a.init
+    head_text a ++ irqs_text a.irqs ++ mono_text a.mono ++ shared_text a.shared ++ locals_text a.locals
+    ++ body_text (codes "init") a.init
     ++ body_text (codes "idle") a.idle ++ flat_map task_text a.tasks

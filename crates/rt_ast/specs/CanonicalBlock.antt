@@ -1,8 +1,9 @@
--- The canonical text of statements and blocks. One space stands on each side of `=`. What stands in a block is four spaces
--- further in than the block.
+-- The canonical text of statements and blocks. One space stands on each side of `=`. What stands in a block is four
+-- spaces further in than the block.
 use Rattle.std.specs.Prelude.{ℕ, codes, decimal, List, [], ◌++◌}
 use Rattle.rt_ast.specs.declared.ident.Ident.{Ident}
-use Rattle.rt_ast.specs.Tree.{Expression, Spawn, Soon, After, Value, Calc, Now, Call, Statement, Bind, Assign, Branch, Repeat, Locked, Emit, Pend, Spawns, Block, Empty, Then}
+use Rattle.rt_ast.specs.Tree.{Expression, Spawn, Soon, After, Value, Calc, Now, Call, Statement, Bind, Assign, Branch}
+use Rattle.rt_ast.specs.Tree.{Repeat, Locked, Emit, Pend, Spawns, Block, Empty, Then}
 use Rattle.rt_ast.specs.CanonicalExpression.{newline, separated, name_text, expression_text}
 
 -- a task and its arguments
@@ -11,7 +12,8 @@ call_text task args = name_text task ++ codes "(" ++ separated expression_text a
 
 abbrev pub spawn_text : Spawn → List ℕ
 spawn_text (Soon task args) = codes "spawn " ++ call_text task args
-spawn_text (After at delay task args) = codes "spawn_after(" ++ expression_text delay ++ codes ") " ++ call_text task args
+spawn_text (After at delay task args) =
+    codes "spawn_after(" ++ expression_text delay ++ codes ") " ++ call_text task args
 
 abbrev pub value_text : Value → List ℕ
 value_text (Calc e) = expression_text e
@@ -33,7 +35,8 @@ abbrev pub branch_head : Expression → List ℕ
 branch_head e = codes "if " ++ expression_text e ++ codes " "
 
 abbrev pub repeat_head : Ident → ℕ → ℕ → List ℕ
-repeat_head x first last = codes "for " ++ name_text x ++ codes " in " ++ decimal first ++ codes ".." ++ decimal last ++ codes " "
+repeat_head x first last =
+    codes "for " ++ name_text x ++ codes " in " ++ decimal first ++ codes ".." ++ decimal last ++ codes " "
 
 abbrev pub lock_head : Ident → List ℕ
 lock_head r = codes "lock " ++ name_text r ++ codes " "
@@ -59,7 +62,8 @@ abbrev mutual
   pub else_text : List ℕ → Block → List ℕ
   else_text margin Empty = []
   else_text margin (Then s rest) =
-      codes " else " ++ braces margin (line (deeper margin) (statement_text (deeper margin) s) ++ lines_text (deeper margin) rest)
+      codes " else " ++ braces margin
+      (line (deeper margin) (statement_text (deeper margin) s) ++ lines_text (deeper margin) rest)
 
   -- the statements of a block, a line each
   pub lines_text : List ℕ → Block → List ℕ

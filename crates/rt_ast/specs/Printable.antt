@@ -1,8 +1,9 @@
--- The applications that have a canonical text which is read as them: their names are names, their numbers are of 32 bits,
--- and they keep the limits of application texts. `init` lists nothing shared.
+-- The applications that have a canonical text which is read as them: their names are names, their numbers are of 32
+-- bits, and they keep the limits of application texts. `init` lists nothing shared.
 use Rattle.std.specs.Prelude.{◌≡◌, ℕ, ◌<◌, ◌≤◌, List, [], length, Option, Some, None}
 use Rattle.std.specs.List.{AllByRecursion}
-use Rattle.rt_ids.specs.declared.limits.TheConstants.{TASKS, SHARED, LOCALS, IRQS, IRQ_NUMBERS, LEAST_BITS, MOST_BITS, ARGUMENTS, CAPACITY, NESTING, STATEMENTS}
+use Rattle.rt_ids.specs.declared.limits.TheConstants.{TASKS, SHARED, LOCALS, IRQS, IRQ_NUMBERS, LEAST_BITS, MOST_BITS}
+use Rattle.rt_ids.specs.declared.limits.TheConstants.{ARGUMENTS, CAPACITY, NESTING, STATEMENTS}
 use Rattle.rt_ast.specs.declared.ident.Ident.{Ident}
 use Rattle.rt_ast.specs.declared.ident.Number.{Number}
 use Rattle.rt_ast.specs.declared.app.IrqTree.{IrqTree}

@@ -6,7 +6,8 @@ use Rattle.rt_ast.specs.declared.stmt.Spawn.{Spawn}
 use Rattle.rt_ast.specs.declared.stmt.Spawn.TheVariants as spawn
 use Rattle.rt_ast.specs.declared.stmt.Value.{Value}
 use Rattle.rt_ast.specs.declared.stmt.Value.TheVariants as value
-use Rattle.rt_ast.specs.declared.stmt.Stmt.{Stmt, Row_of-Stmt, end_of-Stmt, more_of-Stmt, Bind, Assign, Branch', Repeat', Locked', Emit, Pend, Call}
+use Rattle.rt_ast.specs.declared.stmt.Stmt.{Stmt, Row_of-Stmt, end_of-Stmt, more_of-Stmt, Bind, Assign, Branch'}
+use Rattle.rt_ast.specs.declared.stmt.Stmt.{Repeat', Locked', Emit, Pend, Call}
 use Rattle.rt_ast.specs.declared.app.BodyTree.{BodyTree}
 use Rattle.rt_ast.specs.declared.app.TaskTree.{TaskTree}
 use Rattle.rt_ast.specs.declared.app.AppTree.{AppTree}
@@ -48,7 +49,14 @@ abbrev pub body_of : BodyTree → tree.Body
 body_of b = record { shared = b.shared.items; local = b.local.items; block = block_of b.block.items; at = b.at }
 
 abbrev pub task_of : TaskTree → tree.Task
-task_of t = record { name = t.name; binds = t.binds; priority = t.priority; capacity = t.capacity; args = t.args.items; body = body_of t.body }
+task_of t = record {
+  name = t.name;
+  binds = t.binds;
+  priority = t.priority;
+  capacity = t.capacity;
+  args = t.args.items;
+  body = body_of t.body;
+}
 
 abbrev pub option_map : {A B : Type 0} → (A → B) → Option A → Option B
 option_map f None = None

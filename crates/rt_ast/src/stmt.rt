@@ -45,7 +45,8 @@ impl Stmt {
     /// The choice between two blocks by a value.
     #[tactic(auto, using(crate::proofs::Statements::branch_is))]
     pub fn branch(condition: Expr, first: Vec<Stmt>, second: Vec<Stmt>) -> Stmt
-        ensures { statement_of result ≡ tree.Branch (expression_of condition) (block_of first.items) (block_of second.items) }
+        ensures { statement_of result
+            ≡ tree.Branch (expression_of condition) (block_of first.items) (block_of second.items) }
     {
         Stmt::Branch(condition, first, second)
     }

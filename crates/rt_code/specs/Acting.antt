@@ -1,6 +1,7 @@
--- How code does an action: what the job has left to do must begin with it, and what follows goes by the values behind it, whatever
--- others did to what is not the job's. Places of messages move from list to list, and are nowhere copied.
-use Rattle.std.specs.Prelude.{◌≡◌, ℕ, ◌+◌, ◌≤◌, true, List, [], ◌∷◌, ◌++◌, length, take, drop, slice_get, Option, Some, if◌then◌else◌}
+-- How code does an action: what the job has left to do must begin with it, and what follows goes by the values behind
+-- it, whatever others did to what is not the job's. Places of messages move from list to list, and are nowhere copied.
+use Rattle.std.specs.Prelude.{◌≡◌, ℕ, ◌+◌, ◌≤◌, true, List, [], ◌∷◌, ◌++◌, length, take, drop, slice_get, Option, Some}
+use Rattle.std.specs.Prelude.{if◌then◌else◌}
 use Rattle.rt_ids.specs.Holder.{Holder, Guarded, is_same_holder}
 use Rattle.rt_ids.specs.Content.{Message, Values, delays, least_instant}
 use Rattle.rt_ids.specs.Entry.{Entry}
@@ -25,7 +26,8 @@ module _ (st : Storage) (bodies : List BodyRow) (who : Runner) where
     pub values : Values
     pub follows : ℕ → Values → Doing Values
     pub is : s.rest ≡ does action values follows
-    pub on : (vs : Values) → Agree st who s.held vs values → later (record s { rest = follows answer (effect action vs) })
+    pub on : (vs : Values) → Agree st who s.held vs values
+        → later (record s { rest = follows answer (effect action vs) })
 
   -- The alarm becomes the least armed instant, for the monotonic's interrupt, or none where nothing is armed.
   pub record SetsTheAlarm (instant : Option ℕ) (s : Spot) (later : Spot → Type 0) : Type 0 where
@@ -40,7 +42,8 @@ module _ (st : Storage) (bodies : List BodyRow) (who : Runner) where
     pub inside : is_open s.held (section.Free t) ≡ true
     pub first : s.queues (Guarded (section.Free t)) ≡ entry ∷ others
     pub of_task : entry.task ≡ t
-    pub acts : Acts (Takes t) 0 (record s { places = entry ∷ s.places; queues = with_queue s.queues (section.Free t) others }) later
+    pub acts : Acts (Takes t) 0
+        (record s { places = entry ∷ s.places; queues = with_queue s.queues (section.Free t) others }) later
 
   pub record FindsNone (t : ℕ) (s : Spot) (later : Spot → Type 0) : Type 0 where
     pub inside : is_open s.held (section.Free t) ≡ true
@@ -55,7 +58,12 @@ module _ (st : Storage) (bodies : List BodyRow) (who : Runner) where
     pub inside : is_open s.held (section.Ready level) ≡ true
     pub in_hands : s.places ≡ entry ∷ others
     pub of_task : (entry.task ≡ t) × (message.task ≡ t)
-    pub acts : Acts (Readies level message) 0 (record s { places = others; queues = with_queue s.queues (section.Ready level) (s.queues (Guarded (section.Ready level)) ++ entry ∷ []) }) later
+    pub acts : Acts (Readies level message) 0
+        (record s {
+          places = others;
+          queues = with_queue s.queues (section.Ready level) (s.queues (Guarded (section.Ready level)) ++ entry ∷ []);
+        })
+        later
 
   pub record ArmsMessage (t slot : ℕ) (s : Spot) (later : Spot → Type 0) : Type 0 where
     pub instant : ℕ
@@ -66,7 +74,11 @@ module _ (st : Storage) (bodies : List BodyRow) (who : Runner) where
     pub in_hands : s.places ≡ entry ∷ others
     pub of_task : (entry.task ≡ t) × (message.task ≡ t)
     pub shown : slice_get s.slots slot ≡ Some instant
-    pub acts : Acts (Arms instant message) 0 (record s { places = others; queues = with_queue s.queues section.Timer (s.queues (Guarded section.Timer) ++ entry ∷ []) }) later
+    pub acts : Acts (Arms instant message) 0
+        (record s {
+          places = others;
+          queues = with_queue s.queues section.Timer (s.queues (Guarded section.Timer) ++ entry ∷ []);
+        }) later
 
   -- the oldest ready message of a level starts, with its arguments in the slots from one on
   pub record StartsMessage (t from : ℕ) (s : Spot) (later : Spot → Type 0) : Type 0 where
@@ -79,7 +91,8 @@ module _ (st : Storage) (bodies : List BodyRow) (who : Runner) where
     pub of_task : (entry.task ≡ t) × (message.task ≡ t)
     pub fits : from + arguments_in bodies t ≤ length s.slots
     pub shown : message.args ≡ take (arguments_in bodies t) (drop from s.slots)
-    pub acts : Acts (Starts level message) 0 (record s { places = entry ∷ s.places; queues = with_queue s.queues (section.Ready level) others }) later
+    pub acts : Acts (Starts level message) 0
+        (record s { places = entry ∷ s.places; queues = with_queue s.queues (section.Ready level) others }) later
 
   -- an armed message, whose instant has come, comes into the hands; the others stay in order
   pub record FiresMessage (t : ℕ) (s : Spot) (later : Spot → Type 0) : Type 0 where
@@ -90,7 +103,8 @@ module _ (st : Storage) (bodies : List BodyRow) (who : Runner) where
     pub inside : is_open s.held section.Timer ≡ true
     pub stands : s.queues (Guarded section.Timer) ≡ before ++ entry ∷ behind
     pub of_task : (entry.task ≡ t) × (message.task ≡ t)
-    pub acts : Acts (Fires message) 0 (record s { places = entry ∷ s.places; queues = with_queue s.queues section.Timer (before ++ behind) }) later
+    pub acts : Acts (Fires message) 0
+        (record s { places = entry ∷ s.places; queues = with_queue s.queues section.Timer (before ++ behind) }) later
 
   -- the place in the hands is free again, and is taken next
   pub record GivesPlaceBack (t : ℕ) (s : Spot) (later : Spot → Type 0) : Type 0 where
@@ -99,7 +113,11 @@ module _ (st : Storage) (bodies : List BodyRow) (who : Runner) where
     pub inside : is_open s.held (section.Free t) ≡ true
     pub in_hands : s.places ≡ entry ∷ others
     pub of_task : entry.task ≡ t
-    pub acts : Acts (Frees t) 0 (record s { places = others; queues = with_queue s.queues (section.Free t) (entry ∷ s.queues (Guarded (section.Free t))) }) later
+    pub acts : Acts (Frees t) 0
+        (record s {
+          places = others;
+          queues = with_queue s.queues (section.Free t) (entry ∷ s.queues (Guarded (section.Free t)));
+        }) later
 
   -- what a note on a plain instruction says is done; those of sections and ends stand on instructions of their own
   abbrev pub Noted : Note → Spot → (Spot → Type 0) → Type 0

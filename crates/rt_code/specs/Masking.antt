@@ -1,7 +1,9 @@
--- How code goes into a section and comes out of it. A section holds off all priorities up to its ceiling: by nothing where what runs
--- does already, by BASEPRI, or by PRIMASK where the value of the ceiling is 0, which as BASEPRI would mask nothing (the RTIC 1 book,
--- critical sections; ARMv7-M Architecture Reference Manual, section B1.4.3). What the mask was is kept in a slot, and put back.
-use Rattle.std.specs.Prelude.{◌≡◌, ℕ, suc, ◌-◌, ◌<◌, ◌≤◌, max, false, List, ◌∷◌, length, map, drop, slice_index, slice_set, Contains}
+-- How code goes into a section and comes out of it. A section holds off all priorities up to its ceiling: by nothing
+-- where what runs does already, by BASEPRI, or by PRIMASK where the value of the ceiling is 0, which as BASEPRI would
+-- mask nothing (the RTIC 1 book, critical sections; ARMv7-M Architecture Reference Manual, section B1.4.3). What the
+-- mask was is kept in a slot, and put back.
+use Rattle.std.specs.Prelude.{◌≡◌, ℕ, suc, ◌-◌, ◌<◌, ◌≤◌, max, false, List, ◌∷◌, length, map, drop, slice_index}
+use Rattle.std.specs.Prelude.{slice_set, Contains}
 use Rattle.std.specs.List.{AllByRecursion}
 use Rattle.rt_ids.specs.Lists.{greatest}
 use Rattle.rt_ids.specs.Holder.{Holder, Guarded}
@@ -11,7 +13,8 @@ use Rattle.rt_ids.specs.Action.{Enters, Leaves}
 use Rattle.rt_ids.specs.Doing.{Doing, does}
 use Rattle.rt_ids.specs.Storage.{Storage, Runner, Starting, AtLevel}
 use Rattle.rt_ids.specs.declared.ids.Section.{Section}
-use Rattle.rt_code.specs.Owning.{Kind, Marked, Raised, Masked, Held, Spot, is_open, saved_slot, saved_slots, mine, Agree, LeavesMine}
+use Rattle.rt_code.specs.Owning.{Kind, Marked, Raised, Masked, Held, Spot, is_open, saved_slot, saved_slots, mine}
+use Rattle.rt_code.specs.Owning.{Agree, LeavesMine}
 use Rattle.rt_code.specs.declared.instr.Instr.{Instr}
 use Rattle.rt_code.specs.declared.instr.Instr.TheVariants as instr
 
@@ -42,7 +45,8 @@ module _ (st : Storage) (who : Runner) where
   -- `init` holds off all; another runner all up to the greatest of its level and the ceilings of its open sections
   abbrev pub IsKindFor : Runner → List Held → Section → Kind → Type 0
   IsKindFor Starting held x kind = kind ≡ Marked
-  IsKindFor (AtLevel p) held x kind = IsMask (st.ceiling x) (max p (greatest (map (λ h. st.ceiling h.section) held))) kind
+  IsKindFor (AtLevel p) held x kind =
+      IsMask (st.ceiling x) (max p (greatest (map (λ h. st.ceiling h.section) held))) kind
 
   -- the ceiling is at least the level of what runs; for `init`, which nobody interrupts, nothing is asked
   abbrev pub IsWithin : Runner → Section → Type 0
@@ -68,7 +72,8 @@ module _ (st : Storage) (who : Runner) where
   }
 
   -- What it guards is taken over as the others left it, with no place of a message twice among the job's own.
-  pub record TakesOver (x : Section) (s : Spot) (values vs : Values) (cells : List ℕ) (queues : Holder → List Entry) : Type 0 where
+  pub record TakesOver (x : Section) (s : Spot) (values vs : Values) (cells : List ℕ)
+      (queues : Holder → List Entry) : Type 0 where
     pub agree : Agree st who s.held vs values
     pub same : LeavesMine st who s cells queues
     pub spelled : st.Spells (Guarded x) (slice_index cells) (queues (Guarded x)) (vs (Guarded x))
@@ -87,7 +92,8 @@ module _ (st : Storage) (who : Runner) where
     pub within : IsWithin who x
     pub once : is_open s.held x ≡ false
     pub shared : NobodyKeeps who x
-    pub on : (saved : ℕ) (vs : Values) (cells : List ℕ) (queues : Holder → List Entry) → TakesOver x s values vs cells queues
+    pub on : (saved : ℕ) (vs : Values) (cells : List ℕ) (queues : Holder → List Entry)
+        → TakesOver x s values vs cells queues
         → later (inside x kind saved cost (follows 0 vs) cells queues s)
 
   -- What it guards is given back as it then is: its cells spell its value.

@@ -1,7 +1,8 @@
--- What a job owns while it runs: the resources and queues whose sections it has open, what its runner keeps, and the places of
--- messages in its hands (Baker, Stack-Based Scheduling of Realtime Processes, 1991: a job's open sections; the RTIC 1 book, local
--- resources). A job touches cells of these alone; the rest of memory is others'.
-use Rattle.std.specs.Prelude.{◌≡◌, ℕ, ◌+◌, ◌<◌, ◌||◌, Bool, true, List, [], ◌∷◌, length, slice_index, flat_map, sum_by, Option, Some, None}
+-- What a job owns while it runs: the resources and queues whose sections it has open, what its runner keeps, and the
+-- places of messages in its hands (Baker, Stack-Based Scheduling of Realtime Processes, 1991: a job's open sections;
+-- the RTIC 1 book, local resources). A job touches cells of these alone; the rest of memory is others'.
+use Rattle.std.specs.Prelude.{◌≡◌, ℕ, ◌+◌, ◌<◌, ◌||◌, Bool, true, List, [], ◌∷◌, length, slice_index, flat_map, sum_by}
+use Rattle.std.specs.Prelude.{Option, Some, None}
 use Rattle.std.specs.List.{list_any}
 use Rattle.rt_ids.specs.Holder.{Holder, Guarded, Own, is_same_section}
 use Rattle.rt_ids.specs.Content.{Values}
@@ -11,7 +12,8 @@ use Rattle.rt_ids.specs.Storage.{Storage, Runner, Home, At, In, Nowhere}
 use Rattle.rt_ids.specs.declared.ids.Section.{Section}
 use Rattle.rt_code.specs.Access.{Access, Loads, Stores}
 
--- how a section holds others off: a mark alone, since what runs does already; or BASEPRI or PRIMASK, whose value before is in a slot
+-- how a section holds others off: a mark alone, since what runs does already; or BASEPRI or PRIMASK, whose value before
+-- is in a slot
 pub data Kind : Type 0 where
   Marked : Kind
   Raised : (slot : ℕ) → Kind
@@ -26,7 +28,8 @@ pub record Held : Type 0 where
 pub record Spot : Type 0 where
   -- its open sections, innermost first
   pub held : List Held
-  -- At most so many more steps are needed: to the leaving of each open section, innermost first, and at last to the job's end.
+  -- At most so many more steps are needed: to the leaving of each open section, innermost first, and at last to the
+  -- job's end.
   pub lefts : List ℕ
   -- the places of messages in its hands, the last taken first
   pub places : List Entry

@@ -1,7 +1,9 @@
--- Code that stands: from where a job is, instruction after instruction does what the job has left to do, action by action and in time,
--- whatever others do to what is not its own. It is said by what each instruction does (`effect`), once for all code, and not by how
--- code is generated: a job is thought of in its own frame, its own sections and its own part of memory, as a task of RTIC 1 is.
-use Rattle.std.specs.Prelude.{◌≡◌, ℕ, zero, suc, ◌-◌, ◌^◌, ◌<◌, Bool, true, false, ◌||◌, List, [], ◌∷◌, length, map, slice_get, slice_index, Option, Some, None}
+-- Code that stands: from where a job is, instruction after instruction does what the job has left to do, action by
+-- action and in time, whatever others do to what is not its own. It is said by what each instruction does (`effect`),
+-- once for all code, and not by how code is generated: a job is thought of in its own frame, its own sections and its
+-- own part of memory, as a task of RTIC 1 is.
+use Rattle.std.specs.Prelude.{◌≡◌, ℕ, zero, suc, ◌-◌, ◌^◌, ◌<◌, Bool, true, false, ◌||◌, List, [], ◌∷◌, length, map}
+use Rattle.std.specs.Prelude.{slice_get, slice_index, Option, Some, None}
 use Rattle.std.specs.List.{AllByRecursion}
 use Rattle.rt_ids.specs.Holder.{Holder}
 use Rattle.rt_ids.specs.Content.{Values}
@@ -45,10 +47,11 @@ HaveLeft lefts = AllByRecursion (λ n. 0 < n) lefts
 abbrev pub passed : Spot → Spot
 passed s = record s { lefts = map (λ n. n - 1) s.lefts }
 
--- code for a runner, beside the rows of the bodies that it may call, where the thread goes on at an address once `init` or `idle` ends
+-- code for a runner, beside the rows of the bodies that it may call, where the thread goes on at an address once `init`
+-- or `idle` ends
 module _ (st : Storage) (code : List (Instr × Option Note)) (bodies : List BodyRow) (thread : ℕ) (who : Runner) where
-  -- A job's last action, or that of a body of the thread: it has no section open and nothing in its hands, and gives back what its
-  -- runner keeps.
+  -- A job's last action, or that of a body of the thread: it has no section open and nothing in its hands, and gives
+  -- back what its runner keeps.
   pub record Finishes (action : Action) (s : Spot) : Type 0 where
     pub values : Values
     pub follows : ℕ → Values → Doing Values
@@ -58,7 +61,8 @@ module _ (st : Storage) (code : List (Instr × Option Note)) (bodies : List Body
     pub own_frame : s.caller ≡ None
     pub spelled : (h : Holder) → st.is_kept who h ≡ true → st.Spells h (slice_index s.cells) (s.queues h) (values h)
 
-  -- a body that a handler calls runs in a frame of its own, with no section open; the handler's frame keeps the address behind the call
+  -- a body that a handler calls runs in a frame of its own, with no section open; the handler's frame keeps the address
+  -- behind the call
   pub record Calls (row from : ℕ) (s : Spot) (later : Spot → Type 0) : Type 0 where
     pub called : BodyRow
     pub is_there : slice_get bodies row ≡ Some called
@@ -73,11 +77,13 @@ module _ (st : Storage) (code : List (Instr × Option Note)) (bodies : List Body
     pub frame : List ℕ
     pub caller : s.caller ≡ Some frame
     pub closed : s.held ≡ []
-    pub acts : Acts st bodies who (Ends (body.Task t)) 0 (record s { address = stack.return_address frame; slots = frame; caller = None }) later
+    pub acts : Acts st bodies who (Ends (body.Task t)) 0
+        (record s { address = stack.return_address frame; slots = frame; caller = None }) later
 
   -- `init` ends by serving interrupts, and the thread goes on at its address; `idle` by going to the same again
   abbrev pub EndsBody : BodyId → Instr → Spot → (Spot → Type 0) → Type 0
-  EndsBody body.Init i s later = (i ≡ instr.Serve) × (who ≡ Starting) × (suc s.address ≡ thread) × Finishes (Ends body.Init) s
+  EndsBody body.Init i s later =
+      (i ≡ instr.Serve) × (who ≡ Starting) × (suc s.address ≡ thread) × Finishes (Ends body.Init) s
   EndsBody body.Idle i s later = (i ≡ instr.Jump thread) × (who ≡ AtLevel 0) × Finishes (Ends body.Idle) s
   EndsBody (body.Task t) i s later = (i ≡ instr.Back) × ComesBack t s later
 
@@ -88,7 +94,8 @@ module _ (st : Storage) (code : List (Instr × Option Note)) (bodies : List Body
   Asks (request.Emit value) None s later = Acts st bodies who (Emits value) 0 s later
   Asks (request.Post irq) None s later = Acts st bodies who (Posts irq) 0 s later
   Asks (request.Clock time) None s later = Acts st bodies who Clocks time s later
-  Asks (request.Alarm instant irq) None s later = (st.timer ≡ Some irq) × SetsTheAlarm st bodies who (Some instant) s later
+  Asks (request.Alarm instant irq) None s later =
+      (st.timer ≡ Some irq) × SetsTheAlarm st bodies who (Some instant) s later
   Asks request.NoAlarm None s later = SetsTheAlarm st bodies who None s later
   Asks (request.Call row from) None s later = Calls row from s later
   Asks request.Return None s later = Finishes Returns s
@@ -99,7 +106,8 @@ module _ (st : Storage) (code : List (Instr × Option Note)) (bodies : List Body
   abbrev pub Goes : Option Note → ℕ → Bool → Spot → (Spot → Type 0) → Effect → Type 0
   Goes told basepri primask s later (Traps trap) = ⊥
   Goes told basepri primask s later (Leads p asked) =
-      (p.basepri ≡ basepri) × (p.primask ≡ primask) × KeepsSaved s.held s.slots p.slots × Asks asked told (moved s p) later
+      (p.basepri ≡ basepri) × (p.primask ≡ primask) × KeepsSaved s.held s.slots p.slots
+      × Asks asked told (moved s p) later
 
   -- whatever the masks and the time, it touches what the job may touch
   pub record Does (i : Instr) (told : Option Note) (s : Spot) (later : Spot → Type 0) : Type 0 where
@@ -123,12 +131,13 @@ module _ (st : Storage) (code : List (Instr × Option Note)) (bodies : List Body
   Stands zero s = ⊥
   Stands (suc n) s = HaveLeft s.lefts × LineFits (slice_get code s.address) (passed s) (Stands n)
 
-  -- Code at an address is a whole body or handler: from a frame of so many words, whatever it holds, and from what its runner keeps,
-  -- it does what is to be done, within its cost.
+  -- Code at an address is a whole body or handler: from a frame of so many words, whatever it holds, and from what its
+  -- runner keeps, it does what is to be done, within its cost.
   abbrev pub StandsFrom : ℕ → ℕ → ℕ → ℕ → (Values → Doing Values) → Type 0
   StandsFrom memory words entry cost doing =
       (slots cells : List ℕ) (queues : Holder → List Entry) (vs : Values) → length slots ≡ words → length cells ≡ memory
-      → ((h : Holder) → (st.is_kept who h || st.is_constant who h) ≡ true → st.Spells h (slice_index cells) (queues h) (vs h))
+      → ((h : Holder) → (st.is_kept who h || st.is_constant who h) ≡ true
+      → st.Spells h (slice_index cells) (queues h) (vs h))
       → Stands cost (record {
         held = [];
         lefts = cost ∷ [];

@@ -1,4 +1,5 @@
-ghost use Rattle.std.specs.Prelude.{◌≡◌, ℕ, ◌+◌, ◌^◌, ◌<◌, nat_lt, true, false, List, length, slice_index, slice_set, IfOk, OnOk, IfErr};
+ghost use Rattle.std.specs.Prelude.{◌≡◌, ℕ, ◌+◌, ◌^◌, ◌<◌, nat_lt, true, false, List, length, slice_index, slice_set};
+ghost use Rattle.std.specs.Prelude.{IfOk, OnOk, IfErr};
 ghost use Rattle.rt_code.specs.Processor.{processor, Gives};
 ghost use Rattle.rt_code.specs.Effect.{effect};
 ghost use Rattle.rt_code.specs.Inside.Does.{Does};
@@ -9,7 +10,8 @@ use rt_ids::{Irq, Op};
 
 /// The word of a slot.
 fn word(slots: &[u32], slot: u32) -> Result<u32, Trap>
-    ensures there { IfOk result (λ value. (nat_lt slot (length slots.now) ≡ true) × (value ≡ slice_index slots.now slot)) }
+    ensures there { IfOk result
+        (λ value. (nat_lt slot (length slots.now) ≡ true) × (value ≡ slice_index slots.now slot)) }
     ensures missing { IfErr result (λ trap. (nat_lt slot (length slots.now) ≡ false) × (trap ≡ Trap.Stack)) }
 {
     let slot = slot as usize;
@@ -22,8 +24,10 @@ fn word(slots: &[u32], slot: u32) -> Result<u32, Trap>
 
 /// Writes a value into a slot.
 fn write(slots: &mut [u32], slot: u32, value: u32) -> Result<(), Trap>
-    ensures there { OnOk result ((nat_lt slot (length slots.old) ≡ true) × (slots.new ≡ slice_set slots.old slot value)) }
-    ensures missing { IfErr result (λ trap. (nat_lt slot (length slots.old) ≡ false) × (trap ≡ Trap.Stack) × (slots.new ≡ slots.old)) }
+    ensures there { OnOk result
+        ((nat_lt slot (length slots.old) ≡ true) × (slots.new ≡ slice_set slots.old slot value)) }
+    ensures missing { IfErr result
+        (λ trap. (nat_lt slot (length slots.old) ≡ false) × (trap ≡ Trap.Stack) × (slots.new ≡ slots.old)) }
 {
     let slot = slot as usize;
     if slot >= slots.len() {
@@ -35,7 +39,8 @@ fn write(slots: &mut [u32], slot: u32, value: u32) -> Result<(), Trap>
 
 /// Finds a cell.
 fn find(cells: &[u32], cell: usize) -> Result<usize, Trap>
-    ensures there { IfOk result (λ place. (nat_lt cell (length cells.now) ≡ true) × (place ≡ cell) × (place < length cells.now)) }
+    ensures there { IfOk result
+        (λ place. (nat_lt cell (length cells.now) ≡ true) × (place ≡ cell) × (place < length cells.now)) }
     ensures missing { IfErr result (λ trap. (nat_lt cell (length cells.now) ≡ false) × (trap ≡ Trap.Address)) }
 {
     if cell < cells.len() {
@@ -58,7 +63,9 @@ fn go_on(registers: &mut Registers, request: Request) -> Request
 /// A slot becomes a value.
 fn set(registers: &mut Registers, slots: &mut [u32], slot: u32, value: u32) -> Result<Request, Trap>
     requires { registers.old.address + 1 < 2 ^ 32 }
-    ensures { (cells : List ℕ) → Does (Instr.Set slot value) result (processor registers.old slots.old cells) (processor registers.new slots.new cells) }
+    ensures { (cells : List ℕ)
+        → Does (Instr.Set slot value) result (processor registers.old slots.old cells)
+        (processor registers.new slots.new cells) }
 {
     write(slots, slot, value)?;
     Ok(go_on(registers, Request::Nothing))
@@ -67,7 +74,9 @@ fn set(registers: &mut Registers, slots: &mut [u32], slot: u32, value: u32) -> R
 /// A slot becomes another one.
 fn copy(registers: &mut Registers, slots: &mut [u32], slot: u32, from: u32) -> Result<Request, Trap>
     requires { registers.old.address + 1 < 2 ^ 32 }
-    ensures { (cells : List ℕ) → Does (Instr.Copy slot from) result (processor registers.old slots.old cells) (processor registers.new slots.new cells) }
+    ensures { (cells : List ℕ)
+        → Does (Instr.Copy slot from) result (processor registers.old slots.old cells)
+        (processor registers.new slots.new cells) }
 {
     let value = word(slots, from)?;
     write(slots, slot, value)?;
@@ -84,7 +93,9 @@ fn calculate(
     right: u32,
 ) -> Result<Request, Trap>
     requires { registers.old.address + 1 < 2 ^ 32 }
-    ensures { (cells : List ℕ) → Does (Instr.Calc op slot left right) result (processor registers.old slots.old cells) (processor registers.new slots.new cells) }
+    ensures { (cells : List ℕ)
+        → Does (Instr.Calc op slot left right) result (processor registers.old slots.old cells)
+        (processor registers.new slots.new cells) }
 {
     let value = op.apply(word(slots, left)?, word(slots, right)?);
     write(slots, slot, value)?;
@@ -100,7 +111,8 @@ fn load(
     cell: u32,
 ) -> Result<Request, Trap>
     requires { registers.old.address + 1 < 2 ^ 32 }
-    ensures { Does (Instr.Load slot cell) result (processor registers.old slots.old cells.now) (processor registers.new slots.new cells.now) }
+    ensures { Does (Instr.Load slot cell) result (processor registers.old slots.old cells.now)
+        (processor registers.new slots.new cells.now) }
 {
     let place = find(cells, cell as usize)?;
     write(slots, slot, cells[place])?;
@@ -116,7 +128,8 @@ fn store(
     from: u32,
 ) -> Result<Request, Trap>
     requires { registers.old.address + 1 < 2 ^ 32 }
-    ensures { Does (Instr.Store cell from) result (processor registers.old slots.now cells.old) (processor registers.new slots.now cells.new) }
+    ensures { Does (Instr.Store cell from) result (processor registers.old slots.now cells.old)
+        (processor registers.new slots.now cells.new) }
 {
     let place = find(cells, cell as usize)?;
     cells[place] = word(slots, from)?;
@@ -133,7 +146,8 @@ fn load_at(
     index: u32,
 ) -> Result<Request, Trap>
     requires { registers.old.address + 1 < 2 ^ 32 }
-    ensures { Does (Instr.LoadAt slot cell index) result (processor registers.old slots.old cells.now) (processor registers.new slots.new cells.now) }
+    ensures { Does (Instr.LoadAt slot cell index) result (processor registers.old slots.old cells.now)
+        (processor registers.new slots.new cells.now) }
 {
     let behind = word(slots, index)?;
     let place = find(cells, cell as usize + behind as usize)?;
@@ -151,7 +165,8 @@ fn store_at(
     from: u32,
 ) -> Result<Request, Trap>
     requires { registers.old.address + 1 < 2 ^ 32 }
-    ensures { Does (Instr.StoreAt cell index from) result (processor registers.old slots.now cells.old) (processor registers.new slots.now cells.new) }
+    ensures { Does (Instr.StoreAt cell index from) result (processor registers.old slots.now cells.old)
+        (processor registers.new slots.now cells.new) }
 {
     let behind = word(slots, index)?;
     let place = find(cells, cell as usize + behind as usize)?;
@@ -176,7 +191,9 @@ fn jump_on_zero(
     address: u32,
 ) -> Result<Request, Trap>
     requires { registers.old.address + 1 < 2 ^ 32 }
-    ensures { (cells : List ℕ) → Does (Instr.JumpZ slot address) result (processor registers.old slots.now cells) (processor registers.new slots.now cells) }
+    ensures { (cells : List ℕ)
+        → Does (Instr.JumpZ slot address) result (processor registers.old slots.now cells)
+        (processor registers.new slots.now cells) }
 {
     if word(slots, slot)? == 0 {
         Ok(jump(registers, address))
@@ -188,7 +205,9 @@ fn jump_on_zero(
 /// Emits a slot.
 fn emit(registers: &mut Registers, slots: &[u32], slot: u32) -> Result<Request, Trap>
     requires { registers.old.address + 1 < 2 ^ 32 }
-    ensures { (cells : List ℕ) → Does (Instr.Emit slot) result (processor registers.old slots.now cells) (processor registers.new slots.now cells) }
+    ensures { (cells : List ℕ)
+        → Does (Instr.Emit slot) result (processor registers.old slots.now cells)
+        (processor registers.new slots.now cells) }
 {
     let value = word(slots, slot)?;
     Ok(go_on(registers, Request::Emit(value)))
@@ -202,7 +221,8 @@ fn read_clock(
     slot: u32,
 ) -> Result<Request, Trap>
     requires { registers.old.address + 1 < 2 ^ 32 }
-    ensures { (cells : List ℕ) → Gives result (processor registers.old slots.old cells) (processor registers.new slots.new cells)
+    ensures { (cells : List ℕ)
+        → Gives result (processor registers.old slots.old cells) (processor registers.new slots.new cells)
         (effect (Instr.Clock slot) time (processor registers.old slots.old cells)) }
 {
     write(slots, slot, time)?;
@@ -212,7 +232,9 @@ fn read_clock(
 /// Sets the alarm to the instant in a slot.
 fn set_alarm(registers: &mut Registers, slots: &[u32], slot: u32, irq: Irq) -> Result<Request, Trap>
     requires { registers.old.address + 1 < 2 ^ 32 }
-    ensures { (cells : List ℕ) → Does (Instr.Alarm slot irq) result (processor registers.old slots.now cells) (processor registers.new slots.now cells) }
+    ensures { (cells : List ℕ)
+        → Does (Instr.Alarm slot irq) result (processor registers.old slots.now cells)
+        (processor registers.new slots.now cells) }
 {
     let instant = word(slots, slot)?;
     Ok(go_on(registers, Request::Alarm(instant, irq)))
@@ -226,7 +248,9 @@ fn raise(
     value: u32,
 ) -> Result<Request, Trap>
     requires { registers.old.address + 1 < 2 ^ 32 }
-    ensures { (cells : List ℕ) → Does (Instr.Raise slot value) result (processor registers.old slots.old cells) (processor registers.new slots.new cells) }
+    ensures { (cells : List ℕ)
+        → Does (Instr.Raise slot value) result (processor registers.old slots.old cells)
+        (processor registers.new slots.new cells) }
 {
     write(slots, slot, registers.basepri)?;
     registers.basepri = value;
@@ -236,7 +260,9 @@ fn raise(
 /// BASEPRI becomes a slot.
 fn restore(registers: &mut Registers, slots: &[u32], slot: u32) -> Result<Request, Trap>
     requires { registers.old.address + 1 < 2 ^ 32 }
-    ensures { (cells : List ℕ) → Does (Instr.Restore slot) result (processor registers.old slots.now cells) (processor registers.new slots.now cells) }
+    ensures { (cells : List ℕ)
+        → Does (Instr.Restore slot) result (processor registers.old slots.now cells)
+        (processor registers.new slots.now cells) }
 {
     registers.basepri = word(slots, slot)?;
     Ok(go_on(registers, Request::Nothing))
@@ -245,7 +271,9 @@ fn restore(registers: &mut Registers, slots: &[u32], slot: u32) -> Result<Reques
 /// A slot becomes PRIMASK, and PRIMASK becomes 1.
 fn mask(registers: &mut Registers, slots: &mut [u32], slot: u32) -> Result<Request, Trap>
     requires { registers.old.address + 1 < 2 ^ 32 }
-    ensures { (cells : List ℕ) → Does (Instr.Mask slot) result (processor registers.old slots.old cells) (processor registers.new slots.new cells) }
+    ensures { (cells : List ℕ)
+        → Does (Instr.Mask slot) result (processor registers.old slots.old cells)
+        (processor registers.new slots.new cells) }
 {
     write(slots, slot, u32::from(registers.primask))?;
     registers.primask = true;
@@ -255,7 +283,9 @@ fn mask(registers: &mut Registers, slots: &mut [u32], slot: u32) -> Result<Reque
 /// PRIMASK becomes a slot, which is 0 or 1.
 fn unmask(registers: &mut Registers, slots: &[u32], slot: u32) -> Result<Request, Trap>
     requires { registers.old.address + 1 < 2 ^ 32 }
-    ensures { (cells : List ℕ) → Does (Instr.Unmask slot) result (processor registers.old slots.now cells) (processor registers.new slots.now cells) }
+    ensures { (cells : List ℕ)
+        → Does (Instr.Unmask slot) result (processor registers.old slots.now cells)
+        (processor registers.new slots.now cells) }
 {
     let value = word(slots, slot)?;
     if value > 1 {
@@ -275,8 +305,8 @@ fn serve(registers: &mut Registers) -> Request
     go_on(registers, Request::Nothing)
 }
 
-/// One instruction at a time: its effect on the registers, on the words of the running frame and on the cells of memory,
-/// and what it asks of the rest of the core. A trap changes nothing.
+/// One instruction at a time: its effect on the registers, on the words of the running frame and on the cells of
+/// memory, and what it asks of the rest of the core. A trap changes nothing.
 pub fn execute(
     instr: Instr,
     time: u32,

@@ -27,7 +27,12 @@ pub(crate) fn push(region: &mut Region, entry: u32, frame: u32, number: u32, add
     requires eight { 8 ≤ entry }
     requires frame { frame ≤ used region.old }
     requires fits { Fits region.old entry }
-    ensures { let interrupted : Saved = record { number = number; address = address; slots = top region.old frame; caller = None } in
+    ensures { let interrupted : Saved = record {
+      number = number;
+      address = address;
+      slots = top region.old frame;
+      caller = None;
+    } in
         region.new ≡ record region.old { words = region.old.words ++ exception_frame entry interrupted } }
 {
     region.push(entry);
@@ -37,8 +42,8 @@ pub(crate) fn push(region: &mut Region, entry: u32, frame: u32, number: u32, add
     pushed[STATUS] = number;
 }
 
-/// Pops the last so many words and the architecture's frame of so many below them, and answers where the interrupted frame
-/// runs on.
+/// Pops the last so many words and the architecture's frame of so many below them, and answers where the interrupted
+/// frame runs on.
 pub(crate) fn leave(region: &mut Region, entry: u32, words: u32) -> Interrupted
     requires eight { 8 ≤ entry }
     requires there { words + entry ≤ used region.old }

@@ -1,4 +1,5 @@
-ghost use Rattle.std.specs.Prelude.{◌≡◌, ℕ, ◌+◌, ◌*◌, ◌/◌, ◌%◌, ◌^◌, ◌<◌, ◌≤◌, ◌↔◌, IsTrue, IfOk, Some, None, false, length, slice_index};
+ghost use Rattle.std.specs.Prelude.{◌≡◌, ℕ, ◌+◌, ◌*◌, ◌/◌, ◌%◌, ◌^◌, ◌<◌, ◌≤◌, ◌↔◌, IsTrue, IfOk, Some, None, false};
+ghost use Rattle.std.specs.Prelude.{length, slice_index};
 ghost use Rattle.rt_code.specs.Processor.{processor, Gives};
 ghost use Rattle.rt_code.specs.Effect.{effect};
 ghost use Rattle.rt_context.specs.declared.sizes.TheConstants.{CONTEXTS, STACK_WORDS};
@@ -42,8 +43,8 @@ impl Model for Frames {
 }
 
 impl Frames {
-    /// The thread's frame of so many words of 0, alone in a stack of so many bytes. Exception entry will push so many words,
-    /// of which the architecture names the first eight.
+    /// The thread's frame of so many words of 0, alone in a stack of so many bytes. Exception entry will push so many
+    /// words, of which the architecture names the first eight.
     pub fn new(
         alloc: Global,
         stack_bytes: u32,
@@ -167,8 +168,8 @@ impl Frames {
         true
     }
 
-    /// Return from a called body: pops its frame, and answers the return address. It answers None exactly where no called
-    /// body runs, and changes nothing then.
+    /// Return from a called body: pops its frame, and answers the return address. It answers None exactly where no
+    /// called body runs, and changes nothing then.
     pub fn back(&mut self) -> Option<u32>
         ensures back { (address : ℕ) → result ≡ Some address → moves.back self.old ≡ Some (self.new, address) }
         ensures none { result ≡ None → (moves.back self.old ≡ None) × (self.new ≡ self.old) }
@@ -189,7 +190,8 @@ impl Frames {
         cells: &mut [u32],
     ) -> Result<Request, Trap>
         requires next { registers.old.address + 1 < 2 ^ 32 }
-        ensures effect { Gives result (processor registers.old self.old.slots cells.old) (processor registers.new self.new.slots cells.new)
+        ensures effect { Gives result (processor registers.old self.old.slots cells.old)
+            (processor registers.new self.new.slots cells.new)
             (effect instr time (processor registers.old self.old.slots cells.old)) }
         ensures rest { self.new ≡ record self.old { slots = self.new.slots } }
         ensures words { length self.new.slots ≡ length self.old.slots }

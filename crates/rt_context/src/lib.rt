@@ -1,5 +1,5 @@
-// The frames on a core's stack: the running one, that of a handler whose called body runs, and below them what each entered
-// handler interrupted. They lie in one region of words, with the architecture's frame at each exception entry.
+// The frames on a core's stack: the running one, that of a handler whose called body runs, and below them what each
+// entered handler interrupted. They lie in one region of words, with the architecture's frame at each exception entry.
 #![tactic(auto)]
 
 mod body;

@@ -1,4 +1,5 @@
-ghost use Rattle.std.specs.Prelude.{◌≡◌, ℕ, suc, ◌+◌, ◌*◌, ◌<◌, ◌≤◌, ◌^◌, [], ◌∷◌, map, replicate, false, IfOk, if◌then◌else◌};
+ghost use Rattle.std.specs.Prelude.{◌≡◌, ℕ, suc, ◌+◌, ◌*◌, ◌<◌, ◌≤◌, ◌^◌, [], ◌∷◌, map, replicate, false, IfOk};
+ghost use Rattle.std.specs.Prelude.{if◌then◌else◌};
 ghost use Rattle.std.specs.Int.{bit_at};
 ghost use Rattle.rt_ids.specs.declared.limits.TheConstants.{IRQ_NUMBERS};
 ghost use Rattle.rt_ids.specs.Event.{Arrive, Tick};
@@ -21,8 +22,8 @@ use rt_program::Program;
 use std::alloc::Global;
 use std::marker::Model;
 
-/// A core with an image. Contracts see the image, the state of the core, and how many core steps it has taken. All memory
-/// is taken when it is made.
+/// A core with an image. Contracts see the image, the state of the core, and how many core steps it has taken. All
+/// memory is taken when it is made.
 #[derive(Drop)]
 pub struct Core {
     pub(crate) program: Program,
@@ -64,7 +65,8 @@ fn enable(nvic: &mut Nvic, program: &Program, number: u16)
     requires { number < IRQ_NUMBERS }
     ensures pending { nvic.new.pending ≡ nvic.old.pending }
     ensures active { nvic.new.active ≡ nvic.old.active }
-    ensures priorities { HasPrioritiesBelow number program.now nvic.old → HasPrioritiesBelow (number + 1) program.now nvic.new }
+    ensures priorities { HasPrioritiesBelow number program.now nvic.old
+        → HasPrioritiesBelow (number + 1) program.now nvic.new }
 {
     let Some(irq) = Irq::new(number) else {
         return;
@@ -130,10 +132,14 @@ impl Core {
         Core::new(alloc, image)
     }
 
-    /// An interrupt request arrives for each set bit of a word, the lowest first: bit b of word k is the interrupt 32 k + b.
+    /// An interrupt request arrives for each set bit of a word, the lowest first: bit b of word k is the interrupt 32 k
+    /// + b.
     pub fn arrive(&mut self, k: u8, bits: u32)
         requires { (bit : ℕ) → bit < 32 → bit_at bits bit ≡ 1 → 32 * k + bit < IRQ_NUMBERS }
-        ensures { self.new ≡ record self.old { core = trace.core_after self.old.image self.old.core (map Arrive (arrivals k bits)) } }
+        ensures { self.new ≡ record self.old {
+          core = trace.core_after self.old.image self.old.core
+              (map Arrive (arrivals k bits));
+        } }
     {
         self.nvic.arrive(k, bits);
     }
@@ -143,7 +149,8 @@ impl Core {
     pub fn tick(&mut self) -> bool
         requires { self.old.core.time < 2 ^ 31 }
         ensures state { self.new ≡ record self.old { core = (trace.happen self.old.image self.old.core Tick).0 } }
-        ensures shown { (trace.happen self.old.image self.old.core Tick).1 ≡ Ticked ∷ (if result then Rang ∷ [] else []) }
+        ensures shown { (trace.happen self.old.image self.old.core Tick).1
+            ≡ Ticked ∷ (if result then Rang ∷ [] else []) }
     {
         self.time += 1;
         let Some(alarm) = self.alarm else {
@@ -166,8 +173,8 @@ impl Core {
         self.frames.depth()
     }
 
-    /// The words of the stack region in use, the lowest first: the frames, with the architecture's frame at each exception
-    /// entry.
+    /// The words of the stack region in use, the lowest first: the frames, with the architecture's frame at each
+    /// exception entry.
     pub fn stack(&self) -> &[u32]
         ensures { result.now ≡ spec.stack_words self.now.image self.now.core }
     {

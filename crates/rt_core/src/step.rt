@@ -53,7 +53,8 @@ impl Core {
     /// Exception entry.
     fn enter(&mut self, irq: Irq) -> Result<Option<What>, Trap>
         requires { option_map (λ row. row.number) (priority.pick self.old.image self.old.core) ≡ Some irq }
-        ensures outcome { Comes result self.new.core (stepping.attempt self.old.image self.old.core (priority.pick self.old.image self.old.core)) }
+        ensures outcome { Comes result self.new.core
+            (stepping.attempt self.old.image self.old.core (priority.pick self.old.image self.old.core)) }
         ensures rest { self.new ≡ record self.old { core = self.new.core } }
     {
         let Some(handler) = self.program.handler(irq) else {
@@ -86,7 +87,8 @@ impl Core {
     /// A call of a body.
     fn call(&mut self, row: u32, from: u32) -> Result<Option<What>, Trap>
         requires { self.old.core.processor.address + 1 < 2 ^ 32 }
-        ensures outcome { Comes result self.new.core (stepping.answer self.old.image self.old.core (request.Call row from)) }
+        ensures outcome { Comes result self.new.core
+            (stepping.answer self.old.image self.old.core (request.Call row from)) }
         ensures rest { self.new ≡ record self.old { core = self.new.core } }
     {
         if !self.frames.may_call() {
@@ -118,7 +120,8 @@ impl Core {
 
     /// Sets the alarm to an instant, for an interrupt, which becomes pending at once where the instant has come.
     fn set_alarm(&mut self, instant: u32, irq: Irq) -> Result<Option<What>, Trap>
-        ensures outcome { Comes result self.new.core (stepping.answer self.old.image self.old.core (request.Alarm instant irq)) }
+        ensures outcome { Comes result self.new.core
+            (stepping.answer self.old.image self.old.core (request.Alarm instant irq)) }
         ensures rest { self.new ≡ record self.old { core = self.new.core } }
     {
         if instant <= self.time {
@@ -215,10 +218,16 @@ impl Core {
     /// The instruction's own effect. A trap changes nothing.
     fn execute(&mut self, instr: Instr) -> Result<Request, Trap>
         requires { self.old.core.processor.address + 1 < 2 ^ 32 }
-        ensures ok { IfOk result (λ asked. effect instr self.old.core.time self.old.core.processor ≡ Leads self.new.core.processor asked) }
+        ensures ok { IfOk result (λ asked. effect instr self.old.core.time self.old.core.processor
+            ≡ Leads self.new.core.processor asked) }
         ensures err { IfErr result (λ trap. effect instr self.old.core.time self.old.core.processor ≡ Traps trap) }
         ensures unchanged { OnErr result (self.new ≡ self.old) }
-        ensures rest { self.new ≡ record self.old { core = record self.old.core { processor = self.new.core.processor } } }
+        ensures rest { self.new ≡ record self.old {
+          core = record self.old.core {
+            processor =
+                self.new.core.processor;
+          };
+        } }
     {
         self.frames
             .execute(instr, self.time, &mut self.registers, &mut self.cells)
@@ -226,7 +235,9 @@ impl Core {
 
     /// The instruction at the code address, with its note. That of a thread that waits does nothing.
     fn run(&mut self) -> Result<Option<What>, Trap>
-        ensures outcome { Comes result self.new.core (stepping.run self.old.image self.old.core (slice_get self.old.image.code self.old.core.processor.address)) }
+        ensures outcome { Comes result self.new.core
+            (stepping.run self.old.image self.old.core
+            (slice_get self.old.image.code self.old.core.processor.address)) }
         ensures rest { self.new ≡ record self.old { core = self.new.core } }
     {
         let Some((instr, note)) = self.program.line(self.registers.address) else {
@@ -245,7 +256,8 @@ impl Core {
 
     /// A trap stops the core and shows its number.
     fn settle(&mut self, came: Result<Option<What>, Trap>) -> Option<What>
-        ensures settled { (outcome : Outcome) → Comes came self.old.core outcome → settle outcome ≡ (self.new.core, result) }
+        ensures settled { (outcome : Outcome) → Comes came self.old.core outcome → settle outcome
+            ≡ (self.new.core, result) }
         ensures rest { self.new ≡ record self.old { core = self.new.core } }
     {
         match came {
@@ -257,13 +269,17 @@ impl Core {
         }
     }
 
-    /// One core step: the entry of the interrupt that is to be taken, else one instruction. It answers the item that the
-    /// step gives, and None where it gives none. A trap gives its item and stops the core, and every later step is silent.
+    /// One core step: the entry of the interrupt that is to be taken, else one instruction. It answers the item that
+    /// the step gives, and None where it gives none. A trap gives its item and stops the core, and every later step is
+    /// silent.
     #[tactic(auto, unfolding(crate::specs::Stepping::step))]
     pub fn step(&mut self) -> Option<What>
         requires { self.old.steps < 2 ^ 31 }
         ensures item { result ≡ (stepping.step self.old.image self.old.core).1 }
-        ensures state { self.new ≡ record self.old { core = (stepping.step self.old.image self.old.core).0; steps = suc self.old.steps } }
+        ensures state { self.new ≡ record self.old {
+          core = (stepping.step self.old.image self.old.core).0;
+          steps = suc self.old.steps;
+        } }
     {
         self.steps += 1;
         if self.stopped {

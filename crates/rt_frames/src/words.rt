@@ -8,7 +8,8 @@ use rt_app::App;
 use rt_ids::NoMemory;
 use std::alloc::Global;
 
-/// The words of the frames of `init`, `idle` and the tasks in order, with 0 for an `init` or `idle` that is not declared.
+/// The words of the frames of `init`, `idle` and the tasks in order, with 0 for an `init` or `idle` that is not
+/// declared.
 pub fn body_frames(alloc: Global, app: &App) -> Result<Vec<u32>, NoMemory>
     requires limits { KeepsLimits (app_of app.now) }
     ensures { IfOk result (λ frames. frames.items ≡ plan.frames (app_of app.now)) }

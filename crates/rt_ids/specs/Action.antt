@@ -1,11 +1,13 @@
--- What a body of code does that others can see, one action at a time, for the whole language (the RTIC 1 book; Baker, Stack-Based
--- Scheduling of Realtime Processes, 1991, for sections). The actions of queues, dispatchers and the timer are this project's own.
+-- What a body of code does that others can see, one action at a time, for the whole language (the RTIC 1 book; Baker,
+-- Stack-Based Scheduling of Realtime Processes, 1991, for sections). The actions of queues, dispatchers and the timer
+-- are this project's own.
 use Rattle.std.specs.Prelude.{ℕ, ◌+◌, ◌-◌, [], ◌∷◌, ◌++◌, drop}
 use Rattle.rt_ids.specs.declared.ids.BodyId.{BodyId}
 use Rattle.rt_ids.specs.declared.ids.Section.{Section}
 use Rattle.rt_ids.specs.declared.ids.Section.TheVariants as section
 use Rattle.rt_ids.specs.Holder.{Guarded}
-use Rattle.rt_ids.specs.Content.{Message, Number, Messages, Delays, Values, number, messages, delays, put_at, without_least}
+use Rattle.rt_ids.specs.Content.{Message, Number, Messages, Delays, Values, number, messages, delays, put_at}
+use Rattle.rt_ids.specs.Content.{without_least}
 
 pub data Action : Type 0 where
   -- it enters a section, which takes so many core steps at most, the entering and the leaving counted
@@ -39,8 +41,11 @@ pub data Action : Type 0 where
 abbrev pub effect : Action → Values → Values
 effect (Takes t) vs = put_at vs (Guarded (section.Free t)) (Number (number (vs (Guarded (section.Free t))) + 1))
 effect (Frees t) vs = put_at vs (Guarded (section.Free t)) (Number (number (vs (Guarded (section.Free t))) - 1))
-effect (Readies p m) vs = put_at vs (Guarded (section.Ready p)) (Messages (messages (vs (Guarded (section.Ready p))) ++ m ∷ []))
-effect (Starts p m) vs = put_at vs (Guarded (section.Ready p)) (Messages (drop 1 (messages (vs (Guarded (section.Ready p))))))
-effect (Arms i m) vs = put_at vs (Guarded section.Timer) (Delays (delays (vs (Guarded section.Timer)) ++ record { instant = i; message = m } ∷ []))
+effect (Readies p m) vs =
+    put_at vs (Guarded (section.Ready p)) (Messages (messages (vs (Guarded (section.Ready p))) ++ m ∷ []))
+effect (Starts p m) vs = put_at vs (Guarded (section.Ready p))
+    (Messages (drop 1 (messages (vs (Guarded (section.Ready p))))))
+effect (Arms i m) vs = put_at vs (Guarded section.Timer)
+    (Delays (delays (vs (Guarded section.Timer)) ++ record { instant = i; message = m } ∷ []))
 effect (Fires m) vs = put_at vs (Guarded section.Timer) (Delays (without_least (delays (vs (Guarded section.Timer)))))
 effect a vs = vs

@@ -1,7 +1,8 @@
--- The requests of a word of pending bits, bit b of word k being interrupt 32 * k + b, as in the set-pending registers of
--- the interrupt controller (ARMv7-M Architecture Reference Manual, section B3.4). They are a list of numbers; the code
--- tests bit after bit.
-use Rattle.std.specs.Prelude.{ℕ, ◌+◌, ◌*◌, ◌/◌, ◌%◌, ◌==◌, ◌&&◌, Bool, true, List, [], ◌∷◌, map, filter, slice_index, slice_set}
+-- The requests of a word of pending bits, bit b of word k being interrupt 32 * k + b, as in the set-pending registers
+-- of the interrupt controller (ARMv7-M Architecture Reference Manual, section B3.4). They are a list of numbers; the
+-- code tests bit after bit.
+use Rattle.std.specs.Prelude.{ℕ, ◌+◌, ◌*◌, ◌/◌, ◌%◌, ◌==◌, ◌&&◌, Bool, true, List, [], ◌∷◌, map, filter, slice_index}
+use Rattle.std.specs.Prelude.{slice_set}
 use Rattle.std.specs.Int.{bit_at}
 use Rattle.rt_ids.specs.Lists.{numbers_below}
 

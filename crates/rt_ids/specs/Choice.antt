@@ -27,4 +27,5 @@ pub record IsOrder {A : Type 0} (beats : A → A → Bool) (IsNoLater : A → A 
 -- none passes, or the chosen one stands in the list, passes, and is no later than any other that passes
 abbrev pub IsBest : {A : Type 0} → (A → Bool) → (A → A → Type 0) → List A → Option A → Type 0
 IsBest passes IsNoLater xs None = AllByRecursion (λ x. passes x ≡ false) xs
-IsBest passes IsNoLater xs (Some best) = IsIn xs best × (passes best ≡ true) × AllByRecursion (λ x. passes x ≡ true → IsNoLater best x) xs
+IsBest passes IsNoLater xs (Some best) =
+    IsIn xs best × (passes best ≡ true) × AllByRecursion (λ x. passes x ≡ true → IsNoLater best x) xs

@@ -1,6 +1,6 @@
--- What resources and queues hold while code runs. A queue is no different from a resource: a section has a content. The places of a
--- software task that are out are a number, ready messages and armed messages are lists (the RTIC 1 book, software tasks and the
--- monotonic). The code keeps cells of memory, rings and a sorted list.
+-- What resources and queues hold while code runs. A queue is no different from a resource: a section has a content. The
+-- places of a software task that are out are a number, ready messages and armed messages are lists (the RTIC 1 book,
+-- software tasks and the monotonic). The code keeps cells of memory, rings and a sorted list.
 use Rattle.std.specs.Prelude.{ℕ, Bool, false, ◌==◌, min, List, [], ◌∷◌, Option, Some, None, if◌then◌else◌, find, remove}
 use Rattle.std.specs.List.{position_or_len}
 use Rattle.rt_ids.specs.Holder.{Holder, is_same_holder}

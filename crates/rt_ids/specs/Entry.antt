@@ -1,5 +1,6 @@
--- Which messages stand in which queue, as places: a place of a software task holds one message of it at most. Free places, ready
--- messages and armed messages are lists of entries, which move from one list to another and are never copied.
+-- Which messages stand in which queue, as places: a place of a software task holds one message of it at most. Free
+-- places, ready messages and armed messages are lists of entries, which move from one list to another and are never
+-- copied.
 use Rattle.std.specs.Prelude.{ℕ, ◌==◌, ◌&&◌, Bool, List, count_by}
 
 pub record Entry : Type 0 where

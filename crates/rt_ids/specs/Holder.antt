@@ -1,5 +1,5 @@
--- What holds something that code reads and changes: what a critical section guards, and a local resource, which belongs to one body
--- (the RTIC 1 book, resources). A local resource has no section.
+-- What holds something that code reads and changes: what a critical section guards, and a local resource, which belongs
+-- to one body (the RTIC 1 book, resources). A local resource has no section.
 use Rattle.std.specs.Prelude.{ℕ, Bool, true, false, ◌==◌}
 use Rattle.rt_ids.specs.declared.ids.Section.{Section}
 use Rattle.rt_ids.specs.declared.ids.Section.TheVariants as section

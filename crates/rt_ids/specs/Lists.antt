@@ -1,5 +1,6 @@
 -- Words on lists, numbers and options that std has not.
-use Rattle.std.specs.Prelude.{◌≡◌, ℕ, zero, suc, max, Bool, true, false, List, [], ◌∷◌, ◌++◌, slice_get, Option, Some, None, if◌then◌else◌}
+use Rattle.std.specs.Prelude.{◌≡◌, ℕ, zero, suc, max, Bool, true, false, List, [], ◌∷◌, ◌++◌, slice_get, Option, Some}
+use Rattle.std.specs.Prelude.{None, if◌then◌else◌}
 
 -- no item stands at two places
 abbrev pub AreDifferent : {A : Type 0} → List A → Type 0

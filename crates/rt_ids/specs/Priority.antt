@@ -8,8 +8,9 @@ use Rattle.rt_ids.specs.declared.limits.TheConstants.{THREAD_VALUE}
 abbrev pub hardware : ℕ → ℕ → ℕ
 hardware bits priority = (2 ^ bits - priority) * 2 ^ (8 - bits)
 
--- What the values say of the priorities, with 3 to 7 bits: the priority 0 has the value of the thread, the greatest has 0, a higher
--- priority has a lower value, equal values are of equal priorities, and the lower of two values is of the higher priority.
+-- What the values say of the priorities, with 3 to 7 bits: the priority 0 has the value of the thread, the greatest has
+-- 0, a higher priority has a lower value, equal values are of equal priorities, and the lower of two values is of the
+-- higher priority.
 pub record TellsPriorities : Type 0 where
   pub none : (b : ℕ) → 3 ≤ b → b ≤ 7 → hardware b 0 ≡ THREAD_VALUE
   pub all : (b : ℕ) → hardware b (2 ^ b) ≡ 0

@@ -1,5 +1,5 @@
--- How an application's values lie in the cells of memory, and what the masks of its sections are: all that is asked of an
--- application where code is said to do what its body means. The code has a layout with numbers of cells.
+-- How an application's values lie in the cells of memory, and what the masks of its sections are: all that is asked of
+-- an application where code is said to do what its body means. The code has a layout with numbers of cells.
 use Rattle.std.specs.Prelude.{ℕ, Bool, List, Option}
 use Rattle.rt_ids.specs.declared.ids.Section.{Section}
 use Rattle.rt_ids.specs.Holder.{Holder}
@@ -28,8 +28,8 @@ pub record Storage : Type 1 where
   pub ceiling : Section → ℕ
   -- the priority value of a logical priority
   pub value : ℕ → ℕ
-  -- what a runner keeps from its start to its end without a section: local resources, resources that are `lock_free`, and in
-  -- `init` every resource
+  -- what a runner keeps from its start to its end without a section: local resources, resources that are `lock_free`,
+  -- and in `init` every resource
   pub is_kept : Runner → Holder → Bool
   -- what a runner may read at any time, since nobody writes it: a resource that is listed as `&name`
   pub is_constant : Runner → Holder → Bool

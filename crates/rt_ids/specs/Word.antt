@@ -1,5 +1,5 @@
--- Names. As in Rust, a name is a letter or `_`, and then letters, digits and `_`, and none of the words that the language keeps
--- for itself. The code reads a text byte by byte; this is a test of a whole text.
+-- Names. As in Rust, a name is a letter or `_`, and then letters, digits and `_`, and none of the words that the
+-- language keeps for itself. The code reads a text byte by byte; this is a test of a whole text.
 use Rattle.std.specs.Prelude.{◌≡◌, ℕ, ◌≤◌, Bool, true, false, ◌&&◌, codes, bytes_eq, List, [], ◌∷◌, length}
 use Rattle.std.specs.List.{list_all, list_any}
 use Rattle.rt_ids.specs.declared.limits.TheConstants.{NAME_BYTES}
@@ -8,9 +8,12 @@ use Rattle.rt_ids.specs.Byte.{is_letter, is_name_byte}
 -- the words of the language
 abbrev pub words : List (List ℕ)
 words =
-    codes "app" ∷ codes "bits" ∷ codes "dispatchers" ∷ codes "interrupts" ∷ codes "monotonic" ∷ codes "binds" ∷ codes "priority"
-    ∷ codes "capacity" ∷ codes "shared" ∷ codes "local" ∷ codes "lock_free" ∷ codes "init" ∷ codes "idle" ∷ codes "task" ∷ codes "with"
-    ∷ codes "let" ∷ codes "if" ∷ codes "else" ∷ codes "for" ∷ codes "in" ∷ codes "lock" ∷ codes "emit" ∷ codes "pend" ∷ codes "spawn"
+    codes "app" ∷ codes "bits" ∷ codes "dispatchers" ∷ codes "interrupts" ∷ codes "monotonic" ∷ codes "binds"
+    ∷ codes "priority"
+    ∷ codes "capacity" ∷ codes "shared" ∷ codes "local" ∷ codes "lock_free" ∷ codes "init" ∷ codes "idle" ∷ codes "task"
+    ∷ codes "with"
+    ∷ codes "let" ∷ codes "if" ∷ codes "else" ∷ codes "for" ∷ codes "in" ∷ codes "lock" ∷ codes "emit" ∷ codes "pend"
+    ∷ codes "spawn"
     ∷ codes "spawn_after" ∷ codes "now" ∷ []
 
 abbrev pub is_word : List ℕ → Bool

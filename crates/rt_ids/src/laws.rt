@@ -1,7 +1,7 @@
 ghost use Rattle.rt_ids.specs.Priority.{TellsPriorities};
 
-/// The priority values of the interrupt controller tell the logical priorities: they fall as the priorities rise, from the
-/// value of the thread for the priority 0 to 0 for the greatest.
+/// The priority values of the interrupt controller tell the logical priorities: they fall as the priorities rise, from
+/// the value of the thread for the priority 0 to 0 for the greatest.
 #[tactic(auto, using(crate::proofs::Hardware::tells_priorities))]
 pub fn values_tell_priorities()
     ensures { TellsPriorities }

@@ -1,6 +1,8 @@
-ghost use Rattle.std.specs.Prelude.{◌≡◌, ◌<◌, ◌==◌, [], None, length, position, slice_get, option_map, IfOk, OnOk, OnErr};
+ghost use Rattle.std.specs.Prelude.{◌≡◌, ◌<◌, ◌==◌, [], None, length, position, slice_get, option_map, IfOk, OnOk};
+ghost use Rattle.std.specs.Prelude.{OnErr};
 ghost use Rattle.rt_ids.specs.declared.limits.TheConstants.{IRQS, TASKS, SHARED};
-ghost use Rattle.rt_ids.specs.Names.{AreNames, no_names, irq_of, task_of, resource_of, with_irq, with_task, with_resource};
+ghost use Rattle.rt_ids.specs.Names.{AreNames, no_names, irq_of, task_of, resource_of, with_irq, with_task};
+ghost use Rattle.rt_ids.specs.Names.{with_resource};
 ghost use Rattle.rt_ids.specs.Naming as naming;
 ghost use Rattle.rt_ids.specs.Word.{IsName};
 

@@ -23,8 +23,8 @@ pub enum Op {
 }
 
 impl Op {
-    /// What the operation gives. A quotient by 0 is 0, and the rest of a division by 0 is the dividend; a shift by 32 or
-    /// more gives 0; a comparison gives 1 where it holds, and else 0.
+    /// What the operation gives. A quotient by 0 is 0, and the rest of a division by 0 is the dividend; a shift by 32
+    /// or more gives 0; a comparison gives 1 where it holds, and else 0.
     pub fn apply(self, a: u32, b: u32) -> u32
         ensures { result ≡ operate self a b }
     {

@@ -21,7 +21,8 @@ pub enum Rule {
     SharedAndExclusive,
     /// A resource that is used without a lock is listed at two priorities.
     LockFreeAtTwoPriorities,
-    /// A spawn of a hardware task or with a wrong number of arguments, or a hardware task with what only software tasks have.
+    /// A spawn of a hardware task or with a wrong number of arguments, or a hardware task with what only software tasks
+    /// have.
     NotSoftware,
     /// Time is used and there is no monotonic.
     NoMonotonic,

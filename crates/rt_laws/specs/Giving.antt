@@ -7,7 +7,8 @@ use Rattle.std.specs.Prelude.{ℕ, Bool, nat_le, if◌then◌else◌, List, [], 
 use Rattle.rt_ids.specs.Lists.{is_some_and}
 use Rattle.rt_ids.specs.Holder.{Guarded}
 use Rattle.rt_ids.specs.Content.{Values, number, delays, least_instant}
-use Rattle.rt_ids.specs.Action.{Action, Enters, Leaves, Emits, Posts, Clocks, Takes, Refuses, Readies, Starts, Frees, Arms, Fires, SetsAlarm, Ends, Returns}
+use Rattle.rt_ids.specs.Action.{Action, Enters, Leaves, Emits, Posts, Clocks, Takes, Refuses, Readies, Starts, Frees}
+use Rattle.rt_ids.specs.Action.{Arms, Fires, SetsAlarm, Ends, Returns}
 use Rattle.rt_ids.specs.Doing.{Doing, over, does}
 use Rattle.rt_ids.specs.declared.ids.Section.{Section}
 use Rattle.rt_ids.specs.declared.ids.Section.TheVariants as section

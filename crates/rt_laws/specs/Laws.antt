@@ -32,6 +32,7 @@ abbrev pub IsHighestFirst : List Job → Type 0
 IsHighestFirst [] = Unit {0}
 IsHighestFirst (job ∷ others) = AllByRecursion (λ other. other.priority < job.priority) others
 
+-- in every run, at every moment: the highest of those that have started runs (Baker 1991, the stack resource policy)
 abbrev pub TheHighestRuns : Type 0
 TheHighestRuns =
     (app : App) → IsAccepted app → (labels : List Label) → RunsOn app (first app) labels

@@ -1,7 +1,8 @@
 -- The level, which Baker calls the system ceiling, and the interrupt that is to be taken (Stack-Based Scheduling of
 -- Realtime Processes, 1991; ties go by the number, as in the ARMv7-M Architecture Reference Manual, section B1.5.4).
 -- The code of the core compares priority values with masks.
-use Rattle.std.specs.Prelude.{◌≡◌, ℕ, ◌==◌, ◌<◌, ◌≤◌, ◌⊎◌, max, Bool, false, ◌&&◌, ◌||◌, nat_lt, List, map, slice_index_or, Option}
+use Rattle.std.specs.Prelude.{◌≡◌, ℕ, ◌==◌, ◌<◌, ◌≤◌, ◌⊎◌, max, Bool, false, ◌&&◌, ◌||◌, nat_lt, List, map}
+use Rattle.std.specs.Prelude.{slice_index_or, Option}
 use Rattle.rt_ids.specs.Lists.{greatest}
 use Rattle.rt_ids.specs.Choice.{best, IsBest}
 use Rattle.rt_ids.specs.declared.ids.Section.{Section}

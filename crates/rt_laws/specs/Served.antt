@@ -40,16 +40,17 @@ StandsBefore (job ∷ others) irq x =
 abbrev pub IsServed : State → ℕ → Section → Type 0
 IsServed s irq x = (slice_index_or s.pending irq false ≡ true) ⊎ StandsBefore s.jobs irq x
 
--- a level of software tasks
+-- a level of software tasks serves its ready messages
 abbrev pub ServesLevel : App → State → ℕ → Type 0
 ServesLevel app s p =
     ¬ (messages (s.values (Guarded (section.Ready p))) ≡ []) → ¬ IsOpen s.jobs (section.Ready p)
     → IsServed s (dispatcher_number app p) (section.Ready p)
 
+-- so does each level of software tasks
 abbrev pub ServesReady : App → State → Type 0
 ServesReady app s = (p : ℕ) → Contains (levels app) p → ServesLevel app s p
 
--- the monotonic: an alarm that is owed comes first
+-- the monotonic serves the messages that are due; an alarm that is owed comes first
 abbrev pub ServesDue : App → State → Type 0
 ServesDue app s =
     (mono : Mono) → app.mono ≡ Some mono → s.owing ≡ false → is_due s.time (next_instant s) ≡ true

@@ -1,5 +1,6 @@
 -- What a text that is not empty begins with: a blank, a comment, or the longest token that fits.
-use Rattle.std.specs.Prelude.{ℕ, ◌+◌, not, ◌==◌, nat_eq, codes, List, [], length, take, drop, take_while, Option, Some, None, if◌then◌else◌}
+use Rattle.std.specs.Prelude.{ℕ, ◌+◌, not, ◌==◌, nat_eq, codes, List, [], length, take, drop, take_while, Option, Some}
+use Rattle.std.specs.Prelude.{None, if◌then◌else◌}
 use Rattle.std.specs.List.{starts_with}
 use Rattle.rt_lex.specs.declared.token.Kind.{Kind}
 use Rattle.rt_lex.specs.declared.token.Kind.TheVariants as kind
@@ -35,7 +36,8 @@ abbrev pub number_front : List ℕ → List ℕ → Front
 number_front digits hex = makes (if length hex == 0 then length digits else 2 + length hex) kind.Num
 
 abbrev pub sign_front : ℕ → List ℕ → Front
-sign_front b two = if is_long_sign two then makes 2 kind.Sign else makes 1 (if is_short_sign b then kind.Sign else kind.Foreign)
+sign_front b two = if is_long_sign two then makes 2 kind.Sign
+    else makes 1 (if is_short_sign b then kind.Sign else kind.Foreign)
 
 -- what a text with this first byte begins with
 abbrev pub front_of : ℕ → List ℕ → Front

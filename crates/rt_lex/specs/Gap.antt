@@ -1,5 +1,6 @@
 -- What stands between the tokens of a text, before the first and behind the last: blanks and comments alone.
-use Rattle.std.specs.Prelude.{◌≡◌, ◌≢◌, ℕ, ◌+◌, ◌-◌, false, ◌==◌, nat_eq, codes, List, [], ◌∷◌, length, take, drop, fold, if◌then◌else◌}
+use Rattle.std.specs.Prelude.{◌≡◌, ◌≢◌, ℕ, ◌+◌, ◌-◌, false, ◌==◌, nat_eq, codes, List, [], ◌∷◌, length, take, drop}
+use Rattle.std.specs.Prelude.{fold, if◌then◌else◌}
 use Rattle.std.specs.List.{starts_with}
 use Rattle.rt_lex.specs.Bytes.{is_blank}
 use Rattle.rt_lex.specs.Token.{Token}
@@ -31,4 +32,5 @@ IsLastGap text = (standing text ≢ Lost) × (standing text ≢ Slash)
 abbrev pub HaveGaps : List ℕ → ℕ → List Token → Type 0
 HaveGaps src from [] = IsLastGap (drop from src)
 HaveGaps src from (t ∷ tokens) =
-    (standing (take (t.at - from) (drop from src)) ≡ Outside) × (starts_with nat_eq (drop t.at src) (codes "//") ≡ false) × HaveGaps src (t.at + length t.text) tokens
+    (standing (take (t.at - from) (drop from src)) ≡ Outside)
+    × (starts_with nat_eq (drop t.at src) (codes "//") ≡ false) × HaveGaps src (t.at + length t.text) tokens

@@ -15,7 +15,8 @@ abbrev pub tokens_behind : ℕ → ℕ → List ℕ → List Token
 tokens_behind n at [] = []
 tokens_behind (suc n) at (b ∷ text) = tokens_behind n (suc at) text
 tokens_behind zero at (b ∷ text) =
-    with_front (front_of b (b ∷ text)).kind at (take (front_of b (b ∷ text)).len (b ∷ text)) (tokens_behind (pred (front_of b (b ∷ text)).len) (suc at) text)
+    with_front (front_of b (b ∷ text)).kind at (take (front_of b (b ∷ text)).len (b ∷ text))
+    (tokens_behind (pred (front_of b (b ∷ text)).len) (suc at) text)
 
 -- the tokens of a text that stands at an offset
 abbrev pub tokens_at : ℕ → List ℕ → List Token

@@ -28,5 +28,6 @@ pub fn gaps_are_blanks_and_comments()
 /// A list of tokens that meets these three, whatever it is, is the text's.
 #[tactic(auto, using(crate::proofs::Unique::tokens_are_the_only))]
 pub fn no_other_tokens_fit()
-    ensures { (src : List ℕ) (split : List Token) → LieIn src 0 split → AllByRecursion (IsLongest src) split → HaveGaps src 0 split → split ≡ tokens src }
+    ensures { (src : List ℕ) (split : List Token) → LieIn src 0 split → AllByRecursion (IsLongest src) split
+        → HaveGaps src 0 split → split ≡ tokens src }
 {}

@@ -1,5 +1,6 @@
 -- The numbers that words spell in decimal.
-use Rattle.std.specs.Prelude.{ℕ, Bool, ◌&&◌, ◌||◌, not, ◌==◌, nat_le, nat_lt, List, length, slice_index, Option, Some, None, if◌then◌else◌}
+use Rattle.std.specs.Prelude.{ℕ, Bool, ◌&&◌, ◌||◌, not, ◌==◌, nat_le, nat_lt, List, length, slice_index, Option, Some}
+use Rattle.std.specs.Prelude.{None, if◌then◌else◌}
 use Rattle.std.specs.List.{list_all}
 use Rattle.std.specs.Str.Parse.{digits_value}
 use Rattle.rt_ids.specs.Byte.{is_digit}
@@ -19,4 +20,5 @@ short_number word = if are_digits 9 word then Some (digits_value 10 word) else N
 -- A number below this bound of 32 bits, without a leading zero. It has ten digits at most.
 abbrev pub number_below : ℕ → List ℕ → Option ℕ
 number_below bound word =
-    if are_digits 10 word && has_no_leading_zero word && nat_lt (digits_value 10 word) bound then Some (digits_value 10 word) else None
+    if are_digits 10 word && has_no_leading_zero word && nat_lt (digits_value 10 word) bound
+    then Some (digits_value 10 word) else None

@@ -11,7 +11,8 @@ fn place_of(text: &[u8], byte: u8) -> Option<usize>
 /// The part of a text in front of the first byte of a value, and what stands behind that byte; None where there is
 /// no such byte.
 pub fn cut(text: &[u8], byte: u8) -> (&[u8], Option<&[u8]>)
-    ensures parts { MatchOption result.1 (parts byte text.now ≡ result.0.now ∷ []) (λ rest. parts byte text.now ≡ result.0.now ∷ parts byte rest.now) }
+    ensures parts { MatchOption result.1 (parts byte text.now ≡ result.0.now ∷ [])
+        (λ rest. parts byte text.now ≡ result.0.now ∷ parts byte rest.now) }
     ensures whole { IfNone result.1 (result.0.now ≡ text.now) }
     ensures shorter { IfSome result.1 (λ rest. length rest.now < length text.now) }
 {
@@ -37,7 +38,8 @@ pub fn first_line(text: &[u8]) -> (&[u8], &[u8])
 /// The first of the words that are left, and the words behind it; None where no word is left. Words stand between
 /// single spaces.
 pub fn next_word(words: Option<&[u8]>) -> Option<(&[u8], Option<&[u8]>)>
-    ensures { MatchOption result (words_of words.entry ≡ []) (λ next. words_of words.entry ≡ next.0.now ∷ words_of next.1) }
+    ensures { MatchOption result (words_of words.entry ≡ [])
+        (λ next. words_of words.entry ≡ next.0.now ∷ words_of next.1) }
 {
     Some(cut(words?, b' '))
 }

@@ -7,4 +7,5 @@ use Rattle.rt_listing.specs.Numbers.{HasShortNumbers}
 
 abbrev pub TellsImagesApart : Type 0
 TellsImagesApart =
-    (a b : Image) → IsListable a → IsListable b → HasShortNumbers a → HasShortNumbers b → a.names ≡ b.names → listing a ≡ listing b → a ≡ b
+    (a b : Image) → IsListable a → IsListable b → HasShortNumbers a → HasShortNumbers b → a.names ≡ b.names → listing a
+    ≡ listing b → a ≡ b

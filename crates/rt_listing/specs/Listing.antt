@@ -1,5 +1,5 @@
--- The one text of an image: a line of its sizes, then a line for each cell, declared interrupt, body of a software task and
--- instruction. Words stand one space apart, numbers are decimal, and each line ends with a line feed.
+-- The one text of an image: a line of its sizes, then a line for each cell, declared interrupt, body of a software task
+-- and instruction. Words stand one space apart, numbers are decimal, and each line ends with a line feed.
 use Rattle.std.specs.Prelude.{ℕ, suc, List, [], ◌∷◌, ◌++◌, flat_map, length, codes, Option, Some, None}
 use Rattle.rt_ids.specs.Names.{Names}
 use Rattle.rt_ids.specs.declared.cell.CellRow.{CellRow}

@@ -1,5 +1,5 @@
--- Which images have only numbers that their text tells apart. Those of an image that a program holds are of 32 bits or fewer;
--- a list of digits, as the standard library defines it, has at most 64.
+-- Which images have only numbers that their text tells apart. Those of an image that a program holds are of 32 bits or
+-- fewer; a list of digits, as the standard library defines it, has at most 64.
 use Rattle.std.specs.Prelude.{ℕ, ◌<◌, ◌^◌, List, [], ◌∷◌, Option, Some, None}
 use Rattle.std.specs.List.{AllByRecursion}
 use Rattle.rt_ids.specs.declared.ids.Section.{Section}

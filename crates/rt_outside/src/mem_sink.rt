@@ -1,4 +1,5 @@
-ghost use Rattle.std.specs.Prelude.{◌≡◌, ℕ, ◌-◌, ◌<◌, ◌≤◌, ◌↔◌, ◌⊎◌, [], Some, Contains, length, take, min, IfOk, OnOk, OnErr, IsErr};
+ghost use Rattle.std.specs.Prelude.{◌≡◌, ℕ, ◌-◌, ◌<◌, ◌≤◌, ◌↔◌, ◌⊎◌, [], Some, Contains, length, take, min, IfOk, OnOk};
+ghost use Rattle.std.specs.Prelude.{OnErr, IsErr};
 ghost use Rattle.rt_outside.specs.Faults.{HasCause};
 ghost use Rattle.rt_outside.specs.Bytes.{Took};
 ghost use Rattle.rt_outside.specs.Memory.{next_call, next_fault};
@@ -25,7 +26,13 @@ impl Model for MemSink {
 
     ghost Value = { Store };
 
-    ghost view = { λ s. record { taken = s.kept.items; room = s.free; calls = s.writes; fails = s.failing.items; faults = s.failed } };
+    ghost view = { λ s. record {
+      taken = s.kept.items;
+      room = s.free;
+      calls = s.writes;
+      fails = s.failing.items;
+      faults = s.failed;
+    } };
 
     ghost invariant = { λ s. vec_len s.kept + s.free ≤ vec_capacity s.kept };
 }
@@ -33,7 +40,8 @@ impl Model for MemSink {
 impl MemSink {
     /// A sink with room for so many bytes that fails at the writes with these numbers.
     pub fn new(alloc: Global, room: u32, fails: &[u32]) -> Result<MemSink, NoMemory>
-        ensures { IfOk result (λ sink. sink ≡ record { taken = []; room = room; calls = 0; fails = fails.now; faults = 0 }) }
+        ensures { IfOk result (λ sink. sink
+            ≡ record { taken = []; room = room; calls = 0; fails = fails.now; faults = 0 }) }
     {
         Ok(MemSink {
             kept: Vec::with_capacity(alloc, room as usize)?,
@@ -64,8 +72,10 @@ impl Sink for MemSink {
         ensures err { OnErr result (self.new.taken ≡ self.old.taken) }
         ensures cause { HasCause self.old.faults self.new.faults result }
 
-        // It fails at the listed writes and where no room is left for any byte, and else takes as much as there is room for.
-        ensures fails { IsErr result ↔ (Contains self.old.fails self.old.calls ⊎ ((0 < length piece.now) × (self.old.room ≡ 0))) }
+        // It fails at the listed writes and where no room is left for any byte, and else takes as much as there is room
+        // for.
+        ensures fails { IsErr result
+            ↔ (Contains self.old.fails self.old.calls ⊎ ((0 < length piece.now) × (self.old.room ≡ 0))) }
         ensures count { IfOk result (λ n. n ≡ min (length piece.now) self.old.room) }
         ensures room { IfOk result (λ n. self.new.room ≡ self.old.room - n) }
         ensures room_kept { OnErr result (self.new.room ≡ self.old.room) }

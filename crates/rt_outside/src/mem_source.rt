@@ -24,7 +24,12 @@ impl Model for MemSource {
 
     ghost Value = { Supply };
 
-    ghost view = { λ s. record { left = drop s.start s.bytes.items; calls = s.reads; fails = s.failing.items; faults = s.failed } };
+    ghost view = { λ s. record {
+      left = drop s.start s.bytes.items;
+      calls = s.reads;
+      fails = s.failing.items;
+      faults = s.failed;
+    } };
 
     ghost invariant = { λ s. s.start ≤ length s.bytes.items };
 }
@@ -32,7 +37,8 @@ impl Model for MemSource {
 impl MemSource {
     /// A source of these bytes that fails at the reads with these numbers.
     pub fn new(alloc: Global, bytes: &[u8], fails: &[u32]) -> Result<MemSource, NoMemory>
-        ensures { IfOk result (λ source. source ≡ record { left = bytes.now; calls = 0; fails = fails.now; faults = 0 }) }
+        ensures { IfOk result (λ source. source
+            ≡ record { left = bytes.now; calls = 0; fails = fails.now; faults = 0 }) }
     {
         Ok(MemSource {
             bytes: Vec::from_slice(alloc, bytes)?,

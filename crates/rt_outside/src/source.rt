@@ -1,4 +1,5 @@
-ghost use Rattle.std.specs.Prelude.{◌≡◌, ℕ, ◌+◌, ◌-◌, ◌^◌, ◌<◌, ◌≤◌, ◌↔◌, List, Option, length, IfOk, OnOk, OnErr, IsErrOf, vec_len};
+ghost use Rattle.std.specs.Prelude.{◌≡◌, ℕ, ◌+◌, ◌-◌, ◌^◌, ◌<◌, ◌≤◌, ◌↔◌, List, Option, length, IfOk, OnOk, OnErr};
+ghost use Rattle.std.specs.Prelude.{IsErrOf, vec_len};
 ghost use Rattle.rt_outside.specs.Faults.{Rose, HasCause};
 ghost use Rattle.rt_outside.specs.Bytes.{Moves, GaveAll, GaveCount};
 
@@ -66,7 +67,9 @@ pub fn read_text<S: Source>(alloc: Global, source: &mut S, limit: u32) -> Result
 
     // It is too long exactly where one byte more than the limit was taken.
     ensures too_long { IsErrOf result ReadFail.TooLong → GaveCount (S.left source.old) (S.left source.new) (limit + 1) }
-    ensures not_longer { OnErr result (¬ IsErrOf result ReadFail.TooLong → (n : ℕ) × (n ≤ limit) × GaveCount (S.left source.old) (S.left source.new) n) }
+    ensures not_longer { OnErr result
+        (¬ IsErrOf result ReadFail.TooLong → (n : ℕ) × (n ≤ limit)
+        × GaveCount (S.left source.old) (S.left source.new) n) }
 
     ensures fault { IsErrOf result ReadFail.Fault → Rose (S.faults source.old) (S.faults source.new) }
     ensures later { S.faults source.old ≤ S.faults source.new }

@@ -7,10 +7,14 @@ ghost use Rattle.rt_grammar.specs.Options.{no_options, is_task, is_init};
 ghost use Rattle.rt_grammar.specs.Bodies.{or_empty};
 ghost use Rattle.rt_parse.specs.Inside.Reading.{Gives, begins_with, repeat_at};
 ghost use Rattle.rt_parse.specs.Inside.ReadingList.{items_at, adds_at};
-ghost use Rattle.rt_parse.specs.Inside.ReadingOptions.{binds_at, priority_at, capacity_at, shared_list_at, local_list_at, takes, option_at, some_options_at, options_at};
-ghost use Rattle.rt_parse.specs.Inside.ReadingBodies.{thread_at, thread_body_at, one_argument_at, argument_at, parameters_at, task_arguments_at, task_is, task_block_at, task_at};
+ghost use Rattle.rt_parse.specs.Inside.ReadingOptions.{binds_at, priority_at, capacity_at, shared_list_at};
+ghost use Rattle.rt_parse.specs.Inside.ReadingOptions.{local_list_at, takes, option_at, some_options_at, options_at};
+ghost use Rattle.rt_parse.specs.Inside.ReadingBodies.{thread_at, thread_body_at, one_argument_at, argument_at};
+ghost use Rattle.rt_parse.specs.Inside.ReadingBodies.{parameters_at, task_arguments_at, task_is, task_block_at};
+ghost use Rattle.rt_parse.specs.Inside.ReadingBodies.{task_at};
 ghost use Rattle.rt_parse.specs.Inside.ReadingDeclaration.{app_is, bodies_at, declarations_at, application_at, text_at};
-ghost use Rattle.rt_parse.specs.Inside.DeclarationView.{declared_view, opening_view, options_view, owner_view, items_of};
+ghost use Rattle.rt_parse.specs.Inside.DeclarationView.{declared_view, opening_view, options_view, owner_view};
+ghost use Rattle.rt_parse.specs.Inside.DeclarationView.{items_of};
 
 use crate::declaration::{Opening, heading, interrupts, locals, monotonic, names, shared};
 use crate::list::{comma, goes_past, list};
@@ -205,7 +209,8 @@ fn option<'a>(
     owner: Owner,
     options: BodyOptions,
 ) -> Result<(BodyOptions, Tokens<'a>), Stop>
-    ensures { Gives (λ x. (options_view x.0, x.1)) result (option_at (owner_view owner) (options_view options) tokens.entry) }
+    ensures { Gives (λ x. (options_view x.0, x.1)) result
+        (option_at (owner_view owner) (options_view options) tokens.entry) }
 {
     if takes(&tokens, options.may_bind(owner), b"binds") {
         binds(alloc, tokens, options)
@@ -228,7 +233,8 @@ fn option_list<'a>(
     tokens: Tokens<'a>,
     owner: Owner,
 ) -> Result<(BodyOptions, Tokens<'a>), Stop>
-    ensures { Gives (λ x. (options_view x.0, x.1)) result (items_at (codes ")") (option_at (owner_view owner)) (length tokens.entry) no_options tokens.entry) }
+    ensures { Gives (λ x. (options_view x.0, x.1)) result
+        (items_at (codes ")") (option_at (owner_view owner)) (length tokens.entry) no_options tokens.entry) }
 {
     let mut options = no_options();
     let mut rest = tokens;
@@ -275,7 +281,8 @@ fn thread_body<'a>(
     owner: Owner,
     text: &[u8],
 ) -> Result<(Option<BodyTree>, Tokens<'a>), Stop>
-    ensures { Gives (λ x. (option_map body_of x.0, x.1)) result (thread_body_at (owner_view owner) text.now tokens.entry) }
+    ensures { Gives (λ x. (option_map body_of x.0, x.1)) result
+        (thread_body_at (owner_view owner) text.now tokens.entry) }
 {
     if !begins_word(&tokens, text) {
         return Ok((None, tokens));
@@ -312,7 +319,8 @@ fn more_arguments<'a>(
     tokens: Tokens<'a>,
     first: Ident,
 ) -> Result<(Vec<Ident>, Tokens<'a>), Stop>
-    ensures { Gives (λ x. (x.0.items, x.1)) result (repeat_at (is_this_sign (codes ",")) argument_at (length tokens.entry) (first ∷ []) tokens.entry) }
+    ensures { Gives (λ x. (x.0.items, x.1)) result
+        (repeat_at (is_this_sign (codes ",")) argument_at (length tokens.entry) (first ∷ []) tokens.entry) }
 {
     let mut arguments = Vec::new(alloc);
     arguments.push(first)?;
@@ -395,7 +403,8 @@ fn task<'a>(
 
 /// The tasks.
 fn tasks<'a>(alloc: Global, tokens: Tokens<'a>) -> Result<(Vec<TaskTree>, Tokens<'a>), Stop>
-    ensures { Gives (λ x. (map task_of x.0.items, x.1)) result (repeat_at (is_this_word (codes "task")) (adds_at task_at) (length tokens.entry) [] tokens.entry) }
+    ensures { Gives (λ x. (map task_of x.0.items, x.1)) result
+        (repeat_at (is_this_word (codes "task")) (adds_at task_at) (length tokens.entry) [] tokens.entry) }
 {
     let mut tasks = Vec::new(alloc);
     let mut rest = tokens;
@@ -424,7 +433,8 @@ fn app_tree(
     idle: Option<BodyTree>,
     tasks: Vec<TaskTree>,
 ) -> AppTree
-    ensures { app_of result ≡ app_is (declared_view declared) (option_map body_of init) (option_map body_of idle) (map task_of tasks.items) }
+    ensures { app_of result ≡ app_is (declared_view declared) (option_map body_of init) (option_map body_of idle)
+        (map task_of tasks.items) }
 {
     let Declared {
         first,

@@ -7,8 +7,11 @@ ghost use Rattle.rt_grammar.specs.Expression.{op_of, comparisons, strengths};
 ghost use Rattle.rt_grammar.specs.Reach.{is_of};
 ghost use Rattle.rt_parse.specs.Inside.Reading.{Gives, Leaves, begins_with};
 ghost use Rattle.rt_parse.specs.Inside.ReadingDepth.{measured_joined, atomic};
-ghost use Rattle.rt_parse.specs.Inside.ReadingExpression.{joined_at, chains_at, comparison_at, number_atom_at, name_atom_at, parenthesized_at, closed_at, nested_at, atom_at, expression_at};
-ghost use Rattle.rt_parse.specs.Inside.ExpressionView.{signs_of, levels, stronger_than, is_of_some, IsOperator, IsAhead, IsCompared, measured_view};
+ghost use Rattle.rt_parse.specs.Inside.ReadingExpression.{joined_at, chains_at, comparison_at, number_atom_at};
+ghost use Rattle.rt_parse.specs.Inside.ReadingExpression.{name_atom_at, parenthesized_at, closed_at, nested_at};
+ghost use Rattle.rt_parse.specs.Inside.ReadingExpression.{atom_at, expression_at};
+ghost use Rattle.rt_parse.specs.Inside.ExpressionView.{signs_of, levels, stronger_than, is_of_some, IsOperator};
+ghost use Rattle.rt_parse.specs.Inside.ExpressionView.{IsAhead, IsCompared, measured_view};
 
 use crate::stop::{Found, Stop};
 use crate::tokens::{is_byte, is_pair, take_name, take_number, take_sign, wrong};

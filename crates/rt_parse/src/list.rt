@@ -52,7 +52,8 @@ pub(crate) fn list<'a, T: Item + Drop>(
     tokens: Tokens<'a>,
     closing: &[u8],
 ) -> Result<(Vec<T>, Tokens<'a>), Stop>
-    ensures { Gives (λ x. (x.0.items, x.1)) result (items_at closing.now (adds_at T.reads) (length tokens.entry) [] tokens.entry) }
+    ensures { Gives (λ x. (x.0.items, x.1)) result
+        (items_at closing.now (adds_at T.reads) (length tokens.entry) [] tokens.entry) }
 {
     let mut items = Vec::new(alloc);
     let mut rest = tokens;

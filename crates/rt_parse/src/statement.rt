@@ -1,5 +1,5 @@
-// The parser of statements and blocks. A reader is told how many blocks may still be opened inside each other, and how many
-// statements the body may still have; it answers how many it may have behind.
+// The parser of statements and blocks. A reader is told how many blocks may still be opened inside each other, and how
+// many statements the body may still have; it answers how many it may have behind.
 
 ghost use Rattle.std.specs.Prelude.{◌≡◌, ◌-◌, [], codes, length, map, Ok};
 ghost use Rattle.rt_lex.specs.Token.{is_this_sign};
@@ -8,10 +8,13 @@ ghost use Rattle.rt_ast.specs.View.{expression_of, statement_of, spawn_of, value
 ghost use Rattle.rt_parse.specs.Inside.Reading.{Gives, begins_with, repeat_at};
 ghost use Rattle.rt_parse.specs.Inside.ReadingList.{items_at, adds_at};
 ghost use Rattle.rt_parse.specs.Inside.ReadingExpression.{expression_at};
-ghost use Rattle.rt_parse.specs.Inside.ReadingSpawn.{is_spawn, arguments_at, soon_at, after_at, spawn_at, now_at, call_value_at, calc_at, value_at};
+ghost use Rattle.rt_parse.specs.Inside.ReadingSpawn.{is_spawn, arguments_at, soon_at, after_at, spawn_at, now_at};
+ghost use Rattle.rt_parse.specs.Inside.ReadingSpawn.{call_value_at, calc_at, value_at};
 ghost use Rattle.rt_parse.specs.Inside.ReadingSimple.{counted_limit, bind_at, assign_at, emit_at, pend_at, call_at};
-ghost use Rattle.rt_parse.specs.Inside.ReadingNested.{nested_limit, else_block_at, else_at, branch_at, loop_at, further_at, lock_at};
-ghost use Rattle.rt_parse.specs.Inside.ReadingStatement.{simple_at, compound_at, statement_at, one_more_at, is_inside, braced_at, closed_block_at, block_at, inside_at, below_at};
+ghost use Rattle.rt_parse.specs.Inside.ReadingNested.{nested_limit, else_block_at, else_at, branch_at, loop_at};
+ghost use Rattle.rt_parse.specs.Inside.ReadingNested.{further_at, lock_at};
+ghost use Rattle.rt_parse.specs.Inside.ReadingStatement.{simple_at, compound_at, statement_at, one_more_at, is_inside};
+ghost use Rattle.rt_parse.specs.Inside.ReadingStatement.{braced_at, closed_block_at, block_at, inside_at, below_at};
 
 use crate::expression::expression;
 use crate::list::{comma, goes_past};
@@ -41,7 +44,8 @@ fn nested_limit(left: u32) -> Option<Limit>
 
 /// The arguments of a spawn, up to the parenthesis that closes them.
 fn expressions<'a>(alloc: Global, tokens: Tokens<'a>) -> Result<(Vec<Expr>, Tokens<'a>), Stop>
-    ensures { Gives (λ x. (map expression_of x.0.items, x.1)) result (items_at (codes ")") (adds_at (λ before. expression_at)) (length tokens.entry) [] tokens.entry) }
+    ensures { Gives (λ x. (map expression_of x.0.items, x.1)) result
+        (items_at (codes ")") (adds_at (λ before. expression_at)) (length tokens.entry) [] tokens.entry) }
 {
     let mut items = Vec::new(alloc);
     let mut rest = tokens;
@@ -294,7 +298,8 @@ fn compound<'a>(
     left: u32,
     room: u32,
 ) -> Result<((Stmt, u32), Tokens<'a>), Stop>
-    ensures { Gives (λ x. ((statement_of x.0.0, x.0.1), x.1)) result (compound_at (block_at left) (inside_at left) room tokens.entry) }
+    ensures { Gives (λ x. ((statement_of x.0.0, x.0.1), x.1)) result
+        (compound_at (block_at left) (inside_at left) room tokens.entry) }
 {
     if begins_word(&tokens, b"if") {
         branch(alloc, tokens, left, room)
@@ -316,7 +321,8 @@ fn statement<'a>(
     left: u32,
     room: u32,
 ) -> Result<((Stmt, u32), Tokens<'a>), Stop>
-    ensures { Gives (λ x. ((statement_of x.0.0, x.0.1), x.1)) result (statement_at (block_at left) (inside_at left) room tokens.entry) }
+    ensures { Gives (λ x. ((statement_of x.0.0, x.0.1), x.1)) result
+        (statement_at (block_at left) (inside_at left) room tokens.entry) }
 {
     if begins_name(&tokens) {
         assign(alloc, tokens, room)
@@ -336,7 +342,8 @@ fn statements<'a>(
     first_room: u32,
 ) -> Result<((Vec<Stmt>, u32), Tokens<'a>), Stop>
     ensures { Gives (λ x. ((map statement_of x.0.0.items, x.0.1), x.1)) result
-        (repeat_at is_inside (one_more_at (block_at left) (inside_at left)) (length tokens.entry) ([], first_room) tokens.entry) }
+        (repeat_at is_inside (one_more_at (block_at left) (inside_at left)) (length tokens.entry) ([], first_room)
+        tokens.entry) }
 {
     let mut statements = Vec::new(alloc);
     let mut room = first_room;
@@ -359,7 +366,8 @@ fn braced<'a>(
     left: u32,
     room: u32,
 ) -> Result<((Vec<Stmt>, u32), Tokens<'a>), Stop>
-    ensures { Gives (λ x. ((block_of x.0.0.items, x.0.1), x.1)) result (braced_at (block_at left) (inside_at left) room tokens.entry) }
+    ensures { Gives (λ x. ((block_of x.0.0.items, x.0.1), x.1)) result
+        (braced_at (block_at left) (inside_at left) room tokens.entry) }
 {
     let (_, tokens) = sign(tokens, b"{")?;
     let ((statements, room), tokens) = statements(alloc, tokens, left, room)?;
@@ -428,7 +436,8 @@ fn further<'a>(
     left: u32,
     room: u32,
 ) -> Result<((Vec<Stmt>, u32), Tokens<'a>), Stop>
-    ensures { Gives (λ x. ((block_of x.0.0.items, x.0.1), x.1)) result (further_at (below_at left) left room tokens.entry) }
+    ensures { Gives (λ x. ((block_of x.0.0.items, x.0.1), x.1)) result
+        (further_at (below_at left) left room tokens.entry) }
 {
     let (_, tokens) = sign(tokens, b",")?;
     let limit = nested_limit(left).or(counted_limit(room));

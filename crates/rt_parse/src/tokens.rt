@@ -5,8 +5,11 @@ ghost use Rattle.rt_ids.specs.declared.limit.Limit.{Limit};
 ghost use Rattle.rt_ids.specs.declared.refusal.Refusal.TheVariants as refusal;
 ghost use Rattle.rt_parse.specs.declared.stop.Stop.TheVariants.{At};
 ghost use Rattle.rt_lex.specs.Token.{view, is_this_sign, is_this_word};
-ghost use Rattle.rt_grammar.specs.Tokens.{free, limit_if, word_of, sign_of, ident_of, number_of, name_limit, number_limit};
-ghost use Rattle.rt_parse.specs.Inside.Reading.{Gives, Leaves, begins_with, token_at, wrong_at, wrong_token, limited_word_at, word_at, limited_sign_at, sign_at, limited_name_at, name_at, number_at, limited_number_at, unless_limited};
+ghost use Rattle.rt_grammar.specs.Tokens.{free, limit_if, word_of, sign_of, ident_of, number_of, name_limit};
+ghost use Rattle.rt_grammar.specs.Tokens.{number_limit};
+ghost use Rattle.rt_parse.specs.Inside.Reading.{Gives, Leaves, begins_with, token_at, wrong_at, wrong_token};
+ghost use Rattle.rt_parse.specs.Inside.Reading.{limited_word_at, word_at, limited_sign_at, sign_at, limited_name_at};
+ghost use Rattle.rt_parse.specs.Inside.Reading.{name_at, number_at, limited_number_at, unless_limited};
 ghost use Rattle.rt_parse.specs.Inside.ReadingExpression.{is_name};
 ghost use Rattle.rt_grammar.specs.Limits.{within, turned};
 

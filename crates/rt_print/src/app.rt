@@ -16,7 +16,8 @@ use std::alloc::Global;
 
 /// Appends a space, a body's block and the end of its line.
 fn push_whole_block(alloc: Global, out: &mut Vec<u8>, block: &[Stmt]) -> Result<(), NoMemory>
-    ensures { OnOk result (out.new.items ≡ out.old.items ++ (codes " " ++ block_text [] (view.block_of block.now) ++ newline)) }
+    ensures { OnOk result (out.new.items
+        ≡ out.old.items ++ (codes " " ++ block_text [] (view.block_of block.now) ++ newline)) }
 {
     push_bytes(out, b" ")?;
     push_block(alloc, out, b"", block)?;
@@ -30,7 +31,8 @@ fn push_body(
     word: &[u8],
     body: &Option<BodyTree>,
 ) -> Result<(), NoMemory>
-    ensures { OnOk result (out.new.items ≡ out.old.items ++ body_text word.now (view.option_map view.body_of body.now)) }
+    ensures { OnOk result (out.new.items
+        ≡ out.old.items ++ body_text word.now (view.option_map view.body_of body.now)) }
 {
     match body {
         Some(body) => {
@@ -77,7 +79,8 @@ fn push_tasks(alloc: Global, out: &mut Vec<u8>, tasks: &[TaskTree]) -> Result<()
 /// Appends the lines of `init`, of `idle` and of the tasks.
 fn push_bodies(alloc: Global, out: &mut Vec<u8>, tree: &AppTree) -> Result<(), NoMemory>
     ensures { OnOk result (out.new.items ≡ out.old.items
-        ++ (body_text (codes "init") (view.app_of tree.now).init ++ body_text (codes "idle") (view.app_of tree.now).idle ++ flat_map task_text (view.app_of tree.now).tasks)) }
+        ++ (body_text (codes "init") (view.app_of tree.now).init ++ body_text (codes "idle") (view.app_of tree.now).idle
+        ++ flat_map task_text (view.app_of tree.now).tasks)) }
 {
     push_body(alloc, out, b"init", &tree.init)?;
     push_body(alloc, out, b"idle", &tree.idle)?;

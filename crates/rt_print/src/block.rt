@@ -1,7 +1,8 @@
 ghost use Rattle.std.specs.Prelude.{◌≡◌, ◌++◌, codes, map, IfOk, OnOk};
 ghost use Rattle.rt_ast.specs.View.{expression_of, spawn_of, value_of, statement_of, block_of};
 ghost use Rattle.rt_ast.specs.CanonicalExpression.{name_text, expression_text};
-ghost use Rattle.rt_ast.specs.CanonicalBlock.{deeper, call_text, spawn_text, value_text, statement_text, block_text, else_text, lines_text, branch_head, repeat_head, lock_head};
+ghost use Rattle.rt_ast.specs.CanonicalBlock.{deeper, call_text, spawn_text, value_text, statement_text, block_text};
+ghost use Rattle.rt_ast.specs.CanonicalBlock.{else_text, lines_text, branch_head, repeat_head, lock_head};
 
 use crate::expr::push_expression;
 use crate::separated::push_expressions;
@@ -60,7 +61,9 @@ fn deeper_margin(alloc: Global, margin: &[u8]) -> Result<Vec<u8>, NoMemory>
 
 /// Appends the binding of a variable.
 fn push_bind(out: &mut Vec<u8>, name: &Ident, value: &Value) -> Result<(), NoMemory>
-    ensures { OnOk result (out.new.items ≡ out.old.items ++ (codes "let " ++ name_text name.now ++ codes " = " ++ value_text (value_of value.now) ++ codes ";")) }
+    ensures { OnOk result (out.new.items
+        ≡ out.old.items ++ (codes "let " ++ name_text name.now ++ codes " = " ++ value_text (value_of value.now)
+        ++ codes ";")) }
 {
     push_bytes(out, b"let ")?;
     push_name(out, name)?;
@@ -71,7 +74,9 @@ fn push_bind(out: &mut Vec<u8>, name: &Ident, value: &Value) -> Result<(), NoMem
 
 /// Appends an assignment.
 fn push_assign(out: &mut Vec<u8>, name: &Ident, expr: &Expr) -> Result<(), NoMemory>
-    ensures { OnOk result (out.new.items ≡ out.old.items ++ (name_text name.now ++ codes " = " ++ expression_text (expression_of expr.now) ++ codes ";")) }
+    ensures { OnOk result (out.new.items
+        ≡ out.old.items ++ (name_text name.now ++ codes " = " ++ expression_text (expression_of expr.now)
+        ++ codes ";")) }
 {
     push_name(out, name)?;
     push_bytes(out, b" = ")?;
@@ -81,7 +86,8 @@ fn push_assign(out: &mut Vec<u8>, name: &Ident, expr: &Expr) -> Result<(), NoMem
 
 /// Appends the emission of a value.
 fn push_emit(out: &mut Vec<u8>, expr: &Expr) -> Result<(), NoMemory>
-    ensures { OnOk result (out.new.items ≡ out.old.items ++ (codes "emit " ++ expression_text (expression_of expr.now) ++ codes ";")) }
+    ensures { OnOk result (out.new.items
+        ≡ out.old.items ++ (codes "emit " ++ expression_text (expression_of expr.now) ++ codes ";")) }
 {
     push_bytes(out, b"emit ")?;
     push_expression(out, expr)?;

@@ -2,7 +2,8 @@ ghost use Rattle.std.specs.Prelude.{◌≡◌, ◌++◌, Some, OnOk};
 ghost use Rattle.rt_ast.specs.View.{app_of};
 ghost use Rattle.rt_ast.specs.CanonicalExpression.{further, name_text};
 ghost use Rattle.rt_ast.specs.CanonicalOptions.{bracketed};
-ghost use Rattle.rt_ast.specs.Canonical.{enclosed, dispatchers_text, head_text, irq_text, irqs_text, mono_text, resource_text, shared_text, local_text, locals_text};
+ghost use Rattle.rt_ast.specs.Canonical.{enclosed, dispatchers_text, head_text, irq_text, irqs_text, mono_text};
+ghost use Rattle.rt_ast.specs.Canonical.{resource_text, shared_text, local_text, locals_text};
 
 use crate::separated::push_names;
 use crate::text::{push_bytes, push_name, push_number};

@@ -1,7 +1,8 @@
 ghost use Rattle.std.specs.Prelude.{◌≡◌, ◌++◌, ◌||◌, false, IfOk, OnOk};
 ghost use Rattle.rt_ast.specs.View as view;
 ghost use Rattle.rt_ast.specs.CanonicalExpression.{further, name_text};
-ghost use Rattle.rt_ast.specs.CanonicalOptions.{bracketed, listed_text, binds_option, priority_option, capacity_option, shared_option, local_option, body_options, task_options, options_text};
+ghost use Rattle.rt_ast.specs.CanonicalOptions.{bracketed, listed_text, binds_option, priority_option, capacity_option};
+ghost use Rattle.rt_ast.specs.CanonicalOptions.{shared_option, local_option, body_options, task_options, options_text};
 ghost use Rattle.rt_print.specs.Opened.{has_any, opening, opened_text, closing};
 
 use crate::declarations::push_bracketed;
@@ -148,7 +149,9 @@ fn push_local(out: &mut Vec<u8>, opened: bool, local: &[Ident]) -> Result<bool, 
 
 /// Appends a body's options behind others, and the end of them all.
 fn push_rest(out: &mut Vec<u8>, opened: bool, body: &BodyTree) -> Result<(), NoMemory>
-    ensures { OnOk result (out.new.items ≡ out.old.items ++ (opened_text opened (body_options (view.body_of body.now)) ++ closing (opened || has_any (body_options (view.body_of body.now))))) }
+    ensures { OnOk result (out.new.items
+        ≡ out.old.items ++ (opened_text opened (body_options (view.body_of body.now))
+        ++ closing (opened || has_any (body_options (view.body_of body.now))))) }
 {
     let before = push_shared(out, opened, &body.shared)?;
     let any = push_local(out, before, &body.local)?;

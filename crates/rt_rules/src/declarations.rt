@@ -2,7 +2,8 @@
 
 ghost use Rattle.std.specs.Prelude.{◌≡◌, map, flat_map};
 ghost use Rattle.rt_app.specs.View.{task_of, app_of};
-ghost use Rattle.rt_app.specs.Declarations.{is_priority, mono_priority, task_priority, priorities, dispatchers, is_mixed, hardware_tasks};
+ghost use Rattle.rt_app.specs.Declarations.{is_priority, mono_priority, task_priority, priorities, dispatchers};
+ghost use Rattle.rt_app.specs.Declarations.{is_mixed, hardware_tasks};
 ghost use Rattle.rt_app.specs.Violation.{when};
 ghost use Rattle.rt_ids.specs.declared.rule.Rule.TheVariants as rule;
 ghost use Rattle.rt_rules.specs.Inside.First.{first_of};
@@ -67,7 +68,8 @@ fn is_mixed(task: &Task) -> bool
 
 /// Offers the hardware tasks that have a capacity or arguments.
 pub(crate) fn judge_hardware_tasks(first: &mut First, tasks: &[Task])
-    ensures { first.new ≡ first_of first.old (flat_map (λ t. when (is_mixed t) rule.NotSoftware t.at) (map task_of tasks.now)) }
+    ensures { first.new ≡ first_of first.old
+        (flat_map (λ t. when (is_mixed t) rule.NotSoftware t.at) (map task_of tasks.now)) }
 {
     for task in tasks {
         first.offer_when(is_mixed(task), Rule::NotSoftware, task.at);

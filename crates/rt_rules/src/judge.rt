@@ -4,7 +4,8 @@ ghost use Rattle.rt_app.specs.View.{app_of, expression_of};
 ghost use Rattle.rt_app.specs.Level.{is_software};
 ghost use Rattle.rt_ids.specs.Lists.{is_some_and};
 ghost use Rattle.rt_app.specs.Use.{loops as loops_of};
-ghost use Rattle.rt_app.specs.Statements.{listing_in, is_lockable, is_free, is_outside, is_misplaced_lock, is_inside_itself, is_fixed, is_bad_spawn};
+ghost use Rattle.rt_app.specs.Statements.{listing_in, is_lockable, is_free, is_outside, is_misplaced_lock};
+ghost use Rattle.rt_app.specs.Statements.{is_inside_itself, is_fixed, is_bad_spawn};
 ghost use Rattle.rt_rules.specs.Inside.Locked.{locked_of};
 ghost use Rattle.rt_rules.specs.Inside.Tables.{has, listing_at};
 ghost use Rattle.rt_rules.specs.Inside.View.{member_of};
@@ -26,7 +27,8 @@ pub(crate) struct Judge<'a> {
     listings: FirstListings,
     /// The variables of its `for` statements.
     loops: Numbers,
-    ghost first_listings: { (r : ℕ) → option_map (λ l. l.listed) (listing_at listings r) ≡ listing_in (member_of member) r },
+    ghost first_listings: { (r : ℕ) → option_map (λ l. l.listed) (listing_at listings r)
+        ≡ listing_in (member_of member) r },
     ghost loop_variables: { (x : ℕ) → has loops x ≡ list_any (λ y. y == x) (loops_of (member_of member).body.block) },
 }
 
@@ -81,7 +83,8 @@ impl<'a> Judge<'a> {
 
     /// Whether it is a shared resource that the body, one other than `init`, does not reach where these are locked.
     pub(crate) fn is_outside(&self, locked: &Locked<'_>, atom: &Atom) -> bool
-        ensures { result ≡ is_outside (app_of self.now.app.now) (member_of self.now.member) (locked_of locked.now) atom.now }
+        ensures { result ≡ is_outside (app_of self.now.app.now) (member_of self.now.member) (locked_of locked.now)
+            atom.now }
     {
         match atom {
             Atom::Var(_) | Atom::Local(_) => false,

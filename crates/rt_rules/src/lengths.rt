@@ -24,7 +24,8 @@ fn is_too_long(steps: u32, behind: u32) -> bool
 
 /// Offers the bodies that take too many steps, and those up to which the code is too large.
 pub(crate) fn judge_lengths(first: &mut First, app: &App, members: &[Member<'_>])
-    ensures { first.new ≡ first_of first.old (too_long (app_of app.now) (shared_size (app_of app.now)) (map member_of members.now)) }
+    ensures { first.new ≡ first_of first.old
+        (too_long (app_of app.now) (shared_size (app_of app.now)) (map member_of members.now)) }
 {
     let steps = Measure::cost(app);
     let instructions = Measure::size(app);

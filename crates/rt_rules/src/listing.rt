@@ -1,10 +1,12 @@
 #![tactic(auto, using(crate::proofs::Fold::first_of_append))]
 
-ghost use Rattle.std.specs.Prelude.{◌≡◌, ◌==◌, ◌++◌, ℕ, [], Some, None, map, flat_map, option_map, find, if◌then◌else◌, IfOk, OnOk};
+ghost use Rattle.std.specs.Prelude.{◌≡◌, ◌==◌, ◌++◌, ℕ, [], Some, None, map, flat_map, option_map, find, if◌then◌else◌};
+ghost use Rattle.std.specs.Prelude.{IfOk, OnOk};
 ghost use Rattle.rt_app.specs.View.{app_of};
 ghost use Rattle.rt_app.specs.Bodies.{members};
 ghost use Rattle.rt_app.specs.Declarations.{is_known};
-ghost use Rattle.rt_app.specs.Listing.{listings_of, listed, is_lock_free, is_shared_and_exclusive, is_at_two_priorities, judged_by, judged};
+ghost use Rattle.rt_app.specs.Listing.{listings_of, listed, is_lock_free, is_shared_and_exclusive};
+ghost use Rattle.rt_app.specs.Listing.{is_at_two_priorities, judged_by, judged};
 ghost use Rattle.rt_rules.specs.Inside.First.{first_of};
 ghost use Rattle.rt_rules.specs.Inside.View.{member_of};
 ghost use Rattle.rt_rules.specs.Inside.Tables.{listing_at, or_else};
@@ -61,7 +63,8 @@ impl FirstListings {
 
     /// Keeps a listing, where it is the first of its resource.
     pub(crate) fn note(&mut self, listing: Listing)
-        ensures { (r : ℕ) → listing_at self.new r ≡ or_else (listing_at self.old r) (if listing.listed.resource == r then Some listing else None) }
+        ensures { (r : ℕ) → listing_at self.new r
+            ≡ or_else (listing_at self.old r) (if listing.listed.resource == r then Some listing else None) }
     {
         let first = &mut self.by_resource[listing.listed.resource.0 as usize];
         if first.is_none() {
@@ -115,8 +118,8 @@ pub(crate) fn is_lock_free(app: &App, resource: ResId) -> bool
     }
 }
 
-/// Whether a listing is shared where the first is exclusive, or the other way round, or shared and of a resource that is
-/// used without a lock.
+/// Whether a listing is shared where the first is exclusive, or the other way round, or shared and of a resource that
+/// is used without a lock.
 fn is_shared_and_exclusive(app: &App, first: &Listing, listing: &Listing) -> bool
     ensures { result ≡ is_shared_and_exclusive (app_of app.now) first.now listing.now }
 {
@@ -152,7 +155,9 @@ fn judge_beside(first: &mut First, app: &App, listing: &Listing, judge: &Option<
 
 /// Offers what a listing breaks.
 fn judge_listing(first: &mut First, app: &App, judges: &FirstListings, listing: &Listing)
-    ensures { first.new ≡ first_of first.old (if is_known listing.now.listed.resource then judged_by (app_of app.now) listing.now (listing_at judges.now listing.now.listed.resource) else []) }
+    ensures { first.new ≡ first_of first.old
+        (if is_known listing.now.listed.resource
+        then judged_by (app_of app.now) listing.now (listing_at judges.now listing.now.listed.resource) else []) }
 {
     let resource = listing.listed.resource;
     if resource.0 != UNKNOWN {

@@ -11,7 +11,8 @@ use rt_ids::NoMemory;
 /// Puts in the variables of the `for` statements of a statement.
 #[cycle(block)]
 fn insert_loop(found: &mut Numbers, stmt: &Stmt) -> Result<(), NoMemory>
-    ensures { OnOk result ((k : ℕ) → has found.new k ≡ (list_any (λ y. y == k) (statement_loops (statement_of stmt.now)) || has found.old k)) }
+    ensures { OnOk result ((k : ℕ) → has found.new k
+        ≡ (list_any (λ y. y == k) (statement_loops (statement_of stmt.now)) || has found.old k)) }
 {
     match stmt {
         Stmt::Branch(_condition, first, second) => {
@@ -30,7 +31,8 @@ fn insert_loop(found: &mut Numbers, stmt: &Stmt) -> Result<(), NoMemory>
 /// Puts in the variables of the `for` statements of a block.
 #[cycle(block)]
 pub(crate) fn insert_loops(found: &mut Numbers, stmts: &[Stmt]) -> Result<(), NoMemory>
-    ensures { OnOk result ((k : ℕ) → has found.new k ≡ (list_any (λ y. y == k) (loops (block_of stmts.now)) || has found.old k)) }
+    ensures { OnOk result ((k : ℕ) → has found.new k
+        ≡ (list_any (λ y. y == k) (loops (block_of stmts.now)) || has found.old k)) }
 {
     for stmt in stmts {
         insert_loop(found, stmt)?;

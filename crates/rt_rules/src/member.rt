@@ -46,7 +46,8 @@ fn push_thread<'a>(
     which: Which,
     body: &'a Option<Body>,
 ) -> Result<(), NoMemory>
-    ensures { OnOk result (map member_of members.new.items ≡ map member_of members.old.items ++ thread_members (id_of which) (option_map body_of body.now)) }
+    ensures { OnOk result (map member_of members.new.items
+        ≡ map member_of members.old.items ++ thread_members (id_of which) (option_map body_of body.now)) }
 {
     if let Some(body) = body {
         members.push(Member {
@@ -61,7 +62,8 @@ fn push_thread<'a>(
 
 /// Appends the bodies of tasks.
 fn push_tasks<'a>(members: &mut Vec<Member<'a>>, tasks: &'a [Task]) -> Result<(), NoMemory>
-    ensures { OnOk result (map member_of members.new.items ≡ map member_of members.old.items ++ task_members 0 (map task_of tasks.now)) }
+    ensures { OnOk result (map member_of members.new.items
+        ≡ map member_of members.old.items ++ task_members 0 (map task_of tasks.now)) }
 {
     for (number, task) in tasks.iter().enumerate() {
         members.push(Member {

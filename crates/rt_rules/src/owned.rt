@@ -25,7 +25,8 @@ fn is_owned(owned: &Numbers, local: u8) -> bool
 
 /// Offers the listings of local resources that bodies before list too.
 fn judge_locals(first: &mut First, owned: &Numbers, locals: &[Owned])
-    ensures { first.new ≡ first_of first.old (flat_map (λ o. when (is_known o.local && has owned.now o.local) rule.LocalInTwoTasks o.at) locals.now) }
+    ensures { first.new ≡ first_of first.old
+        (flat_map (λ o. when (is_known o.local && has owned.now o.local) rule.LocalInTwoTasks o.at) locals.now) }
 {
     for item in locals {
         first.offer_when(is_owned(owned, item.local), Rule::LocalInTwoTasks, item.at);

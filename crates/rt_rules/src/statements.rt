@@ -2,7 +2,8 @@
 
 ghost use Rattle.std.specs.Prelude.{◌≡◌, [], ◌∷◌, flat_map, map, OnOk};
 ghost use Rattle.rt_app.specs.View.{app_of, expression_of, spawn_of, value_of, statement_of, block_of};
-ghost use Rattle.rt_app.specs.Use.{Reads, Writes, Locks, MakesSpawn, AsksTime, placed, reads, spawn_uses, value_uses, statement_uses, uses};
+ghost use Rattle.rt_app.specs.Use.{Reads, Writes, Locks, MakesSpawn, AsksTime, placed, reads, spawn_uses, value_uses};
+ghost use Rattle.rt_app.specs.Use.{statement_uses, uses};
 ghost use Rattle.rt_app.specs.Bodies.{members};
 ghost use Rattle.rt_app.specs.Statements.{is_bad_spawn, use_breaks, breaks};
 ghost use Rattle.rt_app.specs.Violation.{when};
@@ -22,14 +23,18 @@ use std::alloc::Global;
 
 /// Offers a read of a shared resource outside its lock.
 fn judge_read(first: &mut First, judge: &Judge<'_>, locked: &Locked<'_>, atom: &Atom, at: u32)
-    ensures { first.new ≡ first_of first.old (use_breaks (app_of judge.now.app.now) (member_of judge.now.member) (locked_of locked.now) (Reads atom.now at)) }
+    ensures { first.new ≡ first_of first.old
+        (use_breaks (app_of judge.now.app.now) (member_of judge.now.member) (locked_of locked.now)
+        (Reads atom.now at)) }
 {
     first.offer_when(judge.is_outside(locked, atom), Rule::OutsideLock, at);
 }
 
 /// Offers a write of a shared resource outside its lock, or of what can only be read.
 fn judge_write(first: &mut First, judge: &Judge<'_>, locked: &Locked<'_>, atom: &Atom, at: u32)
-    ensures { first.new ≡ first_of first.old (use_breaks (app_of judge.now.app.now) (member_of judge.now.member) (locked_of locked.now) (Writes atom.now at)) }
+    ensures { first.new ≡ first_of first.old
+        (use_breaks (app_of judge.now.app.now) (member_of judge.now.member) (locked_of locked.now)
+        (Writes atom.now at)) }
 {
     first.offer_when(judge.is_outside(locked, atom), Rule::OutsideLock, at);
     first.offer_when(judge.is_fixed(atom), Rule::NotWritable, at);
@@ -37,7 +42,9 @@ fn judge_write(first: &mut First, judge: &Judge<'_>, locked: &Locked<'_>, atom: 
 
 /// Offers a lock that is not the body's to take, or inside one of the same resource.
 fn judge_lock(first: &mut First, judge: &Judge<'_>, locked: &Locked<'_>, resource: ResId, at: u32)
-    ensures { first.new ≡ first_of first.old (use_breaks (app_of judge.now.app.now) (member_of judge.now.member) (locked_of locked.now) (Locks resource at)) }
+    ensures { first.new ≡ first_of first.old
+        (use_breaks (app_of judge.now.app.now) (member_of judge.now.member) (locked_of locked.now)
+        (Locks resource at)) }
 {
     first.offer_when(judge.is_misplaced_lock(resource), Rule::OutsideLock, at);
     first.offer_when(
@@ -49,14 +56,16 @@ fn judge_lock(first: &mut First, judge: &Judge<'_>, locked: &Locked<'_>, resourc
 
 /// Offers a spawn that its task does not take.
 fn judge_target(first: &mut First, judge: &Judge<'_>, task: TaskId, args: &[Expr], at: u32)
-    ensures { first.new ≡ first_of first.old (when (is_bad_spawn (app_of judge.now.app.now) task (map expression_of args.now)) rule.NotSoftware at) }
+    ensures { first.new ≡ first_of first.old
+        (when (is_bad_spawn (app_of judge.now.app.now) task (map expression_of args.now)) rule.NotSoftware at) }
 {
     first.offer_when(judge.is_bad_spawn(task, args), Rule::NotSoftware, at);
 }
 
 /// Offers the uses of an expression.
 fn judge_expression(first: &mut First, judge: &Judge<'_>, locked: &Locked<'_>, expr: &Expr)
-    ensures { first.new ≡ first_use (app_of judge.now.app.now) (member_of judge.now.member) first.old (reads (locked_of locked.now) (expression_of expr.now)) }
+    ensures { first.new ≡ first_use (app_of judge.now.app.now) (member_of judge.now.member) first.old
+        (reads (locked_of locked.now) (expression_of expr.now)) }
 {
     match expr {
         Expr::Num(_) => {}
@@ -70,7 +79,8 @@ fn judge_expression(first: &mut First, judge: &Judge<'_>, locked: &Locked<'_>, e
 
 /// Offers the uses of expressions.
 fn judge_expressions(first: &mut First, judge: &Judge<'_>, locked: &Locked<'_>, exprs: &[Expr])
-    ensures { first.new ≡ first_use (app_of judge.now.app.now) (member_of judge.now.member) first.old (flat_map (reads (locked_of locked.now)) (map expression_of exprs.now)) }
+    ensures { first.new ≡ first_use (app_of judge.now.app.now) (member_of judge.now.member) first.old
+        (flat_map (reads (locked_of locked.now)) (map expression_of exprs.now)) }
 {
     for expr in exprs {
         judge_expression(first, judge, locked, expr);
@@ -79,7 +89,8 @@ fn judge_expressions(first: &mut First, judge: &Judge<'_>, locked: &Locked<'_>, 
 
 /// Offers the uses of a spawn.
 fn judge_spawn(first: &mut First, judge: &Judge<'_>, locked: &Locked<'_>, spawn: &Spawn)
-    ensures { first.new ≡ first_use (app_of judge.now.app.now) (member_of judge.now.member) first.old (spawn_uses (locked_of locked.now) (spawn_of spawn.now)) }
+    ensures { first.new ≡ first_use (app_of judge.now.app.now) (member_of judge.now.member) first.old
+        (spawn_uses (locked_of locked.now) (spawn_of spawn.now)) }
 {
     match spawn {
         Spawn::Soon(task, args, at) => {
@@ -97,7 +108,8 @@ fn judge_spawn(first: &mut First, judge: &Judge<'_>, locked: &Locked<'_>, spawn:
 
 /// Offers the uses of what a variable is bound to.
 fn judge_value(first: &mut First, judge: &Judge<'_>, locked: &Locked<'_>, value: &Value)
-    ensures { first.new ≡ first_use (app_of judge.now.app.now) (member_of judge.now.member) first.old (value_uses (locked_of locked.now) (value_of value.now)) }
+    ensures { first.new ≡ first_use (app_of judge.now.app.now) (member_of judge.now.member) first.old
+        (value_uses (locked_of locked.now) (value_of value.now)) }
 {
     match value {
         Value::Calc(expr) => judge_expression(first, judge, locked, expr),
@@ -109,7 +121,8 @@ fn judge_value(first: &mut First, judge: &Judge<'_>, locked: &Locked<'_>, value:
 /// Offers the uses of a statement.
 #[cycle(block)]
 fn judge_statement(first: &mut First, judge: &Judge<'_>, locked: &Locked<'_>, stmt: &Stmt)
-    ensures { first.new ≡ first_use (app_of judge.now.app.now) (member_of judge.now.member) first.old (statement_uses (locked_of locked.now) (statement_of stmt.now)) }
+    ensures { first.new ≡ first_use (app_of judge.now.app.now) (member_of judge.now.member) first.old
+        (statement_uses (locked_of locked.now) (statement_of stmt.now)) }
 {
     match stmt {
         Stmt::Bind(_variable, value) => judge_value(first, judge, locked, value),
@@ -136,7 +149,8 @@ fn judge_statement(first: &mut First, judge: &Judge<'_>, locked: &Locked<'_>, st
 /// Offers the uses of a block.
 #[cycle(block)]
 fn judge_block(first: &mut First, judge: &Judge<'_>, locked: &Locked<'_>, stmts: &[Stmt])
-    ensures { first.new ≡ first_use (app_of judge.now.app.now) (member_of judge.now.member) first.old (uses (locked_of locked.now) (block_of stmts.now)) }
+    ensures { first.new ≡ first_use (app_of judge.now.app.now) (member_of judge.now.member) first.old
+        (uses (locked_of locked.now) (block_of stmts.now)) }
 {
     for stmt in stmts {
         judge_statement(first, judge, locked, stmt);
@@ -150,7 +164,9 @@ fn judge_body(
     app: &App,
     member: &Member<'_>,
 ) -> Result<(), NoMemory>
-    ensures { OnOk result (first.new ≡ first_of first.old (flat_map (breaks (app_of app.now) (member_of member.now)) (uses [] (block_of member.now.body.now.block.items)))) }
+    ensures { OnOk result (first.new
+        ≡ first_of first.old (flat_map (breaks (app_of app.now) (member_of member.now))
+        (uses [] (block_of member.now.body.now.block.items)))) }
 {
     let judge = Judge::of(alloc, app, member)?;
     judge_block(first, &judge, &Locked::Nothing, &member.body.block);
@@ -164,7 +180,9 @@ pub(crate) fn judge_statements(
     app: &App,
     members: &[Member<'_>],
 ) -> Result<(), NoMemory>
-    ensures { OnOk result (first.new ≡ first_of first.old (flat_map (λ m. flat_map (breaks (app_of app.now) m) (uses [] m.body.block)) (map member_of members.now))) }
+    ensures { OnOk result (first.new
+        ≡ first_of first.old (flat_map (λ m. flat_map (breaks (app_of app.now) m) (uses [] m.body.block))
+        (map member_of members.now))) }
 {
     for member in members {
         judge_body(alloc, first, app, member)?;

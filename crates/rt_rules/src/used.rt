@@ -2,7 +2,8 @@
 
 ghost use Rattle.std.specs.Prelude.{◌≡◌, ◌++◌, [], map, flat_map, IfOk, OnOk};
 ghost use Rattle.rt_app.specs.View.{task_of, app_of};
-ghost use Rattle.rt_app.specs.Declarations.{use_of, mono_use, bound_use, interrupt_uses, number_uses, used_twice, interrupts};
+ghost use Rattle.rt_app.specs.Declarations.{use_of, mono_use, bound_use, interrupt_uses, number_uses, used_twice};
+ghost use Rattle.rt_app.specs.Declarations.{interrupts};
 ghost use Rattle.rt_rules.specs.Inside.First.{first_of};
 
 use crate::first::First;
@@ -74,7 +75,8 @@ fn push_bound(uses: &mut Vec<Used>, task: &Task) -> Result<(), NoMemory>
 
 /// Appends the interrupts that tasks bind.
 fn push_tasks(uses: &mut Vec<Used>, tasks: &[Task]) -> Result<(), NoMemory>
-    ensures { OnOk result (uses.new.items ≡ uses.old.items ++ flat_map (λ t. bound_use t.binds t.binds_at) (map task_of tasks.now)) }
+    ensures { OnOk result (uses.new.items
+        ≡ uses.old.items ++ flat_map (λ t. bound_use t.binds t.binds_at) (map task_of tasks.now)) }
 {
     for task in tasks {
         push_bound(uses, task)?;

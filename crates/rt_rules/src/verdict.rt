@@ -44,7 +44,8 @@ fn judge_declarations(
 
 /// The first of all violations: of the rules on names, and of all other rules.
 fn first_violation(alloc: Global, resolved: &Resolved) -> Result<Option<Violation>, NoMemory>
-    ensures { IfOk result (λ found. found ≡ first_of None (resolved.now.faults.items ++ violations (app_of resolved.now.app))) }
+    ensures { IfOk result (λ found. found
+        ≡ first_of None (resolved.now.faults.items ++ violations (app_of resolved.now.app))) }
 {
     let app = &resolved.app;
     let bodies = members(alloc, app)?;
@@ -69,12 +70,14 @@ fn fault_at(src: &[u8], violation: Violation) -> Fault
     }
 }
 
-/// The application, where no rule is broken; else the first violation, that at the smallest offset and there that of the
-/// smallest number.
+/// The application, where no rule is broken; else the first violation, that at the smallest offset and there that of
+/// the smallest number.
 pub fn rules(alloc: Global, src: &[u8], resolved: Resolved) -> Result<App, Refused>
     requires short { length src.now ≤ TEXT_BYTES }
-    ensures ok { IfOk result (λ app. (app ≡ resolved.app) × (resolved.faults.items ≡ []) × (violations (app_of app) ≡ [])) }
-    ensures refused { IfErr result (λ r. IsRefusal src.now (resolved.faults.items ++ violations (app_of resolved.app)) r) }
+    ensures ok { IfOk result (λ app. (app ≡ resolved.app) × (resolved.faults.items ≡ [])
+        × (violations (app_of app) ≡ [])) }
+    ensures refused { IfErr result
+        (λ r. IsRefusal src.now (resolved.faults.items ++ violations (app_of resolved.app)) r) }
 {
     match first_violation(alloc, &resolved) {
         Ok(None) => Ok(resolved.app),

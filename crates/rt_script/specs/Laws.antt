@@ -7,9 +7,12 @@ use Rattle.rt_script.specs.Text.{IsScriptText, IsFirstWrong, Fault}
 use Rattle.rt_script.specs.declared.line.Line.{Line}
 
 pub record AreReadOneWay : Type 0 where
-  pub one_script : (names : Names) (text : List ℕ) (s t : List Line) → IsScriptText names text s → IsScriptText names text t → s ≡ t
-  pub not_both : (names : Names) (text : List ℕ) (s : List Line) (n : ℕ) (f : Fault) → IsScriptText names text s → IsFirstWrong names text n f → ⊥
-  pub one_fault : (names : Names) (text : List ℕ) (n m : ℕ) (f g : Fault) → IsFirstWrong names text n f → IsFirstWrong names text m g → (n ≡ m) × (f ≡ g)
+  pub one_script : (names : Names) (text : List ℕ) (s t : List Line) → IsScriptText names text s
+      → IsScriptText names text t → s ≡ t
+  pub not_both : (names : Names) (text : List ℕ) (s : List Line) (n : ℕ) (f : Fault) → IsScriptText names text s
+      → IsFirstWrong names text n f → ⊥
+  pub one_fault : (names : Names) (text : List ℕ) (n m : ℕ) (f g : Fault) → IsFirstWrong names text n f
+      → IsFirstWrong names text m g → (n ≡ m) × (f ≡ g)
   pub either :
       (names : Names) (text : List ℕ) → length text ≤ SCRIPT_BYTES
       → ((s : List Line) × IsScriptText names text s) ⊎ ((n : ℕ) × (f : Fault) × IsFirstWrong names text n f)

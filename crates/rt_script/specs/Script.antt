@@ -16,9 +16,11 @@ count_of (Ticks n) = n
 count_of (Pends irq n) = n
 count_of (Device d irq n) = n
 
+-- how many all its lines are
 abbrev pub count : List Line → ℕ
 count script = sum_by count_of script
 
+-- the device that a line names, where it does, is one of those that there are
 abbrev pub HasDeviceInRange : Line → Type 0
 HasDeviceInRange (Device d irq n) = d < DEVICES
 HasDeviceInRange line = Unit {0}

@@ -1,7 +1,8 @@
 -- What a script text says, and which is its first wrong line. Its lines end with a line feed, or with a carriage
 -- return and a line feed, which the last line may lack, as `str::lines` of Rust says. Each line is judged by itself
 -- (Wording), and the events of all lines are no more than there may be.
-use Rattle.std.specs.Prelude.{◌≡◌, ℕ, suc, ◌+◌, ◌<◌, ◌≤◌, List, ◌∷◌, ◌++◌, length, map, flat_map, Option, Some, option_to_list, Ok, Err}
+use Rattle.std.specs.Prelude.{◌≡◌, ℕ, suc, ◌+◌, ◌<◌, ◌≤◌, List, ◌∷◌, ◌++◌, length, map, flat_map, Option, Some}
+use Rattle.std.specs.Prelude.{option_to_list, Ok, Err}
 use Rattle.std.specs.Str.Lines.{lines}
 use Rattle.rt_ids.specs.Names.{Names}
 use Rattle.rt_ids.specs.declared.limits.TheConstants.{SCRIPT_BYTES, SCRIPT_EVENTS}
@@ -34,7 +35,8 @@ pub data Fault : Type 0 where
 
 abbrev pub HasFault : Names → List Line → List ℕ → Fault → Type 0
 HasFault names script line (Alone w) = line_of names line ≡ Err w
-HasFault names script line Events = (asked : Line) × (line_of names line ≡ Ok (Some asked)) × (SCRIPT_EVENTS < count script + count_of asked)
+HasFault names script line Events =
+    (asked : Line) × (line_of names line ≡ Ok (Some asked)) × (SCRIPT_EVENTS < count script + count_of asked)
 
 -- the first line that is wrong has this number, from 1, and this fault
 pub record IsFirstWrong (names : Names) (text : List ℕ) (number : ℕ) (fault : Fault) : Type 0 where

@@ -2,7 +2,8 @@
 --     step N    tick N    pend I    pend I N    device D pend I    device D pend I N
 -- with a declared interrupt I and numbers of one to nine digits; N left out is 1. One or more spaces separate its
 -- words, and none stand before the first or behind the last. The form is this project's own.
-use Rattle.std.specs.Prelude.{ℕ, ◌-◌, Bool, false, ◌||◌, ◌==◌, nat_lt, if◌then◌else◌, bytes_eq, codes, List, [], ◌∷◌, length, slice_index, Option, Some, None, Result, Ok, Err}
+use Rattle.std.specs.Prelude.{ℕ, ◌-◌, Bool, false, ◌||◌, ◌==◌, nat_lt, if◌then◌else◌, bytes_eq, codes, List, [], ◌∷◌}
+use Rattle.std.specs.Prelude.{length, slice_index, Option, Some, None, Result, Ok, Err}
 use Rattle.std.specs.List.{list_all}
 use Rattle.std.specs.Option.{ok_or}
 use Rattle.rt_ids.specs.Names.{Names, irq_of}
@@ -51,7 +52,8 @@ in_range device pends = if nat_lt device DEVICES then Ok (Device device pends.0 
 
 abbrev pub device_of : Names → List (List ℕ) → Result Line Wrong
 device_of names (d ∷ verb ∷ words) =
-    if bytes_eq verb (codes "pend") then and_then (ok_or (short_number d) wrong.Form) (λ device. and_then (pends_of names words) (in_range device))
+    if bytes_eq verb (codes "pend")
+    then and_then (ok_or (short_number d) wrong.Form) (λ device. and_then (pends_of names words) (in_range device))
     else Err wrong.Form
 device_of names words = Err wrong.Form
 

@@ -80,8 +80,11 @@ fn take_line(
 /// Adds a line, where the events are not too many then.
 fn add(script: &mut Script, line: Line, number: u32) -> Result<(), ScriptRefused>
     requires { HasDeviceInRange line }
-    ensures added { OnOk result ((script.new ≡ script.old ++ line ∷ []) × (count script.old + count_of line ≤ SCRIPT_EVENTS)) }
-    ensures refused { IfErr result (λ refusal. (refusal ≡ ScriptRefused.NoMemory) ⊎ ((refusal ≡ ScriptRefused.TooManyEvents number) × (SCRIPT_EVENTS < count script.old + count_of line))) }
+    ensures added { OnOk result
+        ((script.new ≡ script.old ++ line ∷ []) × (count script.old + count_of line ≤ SCRIPT_EVENTS)) }
+    ensures refused { IfErr result
+        (λ refusal. (refusal ≡ ScriptRefused.NoMemory)
+        ⊎ ((refusal ≡ ScriptRefused.TooManyEvents number) × (SCRIPT_EVENTS < count script.old + count_of line))) }
 {
     match script.push(line) {
         Ok(true) => Ok(()),

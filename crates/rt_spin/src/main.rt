@@ -1,6 +1,6 @@
-// Runs a core for so many steps on a small image with so many declared interrupts, and prints what it showed: `thread N I`
-// spins in the thread, `handler N I` in a handler that does arithmetic. With `pended` behind it the interrupt 1 is not
-// enabled, and pending throughout. bench/run times it.
+// Runs a core for so many steps on a small image with so many declared interrupts, and prints what it showed: `thread N
+// I` spins in the thread, `handler N I` in a handler that does arithmetic. With `pended` behind it the interrupt 1 is
+// not enabled, and pending throughout. bench/run times it.
 #![tactic(auto)]
 
 ghost use Rattle.std.specs.Prelude.{◌≡◌, ◌<◌, ◌^◌, IfSome};

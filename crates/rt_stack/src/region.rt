@@ -86,7 +86,8 @@ impl Region {
 
         // Once the loan ends the region has what was written there. All words below stay, and so does the size.
         ensures* writes_back { sem 𝓛 (LendsTop self.entry words result) }
-        ensures below_stays { (ws : List ℕ) → length ws ≡ words → with_top self.old words ws ≡ record self.old { words = region.below self.old words ++ ws } }
+        ensures below_stays { (ws : List ℕ) → length ws ≡ words → with_top self.old words ws
+            ≡ record self.old { words = region.below self.old words ++ ws } }
     {
         let from = self.words.len() - words as usize;
         self.words.slice_mut(from..)

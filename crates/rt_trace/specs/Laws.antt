@@ -15,19 +15,24 @@ use Rattle.rt_trace.specs.declared.operand.Wrong.{Wrong}
 use Rattle.rt_trace.specs.declared.row.Row.TheVariants as row
 
 abbrev pub LinesAreRead : Type 0
-LinesAreRead = (names : Names) (item : Item) → AreNames names → HasLine names item → row_of names (item_line names item) ≡ Ok (row.Shown item)
+LinesAreRead = (names : Names) (item : Item) → AreNames names → HasLine names item → row_of names (item_line names item)
+    ≡ Ok (row.Shown item)
 
 abbrev pub ReadLinesAreLines : Type 0
 ReadLinesAreLines =
-    (names : Names) (line : List ℕ) (item : Item) → AreDifferent (map (λ irq. irq.1) names.irqs) → row_of names line ≡ Ok (row.Shown item)
+    (names : Names) (line : List ℕ) (item : Item) → AreDifferent (map (λ irq. irq.1) names.irqs) → row_of names line
+    ≡ Ok (row.Shown item)
     → HasLine names item × (line ≡ item_line names item)
 
 -- Each text that is not too long is read in one way: it is a trace's text or has a first wrong line, not both, and
 -- it is the text of one trace, or has one first wrong line with one fault.
 pub record AreReadOneWay : Type 0 where
-  pub one_trace : (names : Names) (text : List ℕ) (s t : Trace) → IsTraceText names text s → IsTraceText names text t → s ≡ t
-  pub not_both : (names : Names) (text : List ℕ) (t : Trace) (n : ℕ) (w : Wrong) → IsTraceText names text t → IsFirstWrong names text n w → ⊥
-  pub one_fault : (names : Names) (text : List ℕ) (n m : ℕ) (v w : Wrong) → IsFirstWrong names text n v → IsFirstWrong names text m w → (n ≡ m) × (v ≡ w)
+  pub one_trace : (names : Names) (text : List ℕ) (s t : Trace) → IsTraceText names text s → IsTraceText names text t
+      → s ≡ t
+  pub not_both : (names : Names) (text : List ℕ) (t : Trace) (n : ℕ) (w : Wrong) → IsTraceText names text t
+      → IsFirstWrong names text n w → ⊥
+  pub one_fault : (names : Names) (text : List ℕ) (n m : ℕ) (v w : Wrong) → IsFirstWrong names text n v
+      → IsFirstWrong names text m w → (n ≡ m) × (v ≡ w)
   pub either :
       (names : Names) (text : List ℕ) → length text ≤ TRACE_BYTES
       → ((t : Trace) × IsTraceText names text t) ⊎ ((n : ℕ) × (w : Wrong) × IsFirstWrong names text n w)

@@ -1,6 +1,7 @@
--- The words of a trace line behind its first: numbers, names of interrupts, tasks, resources, sections and bodies. A word that is
--- none of them is of no form; a name that stands in no table is unknown.
-use Rattle.std.specs.Prelude.{ℕ, zero, suc, ◌^◌, nat_eq, if◌then◌else◌, bytes_eq, codes, List, [], ◌∷◌, drop, Option, Result, Ok, Err}
+-- The words of a trace line behind its first: numbers, names of interrupts, tasks, resources, sections and bodies. A
+-- word that is none of them is of no form; a name that stands in no table is unknown.
+use Rattle.std.specs.Prelude.{ℕ, zero, suc, ◌^◌, nat_eq, if◌then◌else◌, bytes_eq, codes, List, [], ◌∷◌, drop, Option}
+use Rattle.std.specs.Prelude.{Result, Ok, Err}
 use Rattle.std.specs.List.{starts_with}
 use Rattle.std.specs.Option.{ok_or}
 use Rattle.rt_ids.specs.Names.{Names, irq_of, task_of, resource_of}
@@ -40,16 +41,19 @@ resource_at names word = found word (resource_of names word)
 
 -- the ready queue of this name
 abbrev pub ready_at : List ℕ → Result Section Wrong
-ready_at word = if starts_with nat_eq word (codes "ready.") then and_make (number_at (2 ^ 8) (drop 6 word)) section.Ready else Err wrong.Form
+ready_at word = if starts_with nat_eq word (codes "ready.")
+    then and_make (number_at (2 ^ 8) (drop 6 word)) section.Ready else Err wrong.Form
 
 -- the queue of this name
 abbrev pub queue_at : Names → List ℕ → Result Section Wrong
 queue_at names word =
     if bytes_eq word (codes "timer.0") then Ok section.Timer
-    else if starts_with nat_eq word (codes "free.") then and_make (task_at names (drop 5 word)) section.Free else ready_at word
+    else if starts_with nat_eq word (codes "free.") then and_make (task_at names (drop 5 word)) section.Free
+    else ready_at word
 
 abbrev pub section_at : Names → List ℕ → Result Section Wrong
-section_at names word = if is_identifier word then and_make (resource_at names word) section.Res else queue_at names word
+section_at names word = if is_identifier word then and_make (resource_at names word) section.Res
+    else queue_at names word
 
 abbrev pub body_at : Names → List ℕ → Result BodyId Wrong
 body_at names word =
@@ -60,7 +64,8 @@ body_at names word =
 abbrev pub values_at : ℕ → List (List ℕ) → Result (List ℕ) Wrong
 values_at room [] = Ok []
 values_at zero (word ∷ words) = Err wrong.Form
-values_at (suc room) (word ∷ words) = and_then (number_at (2 ^ 32) word) (λ v. and_make (values_at room words) (λ vs. v ∷ vs))
+values_at (suc room) (word ∷ words) =
+    and_then (number_at (2 ^ 32) word) (λ v. and_make (values_at room words) (λ vs. v ∷ vs))
 
 -- nothing behind
 abbrev pub bare : List (List ℕ) → What → Result What Wrong

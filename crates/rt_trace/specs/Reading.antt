@@ -1,7 +1,8 @@
 -- Which texts are traces, and which is the first wrong line of a text. A listing may stand in front, up to and with
 -- the first line `trace`; then lines of items; then maybe the total; and behind a total lines of accounts, which
 -- are passed over.
-use Rattle.std.specs.Prelude.{◌≡◌, ◌⊎◌, ℕ, suc, ◌+◌, ◌<◌, ◌≤◌, Bool, true, false, nat_eq, bytes_eq, codes, List, [], ◌∷◌, ◌++◌, length, map, Option, Some, None, Result, Ok, Err}
+use Rattle.std.specs.Prelude.{◌≡◌, ◌⊎◌, ℕ, suc, ◌+◌, ◌<◌, ◌≤◌, Bool, true, false, nat_eq, bytes_eq, codes, List, []}
+use Rattle.std.specs.Prelude.{◌∷◌, ◌++◌, length, map, Option, Some, None, Result, Ok, Err}
 use Rattle.std.specs.List.{starts_with, list_any, list_all}
 use Rattle.rt_ids.specs.Names.{Names}
 use Rattle.rt_ids.specs.declared.limits.TheConstants.{TRACE_BYTES}

@@ -15,24 +15,29 @@ use Rattle.rt_trace.specs.declared.operand.Wrong.{Wrong}
 use Rattle.rt_trace.specs.declared.operand.Wrong.TheVariants as wrong
 use Rattle.rt_trace.specs.declared.verb.Verb.{Verb}
 use Rattle.rt_trace.specs.declared.verb.Verb.TheVariants as verb
-use Rattle.rt_trace.specs.Operand.{only, number_at, irq_at, task_at, resource_at, queue_at, section_at, body_at, values_at, bare, pair}
+use Rattle.rt_trace.specs.Operand.{only, number_at, irq_at, task_at, resource_at, queue_at, section_at, body_at}
+use Rattle.rt_trace.specs.Operand.{values_at, bare, pair}
 
 abbrev pub take_of : Names → List (List ℕ) → Result What Wrong
 take_of names words =
-    and_then (pair words) (λ p. and_then (number_at (2 ^ 32) p.1) (λ depth. and_make (irq_at names p.0) (λ irq. what.Take irq depth)))
+    and_then (pair words) (λ p. and_then (number_at (2 ^ 32) p.1)
+    (λ depth. and_make (irq_at names p.0) (λ irq. what.Take irq depth)))
 
 abbrev pub arm_of : Names → List (List ℕ) → Result What Wrong
 arm_of names words =
-    and_then (pair words) (λ p. and_then (number_at (2 ^ 32) p.1) (λ instant. and_make (task_at names p.0) (λ task. what.Arm task instant)))
+    and_then (pair words) (λ p. and_then (number_at (2 ^ 32) p.1)
+    (λ instant. and_make (task_at names p.0) (λ task. what.Arm task instant)))
 
 abbrev pub start_of : Names → List (List ℕ) → Result What Wrong
-start_of names (t ∷ values) = and_then (values_at 4 values) (λ vs. and_make (task_at names t) (λ task. what.Start task vs))
+start_of names (t ∷ values) =
+    and_then (values_at 4 values) (λ vs. and_make (task_at names t) (λ task. what.Start task vs))
 start_of names [] = Err wrong.Form
 
 -- a queue alone, or a resource with its value
 abbrev pub leave_of : Names → List (List ℕ) → Result What Wrong
 leave_of names (x ∷ []) = and_make (queue_at names x) (λ s. what.Leave s None)
-leave_of names (x ∷ value ∷ []) = and_then (number_at (2 ^ 32) value) (λ v. and_make (resource_at names x) (λ r. what.Leave (section.Res r) (Some v)))
+leave_of names (x ∷ value ∷ []) =
+    and_then (number_at (2 ^ 32) value) (λ v. and_make (resource_at names x) (λ r. what.Leave (section.Res r) (Some v)))
 leave_of names words = Err wrong.Form
 
 abbrev pub what_at : Names → Verb → List (List ℕ) → Result What Wrong
@@ -62,12 +67,15 @@ item_row step w = row.Shown (record { step = step; what = w })
 
 abbrev pub item_at : Names → List (List ℕ) → Result Row Wrong
 item_at names (step ∷ word ∷ words) =
-    and_then (number_at (2 ^ 31) step) (λ n. and_then (ok_or (verb_named word) wrong.Form) (λ v. and_make (what_at names v words) (item_row n)))
+    and_then (number_at (2 ^ 31) step)
+    (λ n. and_then (ok_or (verb_named word) wrong.Form) (λ v. and_make (what_at names v words) (item_row n)))
 item_at names words = Err wrong.Form
 
 abbrev pub row_at : Names → List (List ℕ) → Result Row Wrong
 row_at names [] = Err wrong.Form
-row_at names (word ∷ words) = if bytes_eq word (codes "total") then and_make (and_then (only words) (number_at (2 ^ 32))) row.Total else item_at names (word ∷ words)
+row_at names (word ∷ words) =
+    if bytes_eq word (codes "total") then and_make (and_then (only words) (number_at (2 ^ 32))) row.Total
+    else item_at names (word ∷ words)
 
 -- what a line says
 abbrev pub row_of : Names → List ℕ → Result Row Wrong

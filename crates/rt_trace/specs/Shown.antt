@@ -37,4 +37,5 @@ ShowsNoEvent (Stepped (Some w) ∷ labels) = (event_of w ≡ []) × ShowsNoEvent
 
 -- the items of labels show just the events that the labels come from
 abbrev pub ShowTheirEvents : Type 0
-ShowTheirEvents = (labels : List Label) → ShowsNoEvent labels → shown 0 (items_of 0 labels) (steps_of labels) ≡ events_of labels
+ShowTheirEvents = (labels : List Label) → ShowsNoEvent labels → shown 0 (items_of 0 labels) (steps_of labels)
+    ≡ events_of labels

@@ -29,8 +29,10 @@ spelling verb.Trap = codes "trap"
 
 abbrev pub verbs : List Verb
 verbs =
-    verb.Pend ∷ verb.Tick ∷ verb.Alarm ∷ verb.AlarmSet ∷ verb.Take ∷ verb.Ret ∷ verb.Enter ∷ verb.Leave ∷ verb.Emit ∷ verb.Placed
-    ∷ verb.Full ∷ verb.Ready ∷ verb.Start ∷ verb.Free ∷ verb.Post ∷ verb.Clock ∷ verb.Arm ∷ verb.Fire ∷ verb.End ∷ verb.Trap ∷ []
+    verb.Pend ∷ verb.Tick ∷ verb.Alarm ∷ verb.AlarmSet ∷ verb.Take ∷ verb.Ret ∷ verb.Enter ∷ verb.Leave ∷ verb.Emit
+    ∷ verb.Placed
+    ∷ verb.Full ∷ verb.Ready ∷ verb.Start ∷ verb.Free ∷ verb.Post ∷ verb.Clock ∷ verb.Arm ∷ verb.Fire ∷ verb.End
+    ∷ verb.Trap ∷ []
 
 -- the one of this spelling
 abbrev pub verb_named : List ℕ → Option Verb

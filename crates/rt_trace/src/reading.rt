@@ -1,4 +1,5 @@
-ghost use Rattle.std.specs.Prelude.{◌≡◌, ◌≤◌, ◌<◌, ◌+◌, suc, true, false, [], ◌∷◌, ◌++◌, length, IfOk, IfErr, OnOk, None, MatchResult};
+ghost use Rattle.std.specs.Prelude.{◌≡◌, ◌≤◌, ◌<◌, ◌+◌, suc, true, false, [], ◌∷◌, ◌++◌, length, IfOk, IfErr, OnOk};
+ghost use Rattle.std.specs.Prelude.{None, MatchResult};
 ghost use Rattle.std.specs.List.{list_any};
 ghost use Rattle.rt_ids.specs.declared.limits.TheConstants.{TRACE_BYTES};
 ghost use Rattle.rt_lines.specs.Parts.{lines};
@@ -33,7 +34,8 @@ pub fn read_trace(alloc: Global, bytes: &[u8], names: &Names) -> Result<Trace, T
 /// where a listing does not end.
 fn behind_listing(text: &[u8]) -> Result<(u32, &[u8]), u32>
     requires { length text.now ≤ TRACE_BYTES }
-    ensures { MatchResult result (λ found. inside.Passed text.now found.1.now found.0) (λ number. spec.IsUnended (lines text.now) number Wrong.Form) }
+    ensures { MatchResult result (λ found. inside.Passed text.now found.1.now found.0)
+        (λ number. spec.IsUnended (lines text.now) number Wrong.Form) }
 {
     if text.is_empty() || !begins_listing(text) {
         return Ok((0, text));

@@ -71,7 +71,8 @@ impl Words {
         ensures history { OneHistory line result.bits }
         ensures latched { (irq : ℕ) → irq < 512 → slice_index result.latched irq ≡ latched irq line.calls }
         ensures account { (irq : ℕ) → irq < 512
-            → sum_by (λ p. raised irq p.calls) line.gathered ≡ slice_index result.latched irq + pending result.bits irq }
+            → sum_by (λ p. raised irq p.calls) line.gathered
+            ≡ slice_index result.latched irq + pending result.bits irq }
         ensures behind { (k : ℕ) → count self ≤ k → slice_index result.bits k ≡ 0 }
         ensures silent { LatchedAreZero (drop line.since line.calls) result.bits }
     {

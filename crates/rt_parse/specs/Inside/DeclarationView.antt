@@ -14,7 +14,13 @@ abbrev pub opening_view : Opening → Head
 opening_view h = record { name = h.name; bits = h.bits; dispatchers = h.dispatchers.items }
 
 abbrev pub declared_view : Declared → reading.Declared
-declared_view d = record { first = opening_view d.first; irqs = d.irqs.items; mono = d.mono; shared = d.shared.items; locals = d.locals.items }
+declared_view d = record {
+  first = opening_view d.first;
+  irqs = d.irqs.items;
+  mono = d.mono;
+  shared = d.shared.items;
+  locals = d.locals.items;
+}
 
 abbrev pub owner_view : Owner → grammar.Owner
 owner_view owner.Init = grammar.OfInit
@@ -26,4 +32,10 @@ items_of None = None
 items_of (Some xs) = Some xs.items
 
 abbrev pub options_view : BodyOptions → grammar.Options
-options_view o = record { binds = o.binds; priority = o.priority; capacity = o.capacity; shared = items_of o.shared; local = items_of o.local }
+options_view o = record {
+  binds = o.binds;
+  priority = o.priority;
+  capacity = o.capacity;
+  shared = items_of o.shared;
+  local = items_of o.local;
+}

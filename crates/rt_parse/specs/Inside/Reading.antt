@@ -1,6 +1,7 @@
--- Reading as a function on lists of tokens. A reader gives what it read and the tokens behind, or the first thing that it
--- found wrong. It looks one token ahead.
-use Rattle.std.specs.Prelude.{◌≡◌, ℕ, zero, suc, Bool, false, List, [], ◌∷◌, Option, Some, None, Result, Ok, Err, if◌then◌else◌}
+-- Reading as a function on lists of tokens. A reader gives what it read and the tokens behind, or the first thing that
+-- it found wrong. It looks one token ahead.
+use Rattle.std.specs.Prelude.{◌≡◌, ℕ, zero, suc, Bool, false, List, [], ◌∷◌, Option, Some, None, Result, Ok, Err}
+use Rattle.std.specs.Prelude.{if◌then◌else◌}
 use Rattle.rt_ids.specs.declared.limit.Limit.{Limit}
 use Rattle.rt_ids.specs.declared.refusal.Refusal.{Refusal}
 use Rattle.rt_ids.specs.declared.refusal.Refusal.TheVariants as refusal
@@ -64,7 +65,8 @@ abbrev pub unless_limited : {A : Type 0} → ℕ → Option Limit → A → List
 unless_limited at None x tokens = Ok (x, tokens)
 unless_limited at (Some what) x tokens = Err (record { at = Some at; refusal = refusal.Limit what })
 
-abbrev pub take_meaning : {A : Type 0} → Option A → (A → Option Limit) → Token → List Token → Result (A × List Token) Found
+abbrev pub take_meaning : {A : Type 0} → Option A → (A → Option Limit) → Token → List Token
+    → Result (A × List Token) Found
 take_meaning None limit t tokens = Err (wrong_at (t ∷ tokens))
 take_meaning (Some x) limit t tokens = unless_limited t.at (limit x) x tokens
 

@@ -9,7 +9,8 @@ use Rattle.rt_grammar.specs.Limits.{at_most}
 use Rattle.rt_grammar.specs.Simple.{Counted}
 use Rattle.rt_grammar.specs.Options.{Owner, OfTask, Options}
 use Rattle.rt_grammar.specs.Bodies.{body_of}
-use Rattle.rt_parse.specs.Inside.Reading.{Reader, ◌>>=◌, begins_with, repeat_at, limited_word_at, word_at, sign_at, limited_name_at, name_at}
+use Rattle.rt_parse.specs.Inside.Reading.{Reader, ◌>>=◌, begins_with, repeat_at, limited_word_at, word_at, sign_at}
+use Rattle.rt_parse.specs.Inside.Reading.{limited_name_at, name_at}
 use Rattle.rt_parse.specs.Inside.ReadingStatement.{block_at}
 use Rattle.rt_parse.specs.Inside.ReadingOptions.{options_at}
 
@@ -25,7 +26,8 @@ thread_at owner text tokens = do
   Ok (Some (body_of o.0 b.0.0 at.0), b.1)
 
 unfoldable pub thread_body_at : Owner → List ℕ → Reader (Option Body)
-thread_body_at owner text tokens = if begins_with (is_this_word text) tokens then thread_at owner text tokens else Ok (None, tokens)
+thread_body_at owner text tokens =
+    if begins_with (is_this_word text) tokens then thread_at owner text tokens else Ok (None, tokens)
 
 -- one more argument behind so many
 unfoldable pub one_argument_at : ℕ → Reader Ident
@@ -46,11 +48,20 @@ parameters_at tokens = do
   repeat_at (is_this_sign (codes ",")) argument_at (length x.1) (x.0 ∷ []) x.1
 
 unfoldable pub task_arguments_at : Reader (List Ident)
-task_arguments_at tokens = if begins_with (is_this_word (codes "with")) tokens then parameters_at tokens else Ok ([], tokens)
+task_arguments_at tokens =
+    if begins_with (is_this_word (codes "with")) tokens then parameters_at tokens else Ok ([], tokens)
 
 -- a task of what was read of it
 abbrev pub task_is : Ident → Options → List Ident → Block → Task
-task_is name o args block = record { name = name; binds = o.binds; priority = o.priority; capacity = o.capacity; args = args; body = body_of o block name.at }
+task_is name o args block =
+    record {
+      name = name;
+      binds = o.binds;
+      priority = o.priority;
+      capacity = o.capacity;
+      args = args;
+      body = body_of o block name.at;
+    }
 
 -- a task's arguments and its block, behind its options
 abbrev pub task_block_at : Ident → Options → Reader Task

@@ -1,5 +1,6 @@
 -- The readers of the first declaration and of the whole application.
-use Rattle.std.specs.Prelude.{ℕ, Bool, true, false, codes, List, [], ◌∷◌, length, Option, Result, Ok, Err, if◌then◌else◌}
+use Rattle.std.specs.Prelude.{ℕ, Bool, true, false, codes, List, [], ◌∷◌, length, Option, Result, Ok, Err}
+use Rattle.std.specs.Prelude.{if◌then◌else◌}
 use Rattle.rt_ids.specs.declared.limit.Limit.TheVariants as limit
 use Rattle.rt_ids.specs.declared.limits.TheConstants.{LEAST_BITS, MOST_BITS}
 use Rattle.rt_lex.specs.Token.{Token, is_this_word, is_this_sign}
@@ -13,7 +14,8 @@ use Rattle.rt_grammar.specs.Limits.{within}
 use Rattle.rt_grammar.specs.Options.{OfInit, OfIdle}
 use Rattle.rt_grammar.specs.Declaration.{Head}
 use Rattle.rt_parse.specs.declared.stop.Found.{Found}
-use Rattle.rt_parse.specs.Inside.Reading.{Reader, ◌>>=◌, begins_with, wrong_at, repeat_at, word_at, sign_at, name_at, limited_number_at}
+use Rattle.rt_parse.specs.Inside.Reading.{Reader, ◌>>=◌, begins_with, wrong_at, repeat_at, word_at, sign_at, name_at}
+use Rattle.rt_parse.specs.Inside.Reading.{limited_number_at}
 use Rattle.rt_parse.specs.Inside.ReadingList.{adds_at, names_at}
 use Rattle.rt_parse.specs.Inside.ReadingResources.{interrupts_at, monotonic_at, shared_at, locals_at}
 use Rattle.rt_parse.specs.Inside.ReadingBodies.{thread_body_at, task_at}
@@ -27,7 +29,8 @@ dispatcher_names_at tokens = do
   names_at c.1
 
 unfoldable pub dispatchers_at : Reader (List Ident)
-dispatchers_at tokens = if begins_with (is_this_sign (codes ",")) tokens then dispatcher_names_at tokens else Ok ([], tokens)
+dispatchers_at tokens = if begins_with (is_this_sign (codes ",")) tokens then dispatcher_names_at tokens
+    else Ok ([], tokens)
 
 -- the first declaration from its dispatchers on
 abbrev pub dispatched_at : Ident → ℕ → Reader Head

@@ -22,14 +22,18 @@ abbrev pub kept_joined : Op → Option Kept → Option Kept → Option Kept
 kept_joined o None right = None
 kept_joined o (Some left) None = None
 kept_joined o (Some left) (Some right) =
-    kept_if (nat_lt DEPTH (1 + max left.depth right.depth)) (record { tree = Oper o left.tree right.tree; depth = 1 + max left.depth right.depth })
+    kept_if (nat_lt DEPTH (1 + max left.depth right.depth))
+    (record { tree = Oper o left.tree right.tree; depth = 1 + max left.depth right.depth })
 
 abbrev pub measured_joined : Op → Measured → Measured → Measured
 measured_joined o left right = record { at = left.at; kept = kept_joined o left.kept right.kept }
 
 -- how an operand of the grammar is read
 abbrev pub measure : Operand → Measured
-measure e = record { at = e.at; kept = kept_if (nat_lt DEPTH (depth e.tree)) (record { tree = e.tree; depth = depth e.tree }) }
+measure e = record {
+  at = e.at;
+  kept = kept_if (nat_lt DEPTH (depth e.tree)) (record { tree = e.tree; depth = depth e.tree });
+}
 
 abbrev pub atomic : ℕ → Expression → Measured
 atomic at tree = record { at = at; kept = Some (record { tree = tree; depth = 1 }) }

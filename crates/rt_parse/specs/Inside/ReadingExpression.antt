@@ -1,5 +1,6 @@
 -- The readers of expressions. An expression that is too deep is read on, and no tree of it is kept.
-use Rattle.std.specs.Prelude.{ℕ, zero, suc, Bool, true, false, codes, List, [], ◌∷◌, length, Option, Some, None, Ok, Err, if◌then◌else◌}
+use Rattle.std.specs.Prelude.{ℕ, zero, suc, Bool, true, false, codes, List, [], ◌∷◌, length, Option, Some, None, Ok}
+use Rattle.std.specs.Prelude.{Err, if◌then◌else◌}
 use Rattle.rt_ids.specs.declared.op.Op.{Op}
 use Rattle.rt_ids.specs.declared.limit.Limit.TheVariants as limit
 use Rattle.rt_ids.specs.declared.limits.TheConstants.{PARENTHESES}
@@ -11,7 +12,8 @@ use Rattle.rt_ast.specs.Tree.{Expression, Num, Read}
 use Rattle.rt_grammar.specs.Tokens.{free}
 use Rattle.rt_grammar.specs.Expression.{Signs, comparisons, strengths, op_of}
 use Rattle.rt_grammar.specs.Reach.{is_of}
-use Rattle.rt_parse.specs.Inside.Reading.{Reader, ◌>>=◌, token_at, repeat_at, begins_with, wrong_at, limited_sign_at, sign_at, name_at, number_at}
+use Rattle.rt_parse.specs.Inside.Reading.{Reader, ◌>>=◌, token_at, repeat_at, begins_with, wrong_at, limited_sign_at}
+use Rattle.rt_parse.specs.Inside.Reading.{sign_at, name_at, number_at}
 use Rattle.rt_parse.specs.Inside.ReadingDepth.{Kept, Measured, measured_joined, atomic}
 
 unfoldable pub operator_at : Signs → Reader Op
@@ -35,7 +37,8 @@ chains_at (signs ∷ stronger) atom tokens = chain_at signs (chains_at stronger 
 
 -- the comparison behind its left side, or none
 unfoldable pub compared_at : Reader Measured → Measured → Reader Measured
-compared_at operand left tokens = if begins_with (is_of comparisons) tokens then joined_at comparisons operand left tokens else Ok (left, tokens)
+compared_at operand left tokens =
+    if begins_with (is_of comparisons) tokens then joined_at comparisons operand left tokens else Ok (left, tokens)
 
 unfoldable pub comparison_at : Reader Measured → Reader Measured
 comparison_at atom tokens = do

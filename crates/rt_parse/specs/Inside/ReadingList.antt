@@ -1,5 +1,6 @@
 -- The readers of lists: items up to the sign that closes the list, with commas.
-use Rattle.std.specs.Prelude.{ℕ, zero, suc, Bool, not, codes, List, [], ◌∷◌, ◌++◌, length, Result, Ok, Err, if◌then◌else◌}
+use Rattle.std.specs.Prelude.{ℕ, zero, suc, Bool, not, codes, List, [], ◌∷◌, ◌++◌, length, Result, Ok, Err}
+use Rattle.std.specs.Prelude.{if◌then◌else◌}
 use Rattle.rt_lex.specs.Token.{Token, is_this_sign}
 use Rattle.rt_ast.specs.declared.ident.Ident.{Ident}
 use Rattle.rt_parse.specs.declared.stop.Found.{Found}
@@ -10,7 +11,8 @@ abbrev pub comma_at : List ℕ → List Token → Result (List Token) Found
 comma_at closing tokens =
     if begins_with (is_this_sign closing) tokens then Ok tokens else (sign_at (codes ",") tokens >>= λ got. Ok got.1)
 
--- items up to the sign that closes the list, with a comma between each two, and perhaps one behind the last; at most so many
+-- items up to the sign that closes the list, with a comma between each two, and perhaps one behind the last; at most so
+-- many
 unfoldable pub items_at : {S : Type 0} → List ℕ → (S → Reader S) → ℕ → S → Reader S
 items_at closing item zero s tokens = sign_at closing tokens >>= λ end. Ok (s, end.1)
 items_at closing item (suc n) s tokens =

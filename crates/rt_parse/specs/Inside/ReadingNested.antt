@@ -1,5 +1,5 @@
--- The readers of statements in which blocks stand. They are told how a block is read, and how many statements the body may
--- still have.
+-- The readers of statements in which blocks stand. They are told how a block is read, and how many statements the body
+-- may still have.
 use Rattle.std.specs.Prelude.{ℕ, ◌-◌, nat_eq, codes, Option, Ok, if◌then◌else◌}
 use Rattle.rt_ids.specs.declared.limit.Limit.{Limit}
 use Rattle.rt_ids.specs.declared.limit.Limit.TheVariants as limit
@@ -8,7 +8,8 @@ use Rattle.rt_ast.specs.Tree.{Statement, Block, Branch, Repeat, Locked, Empty, T
 use Rattle.rt_grammar.specs.Tokens.{limit_if, first_of}
 use Rattle.rt_grammar.specs.Limits.{turned}
 use Rattle.rt_grammar.specs.Simple.{Counted}
-use Rattle.rt_parse.specs.Inside.Reading.{Reader, ◌>>=◌, begins_with, limited_word_at, word_at, sign_at, limited_name_at, name_at, number_at, limited_number_at}
+use Rattle.rt_parse.specs.Inside.Reading.{Reader, ◌>>=◌, begins_with, limited_word_at, word_at, sign_at}
+use Rattle.rt_parse.specs.Inside.Reading.{limited_name_at, name_at, number_at, limited_number_at}
 use Rattle.rt_parse.specs.Inside.ReadingExpression.{expression_at}
 use Rattle.rt_parse.specs.Inside.ReadingSimple.{counted_limit}
 
@@ -21,7 +22,9 @@ else_block_at block room tokens = do
   block room a.1
 
 unfoldable pub else_at : (ℕ → Reader (Counted Block)) → ℕ → Reader (Counted Block)
-else_at block room tokens = if begins_with (is_this_word (codes "else")) tokens then else_block_at block room tokens else Ok ((Empty, room), tokens)
+else_at block room tokens =
+    if begins_with (is_this_word (codes "else")) tokens then else_block_at block room tokens
+    else Ok ((Empty, room), tokens)
 
 unfoldable pub branch_at : (ℕ → Reader (Counted Block)) → ℕ → Reader (Counted Statement)
 branch_at block room tokens = do

@@ -1,12 +1,14 @@
 -- The readers of options.
-use Rattle.std.specs.Prelude.{ℕ, Bool, true, false, not, ◌&&◌, codes, List, [], length, Some, is_none, Ok, Err, if◌then◌else◌}
+use Rattle.std.specs.Prelude.{ℕ, Bool, true, false, not, ◌&&◌, codes, List, [], length, Some, is_none, Ok, Err}
+use Rattle.std.specs.Prelude.{if◌then◌else◌}
 use Rattle.rt_ids.specs.declared.limit.Limit.TheVariants as limit
 use Rattle.rt_ids.specs.declared.limits.TheConstants.{CAPACITY}
 use Rattle.rt_lex.specs.Token.{Token, is_this_word, is_this_sign}
 use Rattle.rt_ast.specs.declared.app.ListedTree.{ListedTree}
 use Rattle.rt_grammar.specs.Limits.{within}
 use Rattle.rt_grammar.specs.Options.{Options, no_options, Owner, is_task, is_init}
-use Rattle.rt_parse.specs.Inside.Reading.{Reader, ◌>>=◌, begins_with, wrong_at, word_at, sign_at, name_at, number_at, limited_number_at}
+use Rattle.rt_parse.specs.Inside.Reading.{Reader, ◌>>=◌, begins_with, wrong_at, word_at, sign_at, name_at, number_at}
+use Rattle.rt_parse.specs.Inside.Reading.{limited_number_at}
 use Rattle.rt_parse.specs.Inside.ReadingList.{items_at, adds_at, names_at}
 
 unfoldable pub binds_at : Options → Reader Options
@@ -42,7 +44,8 @@ listed_plainly_at tokens = do
   Ok (record { name = x.0; by_ref = false; at = x.0.at }, x.1)
 
 unfoldable pub listed_at : Reader ListedTree
-listed_at tokens = if begins_with (is_this_sign (codes "&")) tokens then listed_by_ref_at tokens else listed_plainly_at tokens
+listed_at tokens = if begins_with (is_this_sign (codes "&")) tokens then listed_by_ref_at tokens
+    else listed_plainly_at tokens
 
 unfoldable pub shared_list_at : Options → Reader Options
 shared_list_at o tokens = do
@@ -66,9 +69,12 @@ takes allowed text t = allowed && is_this_word text t
 unfoldable pub option_at : Owner → Options → Reader Options
 option_at owner o tokens =
     if begins_with (takes (is_task owner && is_none o.binds) (codes "binds")) tokens then binds_at o tokens
-    else if begins_with (takes (is_task owner && is_none o.priority) (codes "priority")) tokens then priority_at o tokens
-    else if begins_with (takes (is_task owner && is_none o.capacity) (codes "capacity")) tokens then capacity_at o tokens
-    else if begins_with (takes (not (is_init owner) && is_none o.shared) (codes "shared")) tokens then shared_list_at o tokens
+    else if begins_with (takes (is_task owner && is_none o.priority) (codes "priority")) tokens
+    then priority_at o tokens
+    else if begins_with (takes (is_task owner && is_none o.capacity) (codes "capacity")) tokens
+    then capacity_at o tokens
+    else if begins_with (takes (not (is_init owner) && is_none o.shared) (codes "shared")) tokens
+    then shared_list_at o tokens
     else if begins_with (takes (is_none o.local) (codes "local")) tokens then local_list_at o tokens
     else Err (wrong_at tokens)
 
@@ -78,4 +84,5 @@ some_options_at owner tokens = do
   items_at (codes ")") (option_at owner) (length a.1) no_options a.1
 
 unfoldable pub options_at : Owner → Reader Options
-options_at owner tokens = if begins_with (is_this_sign (codes "(")) tokens then some_options_at owner tokens else Ok (no_options, tokens)
+options_at owner tokens =
+    if begins_with (is_this_sign (codes "(")) tokens then some_options_at owner tokens else Ok (no_options, tokens)

@@ -9,7 +9,8 @@ use Rattle.rt_ast.specs.declared.app.MonoTree.{MonoTree}
 use Rattle.rt_ast.specs.declared.app.SharedTree.{SharedTree}
 use Rattle.rt_ast.specs.declared.app.LocalTree.{LocalTree}
 use Rattle.rt_grammar.specs.Limits.{within, at_most}
-use Rattle.rt_parse.specs.Inside.Reading.{Reader, ◌>>=◌, begins_with, limited_word_at, word_at, sign_at, limited_name_at, name_at, number_at, limited_number_at}
+use Rattle.rt_parse.specs.Inside.Reading.{Reader, ◌>>=◌, begins_with, limited_word_at, word_at, sign_at}
+use Rattle.rt_parse.specs.Inside.Reading.{limited_name_at, name_at, number_at, limited_number_at}
 use Rattle.rt_parse.specs.Inside.ReadingList.{items_at, adds_at}
 
 unfoldable pub interrupt_at : ℕ → Reader IrqTree
@@ -46,7 +47,8 @@ clock_at tokens = do
   clock_priority_at irq.0 irq.1
 
 unfoldable pub monotonic_at : Reader (Option MonoTree)
-monotonic_at tokens = if begins_with (is_this_word (codes "monotonic")) tokens then clock_at tokens else Ok (None, tokens)
+monotonic_at tokens = if begins_with (is_this_word (codes "monotonic")) tokens then clock_at tokens
+    else Ok (None, tokens)
 
 unfoldable pub first_value_at : Reader ℕ
 first_value_at tokens = do
@@ -68,7 +70,9 @@ locked_at before tokens = do
   Ok (record { name = x.0; first = n.0; lock_free = false }, n.1)
 
 unfoldable pub resource_at : ℕ → Reader SharedTree
-resource_at before tokens = if begins_with (is_this_word (codes "lock_free")) tokens then lock_free_at before tokens else locked_at before tokens
+resource_at before tokens =
+    if begins_with (is_this_word (codes "lock_free")) tokens then lock_free_at before tokens
+    else locked_at before tokens
 
 unfoldable pub resources_at : Reader (List SharedTree)
 resources_at tokens = do
@@ -92,4 +96,5 @@ local_resources_at tokens = do
   items_at (codes "}") (adds_at local_at) (length b.1) [] b.1
 
 unfoldable pub locals_at : Reader (List LocalTree)
-locals_at tokens = if begins_with (is_this_word (codes "local")) tokens then local_resources_at tokens else Ok ([], tokens)
+locals_at tokens = if begins_with (is_this_word (codes "local")) tokens then local_resources_at tokens
+    else Ok ([], tokens)

@@ -31,7 +31,8 @@ after_at what tokens = do
   Ok (After at.0 delay.0 task.0 args.0, args.1)
 
 unfoldable pub spawn_at : Option Limit → Reader Spawn
-spawn_at what tokens = if begins_with (is_this_word (codes "spawn")) tokens then soon_at what tokens else after_at what tokens
+spawn_at what tokens = if begins_with (is_this_word (codes "spawn")) tokens then soon_at what tokens
+    else after_at what tokens
 
 unfoldable pub now_at : Reader Value
 now_at tokens = do

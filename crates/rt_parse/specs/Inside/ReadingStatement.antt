@@ -1,5 +1,5 @@
--- The readers of statements and blocks. They are told how many blocks may still be opened inside each other, and how many
--- statements the body may still have; and they give, besides what they read, how many it may have behind.
+-- The readers of statements and blocks. They are told how many blocks may still be opened inside each other, and how
+-- many statements the body may still have; and they give, besides what they read, how many it may have behind.
 use Rattle.std.specs.Prelude.{ℕ, zero, suc, Bool, not, codes, List, [], ◌∷◌, ◌++◌, length, Some, Ok, Err, if◌then◌else◌}
 use Rattle.rt_ids.specs.declared.limit.Limit.TheVariants as limit
 use Rattle.rt_lex.specs.Token.{Token, is_this_word, is_this_sign}
@@ -30,13 +30,15 @@ compound_at block inside room tokens =
     else if begins_with (is_this_word (codes "lock")) tokens then lock_at inside room tokens
     else simple_at room tokens
 
-unfoldable pub statement_at : (ℕ → Reader (Counted Block)) → (ℕ → Reader (Counted Block)) → ℕ → Reader (Counted Statement)
+unfoldable pub statement_at : (ℕ → Reader (Counted Block)) → (ℕ → Reader (Counted Block)) → ℕ
+    → Reader (Counted Statement)
 statement_at block inside room tokens =
     if begins_with is_name tokens then assign_at room tokens
     else if begins_with (is_this_word (codes "let")) tokens then bind_at room tokens
     else compound_at block inside room tokens
 
-unfoldable pub one_more_at : (ℕ → Reader (Counted Block)) → (ℕ → Reader (Counted Block)) → Counted (List Statement) → Reader (Counted (List Statement))
+unfoldable pub one_more_at : (ℕ → Reader (Counted Block)) → (ℕ → Reader (Counted Block)) → Counted (List Statement)
+    → Reader (Counted (List Statement))
 one_more_at block inside so_far tokens = do
   s ← statement_at block inside so_far.1 tokens
   Ok ((so_far.0 ++ s.0.0 ∷ [], s.0.1), s.1)
@@ -69,7 +71,8 @@ unfoldable mutual
 
   pub inside_at : ℕ → ℕ → Reader (Counted Block)
   inside_at zero room tokens =
-      if begins_with (is_this_sign (codes ",")) tokens then further_at nothing_at 0 room tokens else closed_block_at tokens
+      if begins_with (is_this_sign (codes ",")) tokens then further_at nothing_at 0 room tokens
+      else closed_block_at tokens
   inside_at (suc left) room tokens =
       if begins_with (is_this_sign (codes ",")) tokens then further_at (inside_at left) (suc left) room tokens
       else braced_at (block_at left) (inside_at left) room tokens

@@ -27,7 +27,8 @@ refusal wrong.Device n = refused.TooManyDevices n
 abbrev pub IsRefusedLine : Names → List Line → List ℕ → ℕ → ScriptRefused → Type 0
 IsRefusedLine names before line n refused.TooLong = ⊥
 IsRefusedLine names before line n (refused.BadLine k) = (k ≡ n) × HasFault names before line (Alone wrong.Form)
-IsRefusedLine names before line n (refused.UnknownInterrupt k) = (k ≡ n) × HasFault names before line (Alone wrong.Interrupt)
+IsRefusedLine names before line n (refused.UnknownInterrupt k) =
+    (k ≡ n) × HasFault names before line (Alone wrong.Interrupt)
 IsRefusedLine names before line n (refused.TooManyEvents k) = (k ≡ n) × HasFault names before line Events
 IsRefusedLine names before line n (refused.TooManyDevices k) = (k ≡ n) × HasFault names before line (Alone wrong.Device)
 IsRefusedLine names before line n refused.NoMemory = Unit {0}

@@ -1,5 +1,6 @@
 -- What each step does to the view of the seat that takes it.
-use Rattle.std.specs.Prelude.{◌≡◌, ℕ, ◌*◌, ◌+◌, ◌^◌, ◌<◌, ◌==◌, if◌then◌else◌, List, [], ◌∷◌, ◌++◌, length, Some, None, unwrap_or, Contains}
+use Rattle.std.specs.Prelude.{◌≡◌, ℕ, ◌*◌, ◌+◌, ◌^◌, ◌<◌, ◌==◌, if◌then◌else◌, List, [], ◌∷◌, ◌++◌, length, Some, None}
+use Rattle.std.specs.Prelude.{unwrap_or, Contains}
 use Rattle.std.specs.Int.{bit_at}
 use Rattle.atomic_table.specs.Table.{Step}
 use Rattle.rt_words.specs.declared.call.Pended.{Pended}
@@ -20,7 +21,16 @@ newcomer may =
 -- a device's seat that has made these calls
 abbrev pub device : ℕ → List Call → List ℕ → View
 device number calls may =
-    record { stage = Device; line = number; calls = calls; made = []; reserved = None; gathered = []; since = 0; may = may }
+    record {
+      stage = Device;
+      line = number;
+      calls = calls;
+      made = [];
+      reserved = None;
+      gathered = [];
+      since = 0;
+      may = may;
+    }
 
 -- one call more
 abbrev pub called : View → Call → View
