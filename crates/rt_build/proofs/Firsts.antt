@@ -1,6 +1,5 @@
 -- A list has one first violation at the most.
-use Rattle.std.proofs.Common.{◌≡◌, ◌==◌, ℕ, zero, suc, ◌<◌, inl, inr, List, [], ◌∷◌, length, get_or, refl, sym, ap, subst, ◌∙◌, arith, Contains, if◌then◌else◌}
-use Rattle.std.specs.List.{AllByRecursion}
+use Rattle.std.proofs.Common.{◌≡◌, ◌==◌, ℕ, inl, inr, List, [], refl, sym, ap, subst, ◌∙◌, arith, Contains, if◌then◌else◌}
 use Rattle.rt_lemmas.proofs.Membership.{all_has, contains_none}
 use Rattle.rt_ids.specs.declared.rule.Rule.{Rule}
 use Rattle.rt_ids.specs.declared.rule.Rule.TheVariants as rule

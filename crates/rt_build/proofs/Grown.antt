@@ -1,32 +1,39 @@
 -- Code that stands, stands in code that goes on.
 use Rattle.std.proofs.Common.{◌≡◌, ℕ, ◌+◌, ◌<◌, ◌≤◌, List, [], ◌∷◌, ◌++◌, length, take, drop, get_or, sum_by, Some}
-use Rattle.std.proofs.Common.{None, option_map, slice_get, slice_index, refl, sym, ap, subst, ◌∙◌, arith, append_assoc}
+use Rattle.std.proofs.Common.{None, Bool, true, false, not, if◌then◌else◌, slice_get, slice_index, refl, sym, ap}
+use Rattle.std.proofs.Common.{subst, ◌∙◌, arith, append_assoc}
 use Rattle.std.proofs.Common.{length-append, inl, inr}
 use Rattle.std.specs.List.{AllByRecursion}
 use Rattle.std.proofs.lemmas.Bool.{cases_lt}
-use Rattle.std.proofs.lemmas.Option.{get_or_from_slice_get}
+use Rattle.std.proofs.lemmas.Option.{get_or_from_slice_get, same_Some, slice_get_within}
 use Rattle.std.proofs.lemmas.List.Sums.{sum_by-append, sum_by-cons}
 use Rattle.std.proofs.lemmas.List.{take_more, take-append-drop, take_all, drop_all, drop_at, get_or_append_left}
 use Rattle.std.proofs.lemmas.List.{get_or_push, length_push}
 use Rattle.std.proofs.Math.Seq.{take-append_seam}
 use Rattle.rt_lemmas.proofs.Membership.{all_append}
-use Rattle.rt_lemmas.proofs.Places.{at_back, there_is}
+use Rattle.rt_lemmas.proofs.Places.{at_back}
 use Rattle.rt_ids.specs.Storage.{Starting, AtLevel}
 use Rattle.rt_ids.specs.declared.ids.BodyId.TheVariants as body
 use Rattle.rt_app.specs.Tree.{Body, Task, App}
-use Rattle.rt_app.specs.Bodies.{body_at}
-use Rattle.rt_app.specs.BodyCost.{cost_measure, size_measure, body_cost, cost_of}
+use Rattle.rt_app.specs.BodyCost.{cost_measure, size_measure, body_cost, cost_of, dispatcher_size}
 use Rattle.rt_app.specs.Doings.{init_doing, idle_doing}
 use Rattle.rt_app.specs.Holding.{storage}
 use Rattle.rt_app.specs.Layout.{memory}
+use Rattle.rt_app.specs.Level.{is_software, levels}
 use Rattle.rt_app.specs.Names.{names_of}
 use Rattle.rt_app.specs.Stack.{thread_words}
 use Rattle.rt_code.specs.Standing.{StandsFrom}
 use Rattle.rt_code.specs.declared.image.BodyRow.{BodyRow}
 use Rattle.rt_code.specs.declared.instr.Instr.TheVariants as instr
-use Rattle.rt_gen_body.specs.Bodies.{IsNameable, TaskStands, BodyStands}
+use Rattle.rt_gen_queue.specs.Line.{Line, HasCode, IsNameable}
+use Rattle.rt_gen_body.specs.Bodies.{BodyStands, DeclaredStands}
+use Rattle.rt_gen_disp.specs.Code.{dispatcher_code}
+use Rattle.rt_gen_queue.proofs.Placing.{code_there}
 use Rattle.rt_build.specs.Image.{IdleStands}
-use Rattle.rt_build.specs.Inside.Code.{Line, IsKept, Adds, HasThread, HasTasks}
+use Rattle.rt_build.specs.Inside.Code.{IsKept, Adds, is_of_kind, kind_size, HasThread, HasTasks}
+use Rattle.rt_build.specs.Inside.Code.{HasDispatcher, HasDispatchers}
+use Rattle.rt_build.specs.declared.code.Kind.{Kind}
+use Rattle.rt_build.specs.declared.code.Kind.TheVariants.{Hardware, Software}
 
 -- what is there behind
 abbrev pub behind : List Line → List Line → List Line
@@ -68,6 +75,16 @@ further P before after goes holds more =
     ∙ ap (λ (front : List Line). front ++ more) (whole before after goes) in
     subst P all (holds (behind before after ++ more))
 
+-- what holds of each address at its place, and of one more
+one_more : (P : ℕ → ℕ → Type 0) (entries : List ℕ) (entry : ℕ)
+    → ((n : ℕ) → n < length entries → P n (slice_index entries n)) → P (length entries) entry
+    → (n : ℕ) → n < length (entries ++ entry ∷ []) → P n (slice_index (entries ++ entry ∷ []) n)
+one_more P entries entry has own n within = elim (cases_lt n (length entries)) [
+  | inl less ↦ subst (P n) (sym (get_or_append_left entries (entry ∷ []) 0 n less)) (has n less)
+  | inr last ↦ (let e : length entries ≡ n = omega (arith, length_push entries entry) in
+      subst (P n) (sym (get_or_push entries entry 0 n e)) (subst (λ m. P m entry) e own))
+]
+
 module _ (app : App) (before after : List Line) (goes : IsKept before after) where
   pub thread_kept : (entry : ℕ) → HasThread app before entry → HasThread app after entry
   thread_kept entry has = record {
@@ -78,27 +95,35 @@ module _ (app : App) (before after : List Line) (goes : IsKept before after) whe
         (λ more. has.idle more bodies) more;
   }
 
-  pub tasks_kept : (entries : List ℕ) → HasTasks app before entries → HasTasks app after entries
-  tasks_kept entries has n t within there more =
-      further (λ lines. TaskStands app n (Some t) lines (slice_index entries n)) before after goes
-      (has n t within there) more
+  pub tasks_kept : (kind : Kind) (entries : List ℕ) → HasTasks app before kind entries
+      → HasTasks app after kind entries
+  tasks_kept kind entries has n within t there of more =
+      further (λ lines. DeclaredStands app n lines (slice_index entries n)) before after goes (has n within t there of)
+      more
+
+  pub dispatchers_kept : (entries : List ℕ) → HasDispatchers app before entries → HasDispatchers app after entries
+  dispatchers_kept entries has k within p there more =
+      further (λ lines. HasDispatcher app p lines (slice_index entries k)) before after goes (has k within p there) more
 
   -- the next task
-  pub tasks_more : (entries : List ℕ) (entry : ℕ) → HasTasks app before entries
-      → ((more : List Line) → TaskStands app (length entries) (slice_get app.tasks (length entries)) (after ++ more)
-      entry)
-      → HasTasks app after (entries ++ entry ∷ [])
-  tasks_more entries entry has own n t within there more = elim (cases_lt n (length entries)) [
-    | inl less ↦ subst (λ at. TaskStands app n (Some t) (after ++ more) at)
-        (sym (get_or_append_left entries (entry ∷ []) 0 n less)) (tasks_kept entries has n t less there more)
-    | inr last ↦ (let e : length entries ≡ n = omega (arith, length_push entries entry) in
-        subst (λ at. TaskStands app n (Some t) (after ++ more) at) (sym (get_or_push entries entry 0 n e))
-        (subst (λ o. TaskStands app n o (after ++ more) entry) there
-        (subst (λ m. TaskStands app m (slice_get app.tasks m) (after ++ more) entry) e (own more))))
-  ]
+  tasks_more : (kind : Kind) (entries : List ℕ) (entry : ℕ) → HasTasks app before kind entries
+      → ((t : Task) → slice_get app.tasks (length entries) ≡ Some t → is_of_kind kind t ≡ true
+      → (more : List Line) → DeclaredStands app (length entries) (after ++ more) entry)
+      → HasTasks app after kind (entries ++ entry ∷ [])
+  tasks_more kind entries entry has own n within =
+      one_more (λ n at. (t : Task) → slice_get app.tasks n ≡ Some t → is_of_kind kind t ≡ true
+      → (more : List Line) → DeclaredStands app n (after ++ more) at) entries entry (tasks_kept kind entries has) own n
+      within
 
-pub no_tasks : (app : App) (lines : List Line) → HasTasks app lines []
-no_tasks app lines n t within there more = absurd (omega arith)
+  -- and the next dispatcher
+  dispatchers_more : (entries : List ℕ) (entry : ℕ) → HasDispatchers app before entries
+      → ((p : ℕ) → slice_get (levels app) (length entries) ≡ Some p
+      → (more : List Line) → HasDispatcher app p (after ++ more) entry)
+      → HasDispatchers app after (entries ++ entry ∷ [])
+  dispatchers_more entries entry has own k within =
+      one_more (λ k at. (p : ℕ) → slice_get (levels app) k ≡ Some p
+      → (more : List Line) → HasDispatcher app p (after ++ more) at) entries entry (dispatchers_kept entries has) own k
+      within
 
 module _ (app : App) (first second : List Line) (entry : ℕ) (goes : IsKept first second)
     (at : entry ≡ length first) where
@@ -135,6 +160,19 @@ idle_absent app before lines entry is at grown more bodies =
     (ap (λ (all : List Line). slice_get (all ++ more) entry) grown
     ∙ (ap (λ (all : List Line). slice_get all entry) (append_assoc before ((instr.Wait, None) ∷ []) more)
     ∙ at_back before ((instr.Wait, None) ∷ more) entry 0 (omega arith)))
+
+-- a sum over one more
+sum_more : {X : Type 0} (size : X → ℕ) (xs : List X) (k : ℕ) (x : X) → slice_get xs k ≡ Some x
+    → sum_by size (take k xs) + size x ≡ sum_by size (take (k + 1) xs)
+sum_more size xs k x there =
+    let within : k < length xs = slice_get_within xs k x there in
+    let read : get_or xs k x ≡ x = get_or_from_slice_get xs k x x there in
+    let more : take (k + 1) xs ≡ take k xs ++ x ∷ [] =
+    take_more xs k x within ∙ ap (λ y. take k xs ++ y ∷ []) read in
+    let sums : sum_by size (take (k + 1) xs) ≡ sum_by size (take k xs) + sum_by size (x ∷ []) =
+    ap (sum_by size) more ∙ sum_by-append size (take k xs) (x ∷ []) in
+    let last : sum_by size (x ∷ []) ≡ size x + sum_by size [] = sum_by-cons size x [] in
+    omega (arith, sums, last)
 
 module _ (app : App) where
   abbrev AreNamed : List Line → Type 0
@@ -174,15 +212,12 @@ module _ (app : App) where
     short = omega (arith, length-append before ((instr.Wait, None) ∷ []));
   })
 
-  -- all lines, of which the first were put behind none
-  pub all_named : (few middle many : ℕ) (none first second third : List Line) → none ≡ [] → Adds app few none first
-      → Adds app middle first second → Adds app many second third
-      → AreNamed third × (length third ≤ few + (middle + many))
-  all_named few middle many none first second third is begin next last =
-      let all = adds_then few (middle + many) none first third begin
-      (adds_then middle many first second third next last) in
+  -- all lines, which were put behind none
+  pub all_named : (size : ℕ) (none lines : List Line) → none ≡ [] → Adds app size none lines
+      → AreNamed lines × (length lines ≤ size)
+  all_named size none lines is all =
       let front : length none ≡ 0 = ap (λ (lines : List Line). length lines) is in
-      (subst (λ n. AreNamed (drop n third)) front all.named, omega (arith, all.short))
+      (subst (λ n. AreNamed (drop n lines)) front all.named, omega (arith, all.short))
 
   -- what a call that appends says
   pub adds_behind : (few entry : ℕ) (before after : List Line) → entry ≡ length before → take entry after ≡ before
@@ -193,41 +228,79 @@ module _ (app : App) where
     short = short;
   }
 
-  -- the sizes of one task more
-  sizes_more : (n : ℕ) → n < length app.tasks
-      → sum_by (λ t. body_cost (size_measure app) t.body) (take n app.tasks) + cost_of (size_measure app)
-      (body_at app (body.Task n))
-      ≡ sum_by (λ t. body_cost (size_measure app) t.body) (take (n + 1) app.tasks)
-  sizes_more n within =
-      let one = there_is app.tasks n within in
+  -- the tasks of both kinds are all tasks
+  pub kinds_sum : (ts : List Task) → sum_by (kind_size app Hardware) ts + sum_by (kind_size app Software) ts
+      ≡ sum_by (λ t. body_cost (size_measure app) t.body) ts
+  kinds_sum [] = refl
+  kinds_sum (t ∷ ts) =
       let size : Task → ℕ = λ t. body_cost (size_measure app) t.body in
-      let own : cost_of (size_measure app) (body_at app (body.Task n)) ≡ size one.0 =
-      ap (λ o. cost_of (size_measure app) (option_map (λ t. t.body) o)) one.1 in
-      let read : get_or app.tasks n one.0 ≡ one.0 = get_or_from_slice_get app.tasks n one.0 one.0 one.1 in
-      let more : take (n + 1) app.tasks ≡ take n app.tasks ++ one.0 ∷ [] = take_more app.tasks n one.0 within
-      ∙ ap (λ t. take n app.tasks ++ t ∷ []) read in
-      let sums : sum_by size (take (n + 1) app.tasks) ≡ sum_by size (take n app.tasks) + sum_by size (one.0 ∷ []) =
-      ap (sum_by size) more ∙ sum_by-append size (take n app.tasks) (one.0 ∷ []) in
-      let last : sum_by size (one.0 ∷ []) ≡ size one.0 + sum_by size [] = sum_by-cons size one.0 [] in
-      omega (arith, own, sums, last)
+      omega (
+        arith,
+        kinds_sum ts,
+        sum_by-cons (kind_size app Hardware) t ts,
+        sum_by-cons (kind_size app Software) t ts,
+        sum_by-cons size t ts,
+        either (is_software t) (size t),
+      )
+    where
+      either : (b : Bool) (size : ℕ) → (if not b then size else 0) + (if b then size else 0) ≡ size
+      either true size = omega arith
+      either false size = omega arith
 
-  -- the code of one task more
-  pub next_task : (n : ℕ) (first before after : List Line) (entries more : List ℕ) → n < length app.tasks
-      → length entries ≡ n
-      → Adds app (sum_by (λ t. body_cost (size_measure app) t.body) (take n app.tasks)) first before
-      → HasTasks app before entries
-      → more ≡ entries ++ length before ∷ []
-      → Adds app (cost_of (size_measure app) (body_at app (body.Task n))) before after
-      → ((rest : List Line) → TaskStands app n (slice_get app.tasks n) (after ++ rest) (length before))
-      → (length more ≡ n + 1) × Adds app (sum_by (λ t. body_cost (size_measure app) t.body) (take (n + 1) app.tasks))
-      first after × HasTasks app after more
-  next_task n first before after entries more within counted adds has is own stands = (
-    omega (arith, ap (λ (es : List ℕ). length es) is, length_push entries (length before)),
-    subst (λ size. Adds app size first after) (sizes_more n within)
-        (adds_then (sum_by (λ t. body_cost (size_measure app) t.body) (take n app.tasks))
-        (cost_of (size_measure app) (body_at app (body.Task n))) first before after adds own),
-    subst (HasTasks app after) (sym is)
-        (tasks_more app before after own.kept entries (length before) has
-        (λ rest. subst (λ m. TaskStands app m (slice_get app.tasks m) (after ++ rest) (length before)) (sym counted)
-        (stands rest))),
+  -- the code of one task more, if it is of a kind
+  pub next_task : (kind : Kind) (n entry : ℕ) (t : Task) (first before after : List Line) (entries more : List ℕ)
+      → slice_get app.tasks n ≡ Some t → length entries ≡ n
+      → Adds app (sum_by (kind_size app kind) (take n app.tasks)) first before
+      → HasTasks app before kind entries
+      → more ≡ entries ++ entry ∷ []
+      → Adds app (kind_size app kind t) before after
+      → ((u : Task) → slice_get app.tasks n ≡ Some u → is_of_kind kind u ≡ true
+      → (rest : List Line) → DeclaredStands app n (after ++ rest) entry)
+      → (length more ≡ n + 1) × Adds app (sum_by (kind_size app kind) (take (n + 1) app.tasks)) first after
+      × HasTasks app after kind more
+  next_task kind n entry t first before after entries more there counted adds has is own stands = (
+    omega (arith, ap (λ (es : List ℕ). length es) is, length_push entries entry),
+    subst (λ size. Adds app size first after) (sum_more (kind_size app kind) app.tasks n t there)
+        (adds_then (sum_by (kind_size app kind) (take n app.tasks)) (kind_size app kind t) first before after adds own),
+    subst (HasTasks app after kind) (sym is)
+        (tasks_more app before after own.kept kind entries entry has
+        (subst (λ m. (u : Task) → slice_get app.tasks m ≡ Some u → is_of_kind kind u ≡ true
+        → (rest : List Line) → DeclaredStands app m (after ++ rest) entry) (sym counted) stands)),
   )
+
+  -- the code of one dispatcher more
+  pub next_level : (k p entry : ℕ) (first before after : List Line) (entries more : List ℕ)
+      → slice_get (levels app) k ≡ Some p → length entries ≡ k
+      → Adds app (sum_by (dispatcher_size app) (take k (levels app))) first before
+      → HasDispatchers app before entries
+      → more ≡ entries ++ entry ∷ []
+      → Adds app (dispatcher_size app p) before after
+      → ((rest : List Line) → HasDispatcher app p (after ++ rest) entry)
+      → (length more ≡ k + 1) × Adds app (sum_by (dispatcher_size app) (take (k + 1) (levels app))) first after
+      × HasDispatchers app after more
+  next_level k p entry first before after entries more there counted adds has is own stands = (
+    omega (arith, ap (λ (es : List ℕ). length es) is, length_push entries entry),
+    subst (λ size. Adds app size first after) (sum_more (dispatcher_size app) (levels app) k p there)
+        (adds_then (sum_by (dispatcher_size app) (take k (levels app))) (dispatcher_size app p) first before after adds
+        own),
+    subst (HasDispatchers app after) (sym is)
+        (dispatchers_more app before after own.kept entries entry has
+        (λ q at. subst (λ q. (rest : List Line) → HasDispatcher app q (after ++ rest) entry)
+        (same_Some p q (sym there ∙ (ap (slice_get (levels app)) (sym counted) ∙ at))) stands)),
+  )
+
+-- the code of a dispatcher, put behind code, stands there
+pub dispatcher_put : (app : App) (level entry : ℕ) (before after : List Line) → entry ≡ length before
+    → take entry after ≡ before → drop entry after ≡ dispatcher_code app level entry
+    → (more : List Line) → HasDispatcher app level (after ++ more) entry
+dispatcher_put app level entry before after at kept put more =
+    let lines : List Line = dispatcher_code app level entry in
+    let all : before ++ lines ≡ after =
+    ap (λ (front : List Line). front ++ lines) (sym kept)
+    ∙ (ap (λ (back : List Line). take entry after ++ back) (sym put) ∙ take-append-drop entry after) in
+    record {
+      there = subst (λ (to : ℕ). HasCode (after ++ more) to lines) (sym at)
+          (subst (λ (code : List Line). HasCode code (length before) lines)
+          (sym (append_assoc before lines more) ∙ ap (λ (front : List Line). front ++ more) all)
+          (code_there before lines more));
+    }

@@ -1,34 +1,41 @@
--- The cells of an image of hardware tasks.
-use Rattle.std.proofs.Common.{◌≡◌, ℕ, ◌+◌, ◌<◌, ◌≤◌, ◌==◌, Bool, true, false, List, [], ◌∷◌, ◌++◌, length, map, get_or, Some, slice_get, Contains, codes, refl, sym, ap, subst, ◌∙◌, arith, length-append}
+-- The cells of an image: resources are found by their names, each name is one word, and there are few.
+use Rattle.std.proofs.Common.{◌≡◌, ℕ, zero, suc, ◌+◌, ◌/◌, ◌%◌, ◌<◌, ◌==◌, Bool, true, false, cond, List, []}
+use Rattle.std.proofs.Common.{◌∷◌, ◌++◌, length, map, flat_map, get_or, Some, slice_get, Contains, codes, decimal, refl}
+use Rattle.std.proofs.Common.{sym, ap, ◌∙◌, arith, if◌then◌else◌}
+use Rattle.std.specs.Fmt.{digits, digits_onto, digit_glyph}
 use Rattle.std.specs.Prelude.{bytes_eq}
-use Rattle.std.specs.List.{AllByRecursion, list_any, position_or_len}
+use Rattle.std.specs.List.{AllByRecursion, list_any, position_or_len, range_with_len}
+use Rattle.std.proofs.lemmas.Bool.{lt-ltb, ne_eqb}
 use Rattle.std.proofs.lemmas.Bool.Decides.{nat_tests}
-use Rattle.std.proofs.lemmas.List.{length-map, map-append}
+use Rattle.std.proofs.lemmas.List.{length-map}
 use Rattle.std.proofs.lemmas.List.Sums.{position_or_len_is}
 use Rattle.std.proofs.lemmas.Option.{same_Some, slice_get-get_or, slice_get_within, get_or_from_slice_get}
 use Rattle.std.proofs.lemmas.Slice.Eq.{bytes_eq-Decides}
-use Rattle.rt_lemmas.proofs.Bools.{true_and_false}
-use Rattle.rt_lemmas.proofs.Lists.{mapped_at}
-use Rattle.rt_lemmas.proofs.Membership.{all_append, all_weaker, any_contained}
+use Rattle.rt_lemmas.proofs.Bools.{true_and_false, left_of_none, right_of_none}
+use Rattle.rt_lemmas.proofs.Lists.{all_map, mapped_at}
+use Rattle.rt_lemmas.proofs.Membership.{all_append, any_contained}
 use Rattle.rt_lemmas.proofs.Places.{there_is}
 use Rattle.rt_ids.specs.Lists.{AreDifferent, then_from}
 use Rattle.rt_ids.specs.Word.{IsName}
 use Rattle.rt_ids.specs.declared.cell.CellRow.{CellRow}
 use Rattle.rt_app.specs.declared.app.Shared.{Shared}
 use Rattle.rt_app.specs.declared.app.Local.{Local}
-use Rattle.rt_app.specs.Tree.{App}
+use Rattle.rt_app.specs.Tree.{Task, App}
 use Rattle.rt_app.specs.Accepted.{IsAccepted}
 use Rattle.rt_app.specs.Acceptance.{IsSound}
-use Rattle.rt_app.specs.Handlers.{has_no_software}
-use Rattle.rt_app.specs.Layout.{Cell, resource_cells, local_cells, memory, layout, row_of}
+use Rattle.rt_app.specs.Layout.{Cell, resource_cells, local_cells, free_cells, place_cells, task_cells, ready_cells}
+use Rattle.rt_app.specs.Layout.{ready_room, memory, layout, row_of}
+use Rattle.rt_app.specs.Level.{is_software, levels}
+use Rattle.rt_app.specs.Names.{HasNames}
 use Rattle.rt_app.proofs.Different.{different_none}
-use Rattle.rt_app.proofs.Laid.{resource_row, length-resource_cells, length-local_cells}
+use Rattle.rt_app.proofs.Laid.{resource_row}
 use Rattle.rt_code.specs.Image.{Image}
 use Rattle.rt_code.specs.Cells.{cell_named, resource_cell}
 use Rattle.rt_code.specs.Listable.{blanks, IsWord, IsPlain}
 use Rattle.rt_code.proofs.Writable.{names_writable}
-use Rattle.rt_build.specs.Image.{Entries, HasTables}
-use Rattle.rt_build.proofs.Hardware.{memory_is}
+use Rattle.rt_layout.proofs.Few.{cells_are_few}
+use Rattle.rt_build.specs.Entries.{Entries}
+use Rattle.rt_build.specs.Image.{HasTables}
 
 not_so : (b : Bool) → (b ≡ true → ⊥) → b ≡ false
 not_so true never = absurd (never refl)
@@ -73,7 +80,7 @@ module _ (app : App) (at : Entries) (img : Image) (tables : HasTables app at img
       ∙ (ap (λ cells. cell_named cells one.0.name) tables.cells
       ∙ first_named (layout app).cells r (record { name = one.0.name; first = one.0.first }) row alone)
 
--- a name is a word, alone and behind `local.`
+-- a name is a word
 plain : (name : List ℕ) → IsName name → IsPlain name
 plain name named =
     let alone : AreDifferent (name ∷ []) =
@@ -95,61 +102,134 @@ plain name named =
 not_blank : (b : ℕ) → list_any (λ y. y == b) blanks ≡ false → ¬ Contains blanks b
 not_blank b other is = true_and_false (list_any (λ y. y == b) blanks) (any_contained b blanks is) other
 
-local_word : (name : List ℕ) → IsName name → IsWord (codes "local." ++ name)
-local_word name named =
-    all_append (λ b. ¬ Contains blanks b) (codes "local.") name (
-      not_blank 108 refl,
+-- so is a text of which no byte is a blank
+abbrev is_blank : ℕ → Bool
+is_blank b = list_any (λ y. y == b) blanks
+
+literal : (bytes : List ℕ) → list_any is_blank bytes ≡ false → IsWord bytes
+literal [] none = tt
+literal (b ∷ bytes) none = (
+  not_blank b (left_of_none (is_blank b) (list_any is_blank bytes) none),
+  literal bytes (right_of_none (is_blank b) (list_any is_blank bytes) none),
+)
+
+-- and a number
+digit : (d : ℕ) → d < 10 → ¬ Contains blanks (digit_glyph false d)
+digit d few = not_blank (digit_glyph false d) (rw (
+  lt-ltb d 10 few,
+  ne_eqb 9 (48 + d) (λ e. omega (arith, e)),
+  ne_eqb 10 (48 + d) (λ e. omega (arith, e)),
+  ne_eqb 13 (48 + d) (λ e. omega (arith, e)),
+  ne_eqb 32 (48 + d) (λ e. omega (arith, e)),
+) refl)
+
+either : (test : Bool) (xs ys : List ℕ) → IsWord xs → IsWord ys → IsWord (cond test xs ys)
+either true xs ys first second = first
+either false xs ys first second = second
+
+digits_word : (k n : ℕ) (more : List ℕ) → IsWord more → IsWord (digits_onto k 10 false n more)
+digits_word zero n more word = word
+digits_word (suc k) n more word =
+    let here : IsWord (digit_glyph false (n % 10) ∷ more) = (digit (n % 10) (omega arith), word) in
+    either (n / 10 == 0) _ _ here (digits_word k (n / 10) _ here)
+
+decimal_word : (n : ℕ) → IsWord (decimal n)
+unfolding digits
+decimal_word n = digits_word 64 n [] tt
+
+joined : (xs ys : List ℕ) → IsWord xs → IsWord ys → IsWord (xs ++ ys)
+joined = all_append (λ b. ¬ Contains blanks b)
+
+-- the names of cells
+abbrev HasWord : Cell → Type 0
+HasWord cell = IsWord cell.name
+
+each_of : (f : ℕ → Cell) (ks : List ℕ) → ((k : ℕ) → HasWord (f k)) → AllByRecursion HasWord (map f ks)
+each_of f [] each = tt
+each_of f (k ∷ ks) each = (each k, each_of f ks each)
+
+each_made : {X : Type 0} (f : X → List Cell) → ((x : X) → AllByRecursion HasWord (f x)) → (xs : List X)
+    → AllByRecursion HasWord (flat_map f xs)
+each_made f each [] = tt
+each_made f each (x ∷ xs) = all_append HasWord (f x) (flat_map f xs) (each x) (each_made f each xs)
+
+resource_words : (r : ℕ) (ss : List Shared) → AllByRecursion (λ s. IsName s.name) ss
+    → AllByRecursion HasWord (resource_cells r ss)
+resource_words r [] named = tt
+resource_words r (s ∷ ss) named = ((plain s.name named.0).word, resource_words (r + 1) ss named.1)
+
+local_words : (n : ℕ) (ls : List Local) → AllByRecursion (λ l. IsName l.name) ls
+    → AllByRecursion HasWord (local_cells n ls)
+local_words n [] named = tt
+local_words n (l ∷ ls) named = (
+  joined (codes "local.") l.name (literal (codes "local.") refl) (plain l.name named.0).word,
+  local_words (n + 1) ls named.1,
+)
+
+dot : IsWord (codes ".")
+dot = literal (codes ".") refl
+
+-- a name between this word and a dot
+dotted : (front name : List ℕ) → IsWord front → IsWord name → IsWord (front ++ name ++ codes ".")
+dotted front name first second = joined (front ++ name) (codes ".") (joined front name first second) dot
+
+free_words : (n : ℕ) (t : Task) → IsName t.name → AllByRecursion HasWord (free_cells n t)
+free_words n t named =
+    let front : IsWord (codes "free." ++ t.name ++ codes ".") =
+    dotted (codes "free.") t.name (literal (codes "free.") refl) (plain t.name named).word in (
+      joined (codes "free." ++ t.name ++ codes ".") (codes "count") front (literal (codes "count") refl),
+      each_of _ (range_with_len 0 t.capacity)
+          (λ k. joined (codes "free." ++ t.name ++ codes ".") (decimal k) front (decimal_word k)),
+    )
+
+place_words : (n : ℕ) (t : Task) → IsName t.name → (place : ℕ) → AllByRecursion HasWord (place_cells n t place)
+place_words n t named place =
+    let task : IsWord (codes "input." ++ t.name ++ codes ".") =
+    dotted (codes "input.") t.name (literal (codes "input.") refl) (plain t.name named).word in
+    let front : IsWord (codes "input." ++ t.name ++ codes "." ++ decimal place ++ codes ".") =
+    dotted (codes "input." ++ t.name ++ codes ".") (decimal place) task (decimal_word place) in
+    each_of _ (range_with_len 0 t.args)
+    (λ k. joined (codes "input." ++ t.name ++ codes "." ++ decimal place ++ codes ".") (decimal k) front
+    (decimal_word k))
+
+queue_words : (n : ℕ) (t : Task) → IsName t.name → (b : Bool)
+    → AllByRecursion HasWord (if b then free_cells n t ++ flat_map (place_cells n t) (range_with_len 0 t.capacity)
+    else [])
+queue_words n t named true =
+    all_append HasWord (free_cells n t) (flat_map (place_cells n t) (range_with_len 0 t.capacity))
+    (free_words n t named) (each_made (place_cells n t) (place_words n t named) (range_with_len 0 t.capacity))
+queue_words n t named false = tt
+
+task_words : (n : ℕ) (ts : List Task) → AllByRecursion (λ t. IsName t.name) ts
+    → AllByRecursion HasWord (task_cells n ts)
+task_words n [] named = tt
+task_words n (t ∷ ts) named =
+    all_append HasWord (if is_software t then free_cells n t ++ flat_map (place_cells n t) (range_with_len 0 t.capacity)
+    else []) (task_cells (n + 1) ts) (queue_words n t named.0 (is_software t)) (task_words (n + 1) ts named.1)
+
+ready_words : (app : App) (p : ℕ) → AllByRecursion HasWord (ready_cells app p)
+ready_words app p =
+    let front : IsWord (codes "ready." ++ decimal p ++ codes ".") =
+    dotted (codes "ready.") (decimal p) (literal (codes "ready.") refl) (decimal_word p) in (
+      joined (codes "ready." ++ decimal p ++ codes ".") (codes "head") front (literal (codes "head") refl),
       (
-        not_blank 111 refl,
-        (not_blank 99 refl, (not_blank 97 refl, (not_blank 108 refl, (not_blank 46 refl, tt)))),
+        joined (codes "ready." ++ decimal p ++ codes ".") (codes "count") front (literal (codes "count") refl),
+        each_of _ (range_with_len 0 (ready_room app p))
+            (λ k. joined (codes "ready." ++ decimal p ++ codes ".") (codes "at." ++ decimal k) front
+            (joined (codes "at.") (decimal k) (literal (codes "at.") refl) (decimal_word k))),
       ),
     )
-    (plain name named).word
 
--- what each cell of a resource and of a local resource has
-each_resource : (P : CellRow → Type 0) (r : ℕ) (ss : List Shared)
-    → AllByRecursion (λ s. P (record { name = s.name; first = s.first })) ss
-    → AllByRecursion P (map row_of (resource_cells r ss))
-each_resource P r [] all = tt
-each_resource P r (s ∷ ss) all = (all.0, each_resource P (r + 1) ss all.1)
+pub words : (app : App) → HasNames app → AllByRecursion (λ cell. IsWord cell.name) (layout app).cells
+words app named =
+    all_map row_of HasWord (λ (cell : CellRow). IsWord cell.name) (λ cell is. is) (memory app)
+    (all_append HasWord (resource_cells 0 app.shared)
+    (local_cells 0 app.locals ++ (task_cells 0 app.tasks ++ flat_map (ready_cells app) (levels app)))
+    (resource_words 0 app.shared named.shared)
+    (all_append HasWord (local_cells 0 app.locals) (task_cells 0 app.tasks ++ flat_map (ready_cells app) (levels app))
+    (local_words 0 app.locals named.locals)
+    (all_append HasWord (task_cells 0 app.tasks) (flat_map (ready_cells app) (levels app))
+    (task_words 0 app.tasks named.tasks) (each_made (ready_cells app) (ready_words app) (levels app)))))
 
-each_local : (P : CellRow → Type 0) (n : ℕ) (ls : List Local)
-    → AllByRecursion (λ l. P (record { name = codes "local." ++ l.name; first = l.first })) ls
-    → AllByRecursion P (map row_of (local_cells n ls))
-each_local P n [] all = tt
-each_local P n (l ∷ ls) all = (all.0, each_local P (n + 1) ls all.1)
-
-module _ (app : App) (no_software : has_no_software app ≡ true) (accepted : IsAccepted app) where
-  -- the cells are those of resources
-  cells_are : (layout app).cells ≡ map row_of (resource_cells 0 app.shared) ++ map row_of (local_cells 0 app.locals)
-  cells_are = ap (map row_of) (memory_is app no_software)
-      ∙ map-append row_of (resource_cells 0 app.shared) (local_cells 0 app.locals)
-
-  each_cell : (P : CellRow → Type 0) → AllByRecursion (λ s. P (record { name = s.name; first = s.first })) app.shared
-      → AllByRecursion (λ l. P (record { name = codes "local." ++ l.name; first = l.first })) app.locals
-      → AllByRecursion P (layout app).cells
-  each_cell P shared locals =
-      subst (λ cells. AllByRecursion P cells) (sym cells_are)
-      (all_append P (map row_of (resource_cells 0 app.shared)) (map row_of (local_cells 0 app.locals))
-      (each_resource P 0 app.shared shared) (each_local P 0 app.locals locals))
-
-  pub words : AllByRecursion (λ cell. IsWord cell.name) (layout app).cells
-  words =
-      each_cell (λ cell. IsWord cell.name)
-      (all_weaker (λ s. IsName s.name) (λ s. IsWord s.name) (λ s named. (plain s.name named).word) app.shared
-      accepted.names.shared)
-      (all_weaker (λ l. IsName l.name) (λ l. IsWord (codes "local." ++ l.name)) (λ l named. local_word l.name named)
-      app.locals accepted.names.locals)
-
-  pub few_cells : length (layout app).cells ≤ 128
-  few_cells =
-      let few = accepted.limits.shared in
-      let few_too = accepted.limits.locals in
-      omega (
-        arith,
-        length-map (memory app) row_of,
-        ap (λ (cells : List Cell). length cells) (memory_is app no_software),
-        length-append (resource_cells 0 app.shared) (local_cells 0 app.locals),
-        length-resource_cells 0 app.shared,
-        length-local_cells 0 app.locals,
-      )
+pub few_cells : (app : App) → IsAccepted app → length (layout app).cells < 16384
+few_cells app accepted = omega (arith, length-map (memory app) row_of, cells_are_few app accepted)

@@ -1,22 +1,30 @@
--- The rows of interrupts of an image of hardware tasks.
-use Rattle.std.proofs.Common.{◌≡◌, ℕ, ◌+◌, ◌-◌, ◌%◌, ◌^◌, List, [], ◌∷◌, map, Some, slice_get, Contains, refl, sym, ap, subst, ◌∙◌}
+-- The rows of interrupts and of bodies of an image.
+use Rattle.std.proofs.Common.{◌≡◌, ℕ, ◌+◌, ◌-◌, ◌%◌, ◌^◌, ◌≤◌, Bool, true, false, List, [], ◌∷◌, map, Some}
+use Rattle.std.proofs.Common.{slice_get, Contains, refl, sym, ap, subst, ◌∙◌, arith, if◌then◌else◌}
 use Rattle.std.specs.List.{AllByRecursion}
+use Rattle.std.proofs.lemmas.List.{length-map}
+use Rattle.std.proofs.lemmas.Option.{slice_get_within}
 use Rattle.std.proofs.Math.Nat.{mul-mod_left}
 use Rattle.rt_lemmas.proofs.Lists.{mapped_at, AreFrom, all_from, first_from, rest_from}
-use Rattle.rt_lemmas.proofs.Membership.{all_at}
+use Rattle.rt_lemmas.proofs.Membership.{all_at, all_append}
 use Rattle.rt_app.specs.declared.app.IrqDecl.{IrqDecl}
-use Rattle.rt_app.specs.Tree.{App}
+use Rattle.rt_app.specs.Tree.{Task, App}
+use Rattle.rt_app.specs.Accepted.{IsAccepted}
 use Rattle.rt_app.specs.Acceptance.{IsSound}
 use Rattle.rt_app.specs.Handlers.{Service, services, service_of}
+use Rattle.rt_app.specs.Level.{is_software}
+use Rattle.rt_app.specs.Limits.{KeepsTaskLimits}
 use Rattle.rt_app.specs.Names.{names_of}
 use Rattle.rt_app.proofs.Members.{made_of}
 use Rattle.rt_app.proofs.Different.{contained}
-use Rattle.rt_code.specs.Runnable.{HaveImplementedValues, HaveNumbersApart}
-use Rattle.rt_code.specs.Listable.{IsPlain}
+use Rattle.rt_code.specs.Runnable.{TakeFewArguments, HaveImplementedValues, HaveNumbersApart}
+use Rattle.rt_code.specs.Listable.{IsPlain, HasTask}
+use Rattle.rt_code.specs.declared.image.BodyRow.{BodyRow}
 use Rattle.rt_code.specs.declared.image.Handler.{Handler}
 use Rattle.rt_code.specs.declared.image.IrqRow.{IrqRow}
 use Rattle.rt_code.proofs.Writable.{names_writable}
-use Rattle.rt_build.specs.Image.{Entries, handler_row, irq_rows}
+use Rattle.rt_gen_queue.specs.Called.{row_for, rows_for}
+use Rattle.rt_build.specs.Entries.{Entries, handler_row, irq_rows}
 use Rattle.rt_build.specs.Inside.Tables.{handler_of, row_of}
 
 module _ (app : App) (at : Entries) where
@@ -75,3 +83,34 @@ module _ (app : App) (at : Entries) where
         each_row (λ row. Contains (names_of app).irqs (row.name, row.number))
         (λ i d there. contained (names_of app).irqs i (d.name, d.number)
         (mapped_at (λ d. (d.name, d.number)) app.irqs i d there))
+
+  -- what each row of a body has, of those from a number on
+  bodies_from : (P : BodyRow → Type 0)
+      → ((n : ℕ) (t : Task) → slice_get app.tasks n ≡ Some t → P (row_for at.task n t))
+      → (n : ℕ) (ts : List Task) → AreFrom app.tasks n ts → AllByRecursion P (rows_for at.task n ts)
+  bodies_from P each n [] from = tt
+  bodies_from P each n (t ∷ ts) from =
+      all_append P (if is_software t then row_for at.task n t ∷ [] else []) (rows_for at.task (n + 1) ts)
+      (go (is_software t) (each n t (first_from app.tasks n t ts from)))
+      (bodies_from P each (n + 1) ts (rest_from app.tasks n t ts from))
+    where
+      go : (b : Bool) → P (row_for at.task n t) → AllByRecursion P (if b then row_for at.task n t ∷ [] else [])
+      go true one = (one, tt)
+      go false one = tt
+
+  pub each_body : (P : BodyRow → Type 0)
+      → ((n : ℕ) (t : Task) → slice_get app.tasks n ≡ Some t → P (row_for at.task n t))
+      → AllByRecursion P (rows_for at.task 0 app.tasks)
+  each_body P each = bodies_from P each 0 app.tasks (all_from app.tasks)
+
+  -- a body takes few arguments, and is of a task that has a name
+  pub few_arguments : IsAccepted app → TakeFewArguments (rows_for at.task 0 app.tasks)
+  few_arguments accepted i row there =
+      all_at (λ row. row.args ≤ 4) (rows_for at.task 0 app.tasks) i row
+      (each_body (λ row. row.args ≤ 4)
+      (λ n t is. (all_at KeepsTaskLimits app.tasks n t accepted.limits.tasks is).args)) there
+
+  pub named_bodies : AllByRecursion (λ row. HasTask (names_of app) row.task) (rows_for at.task 0 app.tasks)
+  named_bodies =
+      each_body (λ row. HasTask (names_of app) row.task)
+      (λ n t is. omega (arith, slice_get_within app.tasks n t is, length-map app.tasks (λ t. t.name)))

@@ -1,10 +1,10 @@
 -- An image of an accepted application can be run, and its text and its traces can be written.
-use Rattle.std.proofs.Common.{◌≡◌, ℕ, ◌+◌, ◌%◌, ◌≤◌, List, [], ◌∷◌, ◌++◌, length, sum_by, true, Contains, Option, Some, None, slice_get, refl, sym, ap, subst, ◌∙◌, arith}
+use Rattle.std.proofs.Common.{◌≡◌, ℕ, ◌+◌, ◌%◌, ◌≤◌, List, [], ◌∷◌, ◌++◌, length, sum_by, Contains, Option, Some}
+use Rattle.std.proofs.Common.{None, refl, sym, ap, subst, ◌∙◌, arith}
 use Rattle.std.specs.Prelude.{is_some}
 use Rattle.std.specs.List.{AllByRecursion}
 use Rattle.std.proofs.lemmas.List.{length-map}
 use Rattle.std.proofs.lemmas.List.Sums.{sum_by-cons, sum_by-append}
-use Rattle.std.proofs.lemmas.Option.{none-some}
 use Rattle.rt_lemmas.proofs.Membership.{all_weaker}
 use Rattle.rt_ids.specs.Names.{AreNames}
 use Rattle.rt_ids.specs.declared.ids.BodyId.{BodyId}
@@ -16,23 +16,24 @@ use Rattle.rt_app.specs.Tree.{Body, Task, App}
 use Rattle.rt_app.specs.Accepted.{IsAccepted}
 use Rattle.rt_app.specs.Acceptance.{IsSound}
 use Rattle.rt_app.specs.Bodies.{Member, thread_members, task_members}
-use Rattle.rt_app.specs.BodyCost.{size_measure, body_cost, cost_of}
+use Rattle.rt_app.specs.BodyCost.{size_measure, body_cost, cost_of, dispatcher_size}
 use Rattle.rt_app.specs.Cost.{Measure}
-use Rattle.rt_app.specs.Handlers.{has_no_software}
+use Rattle.rt_app.specs.Level.{levels}
 use Rattle.rt_app.specs.Names.{names_of}
 use Rattle.rt_code.specs.Image.{Image}
 use Rattle.rt_code.specs.Lines.{HasCell, HasLines}
 use Rattle.rt_code.specs.Listable.{IsWord, IsPlain, AreWritable, HasTask, HasInstr, HasNote}
-use Rattle.rt_code.specs.Runnable.{HaveImplementedValues, HaveNumbersApart, HasRightSizes, IsRunnable}
+use Rattle.rt_code.specs.Runnable.{TakeFewArguments, HaveImplementedValues, HaveNumbersApart}
+use Rattle.rt_code.specs.Runnable.{HasRightSizes, IsRunnable}
 use Rattle.rt_code.specs.declared.instr.Note.{Note}
 use Rattle.rt_code.specs.declared.instr.Note.TheVariants as note
 use Rattle.rt_code.proofs.Writable.{names_writable}
-use Rattle.rt_gen_body.specs.Bodies.{IsNameable}
-use Rattle.rt_build.specs.Image.{Entries, HasTables}
-use Rattle.rt_build.specs.Inside.Code.{Line}
-use Rattle.rt_build.proofs.Hardware.{bodies_none}
+use Rattle.rt_gen_queue.specs.Line.{Line, IsNameable}
+use Rattle.rt_build.specs.Entries.{Entries}
+use Rattle.rt_build.specs.Image.{HasTables}
 use Rattle.rt_build.proofs.ImageCells.{resource_numbers, words, few_cells}
-use Rattle.rt_build.proofs.ImageRows.{values_implemented, numbers_apart, plain_names, named_rows}
+use Rattle.rt_build.proofs.ImageRows.{few_arguments, named_bodies, values_implemented, numbers_apart, plain_names}
+use Rattle.rt_build.proofs.ImageRows.{named_rows}
 
 -- all code is within the rule on sizes
 thread_sum : (m : Measure) (id : BodyId) (o : Option Body)
@@ -50,8 +51,9 @@ task_sum m n (t ∷ ts) =
     ∙ (ap (λ k. body_cost m t.body + k) (task_sum m (n + 1) ts) ∙ sym (sum_by-cons (λ t. body_cost m t.body) t ts))
 
 pub all_code : (app : App) → IsSound app
-    → cost_of (size_measure app) app.init + (cost_of (size_measure app) app.idle + sum_by
-    (λ t. body_cost (size_measure app) t.body) app.tasks) ≤ CODE_SIZE
+    → cost_of (size_measure app) app.init + (cost_of (size_measure app) app.idle
+    + (sum_by (λ t. body_cost (size_measure app) t.body) app.tasks + sum_by (dispatcher_size app) (levels app)))
+    ≤ CODE_SIZE
 all_code app sound =
     let m = size_measure app in
     let size : Member → ℕ = λ p. body_cost m p.body in
@@ -70,7 +72,7 @@ all_code app sound =
     )
 
 module _ (app : App) (at : Entries) (img : Image) (tables : HasTables app at img) (sound : IsSound app)
-    (accepted : IsAccepted app) (no_software : has_no_software app ≡ true) where
+    (accepted : IsAccepted app) where
   runnable_sizes : length img.code ≤ CODE_SIZE → HasRightSizes img
   runnable_sizes short = record {
     few_bits = let e = tables.bits in let few = accepted.limits.least_bits in omega arith;
@@ -82,19 +84,15 @@ module _ (app : App) (at : Entries) (img : Image) (tables : HasTables app at img
     cells_few = omega (
       arith,
       ap (λ (cells : List CellRow). length cells) tables.cells,
-      few_cells app no_software
-          accepted,
+      few_cells app accepted,
     );
   }
-
-  no_bodies : img.bodies ≡ []
-  no_bodies = tables.bodies ∙ bodies_none app no_software at
 
   pub runnable : length img.code ≤ CODE_SIZE → IsRunnable img
   runnable short = record {
     sizes = runnable_sizes short;
     rows = record {
-      arguments = λ i row there. absurd (none-some row (ap (λ rows. slice_get rows i) (sym no_bodies) ∙ there));
+      arguments = subst TakeFewArguments (sym tables.bodies) (few_arguments app at accepted);
       values = subst (λ bits. HaveImplementedValues bits img.irqs) (sym tables.bits)
           (subst (HaveImplementedValues app.bits) (sym tables.irqs) (values_implemented app at));
       numbers = subst HaveNumbersApart (sym tables.irqs) (numbers_apart app at sound);
@@ -117,9 +115,11 @@ module _ (app : App) (at : Entries) (img : Image) (tables : HasTables app at img
     listable = record {
       names = subst AreWritable (sym tables.names) (names_writable (names_of app) sound.names);
       cells = subst (λ cells. AllByRecursion (λ cell. IsWord cell.name) cells) (sym tables.cells)
-          (words app no_software accepted);
+          (words app accepted.names);
       irqs = subst (λ rows. AllByRecursion (λ row. IsPlain row.name) rows) (sym tables.irqs) (plain_names app at sound);
-      bodies = subst (λ rows. AllByRecursion (λ row. HasTask img.names row.task) rows) (sym no_bodies) tt;
+      bodies = subst (λ names. AllByRecursion (λ row. HasTask names row.task) img.bodies) (sym tables.names)
+          (subst (λ rows. AllByRecursion (λ row. HasTask (names_of app) row.task) rows) (sym tables.bodies)
+          (named_bodies app at));
       instrs = subst (λ names. AllByRecursion (λ line. HasInstr names line.0) img.code) (sym tables.names)
           (all_weaker (IsNameable (names_of app)) (λ line. HasInstr (names_of app) line.0) (λ line is. is.instr)
           img.code named);

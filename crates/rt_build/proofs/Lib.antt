@@ -1,4 +1,3 @@
-pub mod Bound
 pub mod Judging
 pub mod Firsts
 pub mod Accepting
@@ -8,10 +7,14 @@ pub mod ListedOnce
 pub mod PlacedStatements
 pub mod Named
 pub mod Placed
-pub mod Hardware
+pub mod Levels
+pub mod Entries
+pub mod Services
 pub mod Served
 pub mod Grown
+pub mod BodyRows
 pub mod LevelRows
+pub mod Dispatched
 pub mod ImageCells
 pub mod ImageRows
 pub mod ImageSizes

@@ -1,5 +1,5 @@
 -- A body whose names are all known, and that names nothing twice, lists no resource twice.
-use Rattle.std.proofs.Common.{◌≡◌, ◌==◌, ◌||◌, ℕ, true, false, List, [], ◌∷◌, ◌++◌, map, flat_map, Option, Some, None, Contains, refl, sym, ap, subst, ◌∙◌, inl, inr, eq-eqb}
+use Rattle.std.proofs.Common.{◌≡◌, ◌==◌, ℕ, false, List, [], ◌∷◌, ◌++◌, map, flat_map, Option, Some, None, Contains, refl, ap, subst, inl, inr, eq-eqb}
 use Rattle.std.specs.List.{list_any}
 use Rattle.rt_lemmas.proofs.Bools.{left_of_none, right_of_none, true_and_false}
 use Rattle.rt_lemmas.proofs.Lists.{append_none_left, append_none_right}

@@ -1,9 +1,8 @@
 -- A name that is no unknown name means something that is declared, and a variable is one in scope.
-use Rattle.std.proofs.Common.{◌≡◌, ◌==◌, ◌<◌, nat_lt, ◌||◌, ℕ, ◌+◌, Bool, true, false, cond, Contains, List, [], ◌∷◌, ◌++◌, length, map, take, find, position, Option, Some, None, IfSome, option_map, refl, sym, ap, subst, ◌∙◌, if◌then◌else◌}
-use Rattle.std.specs.List.{AllByRecursion, list_any, position_or_len, range_with_len}
+use Rattle.std.proofs.Common.{◌≡◌, ◌<◌, ◌||◌, ℕ, ◌+◌, Bool, true, false, cond, Contains, List, [], ◌∷◌, length, map, take, find, position, Option, Some, None, IfSome, option_map, refl, sym, ap, subst, ◌∙◌, if◌then◌else◌}
+use Rattle.std.specs.List.{AllByRecursion, list_any, range_with_len}
 use Rattle.std.specs.Option.{option_or, unwrap_or}
 use Rattle.std.proofs.lemmas.List.{length-map}
-use Rattle.std.proofs.lemmas.Bool.{ltb-true}
 use Rattle.std.proofs.lemmas.Slice.Eq.{bytes_eq-Decides}
 use Rattle.rt_lemmas.proofs.Lists.{position_within}
 use Rattle.rt_lemmas.proofs.Membership.{contains_here, contains_there, all_weaker, all_from_members}

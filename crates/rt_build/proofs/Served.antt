@@ -1,30 +1,34 @@
--- How the interrupts of hardware tasks are served, task by task.
-use Rattle.std.proofs.Common.{◌≡◌, eq-eqb, ◌≢◌, ℕ, zero, suc, ◌+◌, ◌<◌, ◌≤◌, ◌^◌, ◌==◌, Bool, true, false, List, [], ◌∷◌, ◌++◌, length, map, get_or, filter, replicate, set, take, drop, append-nil, append_assoc, Option, Some, None, option_map, slice_get, Contains, refl, sym, ap, subst, ◌∙◌, arith, length-set}
-use Rattle.std.specs.List.{zip}
+-- How the interrupts of an application are served, service by service.
+use Rattle.std.proofs.Common.{◌≡◌, eq-eqb, ◌≢◌, ℕ, zero, suc, ◌+◌, ◌<◌, ◌≤◌, ◌^◌, ◌==◌, Bool, true, false, List, []}
+use Rattle.std.proofs.Common.{◌∷◌, ◌++◌, length, map, get_or, filter, replicate, set, take, append-nil, Option, Some}
+use Rattle.std.proofs.Common.{None, option_map, slice_get, Contains, refl, sym, ap, subst, ◌∙◌, arith, length-set}
+use Rattle.std.specs.List.{AllByRecursion, zip}
 use Rattle.std.proofs.lemmas.Bool.{eqb-true}
-use Rattle.std.proofs.lemmas.List.{map-append, length-replicate, take_all, take_more}
+use Rattle.std.proofs.lemmas.List.{map-append, length-replicate, take_more}
 use Rattle.std.proofs.lemmas.List.Elements.{filter-append}
-use Rattle.std.proofs.lemmas.Option.{same_Some, none-some, get_or_from_slice_get}
+use Rattle.std.proofs.lemmas.Option.{same_Some, get_or_from_slice_get}
 use Rattle.std.proofs.lemmas.Slice.Zip.{length-zip, get_or-zip}
-use Rattle.rt_lemmas.proofs.Lists.{mapped_at}
-use Rattle.rt_ids.specs.Priority.{hardware}
 use Rattle.rt_lemmas.proofs.Bools.{true_and_false}
+use Rattle.rt_lemmas.proofs.Lists.{mapped_at, all_behind}
 use Rattle.rt_lemmas.proofs.Membership.{all_at, contains_here, contains_there}
 use Rattle.rt_ids.specs.Lists.{AreDifferent}
+use Rattle.rt_ids.specs.Priority.{hardware}
 use Rattle.rt_app.specs.declared.app.IrqDecl.{IrqDecl}
+use Rattle.rt_app.specs.declared.costs.TheConstants.{DISPATCHER_WORDS}
 use Rattle.rt_app.specs.Tree.{Task, App}
-use Rattle.rt_app.specs.Handlers.{Runs, Service, bound_service, task_services, services, has_no_software, has_no_monotonic}
 use Rattle.rt_app.specs.Accepted.{IsBindingPlaced, IsTaskPlaced, IsAccepted}
 use Rattle.rt_app.specs.Acceptance.{IsSound}
 use Rattle.rt_app.specs.Frame.{frame_words}
+use Rattle.rt_app.specs.Handlers.{Runs, Dispatches, Service, services}
+use Rattle.rt_app.specs.Level.{levels}
 use Rattle.rt_app.specs.Plan.{frames}
-use Rattle.rt_app.proofs.Parts.{parts}
-use Rattle.rt_app.proofs.SoundCeilings.{tasks_in_range}
 use Rattle.rt_app.proofs.Different.{different_apart}
+use Rattle.rt_app.proofs.Parts.{parts}
+use Rattle.rt_app.proofs.SoundCeilings.{tasks_in_range, levels_in_range}
 use Rattle.rt_code.specs.declared.image.Handler.{Handler}
-use Rattle.rt_build.specs.Image.{Entries, task_words, handler_words, handler_row, irq_rows}
+use Rattle.rt_gen_queue.specs.Called.{row_for}
+use Rattle.rt_build.specs.Entries.{Entries, task_words, handler_words, handler_row, irq_rows}
 use Rattle.rt_build.specs.Inside.Tables.{handler_of, HasHandlers, row_of}
-use Rattle.rt_build.proofs.Hardware.{services_are}
 
 set_same : {X : Type 0} (xs : List X) (i : ℕ) (y : X) → i < length xs → slice_get (set xs i y) i ≡ Some y
 set_same [] i y within = absurd (omega arith)
@@ -56,34 +60,6 @@ unserved irq (s ∷ ss) fresh = go (s.irq == irq) refl
     go true e rest = absurd (fresh (subst (λ n. Contains (n ∷ irqs_of ss) irq) (sym (eqb-true s.irq irq e))
         (contains_here irq (irqs_of ss))))
     go false e rest = rw e rest
-
--- the services of the tasks up to one, and those of the others
-services_split : (k n : ℕ) (ts : List Task) (t : Task) → slice_get ts n ≡ Some t
-    → task_services k ts ≡ task_services k (take n ts)
-    ++ (bound_service (k + n) t t.binds ++ task_services (k + n + 1) (drop (suc n) ts))
-services_split k n [] t at = absurd (none-some t at)
-services_split k zero (u ∷ ts) t at =
-    let e : k + 0 ≡ k = omega arith in
-    rw (e, ap (λ (v : Task). v) (sym (same_Some u t at))) refl
-services_split k (suc n) (u ∷ ts) t at =
-    let e : k + suc n ≡ k + 1 + n = omega arith in
-    rw e
-    (ap (λ ss. bound_service k u u.binds ++ ss) (services_split (k + 1) n ts t at)
-    ∙ sym (append_assoc (bound_service k u u.binds) (task_services (k + 1) (take n ts)) _))
-
-services_more : (k n : ℕ) (ts : List Task) (t : Task) → slice_get ts n ≡ Some t
-    → task_services k (take (suc n) ts) ≡ task_services k (take n ts) ++ bound_service (k + n) t t.binds
-services_more k n [] t at = absurd (none-some t at)
-services_more k zero (u ∷ ts) t at =
-    let e : k ≡ k + 0 = omega arith in
-    append-nil (bound_service k u u.binds)
-    ∙ (ap (λ (v : Task). bound_service k v v.binds) (same_Some u t at) ∙ ap (λ j. bound_service j t t.binds) e)
-services_more k (suc n) (u ∷ ts) t at =
-    let e : k + 1 + n ≡ k + suc n = omega arith in
-    ap (λ ss. bound_service k u u.binds ++ ss)
-    (services_more (k + 1) n ts t at ∙ ap (λ j. task_services (k + 1) (take n ts) ++ bound_service j t t.binds) e)
-    ∙ sym (append_assoc (bound_service k u u.binds) (task_services (k + 1) (take n ts))
-    (bound_service (k + suc n) t t.binds))
 
 module _ (app : App) (at : Entries) where
   -- no interrupt is served
@@ -157,67 +133,26 @@ module _ (app : App) (at : Entries) where
       (λ k inside. (let e : 0 + k ≡ k = omega arith in has.each k inside
       ∙ ap (λ j. Some (handler_of app at (services app) j)) (sym e))) refl
 
-module _ (app : App) (at : Entries) (sound : IsSound app) (no_software : has_no_software app ≡ true)
-    (no_monotonic : has_no_monotonic app ≡ true) where
-  -- the services of the tasks before one, and its own, which is of another interrupt
-  module _ (n : ℕ) (t : Task) (there : slice_get app.tasks n ≡ Some t) where
-    split : services app ≡ task_services 0 (take n app.tasks)
-        ++ (bound_service n t t.binds ++ task_services (n + 1) (drop (suc n) app.tasks))
-    split =
-        let e : 0 + n ≡ n = omega arith in
-        services_are app no_software no_monotonic
-        ∙ (services_split 0 n app.tasks t there
-        ∙ ap (λ m. task_services 0 (take n app.tasks)
-        ++ (bound_service m t t.binds ++ task_services (m + 1) (drop (suc n) app.tasks))) e)
+-- the interrupt of a service is declared
+pub declared_irq : (app : App) → IsSound app → (before behind : List Service) (s : Service)
+    → services app ≡ before ++ s ∷ behind → s.irq < length app.irqs
+declared_irq app sound before behind s are =
+    let IsPlaced : Service → Type 0 = λ s. (s.irq < length app.irqs) × (1 ≤ s.level) × (s.level ≤ 2 ^ app.bits) in
+    (all_behind IsPlaced before (s ∷ behind) (subst (AllByRecursion IsPlaced) are sound.served)).0.0
 
-    next_unserved : (irq : ℕ) → t.binds ≡ Some irq
-        → filter (λ s. s.irq == irq) (task_services 0 (take n app.tasks)) ≡ []
-    next_unserved irq binds =
-        let before = task_services 0 (take n app.tasks) in
-        let behind = bound_service n t t.binds ++ task_services (n + 1) (drop (suc n) app.tasks) in
-        let apart : AreDifferent (irqs_of before ++ irqs_of behind) =
-        subst AreDifferent (ap irqs_of split ∙ map-append (λ s. s.irq) before behind) sound.services_differ in
-        let own : Contains (irqs_of behind) irq =
-        subst (λ o. Contains (irqs_of (bound_service n t o ++ task_services (n + 1) (drop (suc n) app.tasks))) irq)
-        (sym binds) (contains_here irq (irqs_of (task_services (n + 1) (drop (suc n) app.tasks)))) in
-        unserved irq before (λ is. different_apart (irqs_of before) (irqs_of behind) apart irq is own)
-
-    -- of the tasks up to and with it
-    more_services : task_services 0 (take (n + 1) app.tasks) ≡ task_services 0 (take n app.tasks)
-        ++ bound_service n t t.binds
-    more_services =
-        let e : n + 1 ≡ suc n = omega arith in
-        let f : 0 + n ≡ n = omega arith in
-        ap (λ m. task_services 0 (take m app.tasks)) e
-        ∙ (services_more 0 n app.tasks t there
-        ∙ ap (λ m. task_services 0 (take n app.tasks) ++ bound_service m t t.binds) f)
-
-    pub next_served : (irq : ℕ) (table : List (Option Handler)) → t.binds ≡ Some irq → irq < length app.irqs
-        → HasHandlers app at (task_services 0 (take n app.tasks)) table
-        → HasHandlers app at (task_services 0 (take (n + 1) app.tasks))
-        (set table irq (Some (handler_row app at (record { irq = 0; handler = Runs n; level = t.priority }))))
-    next_served irq table binds within has =
-        let one : Service = record { irq = irq; handler = Runs n; level = t.priority } in
-        let more : task_services 0 (take (n + 1) app.tasks) ≡ task_services 0 (take n app.tasks) ++ one ∷ [] =
-        more_services ∙ ap (λ o. task_services 0 (take n app.tasks) ++ bound_service n t o) binds in
-        subst (λ ss. HasHandlers app at ss (set table irq (Some (handler_row app at one)))) (sym more)
-        (one_served app at (task_services 0 (take n app.tasks)) one table has within (next_unserved irq binds))
-
-    pub next_free : (table : List (Option Handler)) → t.binds ≡ None
-        → HasHandlers app at (task_services 0 (take n app.tasks)) table
-        → HasHandlers app at (task_services 0 (take (n + 1) app.tasks)) table
-    next_free table binds has =
-        let more : task_services 0 (take (n + 1) app.tasks) ≡ task_services 0 (take n app.tasks) =
-        more_services ∙ (ap (λ o. task_services 0 (take n app.tasks) ++ bound_service n t o) binds
-        ∙ append-nil (task_services 0 (take n app.tasks))) in
-        subst (λ ss. HasHandlers app at ss table) (sym more) has
-
-  pub all_served : (n : ℕ) (table : List (Option Handler)) → length app.tasks ≤ n
-      → HasHandlers app at (task_services 0 (take n app.tasks)) table → HasHandlers app at (services app) table
-  all_served n table last has =
-      let all : task_services 0 (take n app.tasks) ≡ services app = ap (task_services 0) (take_all n app.tasks last)
-      ∙ sym (services_are app no_software no_monotonic) in
-      subst (λ ss. HasHandlers app at ss table) all has
+module _ (app : App) (at : Entries) (sound : IsSound app) where
+  -- an interrupt that serves nothing before serves one more
+  pub next_served : (before behind more : List Service) (s : Service) (table : List (Option Handler))
+      → services app ≡ before ++ s ∷ behind → more ≡ before ++ s ∷ [] → HasHandlers app at before table
+      → HasHandlers app at more (set table s.irq (Some (handler_row app at s)))
+  next_served before behind more s table are next has =
+      let apart : AreDifferent (irqs_of before ++ irqs_of (s ∷ behind)) =
+      subst AreDifferent (ap irqs_of are ∙ map-append (λ s. s.irq) before (s ∷ behind)) sound.services_differ in
+      let fresh : filter (λ o. o.irq == s.irq) before ≡ [] =
+      unserved s.irq before (λ is. different_apart (irqs_of before) (irqs_of (s ∷ behind)) apart s.irq is
+      (contains_here s.irq (irqs_of behind))) in
+      subst (λ ss. HasHandlers app at ss (set table s.irq (Some (handler_row app at s)))) (sym next)
+      (one_served app at before s table has (declared_irq app sound before behind s are) fresh)
 
 -- how the interrupt of a task serves it
 pub row_is : (app : App) (at : Entries) (n : ℕ) (t : Task) (value entry frame : ℕ) → slice_get app.tasks n ≡ Some t
@@ -228,6 +163,26 @@ pub row_is : (app : App) (at : Entries) (n : ℕ) (t : Task) (value entry frame 
 row_is app at n t value entry frame there valued entered framed =
     let words : frame ≡ handler_words app (Runs n) = framed ∙ ap task_words (sym there) in
     rw (valued, entered, words) refl
+
+-- and how that of a level's dispatcher serves it
+pub level_row_is : (app : App) (at : Entries) (p value entry : ℕ) → value ≡ hardware app.bits p
+    → entry ≡ at.dispatcher p
+    → record { value = value; entry = entry; frame = DISPATCHER_WORDS } ≡ handler_row app at
+    (record { irq = 0; handler = Dispatches p; level = p })
+level_row_is app at p value entry valued entered = rw (valued, entered) refl
+
+-- and the row of a task's body
+pub body_row_is : (at : Entries) (n : ℕ) (t : Task) (entry frame : ℕ) → entry ≡ at.task n
+    → frame ≡ frame_words t.args t.body
+    → record { task = n; entry = entry; frame = frame; args = t.args } ≡ row_for at.task n t
+body_row_is at n t entry frame entered framed = rw (entered, framed) refl
+
+-- a level is a priority that there is
+pub level_within : (app : App) → IsAccepted app → (k p : ℕ) → slice_get (levels app) k ≡ Some p
+    → (1 ≤ p) × (p ≤ 2 ^ app.bits)
+level_within app accepted k p there =
+    all_at (λ p. (1 ≤ p) × (p ≤ 2 ^ app.bits)) (levels app) k p
+    (levels_in_range app accepted (parts app accepted.rules)) there
 
 -- a task has a priority that there is, and a frame in the plan
 pub priority_of : (app : App) → IsAccepted app → (n : ℕ) (t : Task) → slice_get app.tasks n ≡ Some t

@@ -1,21 +1,23 @@
-ghost use Rattle.std.specs.Prelude.{◌≡◌, ◌<◌, ◌≤◌, List, [], ◌∷◌, ◌++◌, length, slice_get, sum_by, None, IfOk, OnOk};
-ghost use Rattle.std.specs.List.{AllByRecursion};
-ghost use Rattle.rt_ids.specs.declared.ids.BodyId.TheVariants as body;
-ghost use Rattle.rt_ids.specs.declared.limits.TheConstants.{CODE_SIZE};
-ghost use Rattle.rt_app.specs.Bodies.{body_at};
-ghost use Rattle.rt_app.specs.BodyCost.{size_measure, cost_of, body_cost};
-ghost use Rattle.rt_app.specs.Names.{names_of};
-ghost use Rattle.rt_app.specs.View.{app_of};
+ghost use Rattle.std.specs.Prelude.{◌≡◌, ◌<◌, ◌≤◌, List, [], ◌∷◌, ◌++◌, length, sum_by, slice_get, Some, None, true};
+ghost use Rattle.std.specs.Prelude.{IfOk, OnOk};
+ghost use Rattle.rt_app.specs.BodyCost.{size_measure, cost_of, dispatcher_size};
+ghost use Rattle.rt_app.specs.Level.{levels};
+ghost use Rattle.rt_app.specs.Tree as tree;
+ghost use Rattle.rt_app.specs.View.{app_of, task_of};
 ghost use Rattle.rt_code.specs.declared.image.BodyRow.{BodyRow};
 ghost use Rattle.rt_code.specs.declared.instr.Instr.TheVariants as instr;
-ghost use Rattle.rt_gen_body.specs.Bodies.{IsNameable, TaskStands};
+ghost use Rattle.rt_gen_body.specs.Bodies.{DeclaredStands};
+ghost use Rattle.rt_gen_queue.specs.Line.{Line};
 ghost use Rattle.rt_build.specs.Image.{IdleStands};
-ghost use Rattle.rt_build.specs.Inside.Plan.{IsHardwarePlan};
-ghost use Rattle.rt_build.specs.Inside.Code.{Line, Adds, HasThread, HasTasks};
+ghost use Rattle.rt_build.specs.Inside.Plan.{IsUntimedPlan};
+ghost use Rattle.rt_build.specs.Inside.Code.{Adds, is_of_kind, kind_size};
+ghost use Rattle.rt_build.specs.Inside.Code.{HasTasks, HasDispatchers, IsCodeOf};
 
-use rt_app::Plan;
+use rt_app::{Plan, Task};
 use rt_code::{Instr, Note};
 use rt_gen_body::gen_body;
+use rt_gen_disp::gen_dispatcher;
+use rt_gen_queue::next_entry;
 use rt_ids::{BodyId, NoMemory, TaskId};
 use std::alloc::Global;
 
@@ -25,8 +27,29 @@ pub(crate) struct Code {
     pub(crate) lines: Vec<(Instr, Option<Note>)>,
     /// Where the thread goes on behind `init`, which begins at 0.
     pub(crate) idle: u32,
-    /// Where the tasks begin, in order.
-    pub(crate) tasks: Vec<u32>,
+    /// Where the hardware tasks begin, by task, and 0 for any other.
+    pub(crate) hardware: Vec<u32>,
+    /// Where the bodies of software tasks begin, by task, and 0 for any other.
+    pub(crate) software: Vec<u32>,
+    /// Where the dispatchers of the levels of software tasks begin, by rising level.
+    pub(crate) dispatchers: Vec<u32>,
+}
+
+/// A task binds an interrupt, or a dispatcher calls it.
+#[derive(Clone, Copy, Debug)]
+pub(crate) enum Kind {
+    Hardware,
+    Software,
+}
+
+/// Whether a task is of a kind.
+fn is_of_kind(task: &Task, kind: Kind) -> bool
+    ensures { result ≡ is_of_kind kind (task_of task.now) }
+{
+    match kind {
+        Kind::Hardware => task.binds.is_some(),
+        Kind::Software => task.binds.is_none(),
+    }
 }
 
 /// Appends the line at which the thread waits for interrupts, and answers its address.
@@ -34,7 +57,7 @@ fn push_wait(lines: &mut Vec<(Instr, Option<Note>)>) -> Result<u32, NoMemory>
     ensures entry { IfOk result (λ entry. entry ≡ length lines.old.items) }
     ensures line { OnOk result (lines.new.items ≡ lines.old.items ++ (instr.Wait, None) ∷ []) }
 {
-    let entry = u32::try_from(lines.len()).ok().ok_or(NoMemory)?;
+    let entry = next_entry(lines)?;
     lines.push((Instr::Wait, None))?;
     Ok(entry)
 }
@@ -45,7 +68,7 @@ fn push_idle(
     plan: &Plan<'_>,
     lines: &mut Vec<(Instr, Option<Note>)>,
 ) -> Result<u32, NoMemory>
-    requires { IsHardwarePlan plan.now }
+    requires { IsUntimedPlan plan.now }
     ensures entry { IfOk result (λ entry. entry ≡ length lines.old.items) }
     ensures adds { OnOk result (let app = app_of plan.now.app.now in
         Adds app (cost_of (size_measure app) app.idle) lines.old.items lines.new.items) }
@@ -58,59 +81,98 @@ fn push_idle(
     }
 }
 
-/// Appends the code of the next task.
-fn push_task(alloc: Global, plan: &Plan<'_>, number: u8, code: &mut Code) -> Result<(), NoMemory>
-    requires plan { IsHardwarePlan plan.now }
+/// Appends the code of a task of this kind, and answers where it begins; 0 for a task of the other.
+fn push_task(
+    alloc: Global,
+    plan: &Plan<'_>,
+    kind: Kind,
+    number: u8,
+    lines: &mut Vec<(Instr, Option<Note>)>,
+) -> Result<u32, NoMemory>
+    requires plan { IsUntimedPlan plan.now }
     requires of_app { number < length (app_of plan.now.app.now).tasks }
-    ensures idle { OnOk result (code.new.idle ≡ code.old.idle) }
-    ensures entry { OnOk result (code.new.tasks.items ≡ code.old.tasks.items ++ length code.old.lines.items ∷ []) }
     ensures adds { OnOk result (let app = app_of plan.now.app.now in
-        let size = cost_of (size_measure app) (body_at app (body.Task number)) in
-        Adds app size code.old.lines.items code.new.lines.items) }
-    ensures stands { OnOk result ((more : List Line) → let app = app_of plan.now.app.now in
-        let entry = length code.old.lines.items in
-        TaskStands app number (slice_get app.tasks number) (code.new.lines.items ++ more) entry) }
+        (t : tree.Task) → slice_get app.tasks number ≡ Some t →
+        Adds app (kind_size app kind t) lines.old.items lines.new.items) }
+    ensures stands { IfOk result (λ entry. let app = app_of plan.now.app.now in
+        (t : tree.Task) → slice_get app.tasks number ≡ Some t → is_of_kind kind t ≡ true → (more : List Line) →
+        DeclaredStands app number (lines.new.items ++ more) entry) }
 {
-    let task = BodyId::Task(TaskId(number));
-    let entry = gen_body(alloc, plan, task, &mut code.lines)?;
-    code.tasks.push(entry)?;
-    Ok(())
-}
-
-/// Appends the code of the tasks, in order.
-fn push_tasks(alloc: Global, plan: &Plan<'_>, code: &mut Code) -> Result<(), NoMemory>
-    requires plan { IsHardwarePlan plan.now }
-    requires none { code.old.tasks.items ≡ [] }
-    ensures idle { OnOk result (code.new.idle ≡ code.old.idle) }
-    ensures entries { OnOk result (length code.new.tasks.items ≡ length (app_of plan.now.app.now).tasks) }
-    ensures adds { OnOk result (let app = app_of plan.now.app.now in
-        let size = sum_by (λ t. body_cost (size_measure app) t.body) app.tasks in
-        Adds app size code.old.lines.items code.new.lines.items) }
-    ensures stands { OnOk result (HasTasks (app_of plan.now.app.now) code.new.lines.items code.new.tasks.items) }
-{
-    for number in 0..plan.app.tasks.len() {
-        push_task(alloc, plan, number as u8, code)?;
+    if is_of_kind(&plan.app.tasks[usize::from(number)], kind) {
+        gen_body(alloc, plan, BodyId::Task(TaskId(number)), lines)
+    } else {
+        Ok(0)
     }
+}
+
+/// Appends the code of the tasks of a kind, in order, and answers where they begin.
+fn push_tasks(
+    alloc: Global,
+    plan: &Plan<'_>,
+    kind: Kind,
+    lines: &mut Vec<(Instr, Option<Note>)>,
+) -> Result<Vec<u32>, NoMemory>
+    requires plan { IsUntimedPlan plan.now }
+    ensures entries { IfOk result (λ entries. length entries.items ≡ length (app_of plan.now.app.now).tasks) }
+    ensures adds { OnOk result (let app = app_of plan.now.app.now in
+        Adds app (sum_by (kind_size app kind) app.tasks) lines.old.items lines.new.items) }
+    ensures stands { IfOk result (λ entries.
+        HasTasks (app_of plan.now.app.now) lines.new.items kind entries.items) }
+{
+    let mut entries = Vec::new(alloc);
+    for number in 0..plan.app.tasks.len() {
+        entries.push(push_task(alloc, plan, kind, number as u8, lines)?)?;
+    }
+    Ok(entries)
+}
+
+/// Appends the code of the dispatchers, by rising level, and answers where they begin.
+fn push_dispatchers(
+    alloc: Global,
+    plan: &Plan<'_>,
+    lines: &mut Vec<(Instr, Option<Note>)>,
+) -> Result<Vec<u32>, NoMemory>
+    requires plan { IsUntimedPlan plan.now }
+    ensures entries { IfOk result (λ entries. length entries.items ≡ length (levels (app_of plan.now.app.now))) }
+    ensures adds { OnOk result (let app = app_of plan.now.app.now in
+        Adds app (sum_by (dispatcher_size app) (levels app)) lines.old.items lines.new.items) }
+    ensures stands { IfOk result (λ entries.
+        HasDispatchers (app_of plan.now.app.now) lines.new.items entries.items) }
+{
+    let mut entries = Vec::new(alloc);
+    for row in &plan.ceil.ready {
+        entries.push(gen_dispatcher(alloc, plan, row.level, lines)?)?;
+    }
+    Ok(entries)
+}
+
+/// Appends the code of `init`, of `idle`, of the hardware tasks, of the software tasks and of the dispatchers, one
+/// behind the other.
+fn push_parts(alloc: Global, plan: &Plan<'_>, code: &mut Code) -> Result<(), NoMemory>
+    requires plan { IsUntimedPlan plan.now }
+    requires empty { code.old.lines.items ≡ [] }
+    ensures { OnOk result (IsCodeOf (app_of plan.now.app.now) code.new) }
+{
+    gen_body(alloc, plan, BodyId::Init, &mut code.lines)?;
+    code.idle = push_idle(alloc, plan, &mut code.lines)?;
+    code.hardware = push_tasks(alloc, plan, Kind::Hardware, &mut code.lines)?;
+    code.software = push_tasks(alloc, plan, Kind::Software, &mut code.lines)?;
+    code.dispatchers = push_dispatchers(alloc, plan, &mut code.lines)?;
     Ok(())
 }
 
-/// The code of `init`, of `idle` and of the tasks, one behind the other.
+/// The code of an application.
 pub(crate) fn generate(alloc: Global, plan: &Plan<'_>) -> Result<Code, NoMemory>
-    requires { IsHardwarePlan plan.now }
-    ensures entries { IfOk result (λ code. length code.tasks.items ≡ length (app_of plan.now.app.now).tasks) }
-    ensures thread { IfOk result (λ code. HasThread (app_of plan.now.app.now) code.lines.items code.idle) }
-    ensures tasks { IfOk result (λ code. HasTasks (app_of plan.now.app.now) code.lines.items code.tasks.items) }
-    ensures named { let names = names_of (app_of plan.now.app.now) in
-        IfOk result (λ code. AllByRecursion (IsNameable names) code.lines.items) }
-    ensures short { IfOk result (λ code. length code.lines.items ≤ CODE_SIZE) }
+    requires { IsUntimedPlan plan.now }
+    ensures { IfOk result (λ code. IsCodeOf (app_of plan.now.app.now) code) }
 {
     let mut code = Code {
         lines: Vec::new(alloc),
         idle: 0,
-        tasks: Vec::new(alloc),
+        hardware: Vec::new(alloc),
+        software: Vec::new(alloc),
+        dispatchers: Vec::new(alloc),
     };
-    gen_body(alloc, plan, BodyId::Init, &mut code.lines)?;
-    code.idle = push_idle(alloc, plan, &mut code.lines)?;
-    push_tasks(alloc, plan, &mut code)?;
+    push_parts(alloc, plan, &mut code)?;
     Ok(code)
 }

@@ -1,6 +1,6 @@
-ghost use Rattle.std.specs.Prelude.{◌≡◌, ℕ, ◌<◌, true, [], length, Some, IfOk};
+ghost use Rattle.std.specs.Prelude.{◌≡◌, ℕ, ◌<◌, true, length, Some, IfOk};
 ghost use Rattle.rt_app.specs.Accepted.{IsAccepted};
-ghost use Rattle.rt_app.specs.Handlers.{has_no_software, has_no_monotonic};
+ghost use Rattle.rt_app.specs.Handlers.{has_no_monotonic};
 ghost use Rattle.rt_app.specs.View.{app_of};
 ghost use Rattle.rt_build.specs.Image.{IsImageOf};
 ghost use Rattle.rt_code.specs.Cells.{resource_cell};
@@ -16,14 +16,14 @@ use rt_plan::plan;
 use std::alloc::Global;
 
 /// An image of these parts.
-fn assemble(alloc: Global, plan: Plan<'_>, code: Code, tables: Tables) -> Image
+fn assemble(plan: Plan<'_>, code: Code, tables: Tables) -> Image
     ensures { result ≡ record {
       bits = plan.entry.app.now.bits;
       stack_bytes = tables.stack.bytes;
       thread_words = tables.stack.thread_words;
       cells = plan.entry.lay.cells;
       irqs = tables.irqs.items;
-      bodies = [];
+      bodies = tables.bodies.items;
       code = code.lines.items;
       names = tables.names;
     } }
@@ -31,25 +31,29 @@ fn assemble(alloc: Global, plan: Plan<'_>, code: Code, tables: Tables) -> Image
     let Plan { app, lay, .. } = plan;
     let Layout { cells, .. } = lay;
     let Code { lines, .. } = code;
-    let Tables { stack, irqs, names } = tables;
+    let Tables {
+        stack,
+        irqs,
+        bodies,
+        names,
+    } = tables;
     Image {
         bits: app.bits,
         stack_bytes: stack.bytes,
         thread_words: stack.thread_words,
         cells,
         irqs,
-        bodies: Vec::new(alloc),
+        bodies,
         code: lines,
         names,
     }
 }
 
-/// The image of an application that is accepted and has neither software tasks nor a monotonic: its tables, and code
-/// that stands at the entry of each body. A core runs it; its listing can be written, and so can the lines of its
-/// traces. The cell of a shared resource has the resource's own number.
+/// The image of an application that is accepted and has no monotonic: its tables, and code that stands at the entry of
+/// each body and each dispatcher. A core runs it; its listing can be written, and so can the lines of its traces. The
+/// cell of a shared resource has the resource's own number.
 pub fn build(alloc: Global, app: &App) -> Result<Image, NoMemory>
     requires accepted { IsAccepted (app_of app.now) }
-    requires software { has_no_software (app_of app.now) ≡ true }
     requires monotonic { has_no_monotonic (app_of app.now) ≡ true }
     ensures image { IfOk result (λ image. IsImageOf (app_of app.now) image) }
     ensures cells { IfOk result (λ image. (r : ℕ) → r < length (app_of app.now).shared
@@ -60,5 +64,5 @@ pub fn build(alloc: Global, app: &App) -> Result<Image, NoMemory>
     let plan = plan(alloc, app)?;
     let code = generate(alloc, &plan)?;
     let tables = tables_of(alloc, &plan, &code)?;
-    Ok(assemble(alloc, plan, code, tables))
+    Ok(assemble(plan, code, tables))
 }

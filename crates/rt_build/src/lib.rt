@@ -1,6 +1,7 @@
 // From the text of an application to the application, and on to its image.
 #![tactic(auto)]
 
+pub(crate) mod bodies;
 pub(crate) mod code;
 pub mod form;
 pub mod image;

@@ -1,17 +1,21 @@
-ghost use Rattle.std.specs.Prelude.{◌≡◌, length, map, slice_get, Some, IfOk};
+ghost use Rattle.std.specs.Prelude.{◌≡◌, ℕ, ◌<◌, [], length, map, slice_get, Some, false, IfOk};
 ghost use Rattle.std.specs.List.{zip};
-ghost use Rattle.rt_app.specs.Handlers.{Runs, Service, services};
+ghost use Rattle.rt_app.specs.Handlers.{Runs, Dispatches, Service, dispatcher_of, task_services, services};
+ghost use Rattle.rt_app.specs.Level.{is_software, levels};
 ghost use Rattle.rt_app.specs.Names.{names_of};
 ghost use Rattle.rt_app.specs.Stack.{thread_words, stack_bytes};
 ghost use Rattle.rt_app.specs.View.{app_of, task_of};
-ghost use Rattle.rt_build.specs.Image as spec;
-ghost use Rattle.rt_build.specs.Inside.Plan.{IsHardwarePlan};
-ghost use Rattle.rt_build.specs.Inside.Code.{entries_of};
+ghost use Rattle.rt_gen_queue.specs.Called.{rows_for};
+ghost use Rattle.rt_build.specs.Entries as spec;
+ghost use Rattle.rt_build.specs.Inside.Plan.{IsUntimedPlan};
+ghost use Rattle.rt_build.specs.Inside.Code.{HasEntries, entries_of};
 ghost use Rattle.rt_build.specs.Inside.Tables.{HasHandlers, row_of};
 
+use crate::bodies::body_rows;
 use crate::code::Code;
+use rt_app::costs::DISPATCHER_WORDS;
 use rt_app::{IrqDecl, Plan, Task};
-use rt_code::{Handler, IrqRow};
+use rt_code::{BodyRow, Handler, IrqRow};
 use rt_frames::bounds;
 use rt_ids::{Name, Names, NoMemory, Prio};
 use std::alloc::Global;
@@ -21,6 +25,8 @@ use std::alloc::Global;
 pub(crate) struct Tables {
     pub(crate) stack: Stack,
     pub(crate) irqs: Vec<IrqRow>,
+    /// Of the bodies that dispatchers call.
+    pub(crate) bodies: Vec<BodyRow>,
     pub(crate) names: Names,
 }
 
@@ -34,7 +40,7 @@ pub(crate) struct Stack {
 
 /// What its stack takes.
 fn stack_of(alloc: Global, plan: &Plan<'_>) -> Result<Stack, NoMemory>
-    requires { IsHardwarePlan plan.now }
+    requires { IsUntimedPlan plan.now }
     ensures words { IfOk result (λ stack. stack.thread_words ≡ thread_words (app_of plan.now.app.now)) }
     ensures bytes { IfOk result (λ stack. stack.bytes ≡ stack_bytes (app_of plan.now.app.now)) }
 {
@@ -47,32 +53,87 @@ fn stack_of(alloc: Global, plan: &Plan<'_>) -> Result<Stack, NoMemory>
 
 /// How the interrupt that a task binds serves it.
 fn handler(plan: &Plan<'_>, code: &Code, number: usize, task: &Task) -> Handler
-    requires plan { IsHardwarePlan plan.now }
-    requires entries { length code.now.tasks.items ≡ length (app_of plan.now.app.now).tasks }
+    requires plan { IsUntimedPlan plan.now }
+    requires entries { HasEntries (app_of plan.now.app.now) code.now }
     requires task { slice_get (app_of plan.now.app.now).tasks number ≡ Some (task_of task.now) }
+    requires hardware { is_software (task_of task.now) ≡ false }
     ensures { let served : Service = record { irq = 0; handler = Runs number; level = task.now.priority } in
-        result ≡ spec.handler_row (app_of plan.now.app.now) (entries_of code.now) served }
+        result ≡ spec.handler_row (app_of plan.now.app.now) (entries_of (app_of plan.now.app.now) code.now) served }
 {
     Handler {
         value: Prio(task.priority).hw(plan.app.bits),
-        entry: code.tasks[number],
+        entry: code.hardware[number],
         frame: plan.frames[number + 2],
     }
 }
 
-/// How each declared interrupt is served, where it is.
-fn handlers(alloc: Global, plan: &Plan<'_>, code: &Code) -> Result<Vec<Option<Handler>>, NoMemory>
-    requires plan { IsHardwarePlan plan.now }
-    requires entries { length code.now.tasks.items ≡ length (app_of plan.now.app.now).tasks }
-    ensures { let app = app_of plan.now.app.now in
-        IfOk result (λ handlers. HasHandlers app (entries_of code.now) (services app) handlers.items) }
+/// How the dispatcher of the level at a place serves it.
+fn dispatcher(plan: &Plan<'_>, code: &Code, place: usize, level: u8) -> Handler
+    requires plan { IsUntimedPlan plan.now }
+    requires entries { HasEntries (app_of plan.now.app.now) code.now }
+    requires level { slice_get (levels (app_of plan.now.app.now)) place ≡ Some level }
+    ensures { let served : Service = record { irq = 0; handler = Dispatches level; level = level } in
+        result ≡ spec.handler_row (app_of plan.now.app.now) (entries_of (app_of plan.now.app.now) code.now) served }
 {
-    let mut handlers = vec![in alloc; None; plan.app.irqs.len()]?;
+    Handler {
+        value: Prio(level).hw(plan.app.bits),
+        entry: code.dispatchers[place],
+        frame: DISPATCHER_WORDS,
+    }
+}
+
+/// The interrupt of the dispatcher of the level at a place: that of the highest level is named first.
+fn dispatcher_irq(plan: &Plan<'_>, place: usize) -> u8
+    requires plan { IsUntimedPlan plan.now }
+    requires of_app { place < length (levels (app_of plan.now.app.now)) }
+    ensures { (p : ℕ) → slice_get (levels (app_of plan.now.app.now)) place ≡ Some p →
+        dispatcher_of (app_of plan.now.app.now) p ≡ Some result }
+{
+    let above = plan.ceil.ready.len() - 1 - place;
+    plan.app.dispatchers[above].irq
+}
+
+/// Tells of each interrupt that a task binds how it serves the task.
+fn serve_tasks(plan: &Plan<'_>, code: &Code, handlers: &mut [Option<Handler>])
+    requires plan { IsUntimedPlan plan.now }
+    requires entries { HasEntries (app_of plan.now.app.now) code.now }
+    requires none { let app = app_of plan.now.app.now in
+        HasHandlers app (entries_of app code.now) [] handlers.old }
+    ensures { let app = app_of plan.now.app.now in
+        HasHandlers app (entries_of app code.now) (task_services 0 app.tasks) handlers.new }
+{
     for (number, task) in plan.app.tasks.iter().enumerate() {
         if let Some(irq) = task.binds {
             handlers[usize::from(irq)] = Some(handler(plan, code, number, task));
         }
     }
+}
+
+/// Tells of each interrupt that has a level's dispatcher how it serves the level.
+fn serve_levels(plan: &Plan<'_>, code: &Code, handlers: &mut [Option<Handler>])
+    requires plan { IsUntimedPlan plan.now }
+    requires entries { HasEntries (app_of plan.now.app.now) code.now }
+    requires tasks { let app = app_of plan.now.app.now in
+        HasHandlers app (entries_of app code.now) (task_services 0 app.tasks) handlers.old }
+    ensures { let app = app_of plan.now.app.now in
+        HasHandlers app (entries_of app code.now) (services app) handlers.new }
+{
+    for (place, row) in plan.ceil.ready.iter().enumerate() {
+        let irq = dispatcher_irq(plan, place);
+        handlers[usize::from(irq)] = Some(dispatcher(plan, code, place, row.level));
+    }
+}
+
+/// How each declared interrupt is served, where it is.
+fn handlers(alloc: Global, plan: &Plan<'_>, code: &Code) -> Result<Vec<Option<Handler>>, NoMemory>
+    requires plan { IsUntimedPlan plan.now }
+    requires entries { HasEntries (app_of plan.now.app.now) code.now }
+    ensures { let app = app_of plan.now.app.now in
+        IfOk result (λ handlers. HasHandlers app (entries_of app code.now) (services app) handlers.items) }
+{
+    let mut handlers = vec![in alloc; None; plan.app.irqs.len()]?;
+    serve_tasks(plan, code, &mut handlers);
+    serve_levels(plan, code, &mut handlers);
     Ok(handlers)
 }
 
@@ -105,10 +166,10 @@ fn irq_rows(
 
 /// The rows of the declared interrupts of an application of this code.
 fn rows(alloc: Global, plan: &Plan<'_>, code: &Code) -> Result<Vec<IrqRow>, NoMemory>
-    requires plan { IsHardwarePlan plan.now }
-    requires entries { length code.now.tasks.items ≡ length (app_of plan.now.app.now).tasks }
+    requires plan { IsUntimedPlan plan.now }
+    requires entries { HasEntries (app_of plan.now.app.now) code.now }
     ensures { let app = app_of plan.now.app.now in
-        IfOk result (λ rows. rows.items ≡ spec.irq_rows app (entries_of code.now) 0 app.irqs) }
+        IfOk result (λ rows. rows.items ≡ spec.irq_rows app (entries_of app code.now) 0 app.irqs) }
 {
     let handlers = handlers(alloc, plan, code)?;
     irq_rows(alloc, &plan.app.irqs, &handlers)
@@ -116,16 +177,24 @@ fn rows(alloc: Global, plan: &Plan<'_>, code: &Code) -> Result<Vec<IrqRow>, NoMe
 
 /// The tables of an application of this code.
 pub(crate) fn tables_of(alloc: Global, plan: &Plan<'_>, code: &Code) -> Result<Tables, NoMemory>
-    requires plan { IsHardwarePlan plan.now }
-    requires entries { length code.now.tasks.items ≡ length (app_of plan.now.app.now).tasks }
+    requires plan { IsUntimedPlan plan.now }
+    requires entries { HasEntries (app_of plan.now.app.now) code.now }
     ensures words { IfOk result (λ tables. tables.stack.thread_words ≡ thread_words (app_of plan.now.app.now)) }
     ensures bytes { IfOk result (λ tables. tables.stack.bytes ≡ stack_bytes (app_of plan.now.app.now)) }
     ensures irqs { let app = app_of plan.now.app.now in
-        IfOk result (λ tables. tables.irqs.items ≡ spec.irq_rows app (entries_of code.now) 0 app.irqs) }
+        IfOk result (λ tables. tables.irqs.items ≡ spec.irq_rows app (entries_of app code.now) 0 app.irqs) }
+    ensures bodies { let app = app_of plan.now.app.now in
+        IfOk result (λ tables. tables.bodies.items ≡ rows_for (entries_of app code.now).task 0 app.tasks) }
     ensures names { IfOk result (λ tables. tables.names ≡ names_of (app_of plan.now.app.now)) }
 {
     let stack = stack_of(alloc, plan)?;
     let irqs = rows(alloc, plan, code)?;
+    let bodies = body_rows(alloc, plan, code)?;
     let names = plan.app.names(alloc)?;
-    Ok(Tables { stack, irqs, names })
+    Ok(Tables {
+        stack,
+        irqs,
+        bodies,
+        names,
+    })
 }

@@ -16,8 +16,8 @@ use rt_resolve::resolve;
 use rt_rules::rules;
 use std::alloc::Global;
 
-/// The application of a text that was read as this tree, where it breaks no rule; else the first rule that it breaks: that
-/// at the first place, and there that of the lowest refusal number.
+/// The application of a text that was read as this tree, where it breaks no rule; else the first rule that it breaks:
+/// that at the first place, and there that of the lowest refusal number.
 pub fn judge(alloc: Global, src: &[u8], tree: &AppTree) -> Result<App, Refused>
     requires text { IsText src.now (written.app_of tree.now) }
     ensures ok { IfOk result (λ app. KeepsRules (written.app_of tree.now) (app_of app)) }

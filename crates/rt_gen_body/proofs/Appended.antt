@@ -8,11 +8,12 @@ use Rattle.rt_ids.specs.declared.ids.BodyId.{BodyId}
 use Rattle.rt_app.specs.Tree.{App}
 use Rattle.rt_app.specs.Bodies.{member_at, body_at}
 use Rattle.rt_app.specs.BodyCost.{size_measure, cost_of}
-use Rattle.rt_app.specs.Handlers.{has_no_software, has_no_monotonic}
+use Rattle.rt_app.specs.Handlers.{has_no_monotonic}
 use Rattle.rt_app.specs.Names.{names_of}
 use Rattle.rt_app.specs.Accepted.{IsAccepted}
-use Rattle.rt_gen_body.specs.Bodies.{IsBodyOf, BodyStands, IsNameable}
-use Rattle.rt_gen_body.specs.Inside.Code.{Line, code_of}
+use Rattle.rt_gen_queue.specs.Line.{IsNameable, Line}
+use Rattle.rt_gen_body.specs.Bodies.{IsBodyOf, BodyStands}
+use Rattle.rt_gen_body.specs.Inside.Whole.{code_of}
 use Rattle.rt_gen_body.specs.Inside.Lines.{Lines, next_address, Appends}
 use Rattle.rt_gen_body.proofs.Generated.{generated_stands}
 use Rattle.rt_gen_body.proofs.Nameable.{code_named}
@@ -54,11 +55,11 @@ module _ (app : App) (accepted : IsAccepted app) (id : BodyId) (front new slice 
       ap (λ (l : List Line). length l) appended_is ∙ length-append front code in
       omega (arith, long, code_short app accepted id entry)
 
-  pub appended_stands : has_no_software app ≡ true → has_no_monotonic app ≡ true → IsBodyOf app id
+  pub appended_stands : has_no_monotonic app ≡ true → IsBodyOf app id
       → BodyStands app id new entry
-  appended_stands software monotonic of_app =
+  appended_stands monotonic of_app =
       let there : new ≡ front ++ code_of app id (member_at app id) (length front) =
       appended_is ∙ ap (λ n. front ++ code_of app id (member_at app id) n) begins in
       subst (λ n. BodyStands app id new n) (sym begins)
       (subst (λ (code : List Line). BodyStands app id code (length front)) (sym there)
-      (generated_stands app accepted software monotonic front id of_app))
+      (generated_stands app accepted monotonic front id of_app))

@@ -6,27 +6,36 @@ use Rattle.std.proofs.Math.Nat.{suc-mul}
 use Rattle.std.proofs.lemmas.Option.{none-some}
 use Rattle.rt_ids.specs.Content.{Values}
 use Rattle.rt_ids.specs.Doing.{Doing}
-use Rattle.rt_ids.specs.Storage.{Storage, Runner}
+use Rattle.rt_ids.specs.Storage.{Runner}
 use Rattle.rt_ids.specs.declared.limits.TheConstants.{BODY_COST}
 use Rattle.rt_app.specs.declared.app.Mono.{Mono}
 use Rattle.rt_app.specs.Tree.{Statement, Bind, Assign, Branch, Repeat, Locked, Emit, Pend, Spawns, Calc, Now, Call}
+use Rattle.rt_app.specs.Tree.{Spawn, Soon, After}
+use Rattle.rt_app.specs.Spawned.{statement_spawns, spawns}
+use Rattle.rt_app.specs.Layout.{memory}
+use Rattle.rt_app.specs.Holding.{storage}
+use Rattle.rt_app.proofs.Members.{in_front, in_back}
+use Rattle.rt_ids.specs.Choice.{IsIn}
 use Rattle.rt_app.specs.Tree.{Block, Empty, Then, App}
 use Rattle.rt_app.specs.Bodies.{Member}
 use Rattle.rt_app.specs.Variables.{variables, variables_in}
 use Rattle.rt_app.specs.Steps.{statement_steps, block_steps}
 use Rattle.rt_app.specs.BodyCost.{cost_measure}
 use Rattle.rt_app.specs.Frame.{statement_depth, block_depth, is_loop, has_loop, statement_locks, locks as block_locks}
+use Rattle.rt_app.specs.Frame.{spawn_words}
 use Rattle.rt_app.specs.Meaning.{run, run_block}
 use Rattle.rt_app.specs.Accepted.{behind, IsStatementPlaced, IsBlockPlaced}
 use Rattle.rt_app.specs.Sound.{IsSoundStatement, IsSoundBlock}
 use Rattle.rt_code.specs.declared.image.BodyRow.{BodyRow}
 use Rattle.rt_lemmas.proofs.Bools.{or_left, or_right}
 use Rattle.rt_lemmas.proofs.Membership.{contains_cases, contains_there}
-use Rattle.rt_gen_body.specs.Inside.Code.{Line, Context, next_slot, guard_of, statement_code, block_code}
+use Rattle.rt_gen_queue.specs.Line.{Line, HasCode}
+use Rattle.rt_gen_body.specs.Inside.Values.{Context, next_slot}
+use Rattle.rt_gen_body.specs.Inside.Blocks.{guard_at, statement_code, block_code}
 use Rattle.rt_gen_body.proofs.Spots.{Lasts, lasts_less, Here}
 use Rattle.rt_gen_body.proofs.Steps.{S}
 use Rattle.rt_gen_body.proofs.Instructions.{sets}
-use Rattle.rt_gen_body.proofs.Placing.{HasCode, code_front, code_behind}
+use Rattle.rt_gen_queue.proofs.Placing.{code_front, code_behind}
 use Rattle.rt_gen_body.proofs.Owning.{LaysOut}
 use Rattle.rt_gen_body.proofs.Facts.{Facts}
 use Rattle.rt_gen_body.proofs.Settled.{listed_by, Fits, Behind}
@@ -34,6 +43,7 @@ use Rattle.rt_gen_body.proofs.Simple.{renamed, Ready', sets_variable, emits_valu
 use Rattle.rt_gen_body.proofs.Loops.{BlockStands, loop_turns, spent, head_code, tail_code}
 use Rattle.rt_gen_body.proofs.Sections.{locks}
 use Rattle.rt_gen_body.proofs.Branches.{chooses_one, chooses_two}
+use Rattle.rt_gen_body.proofs.Sending.{sends, binds_sent}
 
 -- behind a statement all is in scope that was, and what is new is the next variable
 behind_more : (app : App) (listed : List ℕ) (n : ℕ) (visible : List ℕ) (s : Statement) (y : ℕ) → Contains visible y
@@ -77,54 +87,62 @@ no_mono : (mono : Option Mono) → mono ≡ None → (m : Mono) × (mono ≡ Som
 no_mono mono none some = none-some some.0 (sym none ∙ some.1)
 
 -- what a statement and a block ask of the frame, and that they are short
-pub record RoomFor (top words expressions : ℕ) (app : App) (s : Statement) (count lock : ℕ) : Type 0 where
+pub record RoomFor (top words expressions spawning : ℕ) (app : App) (s : Statement) (count lock : ℕ) : Type 0 where
   pub depth : expressions + statement_depth s ≤ top
   pub loops : is_loop s ≡ true → expressions < top
   pub masks : lock + statement_locks s ≤ words
+  pub below : lock + statement_locks s ≤ spawning
+  pub sends : (p : Spawn) → IsIn (statement_spawns s) p → spawning + spawn_words p ≤ words
   pub variables : count + variables_in s ≤ expressions
   pub steps : statement_steps (cost_measure app) s ≤ BODY_COST
 
-pub record RoomForBlock (top words expressions : ℕ) (app : App) (b : Block) (count lock : ℕ) : Type 0 where
+pub record RoomForBlock (top words expressions spawning : ℕ) (app : App) (b : Block) (count lock : ℕ) : Type 0 where
   pub depth : expressions + block_depth b ≤ top
   pub loops : has_loop b ≡ true → expressions < top
   pub masks : lock + block_locks b ≤ words
+  pub below : lock + block_locks b ≤ spawning
+  pub sends : (p : Spawn) → IsIn (spawns b) p → spawning + spawn_words p ≤ words
   pub variables : count + variables b ≤ expressions
   pub steps : block_steps (cost_measure app) b ≤ BODY_COST
 
-module _ (st : Storage) (code : List Line) (bodies : List BodyRow) (thread : ℕ) (who : Runner)
-    (caller : Option (List ℕ)) (app : App) (m : Member) (memory words top : ℕ)
-    (lays : LaysOut st (length app.shared) (length app.locals) memory) (c : Context)
-    (facts : Facts st who app m c) where
+module _ (code : List Line) (bodies : List BodyRow) (thread : ℕ) (who : Runner)
+    (caller : Option (List ℕ)) (app : App) (m : Member) (words top : ℕ)
+    (lays : LaysOut (storage app) (length app.shared) (length app.locals) (length (memory app))) (c : Context)
+    (facts : Facts (storage app) who app m c) where
   -- the code of a statement stands
   abbrev pub StatementStands : Statement → (count : ℕ) → (visible fixed locked : List ℕ) → (level lock : ℕ) → Type 0
   StatementStands s count visible fixed locked level lock =
       (n k : ℕ) (h : Here) (vars : List ℕ) (vs : Values) (later : List ℕ → Values → Doing Values)
       → statement_steps (cost_measure app) s + n ≤ k → HasCode code h.at (statement_code c level lock h.at s)
       → Lasts (h.done + statement_steps (cost_measure app) s) h.deadlines
-      → Ready' st code bodies thread who caller app m memory words top lays c facts h visible vars vs locked level lock
+      → Ready' (storage app) code bodies thread who caller app m (length (memory app)) words top lays c facts h visible
+      vars vs locked level lock
       → h.rest ≡ run app s later vars vs
-      → Behind st code bodies thread who caller app m memory words top lays c facts n h
+      → Behind (storage app) code bodies thread who caller app m (length (memory app)) words top lays c facts n h
       (statement_steps (cost_measure app) s) (length (statement_code c level lock h.at s))
       (behind app (listed_by m) count visible s) fixed later
-      → S st code bodies thread who caller k h
+      → S (storage app) code bodies thread who caller k h
 
   -- a loop from its first line
   loops : (x first last : ℕ) (turn : Block) (n k count : ℕ) (h : Here) (visible fixed vars locked : List ℕ)
       (vs : Values) (level lock : ℕ) (later : List ℕ → Values → Doing Values)
-      → (zero < last - first → BlockStands st code bodies thread who caller app m memory words top lays c facts turn
+      → (zero < last - first → BlockStands (storage app) code bodies thread who caller app m
+      (length (memory app)) words top lays c facts turn
       (x ∷ visible) (x ∷ fixed) locked level lock)
       → statement_steps (cost_measure app) (Repeat x first last turn) + n ≤ k
       → HasCode code h.at (statement_code c level lock h.at (Repeat x first last turn))
       → Lasts (h.done + statement_steps (cost_measure app) (Repeat x first last turn)) h.deadlines
-      → Ready' st code bodies thread who caller app m memory words top lays c facts h visible vars vs locked level lock
-      → Fits st code bodies thread who caller app m memory words top lays c facts lock → c.expressions < top
+      → Ready' (storage app) code bodies thread who caller app m (length (memory app)) words top lays c facts h visible
+      vars vs locked level lock
+      → Fits (storage app) code bodies thread who caller app m (length (memory app)) words top lays c facts lock
+      → c.expressions < top
       → x < c.expressions
       → ((y : ℕ) → Contains visible y → y < x) → ((y : ℕ) → Contains fixed y → y < x) → first < 2 ^ 32 → last < 2 ^ 32
       → h.rest ≡ run app (Repeat x first last turn) later vars vs
-      → Behind st code bodies thread who caller app m memory words top lays c facts n h
+      → Behind (storage app) code bodies thread who caller app m (length (memory app)) words top lays c facts n h
       (statement_steps (cost_measure app) (Repeat x first last turn))
       (length (statement_code c level lock h.at (Repeat x first last turn))) visible fixed later
-      → S st code bodies thread who caller k h
+      → S (storage app) code bodies thread who caller k h
   loops x first last turn n k count h visible fixed vars locked vs level lock later stands fuel has lasts ready fits
       room small below fixed_below first_word last_word is on =
       let turns : ℕ = last - first in
@@ -133,9 +151,11 @@ module _ (st : Storage) (code : List Line) (bodies : List BodyRow) (thread : ℕ
       let turn_code : List Line = block_code c level lock (h.at + 4) turn in
       let end : ℕ = h.at + 4 + length turn_code + 3 in
       let head : List Line =
-      head_code st code bodies thread who caller app m memory words top lays c facts x last end in
+      head_code (storage app) code bodies thread who caller app m (length (memory app)) words top lays c facts x last
+      end in
       let tail : List Line =
-      tail_code st code bodies thread who caller app m memory words top lays c facts x (h.at + 1) in
+      tail_code (storage app) code bodies thread who caller app m (length (memory app)) words top lays c facts x
+      (h.at + 1) in
       let there : x < length h.slots = omega (arith, ready.frame, fits.floor, fits.low, fits.high) in
       let k_is : suc (k - 1) ≡ k = omega arith in
       let one : List ℕ = slice_set h.slots x first in
@@ -150,20 +170,23 @@ module _ (st : Storage) (code : List Line) (bodies : List BodyRow) (thread : ℕ
       ap (λ (a : ℕ). length (block_code c level lock a turn)) (sym at4) in
       let tail_at : ℕ =
       suc (suc (suc (suc h.at))) + length (block_code c level lock (suc (suc (suc (suc h.at)))) turn) in
-      let tail_there : HasCode code tail_at (tail_code st code bodies thread who caller app m memory words top lays c
+      let tail_there : HasCode code tail_at (tail_code (storage app) code bodies thread who caller app m
+      (length (memory app)) words top lays c
       facts x (suc h.at)) =
-      subst (λ (a : ℕ). HasCode code tail_at (tail_code st code bodies thread who caller app m memory words top lays c
+      subst (λ (a : ℕ). HasCode code tail_at (tail_code (storage app) code bodies thread who caller app m
+      (length (memory app)) words top lays c
       facts x a)) at1
       (code_behind code (suc (suc (suc (suc h.at)))) tail_at turn_code tail
       (ap (λ l. suc (suc (suc (suc h.at))) + l) sizes) at_turn) in
       let size : length (statement_code c level lock h.at (Repeat x first last turn)) ≡ 4 + length turn_code + 3 =
       omega (arith, length-append turn_code tail) in
-      subst (λ (j : ℕ). S st code bodies thread who caller j h) k_is
-      (sets st code bodies thread who caller (k - 1) h x first top lock has.0
+      subst (λ (j : ℕ). S (storage app) code bodies thread who caller j h) k_is
+      (sets (storage app) code bodies thread who caller (k - 1) h x first top lock has.0
       (lasts_less (suc h.done) (h.done + statement_steps (cost_measure app) (Repeat x first last turn)) h.deadlines
       (omega arith) lasts)
-      there (omega (arith, fits.floor)) ready.saved
-      (loop_turns st code bodies thread who caller app m memory words top lays c facts turns turn x first last end n
+      there (inl (omega (arith, fits.floor))) ready.saved
+      (loop_turns (storage app) code bodies thread who caller app m (length (memory app)) words top lays c facts turns
+      turn x first last end n
       (k - 1) (h.done + statement_steps (cost_measure app) (Repeat x first last turn))
       (record h { done = suc h.done; slots = one; at = suc h.at }) visible fixed vars locked vs level lock later stands
       (omega (arith, total)) (omega (arith, total)) lasts
@@ -198,15 +221,16 @@ module _ (st : Storage) (code : List Line) (bodies : List BodyRow) (thread : ℕ
 
   mutual
     pub statement_stands : (s : Statement) (count : ℕ) (visible fixed locked : List ℕ) (level lock : ℕ)
-        → RoomFor top words c.expressions app s count lock → IsSoundStatement app m count locked fixed s
+        → RoomFor top words c.expressions c.spawns app s count lock → IsSoundStatement app m count locked fixed s
         → IsStatementPlaced app (listed_by m) count visible s
         → ((y : ℕ) → Contains visible y → y < count) → ((y : ℕ) → Contains fixed y → y < count)
-        → Fits st code bodies thread who caller app m memory words top lays c facts lock
+        → Fits (storage app) code bodies thread who caller app m (length (memory app)) words top lays c facts lock
         → StatementStands s count visible fixed locked level lock
     statement_stands (Bind x (Calc e)) count visible fixed locked level lock room sound placed below fixed_below fits n
         k h vars vs later fuel has lasts ready is on =
         let x_is : x ≡ count = sound.0 in
-        sets_variable st code bodies thread who caller app m memory words top lays c facts e x n k h visible fixed vars
+        sets_variable (storage app) code bodies thread who caller app m (length (memory app)) words top lays c facts e
+        x n k h visible fixed vars
         vs locked level lock later (behind app (listed_by m) count visible (Bind x (Calc e))) fuel has lasts ready fits
         room.depth
         (λ y here. let less = fixed_below y here in omega (arith, room.variables)) sound.1 placed.1
@@ -215,25 +239,39 @@ module _ (st : Storage) (code : List Line) (bodies : List BodyRow) (thread : ℕ
     statement_stands (Bind x (Now at)) count visible fixed locked level lock room sound placed below fixed_below fits n
         k h vars vs later fuel has lasts ready is on =
         absurd (no_mono app.mono facts.no_clock sound.1)
-    statement_stands (Bind x (Call spawn)) count visible fixed locked level lock room sound placed below fixed_below
-        fits n k h vars vs later fuel has lasts ready is on =
-        absurd (facts.no_spawn locked spawn sound.1)
+    statement_stands (Bind x (Call (Soon task args at))) count visible fixed locked level lock room sound placed below
+        fixed_below fits n k h vars vs later fuel has lasts ready is on =
+        let x_is : x ≡ count = sound.0 in
+        binds_sent code bodies thread who caller app m words top lays c facts x task args at n k h visible fixed vars vs
+        locked level lock later (behind app (listed_by m) count visible (Bind x (Call (Soon task args at)))) fuel has
+        lasts ready fits room.depth (room.sends (Soon task args at) (0, refl))
+        (λ y here. let less = fixed_below y here in omega (arith, room.variables)) sound.1 placed.1
+        (omega (arith, room.variables)) (λ here. let less = fixed_below x here in omega arith)
+        (λ y here. elim (contains_cases count visible y here) [ inl e ↦ inl (x_is ∙ e) | inr old ↦ inr old ]) is on
+    statement_stands (Bind x (Call (After word delay task args at))) count visible fixed locked level lock room sound
+        placed below fixed_below fits n k h vars vs later fuel has lasts ready is on =
+        absurd (no_mono app.mono facts.no_clock sound.1.4)
     statement_stands (Assign x e at) count visible fixed locked level lock room sound placed below fixed_below fits n k
         h vars vs later fuel has lasts ready is on =
-        assigns st code bodies thread who caller app m memory words top lays c facts x e at n k h visible fixed vars vs
+        assigns (storage app) code bodies thread who caller app m (length (memory app)) words top lays c facts x e at n
+        k h visible fixed vars vs
         locked level lock later fuel has lasts ready fits room.depth
         (λ y here. let less = fixed_below y here in omega (arith, room.variables)) sound.0 placed.0 sound.1 sound.2
         placed.1 is on
     statement_stands (Branch e first Empty) count visible fixed locked level lock room sound placed below fixed_below
         fits n k h vars vs later fuel has lasts ready is on =
-        let depth = room.depth in let masks = room.masks in let places = room.variables in let steps = room.steps in
-        chooses_one st code bodies thread who caller app m memory words top lays c facts e first n k h visible fixed
+        let depth = room.depth in let masks = room.masks in let under = room.below in let places = room.variables in
+        let steps = room.steps in
+        chooses_one (storage app) code bodies thread who caller app m (length (memory app)) words top lays c facts e
+        first n k h visible fixed
         vars vs locked level lock later
         (block_stands first count visible fixed locked level lock
         (record {
           depth = omega arith;
           loops = λ l. room.loops (or_left (has_loop first) (has_loop Empty) l);
           masks = omega arith;
+          below = omega arith;
+          sends = λ p is. room.sends p (in_front (spawns first) (spawns Empty) p is);
           variables = omega arith;
           steps = omega arith;
         })
@@ -242,14 +280,18 @@ module _ (st : Storage) (code : List Line) (bodies : List BodyRow) (thread : ℕ
         placed.0 is on
     statement_stands (Branch e first (Then s rest)) count visible fixed locked level lock room sound placed below
         fixed_below fits n k h vars vs later fuel has lasts ready is on =
-        let depth = room.depth in let masks = room.masks in let places = room.variables in let steps = room.steps in
-        chooses_two st code bodies thread who caller app m memory words top lays c facts e first
+        let depth = room.depth in let masks = room.masks in let under = room.below in let places = room.variables in
+        let steps = room.steps in
+        chooses_two (storage app) code bodies thread who caller app m (length (memory app)) words top lays c facts e
+        first
         (Then s rest) n k h visible fixed vars vs locked level lock later
         (block_stands first count visible fixed locked level lock
         (record {
           depth = omega arith;
           loops = λ l. room.loops (or_left (has_loop first) (has_loop (Then s rest)) l);
           masks = omega arith;
+          below = omega arith;
+          sends = λ p is. room.sends p (in_front (spawns first) (spawns (Then s rest)) p is);
           variables = omega arith;
           steps = omega arith;
         })
@@ -259,6 +301,8 @@ module _ (st : Storage) (code : List Line) (bodies : List BodyRow) (thread : ℕ
           depth = omega arith;
           loops = λ l. room.loops (or_right (has_loop first) (has_loop (Then s rest)) l);
           masks = omega arith;
+          below = omega arith;
+          sends = λ p is. room.sends p (in_back (spawns first) (spawns (Then s rest)) p is);
           variables = omega arith;
           steps = omega arith;
         })
@@ -268,7 +312,8 @@ module _ (st : Storage) (code : List Line) (bodies : List BodyRow) (thread : ℕ
         placed.0 is on
     statement_stands (Repeat x first last turn) count visible fixed locked level lock room sound placed below
         fixed_below fits n k h vars vs later fuel has lasts ready is on =
-        let depth = room.depth in let masks = room.masks in let places = room.variables in let steps = room.steps in
+        let depth = room.depth in let masks = room.masks in let under = room.below in let places = room.variables in
+        let steps = room.steps in
         let x_is : x ≡ count = sound.0 in
         let block : ℕ = block_steps (cost_measure app) turn in
         let total : spent (last - first) block ≡ (last - first) * (block + 6) = spent_is (last - first) block in
@@ -292,6 +337,8 @@ module _ (st : Storage) (code : List Line) (bodies : List BodyRow) (thread : ℕ
           depth = omega arith;
           loops = λ l. room.loops refl;
           masks = omega arith;
+          below = omega arith;
+          sends = room.sends;
           variables = omega arith;
           steps = omega arith;
         })
@@ -301,16 +348,20 @@ module _ (st : Storage) (code : List Line) (bodies : List BodyRow) (thread : ℕ
         (λ y here. let less = fixed_below y here in omega arith) sound.1 sound.2 is on
     statement_stands (Locked r inner at) count visible fixed locked level lock room sound placed below fixed_below fits
         n k h vars vs later fuel has lasts ready is on =
-        let depth = room.depth in let masks = room.masks in let places = room.variables in let steps = room.steps in
+        let depth = room.depth in let masks = room.masks in let under = room.below in let places = room.variables in
+        let steps = room.steps in
         let word = fits.word in let high = fits.high in let low = fits.low in
         let next : next_slot lock ≡ lock + 1 = omega arith in
-        locks st code bodies thread who caller app m memory words top lays c facts r at inner n k h visible fixed vars
+        locks (storage app) code bodies thread who caller app m (length (memory app)) words top lays c facts r at
+        inner n k h visible fixed vars
         locked vs level lock later
-        (block_stands inner count visible fixed (r ∷ locked) (max level (guard_of c r).ceiling) (next_slot lock)
+        (block_stands inner count visible fixed (r ∷ locked) (max level (guard_at c r).ceiling) (next_slot lock)
         (record {
           depth = omega arith;
           loops = room.loops;
           masks = omega arith;
+          below = omega arith;
+          sends = room.sends;
           variables = omega arith;
           steps = omega arith;
         })
@@ -318,38 +369,52 @@ module _ (st : Storage) (code : List Line) (bodies : List BodyRow) (thread : ℕ
           floor = fits.floor;
           low = omega arith;
           high = omega arith;
+          masks = omega arith;
           word = fits.word;
         }))
         fuel steps has lasts ready fits (omega arith)
         (λ y here. let less = fixed_below y here in omega arith) sound.0 is on
     statement_stands (Emit e) count visible fixed locked level lock room sound placed below fixed_below fits n k h vars
         vs later fuel has lasts ready is on =
-        emits_value st code bodies thread who caller app m memory words top lays c facts e n k h visible fixed vars vs
+        emits_value (storage app) code bodies thread who caller app m (length (memory app)) words top lays c facts e n
+        k h visible fixed vars vs
         locked level lock later fuel has lasts ready fits room.depth
         (λ y here. let less = fixed_below y here in omega (arith, room.variables)) sound placed is on
     statement_stands (Pend i) count visible fixed locked level lock room sound placed below fixed_below fits n k h vars
         vs later fuel has lasts ready is on =
-        pends st code bodies thread who caller app m memory words top lays c facts i n k h visible fixed vars vs locked
+        pends (storage app) code bodies thread who caller app m (length (memory app)) words top lays c facts i n k h
+        visible fixed vars vs locked
         level lock later fuel has lasts ready sound is on
-    statement_stands (Spawns spawn) count visible fixed locked level lock room sound placed below fixed_below fits n k h
-        vars vs later fuel has lasts ready is on =
-        absurd (facts.no_spawn locked spawn sound)
+    statement_stands (Spawns (Soon task args at)) count visible fixed locked level lock room sound placed below
+        fixed_below fits n k h vars vs later fuel has lasts ready is on =
+        sends code bodies thread who caller app m words top lays c facts task args at n k h visible fixed vars vs locked
+        level lock (λ granted. later vars) fuel has lasts ready fits room.depth
+        (room.sends (Soon task args at) (0, refl))
+        (λ y here. let less = fixed_below y here in omega (arith, room.variables)) sound placed is
+        (λ granted j done to slots cells queues ws fuel2 within to_is answer settled.
+        on j done to slots cells vars queues ws fuel2 within to_is settled)
+    statement_stands (Spawns (After word delay task args at)) count visible fixed locked level lock room sound placed
+        below fixed_below fits n k h vars vs later fuel has lasts ready is on =
+        absurd (no_mono app.mono facts.no_clock sound.4)
 
     pub block_stands : (b : Block) (count : ℕ) (visible fixed locked : List ℕ) (level lock : ℕ)
-        → RoomForBlock top words c.expressions app b count lock → IsSoundBlock app m count locked fixed b
+        → RoomForBlock top words c.expressions c.spawns app b count lock → IsSoundBlock app m count locked fixed b
         → IsBlockPlaced app (listed_by m) count visible b
         → ((y : ℕ) → Contains visible y → y < count) → ((y : ℕ) → Contains fixed y → y < count)
-        → Fits st code bodies thread who caller app m memory words top lays c facts lock
-        → BlockStands st code bodies thread who caller app m memory words top lays c facts b visible fixed locked level
+        → Fits (storage app) code bodies thread who caller app m (length (memory app)) words top lays c facts lock
+        → BlockStands (storage app) code bodies thread who caller app m (length (memory app)) words top lays c facts b
+        visible fixed locked level
         lock
     block_stands Empty count visible fixed locked level lock room sound placed below fixed_below fits n k h vars vs
         later fuel has lasts ready is on =
-        renamed st code bodies thread who caller app m memory words top lays c facts k h (later vars vs) is
+        renamed (storage app) code bodies thread who caller app m (length (memory app)) words top lays c facts k h
+        (later vars vs) is
         (on k h.done h.at h.slots h.cells vars h.queues vs (omega arith) (omega arith) (omega arith)
         (record { known = ready.known; frame = ready.frame; variables = ready.variables; kept = λ y here. refl }))
     block_stands (Then s rest) count visible fixed locked level lock room sound placed below fixed_below fits n k h vars
         vs later fuel has lasts ready is on =
-        let depth = room.depth in let masks = room.masks in let places = room.variables in let steps = room.steps in
+        let depth = room.depth in let masks = room.masks in let under = room.below in let places = room.variables in
+        let steps = room.steps in
         let cost : ℕ = statement_steps (cost_measure app) s in
         let more : ℕ = block_steps (cost_measure app) rest in
         let first_code : List Line = statement_code c level lock h.at s in
@@ -362,6 +427,8 @@ module _ (st : Storage) (code : List Line) (bodies : List BodyRow) (thread : ℕ
           depth = omega arith;
           loops = λ l. room.loops (or_left (is_loop s) (has_loop rest) l);
           masks = omega arith;
+          below = omega arith;
+          sends = λ p is. room.sends p (in_front (statement_spawns s) (spawns rest) p is);
           variables = omega arith;
           steps = omega arith;
         })
@@ -379,6 +446,8 @@ module _ (st : Storage) (code : List Line) (bodies : List BodyRow) (thread : ℕ
           depth = omega arith;
           loops = λ l. room.loops (or_right (is_loop s) (has_loop rest) l);
           masks = omega arith;
+          below = omega arith;
+          sends = λ p is. room.sends p (in_back (statement_spawns s) (spawns rest) p is);
           variables = omega arith;
           steps = omega arith;
         })

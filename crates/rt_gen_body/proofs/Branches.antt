@@ -15,11 +15,13 @@ use Rattle.rt_app.specs.Accepted.{AreMeant}
 use Rattle.rt_app.specs.Sound.{AreReached}
 use Rattle.rt_code.specs.declared.image.BodyRow.{BodyRow}
 use Rattle.rt_code.specs.declared.instr.Instr.TheVariants as instr
-use Rattle.rt_gen_body.specs.Inside.Code.{Line, Context, plain, value_code, two_code, branch_code, block_code}
+use Rattle.rt_gen_queue.specs.Line.{Line, plain, HasCode}
+use Rattle.rt_gen_body.specs.Inside.Values.{Context, value_code}
+use Rattle.rt_gen_body.specs.Inside.Blocks.{two_code, branch_code, block_code}
 use Rattle.rt_gen_body.proofs.Spots.{Lasts, lasts_less, Here}
 use Rattle.rt_gen_body.proofs.Steps.{S}
 use Rattle.rt_gen_body.proofs.Instructions.{jumps, jumps_at_zero, goes_on}
-use Rattle.rt_gen_body.proofs.Placing.{HasCode, code_front, code_behind}
+use Rattle.rt_gen_queue.proofs.Placing.{code_front, code_behind}
 use Rattle.rt_gen_body.proofs.Owning.{LaysOut}
 use Rattle.rt_gen_body.proofs.Expressions.{one_deep}
 use Rattle.rt_gen_body.proofs.Facts.{Facts}

@@ -1,21 +1,34 @@
 -- What a generator's calls append, one after the other, is the code of the statement that they are for.
-use Rattle.std.proofs.Common.{◌==◌, ◌≡◌, ◌≢◌, refl, sym, ap, subst, ◌∙◌, ℕ, suc, ◌+◌, ◌<◌, max, List, [], ◌∷◌, ◌++◌}
-use Rattle.std.proofs.Common.{length, take, get_or, slice_set, true, false, true≢false, append_assoc, length-append}
+use Rattle.std.proofs.Common.{◌==◌, ◌≡◌, ◌≢◌, refl, sym, ap, subst, ◌∙◌, ℕ, zero, suc, map, ◌+◌, ◌≤◌, ◌<◌, max, List}
+use Rattle.std.proofs.Common.{[], ◌∷◌, ◌++◌}
+use Rattle.std.proofs.Common.{if◌then◌else◌, None, slice_get, length, take, get_or, slice_set, true, false}
+use Rattle.std.proofs.Common.{true≢false, append_assoc, length-append}
 use Rattle.std.proofs.Common.{arith}
 use Rattle.std.proofs.lemmas.Bool.{eqb-true, eqb-false}
-use Rattle.std.proofs.lemmas.List.{take_more, append-nil}
+use Rattle.std.proofs.lemmas.List.{take_more, append-nil, length-take-le}
 use Rattle.std.proofs.Math.Seq.{set-append_seam}
-use Rattle.rt_ids.specs.Lists.{is_empty}
+use Rattle.rt_ids.specs.Lists.{is_empty, is_some_and}
+use Rattle.rt_app.specs.Level.{is_software}
+use Rattle.rt_ids.specs.declared.ids.Section.{Section}
 use Rattle.rt_ids.specs.declared.ids.Section.TheVariants as section
+use Rattle.rt_app.specs.Limits.{statements_in, statements_of}
 use Rattle.rt_app.specs.Tree as tree
-use Rattle.rt_app.specs.View.{statement_of, block_of}
+use Rattle.rt_app.specs.View.{expression_of, spawn_of, statement_of, block_of}
+use Rattle.rt_app.specs.declared.expr.Expr.{Expr}
+use Rattle.rt_app.specs.declared.stmt.Spawn.{Spawn}
 use Rattle.rt_app.specs.declared.stmt.Stmt.{Stmt}
+use Rattle.rt_code.specs.Masking.{opening, closing}
 use Rattle.rt_code.specs.declared.instr.Instr.{Instr}
 use Rattle.rt_code.specs.declared.instr.Instr.TheVariants as instr
 use Rattle.rt_code.specs.declared.instr.Note.TheVariants as note
-use Rattle.rt_gen_body.specs.Inside.Code.{Context, Line, plain, noted, next_slot, value_code, guard_of, opening_of}
-use Rattle.rt_gen_body.specs.Inside.Code.{closing_of, one_code, two_code, first_code, loop_front, loop_back, loop_code}
-use Rattle.rt_gen_body.specs.Inside.Code.{lock_code, statement_code, block_code}
+use Rattle.rt_gen_queue.specs.Line.{Line, plain, noted}
+use Rattle.rt_gen_queue.specs.Guards.{kind_of, enter_line, leave_line}
+use Rattle.rt_gen_queue.specs.SpawnCode.{spawn_code}
+use Rattle.rt_gen_queue.specs.declared.guard.Guard.{Guard}
+use Rattle.rt_gen_body.specs.Inside.Values.{Context, next_slot, value_code, expression_code, arguments_code}
+use Rattle.rt_gen_body.specs.Inside.Simple.{message_code, send_code}
+use Rattle.rt_gen_body.specs.Inside.Blocks.{guard_at, one_code, two_code, first_code, loop_front, loop_back}
+use Rattle.rt_gen_body.specs.Inside.Blocks.{loop_code, lock_code, statement_code, block_code}
 use Rattle.rt_gen_body.specs.Inside.Lines.{Lines, next_address, Appends, EndsWith}
 
 further : (n i j k : ℕ) → k ≡ i + j → n + i + j ≡ n + k
@@ -131,30 +144,31 @@ loop_emitted c a h b d t r x first last over entry to old block front jump body 
     fourth : (n : ℕ) → n + 3 + 1 ≡ n + 4
     fourth n = omega arith
 
-pub lock_emitted : (c : Context) (level lock r : ℕ) (a b d q : Lines) (opens closes : Instr) (inside slot : ℕ)
-    (block : ℕ → ℕ → ℕ → List Line)
-    → opens ≡ opening_of c (guard_of c r) level lock → closes ≡ closing_of c (guard_of c r) level lock
-    → inside ≡ max level (guard_of c r).ceiling → slot ≡ next_slot lock
+pub lock_emitted : (c : Context) (level lock r : ℕ) (a b d q : Lines) (opens closes : Instr) (g : Guard)
+    (inside slot : ℕ) (block : ℕ → ℕ → ℕ → List Line) → g ≡ guard_at c r
+    → opens ≡ opening g.value (kind_of g level lock) → closes ≡ closing (kind_of g level lock)
+    → inside ≡ max level g.ceiling → slot ≡ next_slot lock
     → Appends a b (noted opens (note.Enter (section.Res r)) ∷ []) → Appends b d (block inside slot (next_address b))
     → Appends d q (noted closes (note.Leave (section.Res r)) ∷ [])
     → Appends a q (lock_code c level lock (next_address a) r block)
-lock_emitted c level lock r a b d q opens closes inside slot block opening closing within next e f g =
-    let last : Line = noted closes (note.Leave (section.Res r)) in
-    let one : Line = noted opens (note.Enter (section.Res r)) in
+lock_emitted c level lock r a b d q opens closes g inside slot block guard opened closed within next e f h =
+    let x : Section = section.Res r in
+    let one : Line = noted opens (note.Enter x) in
+    let last : Line = noted closes (note.Leave x) in
     let code : List Line = block inside slot (next_address a + 1) in
     let middle : Appends b d code = subst (λ n. Appends b d (block inside slot n)) (next_behind a b (one ∷ []) e) f in
     let all : Appends a q (one ∷ (code ++ last ∷ [])) =
-    appends_both a b q (one ∷ []) (code ++ last ∷ []) e (appends_both b d q code (last ∷ []) middle g) in
+    appends_both a b q (one ∷ []) (code ++ last ∷ []) e (appends_both b d q code (last ∷ []) middle h) in
+    let G : Guard → List Line = λ g. enter_line x g level lock ∷
+    (block (max level g.ceiling) (next_slot lock) (next_address a + 1) ++ leave_line x g level lock ∷ []) in
     all ∙ ap (λ (z : List Line). record a { lines = a.lines ++ z })
-    (ap (λ i. noted i (note.Enter (section.Res r)) ∷ (code ++ last ∷ [])) opening
-    ∙ ap (λ i. noted (opening_of c (guard_of c r) level lock) (note.Enter (section.Res r))
-    ∷ (code ++ noted i (note.Leave (section.Res r)) ∷ [])) closing
-    ∙ ap (λ l. noted (opening_of c (guard_of c r) level lock) (note.Enter (section.Res r))
-    ∷ (block l slot (next_address a + 1) ++ noted (closing_of c (guard_of c r) level lock)
-    (note.Leave (section.Res r)) ∷ [])) within
-    ∙ ap (λ s. noted (opening_of c (guard_of c r) level lock) (note.Enter (section.Res r))
-    ∷ (block (max level (guard_of c r).ceiling) s (next_address a + 1)
-    ++ noted (closing_of c (guard_of c r) level lock) (note.Leave (section.Res r)) ∷ [])) next)
+    (ap (λ i. noted i (note.Enter x) ∷ (code ++ last ∷ [])) opened
+    ∙ ap (λ i. enter_line x g level lock ∷ (code ++ noted i (note.Leave x) ∷ [])) closed
+    ∙ ap (λ l. enter_line x g level lock
+    ∷ (block l slot (next_address a + 1) ++ leave_line x g level lock ∷ [])) within
+    ∙ ap (λ s. enter_line x g level lock
+    ∷ (block (max level g.ceiling) s (next_address a + 1) ++ leave_line x g level lock ∷ [])) next
+    ∙ ap G guard)
 
 -- whether a block has no statements
 pub no_statements : (n : ℕ) (items : List Stmt) → n ≡ length items → true ≡ (n == 0) → is_empty items ≡ true
@@ -224,3 +238,100 @@ between_emitted c level lock a b d s e first (x ∷ xs) is some f g =
     (λ n. block_code c level lock n first) (λ n. block_code c level lock n (block_of (x ∷ xs)))) f
     (subst (λ m. Appends b d (two_code c m (λ n. block_code c level lock n first)
     (λ n. block_code c level lock n (block_of (x ∷ xs))))) (next_behind a b (value_code c e) f) g))
+
+-- so many slots on from one
+abbrev pub slot_on : ℕ → ℕ → ℕ
+slot_on zero slot = slot
+slot_on (suc n) slot = slot_on n (next_slot slot)
+
+pub next_on : (n slot : ℕ) → next_slot (slot_on n slot) ≡ slot_on (n + 1) slot
+next_on n slot = go n slot ∙ ap (λ m. slot_on m slot) (let e : suc n ≡ n + 1 = omega arith in e)
+  where
+    go : (n slot : ℕ) → next_slot (slot_on n slot) ≡ slot_on (suc n) slot
+    go zero slot = refl
+    go (suc n) slot = go n (next_slot slot)
+
+arguments_append : (c : Context) (xs : List Expr) (x : Expr) (slot : ℕ)
+    → arguments_code c (map expression_of (xs ++ x ∷ [])) slot
+    ≡ arguments_code c (map expression_of xs) slot
+    ++ expression_code c (expression_of x) (slot_on (length xs) slot) c.expressions
+arguments_append c [] x slot = append-nil (expression_code c (expression_of x) slot c.expressions)
+arguments_append c (y ∷ xs) x slot =
+    let first : List Line = expression_code c (expression_of y) slot c.expressions in
+    ap (λ (z : List Line). first ++ z) (arguments_append c xs x (next_slot slot))
+    ∙ sym (append_assoc first (arguments_code c (map expression_of xs) (next_slot slot))
+    (expression_code c (expression_of x) (slot_on (length xs) (next_slot slot)) c.expressions))
+
+-- the values of arguments so far, and of one more
+pub arguments_more : (c : Context) (slot next : ℕ) (a b d : Lines) (xs : List Expr) (i : ℕ) (x : Expr) → i < length xs
+    → x ≡ get_or xs i x → next ≡ slot_on i slot
+    → Appends a b (arguments_code c (map expression_of (take i xs)) slot)
+    → Appends b d (expression_code c (expression_of x) next c.expressions)
+    → Appends a d (arguments_code c (map expression_of (take (i + 1) xs)) slot)
+arguments_more c slot next a b d xs i x inside is at e f =
+    let before : List Line = arguments_code c (map expression_of (take i xs)) slot in
+    let counted : length (take i xs) ≡ i = length-take-le i xs (omega arith) in
+    let all : arguments_code c (map expression_of (take (i + 1) xs)) slot
+    ≡ before ++ expression_code c (expression_of x) next c.expressions =
+    ap (λ (t : List Expr). arguments_code c (map expression_of t) slot)
+    (take_more xs i x inside ∙ ap (λ y. take i xs ++ y ∷ []) (sym is))
+    ∙ arguments_append c (take i xs) x slot
+    ∙ ap (λ n. before ++ expression_code c (expression_of x) n c.expressions)
+    (ap (λ k. slot_on k slot) counted ∙ sym at) in
+    subst (λ (z : List Line). Appends a d z) (sym all)
+    (appends_both a b d before (expression_code c (expression_of x) next c.expressions) e f)
+
+-- no lines where there is no such task
+pub no_message : (c : Context) (level at n : ℕ) (code : Lines) → slice_get c.app.tasks n ≡ None
+    → Appends code code (message_code c level at n)
+no_message c level at n code absent =
+    subst (λ (lines : List Line). Appends code code lines)
+    (sym (ap (λ o. if is_some_and is_software o then spawn_code c.app n level c.spawns at else []) absent))
+    (ap (λ (xs : List Line). record code { lines = xs }) (sym (append-nil code.lines)))
+
+-- code that was put behind the lines, made for the next address
+pub code_emitted : (a : Lines) (entry at : ℕ) (old new : List Line) (code : ℕ → List Line)
+    → record { entry = entry; lines = old } ≡ a → at ≡ next_address a → new ≡ old ++ code at
+    → Appends a (record { entry = entry; lines = new }) (code (next_address a))
+code_emitted a entry at old new code is here made =
+    let the_lines : ℕ → List Line → Lines = λ n ls. record { entry = n; lines = ls } in
+    ap (the_lines entry) made
+    ∙ ap (λ n. the_lines n (old ++ code at)) (ap (λ (l : Lines). l.entry) is)
+    ∙ ap (λ (ls : List Line). the_lines a.entry (ls ++ code at)) (ap (λ (l : Lines). l.lines) is)
+    ∙ ap (λ n. the_lines a.entry (a.lines ++ code n)) here
+
+-- the lines of a spawn, whose arguments come first
+pub sent : (c : Context) (level : ℕ) (a b d : Lines) (s : Spawn) (task at : ℕ) (es read : List Expr)
+    → spawn_of s ≡ tree.Soon task (map expression_of es) at → read ≡ es
+    → Appends a b (arguments_code c (map expression_of read) c.spawns)
+    → Appends b d (message_code c level (next_address b) task)
+    → Appends a d (send_code c level (next_address a) (spawn_of s))
+sent c level a b d s task at es read is same e f =
+    let front : List Line = arguments_code c (map expression_of es) c.spawns in
+    let first : Appends a b front =
+    subst (λ (xs : List Expr). Appends a b (arguments_code c (map expression_of xs) c.spawns)) same e in
+    subst (λ (t : tree.Spawn). Appends a d (send_code c level (next_address a) t)) (sym is)
+    (appends_both a b d front (message_code c level (next_address a + length front) task) first
+    (subst (λ n. Appends b d (message_code c level n task)) (next_behind a b front first) f))
+
+at_within : (xs : List Stmt) (i : ℕ) (x : Stmt) → i < length xs
+    → statements_in (statement_of (get_or xs i x)) ≤ statements_of (block_of xs)
+at_within [] i x within = absurd (omega arith)
+at_within (y ∷ xs) zero x within = omega arith
+at_within (y ∷ xs) (suc i) x within = omega (arith, at_within xs i x (omega arith))
+
+-- a statement of a block is no longer than the block
+pub statement_within : (xs : List Stmt) (i : ℕ) (x : Stmt) → i < length xs → x ≡ get_or xs i x
+    → statements_in (statement_of x) ≤ statements_of (block_of xs)
+statement_within xs i x within is = omega (arith, at_within xs i x within, ap (λ y. statements_in (statement_of y)) is)
+
+-- the jump over a second block stands among the lines of the first
+pub first_within : (c : Context) (a b : Lines) (over : ℕ) (block : List Line) → over ≡ length a.lines + 1 + length block
+    → Appends a b (first_code c (next_address a) block) → over < length b.lines
+first_within c a b over block place e =
+    omega (
+      arith,
+      ap (λ (l : Lines). length l.lines) e,
+      length-append a.lines (first_code c (next_address a) block),
+      length-append block (plain (instr.Jump 0) ∷ []),
+    )

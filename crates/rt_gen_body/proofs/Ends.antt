@@ -13,12 +13,13 @@ use Rattle.rt_ids.specs.declared.ids.BodyId.TheVariants as body
 use Rattle.rt_code.specs.Masking.{TakesOver, IsKindFor, IsWithin, NobodyKeeps, opening, closing, saving, inside}
 use Rattle.rt_code.specs.Owning.{Kind, Held, is_open, saved_slot, saved_slots, Agree}
 use Rattle.rt_code.specs.Processor.{Effect}
+use Rattle.rt_code.specs.Stack.{return_address}
 use Rattle.rt_code.specs.Standing.{Stands, Goes, Finishes, passed, processor_of}
 use Rattle.rt_code.specs.declared.image.BodyRow.{BodyRow}
 use Rattle.rt_code.specs.declared.instr.Instr.TheVariants as instr
 use Rattle.rt_code.specs.declared.instr.Note.TheVariants as note
 use Rattle.rt_code.proofs.Done.{effect_is_done}
-use Rattle.rt_gen_body.specs.Inside.Code.{Line, plain, noted}
+use Rattle.rt_gen_queue.specs.Line.{Line, plain, noted}
 use Rattle.rt_gen_body.proofs.Spots.{left_at, left_passed, Lasts, Here, spot, kept_same}
 use Rattle.rt_gen_body.proofs.Steps.{S, by_line}
 
@@ -161,3 +162,37 @@ module _ (st : Storage) (code : List Line) (bodies : List BodyRow) (thread : ℕ
   ends_idle n h rest values here lasts idles closed own is back =
       by_line st code bodies thread who caller n h (instr.Jump thread) (Some (note.End body.Idle)) here lasts
       (refl, idles, finishes h (Ends body.Idle) rest values closed own is back)
+
+  -- the end of a called body, which goes back into the handler's frame
+  pub goes_back : (n : ℕ) (h : Here) (t : ℕ) (frame : List ℕ) (rest : Values → Doing Values) (values : Values)
+      → slice_get code h.at ≡ Some (noted instr.Back (note.End (body.Task t))) → Lasts (suc h.done) h.deadlines
+      → caller ≡ Some frame → h.held ≡ [] → h.rest ≡ does (Ends (body.Task t)) values (λ answer. rest)
+      → ((vs : Values) → Agree st who h.held vs values
+      → Stands st code bodies thread who n (spot None (record h {
+        done = suc h.done;
+        slots = frame;
+        at = return_address frame;
+        rest = rest vs;
+      })))
+      → S st code bodies thread who caller (suc n) h
+  goes_back n h t frame rest values here lasts called closed is on =
+      by_line st code bodies thread who caller n h instr.Back (Some (note.End (body.Task t))) here lasts (
+        refl,
+        record {
+          frame = frame;
+          caller = called;
+          closed = closed;
+          acts = record {
+            values = values;
+            follows = λ answer. rest;
+            is = is;
+            on = λ vs agree.
+                subst (λ (lefts : List ℕ). Stands st code bodies thread who n (record (spot None h) {
+                  lefts = lefts;
+                  slots = frame;
+                  address = return_address frame;
+                  rest = rest vs;
+                })) (sym (left_passed h.done h.deadlines)) (on vs agree);
+          };
+        },
+      )

@@ -1,16 +1,13 @@
 -- How the code of a body comes about.
-use Rattle.std.proofs.Common.{inl, inr, Bool, true, false, zero, suc, ◌≡◌, refl, sym, ap, subst, ◌∙◌, ℕ, ◌+◌, ◌≤◌, ◌<◌}
-use Rattle.std.proofs.Common.{◌^◌, List, [], ◌∷◌, ◌++◌, length, map, slice_get, get_or, Option, Some, None, option_map}
+use Rattle.std.proofs.Common.{true, zero, suc, ◌≡◌, refl, sym, ap, subst, ◌∙◌, ℕ, ◌+◌, ◌≤◌, ◌<◌}
+use Rattle.std.proofs.Common.{◌^◌, List, [], ◌++◌, length, map, slice_get, get_or, Option, Some, None, option_map}
 use Rattle.std.proofs.Common.{arith}
-use Rattle.std.specs.List.{AllByRecursion, list_any, range_with_len}
+use Rattle.std.specs.List.{AllByRecursion, range_with_len}
 use Rattle.std.proofs.lemmas.List.{length-map, append-nil}
 use Rattle.std.proofs.lemmas.Simd.{map-map}
-use Rattle.std.proofs.lemmas.Option.{slice_get_read, slice_get_past, slice_get_cases, same_Some, none-some}
+use Rattle.std.proofs.lemmas.Option.{slice_get_read, slice_get_past}
 use Rattle.rt_lemmas.proofs.Lists.{mapped_at}
-use Rattle.rt_lemmas.proofs.Bools.{left_of_none, right_of_none, not_true}
 use Rattle.rt_lemmas.proofs.Membership.{all_at}
-use Rattle.rt_ids.specs.Priority.{hardware}
-use Rattle.rt_ids.proofs.Hardware.{tells_priorities}
 use Rattle.rt_ids.specs.declared.ids.BodyId.{BodyId}
 use Rattle.rt_ids.specs.declared.ids.BodyId.TheVariants as body
 use Rattle.rt_app.specs.declared.app.App as code
@@ -18,8 +15,21 @@ use Rattle.rt_app.specs.declared.app.Task as row
 use Rattle.rt_ids.specs.declared.ids.Section.TheVariants as section
 use Rattle.rt_app.specs.declared.plan.Plan.{Plan}
 use Rattle.rt_app.specs.Tree.{Task, App}
-use Rattle.rt_app.specs.Level.{is_software}
-use Rattle.rt_app.specs.Handlers.{has_no_software, has_no_monotonic}
+use Rattle.rt_app.specs.Handlers.{has_no_monotonic}
+use Rattle.rt_app.specs.BodyCost.{cost_measure, body_cost}
+use Rattle.rt_app.specs.Layout.{memory}
+use Rattle.rt_app.specs.Holding.{storage}
+use Rattle.rt_app.specs.Sending.{act}
+use Rattle.rt_app.specs.Doings.{nothing, task_doing}
+use Rattle.rt_ids.specs.Action.{Returns}
+use Rattle.rt_ids.specs.Storage.{AtLevel}
+use Rattle.rt_code.specs.Standing.{StandsFrom}
+use Rattle.rt_gen_queue.specs.Line.{Line}
+use Rattle.rt_gen_queue.specs.Guards.{guarded}
+use Rattle.rt_gen_queue.specs.Called.{row_for, CalledBodyStands}
+use Rattle.rt_gen_queue.specs.declared.guard.Guard.{Guard}
+use Rattle.rt_gen_body.specs.Bodies.{IsBodyOf, DeclaredStands, BodyStands}
+use Rattle.rt_gen_body.specs.Inside.Whole.{guards_of, blocks_of, code_of}
 use Rattle.rt_app.specs.Ceiling.{Ceilings, ceiling}
 use Rattle.rt_app.specs.Frame.{frame_words}
 use Rattle.rt_app.specs.Plan.{IsPlan}
@@ -29,18 +39,9 @@ use Rattle.rt_app.specs.View.{app_of, task_of, body_of}
 use Rattle.rt_app.specs.Bodies.{member_at}
 use Rattle.rt_app.specs.Limits.{KeepsTaskLimits}
 use Rattle.rt_app.specs.Accepted.{IsAccepted}
-use Rattle.rt_gen_body.specs.declared.guard.Guard.{Guard}
-use Rattle.rt_gen_body.specs.Inside.Code.{Line, guarded, guards_of, blocks_of, code_of}
 use Rattle.rt_gen_body.specs.Inside.Lines.{Lines, Appends}
-use Rattle.rt_gen_body.specs.Bodies.{IsBodyOf, TaskStands, BodyStands}
 use Rattle.rt_gen_body.specs.Inside.Generating.{slots_code}
-use Rattle.rt_gen_body.proofs.Promises.{init_stands, idle_stands, task_stands}
-
--- the ceiling 0 masks nothing
-pub no_guard : (bits top : ℕ) → 3 ≤ bits → bits ≤ 7 → top ≡ 0 → record { ceiling = top; value = 256 } ≡ guarded bits top
-no_guard bits top few many e =
-    ap (λ v. record { ceiling = top; value = v })
-    (sym (tells_priorities.none bits few many) ∙ ap (hardware bits) (sym e))
+use Rattle.rt_gen_body.proofs.Promises.{init_stands, idle_stands, task_stands, called_stands}
 
 -- what holds of each holds of the one at a place
 pub one_of : {X : Type 0} (P : X → Type 0) (xs : List X) (i : ℕ) (x : X) → AllByRecursion P xs → i < length xs
@@ -77,6 +78,13 @@ no_task app items id n at is named beyond =
     (slice_get_past (app_of app).tasks n (subst (λ k. k ≤ n)
     (ap (λ (xs : List row.Task). length xs) is ∙ sym (length-map app.tasks.items task_of)) beyond))
 
+pub task_absent : (app : code.App) (items : List row.Task) (n k : ℕ) → items ≡ app.tasks.items → n ≡ k
+    → length items ≤ n → slice_get (app_of app).tasks k ≡ None
+task_absent app items n k is same beyond =
+    subst (λ m. slice_get (app_of app).tasks m ≡ None) same
+    (slice_get_past (app_of app).tasks n (subst (λ l. l ≤ n)
+    (ap (λ (xs : List row.Task). length xs) is ∙ sym (length-map app.tasks.items task_of)) beyond))
+
 pub appends_none : (code : Lines) → Appends code code []
 appends_none code = ap (λ (xs : List Line). record code { lines = xs }) (sym (append-nil code.lines))
 
@@ -109,41 +117,41 @@ guards_are plan planned bits tops guards same is made =
     (is ∙ ap (λ (c : Ceilings). c.shared) planned.ceilings)
     ∙ map-map (guarded app.bits) (λ r. ceiling app (section.Res r)) (range_with_len 0 (length app.shared))
 
-not_absent : {X : Type 0} (xs : List X) (n : ℕ) → n < length xs → slice_get xs n ≡ None → ⊥
-not_absent xs n within at =
-    elim (slice_get_cases xs n).1 [
-      | inl there ↦ none-some there.0
-          (sym at ∙ there.2)
-      | inr past ↦ (let beyond = past.0 in omega arith)
-    ]
-
--- none of those of which none passes
-none_passes : {X : Type 0} (f : X → Bool) (xs : List X) (n : ℕ) (x : X) → list_any f xs ≡ false
-    → slice_get xs n ≡ Some x → f x ≡ false
-none_passes f [] n x none at = absurd (none-some x at)
-none_passes f (y ∷ ys) zero x none at =
-    subst (λ z. f z ≡ false) (same_Some y x at) (left_of_none (f y) (list_any f ys) none)
-none_passes f (y ∷ ys) (suc n) x none at = none_passes f ys n x (right_of_none (f y) (list_any f ys) none) at
-
 -- what is generated behind other code stands
-module _ (app : App) (accepted : IsAccepted app) (no_software : has_no_software app ≡ true)
-    (no_monotonic : has_no_monotonic app ≡ true) (front : List Line) where
-  task_of_code : (n : ℕ) (o : Option Task) → slice_get app.tasks n ≡ o → n < length app.tasks → (more : List Line)
-      → TaskStands app n o ((front ++ code_of app (body.Task n)
+module _ (app : App) (accepted : IsAccepted app) (no_monotonic : has_no_monotonic app ≡ true) (front : List Line) where
+  abbrev task_lines : ℕ → Option Task → List Line
+  task_lines n o =
+      front ++ code_of app (body.Task n)
       (option_map (λ t. record { id = body.Task n; priority = t.priority; args = t.args; body = t.body }) o)
-      (length front)) ++ more) (length front)
-  task_of_code n None at within more = absurd (not_absent app.tasks n within at)
-  task_of_code n (Some t) at within more =
-      let limits : KeepsTaskLimits t = all_at KeepsTaskLimits app.tasks n t accepted.limits.tasks at in
-      let few : frame_words t.args t.body ≤ 1100 = frame_few t.args t.body limits.body limits.args in
-      λ bodies thread. task_stands app accepted (accepted_are_sound app accepted) no_software no_monotonic front n t at
-      (none_passes is_software app.tasks n t (not_true (list_any is_software app.tasks) no_software) at)
-      (omega arith) more bodies thread
+      (length front)
+
+  task_of_code : (n : ℕ) (more : List Line)
+      → DeclaredStands app n (task_lines n (slice_get app.tasks n) ++ more) (length front)
+  task_of_code n more = record {
+    bound = λ t at hardware bodies thread.
+        let short = frame_short t n at in
+        subst (λ (o : Option Task). StandsFrom (storage app) (task_lines n o ++ more) bodies thread (AtLevel t.priority)
+        (length (memory app)) (frame_words t.args t.body) (length front) (body_cost (cost_measure app) t.body)
+        (task_doing app n [] (act Returns nothing))) (sym at)
+        (task_stands app accepted (accepted_are_sound app accepted) no_monotonic front n t at hardware
+        (omega arith) more bodies thread);
+    called = λ t at software.
+        let short = frame_short t n at in
+        subst (λ (o : Option Task). CalledBodyStands app n (task_lines n o ++ more) (row_for (λ k. length front) n t))
+        (sym at)
+        (called_stands app accepted (accepted_are_sound app accepted) no_monotonic front n t at software
+        (omega arith) more);
+  }
+    where
+      frame_short : (t : Task) (n : ℕ) → slice_get app.tasks n ≡ Some t → frame_words t.args t.body ≤ 1100
+      frame_short t n at =
+          let limits : KeepsTaskLimits t = all_at KeepsTaskLimits app.tasks n t accepted.limits.tasks at in
+          frame_few t.args t.body limits.body limits.args
 
   pub generated_stands : (id : BodyId) → IsBodyOf app id
       → BodyStands app id (front ++ code_of app id (member_at app id) (length front)) (length front)
   generated_stands body.Init of_app =
-      init_stands app accepted (accepted_are_sound app accepted) no_software no_monotonic front app.init refl
+      init_stands app accepted (accepted_are_sound app accepted) no_monotonic front app.init refl
   generated_stands body.Idle of_app =
-      idle_stands app accepted (accepted_are_sound app accepted) no_software no_monotonic front app.idle refl
-  generated_stands (body.Task n) of_app = task_of_code n (slice_get app.tasks n) refl of_app
+      idle_stands app accepted (accepted_are_sound app accepted) no_monotonic front app.idle refl
+  generated_stands (body.Task n) of_app = task_of_code n

@@ -15,63 +15,63 @@ use Rattle.rt_code.specs.declared.image.BodyRow.{BodyRow}
 use Rattle.rt_code.specs.declared.instr.Instr.TheVariants as instr
 use Rattle.rt_code.specs.declared.processor.Request.TheVariants as request
 use Rattle.rt_code.proofs.Done.{effect_is_done}
-use Rattle.rt_gen_body.specs.Inside.Code.{Line, plain}
-use Rattle.rt_gen_body.proofs.Spots.{Lasts, Here, spot, SavedBetween, kept_below, kept_same}
+use Rattle.rt_gen_queue.specs.Line.{Line, plain}
+use Rattle.rt_gen_body.proofs.Spots.{Lasts, Here, spot, SavedBetween, Apart, kept_apart, kept_same}
 use Rattle.rt_gen_body.proofs.Steps.{S, one_there, two_there, three_there, silent, acting}
 
 module _ (st : Storage) (code : List Line) (bodies : List BodyRow) (thread : ℕ) (who : Runner)
     (caller : Option (List ℕ)) where
   pub sets : (n : ℕ) (h : Here) (d v low high : ℕ) → slice_get code h.at ≡ Some (plain (instr.Set d v))
       → Lasts (suc h.done) h.deadlines
-      → d < length h.slots → d < low → SavedBetween low high h.held
+      → d < length h.slots → Apart low high d → SavedBetween low high h.held
       → S st code bodies thread who caller n (record h {
         done = suc h.done;
         slots = slice_set h.slots d v;
         at = suc h.at;
       })
       → S st code bodies thread who caller (suc n) h
-  sets n h d v low high here lasts there below between stands =
+  sets n h d v low high here lasts there apart between stands =
       silent st code bodies thread who caller n h (instr.Set d v) (slice_set h.slots d v)
-      (suc h.at) h.cells here lasts tt (kept_below h.held h.slots low high d v below between)
+      (suc h.at) h.cells here lasts tt (kept_apart h.held h.slots low high d v apart between)
       (λ time b m. effect_is_done (instr.Set d v) time (processor_of (spot caller h) b m) refl
       (one_there d (length h.slots) there)) stands
 
   pub copies : (n : ℕ) (h : Here) (d s low high : ℕ) → slice_get code h.at ≡ Some (plain (instr.Copy d s))
       → Lasts (suc h.done) h.deadlines
-      → d < length h.slots → s < length h.slots → d < low → SavedBetween low high h.held
+      → d < length h.slots → s < length h.slots → Apart low high d → SavedBetween low high h.held
       → S st code bodies thread who caller n (record h {
         done = suc h.done;
         slots = slice_set h.slots d (slice_index h.slots s);
         at = suc h.at;
       })
       → S st code bodies thread who caller (suc n) h
-  copies n h d s low high here lasts there from below between stands =
+  copies n h d s low high here lasts there from apart between stands =
       silent st code bodies thread who caller n h (instr.Copy d s) (slice_set h.slots d (slice_index h.slots s))
       (suc h.at) h.cells here lasts tt
-      (kept_below h.held h.slots low high d (slice_index h.slots s) below between)
+      (kept_apart h.held h.slots low high d (slice_index h.slots s) apart between)
       (λ time b m. effect_is_done (instr.Copy d s) time (processor_of (spot caller h) b m) refl
       (two_there d s (length h.slots) there from)) stands
 
   pub calculates : (n : ℕ) (h : Here) (op : Op) (d x y low high : ℕ)
       → slice_get code h.at ≡ Some (plain (instr.Calc op d x y)) → Lasts (suc h.done) h.deadlines
-      → d < length h.slots → x < length h.slots → y < length h.slots → d < low → SavedBetween low high h.held
+      → d < length h.slots → x < length h.slots → y < length h.slots → Apart low high d → SavedBetween low high h.held
       → S st code bodies thread who caller n (record h {
         done = suc h.done;
         slots = slice_set h.slots d (operate op (slice_index h.slots x) (slice_index h.slots y));
         at = suc h.at;
       })
       → S st code bodies thread who caller (suc n) h
-  calculates n h op d x y low high here lasts there left right below between stands =
+  calculates n h op d x y low high here lasts there left right apart between stands =
       silent st code bodies thread who caller n h (instr.Calc op d x y)
       (slice_set h.slots d (operate op (slice_index h.slots x) (slice_index h.slots y)))
       (suc h.at) h.cells here lasts tt
-      (kept_below h.held h.slots low high d (operate op (slice_index h.slots x) (slice_index h.slots y)) below between)
+      (kept_apart h.held h.slots low high d (operate op (slice_index h.slots x) (slice_index h.slots y)) apart between)
       (λ time b m. effect_is_done (instr.Calc op d x y) time (processor_of (spot caller h) b m) refl
       (three_there d x y (length h.slots) there left right)) stands
 
   pub loads : (n : ℕ) (h : Here) (d c low high : ℕ) → slice_get code h.at ≡ Some (plain (instr.Load d c))
       → Lasts (suc h.done) h.deadlines
-      → MayLoad st who (spot caller h) (st.home c) → c < length h.cells → d < length h.slots → d < low
+      → MayLoad st who (spot caller h) (st.home c) → c < length h.cells → d < length h.slots → Apart low high d
       → SavedBetween low high h.held
       → S st code bodies thread who caller n (record h {
         done = suc h.done;
@@ -79,10 +79,10 @@ module _ (st : Storage) (code : List Line) (bodies : List BodyRow) (thread : ℕ
         at = suc h.at;
       })
       → S st code bodies thread who caller (suc n) h
-  loads n h d c low high here lasts may cell there below between stands =
+  loads n h d c low high here lasts may cell there apart between stands =
       silent st code bodies thread who caller n h (instr.Load d c) (slice_set h.slots d (slice_index h.cells c))
       (suc h.at) h.cells here lasts may
-      (kept_below h.held h.slots low high d (slice_index h.cells c) below between)
+      (kept_apart h.held h.slots low high d (slice_index h.cells c) apart between)
       (λ time b m. effect_is_done (instr.Load d c) time (processor_of (spot caller h) b m)
       (one_there c (length h.cells) cell) (one_there d (length h.slots) there)) stands
 

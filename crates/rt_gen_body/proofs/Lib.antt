@@ -2,7 +2,6 @@ pub mod Spots
 pub mod Steps
 pub mod Instructions
 pub mod Ends
-pub mod Placing
 pub mod Owning
 pub mod Expressions
 pub mod Values
@@ -11,6 +10,7 @@ pub mod Settled
 pub mod Simple
 pub mod Loops
 pub mod Sections
+pub mod Sending
 pub mod Branches
 pub mod Blocks
 pub mod Storing

@@ -20,11 +20,12 @@ use Rattle.rt_app.specs.Meaning.{run_block, turns_from}
 use Rattle.rt_code.specs.declared.image.BodyRow.{BodyRow}
 use Rattle.rt_code.specs.declared.instr.Instr.TheVariants as instr
 use Rattle.rt_lemmas.proofs.Membership.{contains_cases, contains_there, contains_here}
-use Rattle.rt_gen_body.specs.Inside.Code.{Line, Context, plain, block_code}
+use Rattle.rt_gen_queue.specs.Line.{Line, plain, HasCode}
+use Rattle.rt_gen_body.specs.Inside.Values.{Context}
+use Rattle.rt_gen_body.specs.Inside.Blocks.{block_code}
 use Rattle.rt_gen_body.proofs.Spots.{Lasts, lasts_less, Here, SavedBetween}
 use Rattle.rt_gen_body.proofs.Steps.{S}
 use Rattle.rt_gen_body.proofs.Instructions.{sets, calculates, jumps, jumps_at_zero, goes_on}
-use Rattle.rt_gen_body.proofs.Placing.{HasCode}
 use Rattle.rt_gen_body.proofs.Owning.{LaysOut}
 use Rattle.rt_gen_body.proofs.Facts.{Facts}
 use Rattle.rt_gen_body.proofs.Settled.{Fits, Settled, Behind}
@@ -105,10 +106,11 @@ module _ (st : Storage) (code : List Line) (bodies : List BodyRow) (thread : ℕ
       let there_one : e < length one = omega arith in
       let x_there : x < length one = omega arith in
       sets st code bodies thread who caller (suc (suc k)) h e last top lock has.0
-      (lasts_less (suc h.done) (h.done + 3) h.deadlines (omega arith) lasts) there room saved
+      (lasts_less (suc h.done) (h.done + 3) h.deadlines (omega arith) lasts) there (inl room) saved
       (calculates st code bodies thread who caller (suc k)
       (record h { done = suc h.done; slots = one; at = suc h.at }) op.Lt e x e top lock has.1.0
-      (lasts_less (suc (suc h.done)) (h.done + 3) h.deadlines (omega arith) lasts) there_one x_there there_one room
+      (lasts_less (suc (suc h.done)) (h.done + 3) h.deadlines (omega arith) lasts) there_one x_there there_one
+      (inl room)
       saved
       (on (slice_set one e v)
       (record {
@@ -203,11 +205,11 @@ module _ (st : Storage) (code : List Line) (bodies : List BodyRow) (thread : ℕ
       ap (λ a. wrapped (a + slice_index one e)) x_is ∙ ap (λ b. wrapped (i + b)) e_is ∙ ap wrapped sum
       ∙ mod-eq_of_lt small in
       sets st code bodies thread who caller (suc (suc k)) h e 1 top lock has.0
-      (lasts_less (suc h.done) (h.done + 3) h.deadlines (omega arith) lasts) there room saved
+      (lasts_less (suc h.done) (h.done + 3) h.deadlines (omega arith) lasts) there (inl room) saved
       (calculates st code bodies thread who caller (suc k)
       (record h { done = suc h.done; slots = one; at = suc h.at }) op.Add x x e top lock has.1.0
       (lasts_less (suc (suc h.done)) (h.done + 3) h.deadlines (omega arith) lasts) x_there x_there there_one
-      (omega arith) saved
+      (inl (omega arith)) saved
       (jumps st code bodies thread who caller k (record h {
         done = suc (suc h.done);
         slots = slice_set one x v;

@@ -1,8 +1,10 @@
 -- The lines of a body name only what the application declares.
-use Rattle.std.proofs.Common.{◌≡◌, ℕ, ◌+◌, ◌<◌, ◌==◌, nat_le, Bool, true, false, if◌then◌else◌, Option, Some, None}
-use Rattle.std.proofs.Common.{List, [], ◌∷◌, ◌++◌, length, map, slice_index, IsSome, refl, sym, subst, arith, eq-eqb}
+use Rattle.std.proofs.Common.{◌≡◌, ℕ, ◌+◌, ◌<◌, ◌==◌, Bool, true, false, if◌then◌else◌, Option, Some, None}
+use Rattle.std.proofs.Common.{List, [], ◌∷◌, ◌++◌, length, map, slice_get, slice_index, IsSome, refl, sym, subst}
+use Rattle.std.proofs.Common.{arith, eq-eqb}
 use Rattle.std.specs.List.{AllByRecursion}
 use Rattle.std.proofs.lemmas.List.{length-map}
+use Rattle.std.proofs.lemmas.Option.{slice_get_within}
 use Rattle.rt_lemmas.proofs.Lists.{found, some_at, mapped_at}
 use Rattle.rt_lemmas.proofs.Membership.{all_append}
 use Rattle.rt_lemmas.proofs.Places.{read_at}
@@ -13,10 +15,12 @@ use Rattle.rt_ids.specs.declared.ids.Section.TheVariants as section
 use Rattle.rt_app.specs.declared.app.IrqDecl.{IrqDecl}
 use Rattle.rt_app.specs.declared.expr.Atom.{Atom}
 use Rattle.rt_app.specs.declared.expr.Atom.TheVariants as atom
-use Rattle.rt_app.specs.Tree.{Expression, Num, Read, Oper, Value, Calc, Now, Call, App}
+use Rattle.rt_app.specs.Tree.{Expression, Num, Read, Oper, Spawn, Soon, After, Value, Calc, Now, Call, Task, App}
 use Rattle.rt_app.specs.Tree.{Statement, Bind, Assign, Branch, Repeat, Locked, Emit, Pend, Spawns, Block, Empty, Then}
 use Rattle.rt_app.specs.Bodies.{Member, member_at}
-use Rattle.rt_app.specs.Frame.{first_lock_slot}
+use Rattle.rt_app.specs.Frame.{first_lock_slot, first_spawn_slot}
+use Rattle.rt_app.specs.Level.{is_software}
+use Rattle.rt_ids.specs.Lists.{is_some_and}
 use Rattle.rt_app.specs.Names.{names_of}
 use Rattle.rt_app.specs.Variables.{variables, variables_in}
 use Rattle.rt_app.specs.Accepted.{behind, IsStatementPlaced, IsBlockPlaced, IsAccepted}
@@ -25,12 +29,17 @@ use Rattle.rt_code.specs.Listable.{HasIrq, HasInstr, HasSection}
 use Rattle.rt_code.specs.declared.instr.Instr.{Instr}
 use Rattle.rt_code.specs.declared.instr.Instr.TheVariants as instr
 use Rattle.rt_code.specs.declared.instr.Note.TheVariants as note
-use Rattle.rt_gen_body.specs.declared.guard.Guard.{Guard}
-use Rattle.rt_gen_body.specs.Bodies.{IsNameable}
-use Rattle.rt_gen_body.specs.Inside.Code.{Line, Context, plain, noted, next_slot, load, store, expression_code}
-use Rattle.rt_gen_body.specs.Inside.Code.{value_code, bind_code, guard_of, opening_of, closing_of, branch_code}
-use Rattle.rt_gen_body.specs.Inside.Code.{loop_back, loop_code, lock_code, statement_code, block_code, context_of}
-use Rattle.rt_gen_body.specs.Inside.Code.{end_code, blocks_of, code_of}
+use Rattle.rt_gen_queue.specs.Line.{IsNameable, Line, plain, noted}
+use Rattle.rt_gen_queue.specs.Guards.{leave_line}
+use Rattle.rt_gen_queue.specs.SpawnCode.{spawn_code}
+use Rattle.rt_gen_body.specs.Inside.Values.{Context, next_slot, load, store, expression_code, value_code}
+use Rattle.rt_gen_body.specs.Inside.Values.{arguments_code}
+use Rattle.rt_gen_body.specs.Inside.Simple.{bind_code, message_code, send_code}
+use Rattle.rt_gen_body.specs.Inside.Blocks.{guard_at, branch_code, loop_back, loop_code, lock_code, statement_code}
+use Rattle.rt_gen_body.specs.Inside.Blocks.{block_code}
+use Rattle.rt_gen_body.specs.Inside.Whole.{context_of, level_of, end_code, blocks_of, code_of}
+use Rattle.rt_gen_queue.proofs.Masks.{enter_named, leave_named}
+use Rattle.rt_gen_queue.proofs.Named.{spawn_named}
 
 -- each declared interrupt stands in the names, with its number
 pub number_named : (app : App) (i : ℕ) → i < length app.irqs
@@ -50,8 +59,30 @@ number_named app i within =
 pub resource_named : (app : App) (r : ℕ) → r < length app.shared → HasSection (names_of app) (section.Res r)
 resource_named app r within = omega (arith, length-map app.shared (λ s. s.name))
 
+-- the lines of the spawns of a context
+abbrev pub HasNamedSpawns : App → Context → Type 0
+HasNamedSpawns app c =
+    (level at task : ℕ) → AllByRecursion (IsNameable (names_of app)) (message_code c level at task)
+
+pub spawns_named : (app : App) (m : Member) → IsAccepted app → HasNamedSpawns app (context_of app m)
+spawns_named app m accepted level at task = go (slice_get app.tasks task) refl
+  where
+    slot : ℕ
+    slot = first_spawn_slot m.args m.body
+
+    go : (o : Option Task) → slice_get app.tasks task ≡ o → AllByRecursion (IsNameable (names_of app))
+        (if is_some_and is_software o then spawn_code app task level slot at else [])
+    go None is = tt
+    go (Some t) is = one (is_software t) refl
+      where
+        one : (b : Bool) → is_software t ≡ b → AllByRecursion (IsNameable (names_of app))
+            (if b then spawn_code app task level slot at else [])
+        one false software = tt
+        one true software =
+            spawn_named app task t (record { accepted = accepted; at = is; software = software }) level slot at
+
 module _ (app : App) (c : Context) (numbers : (i : ℕ) → i < length app.irqs
-    → HasIrq (names_of app) (slice_index c.numbers i)) where
+    → HasIrq (names_of app) (slice_index c.numbers i)) (named_spawns : HasNamedSpawns app c) where
   abbrev pub IsNamed : Line → Type 0
   IsNamed = IsNameable (names_of app)
 
@@ -89,10 +120,26 @@ module _ (app : App) (c : Context) (numbers : (i : ℕ) → i < length app.irqs
   valued : (e : Expression) (last : Line) → IsNamed last → AreNamed (value_code c e ++ last ∷ [])
   valued e last is = all_append IsNamed (value_code c e) (last ∷ []) (value_named e) (is, tt)
 
-  bind_named : (x : ℕ) (v : Value) → AreNamed (bind_code c x v)
-  bind_named x (Calc e) = valued e (plain (instr.Copy x c.expressions)) (simple (instr.Copy x c.expressions) tt)
-  bind_named x (Now at) = (simple (instr.Clock x) tt, tt)
-  bind_named x (Call s) = tt
+  arguments_named : (es : List Expression) (slot : ℕ) → AreNamed (arguments_code c es slot)
+  arguments_named [] slot = tt
+  arguments_named (e ∷ es) slot =
+      all_append IsNamed (expression_code c e slot c.expressions) (arguments_code c es (next_slot slot))
+      (expression_named e slot c.expressions) (arguments_named es (next_slot slot))
+
+  send_named : (level at : ℕ) (s : Spawn) → AreNamed (send_code c level at s)
+  send_named level at (Soon task args place) =
+      let front : List Line = arguments_code c args c.spawns in
+      all_append IsNamed front (message_code c level (at + length front) task) (arguments_named args c.spawns)
+      (named_spawns level (at + length front) task)
+  send_named level at (After word delay task args place) = tt
+
+  bind_named : (level at x : ℕ) (v : Value) → AreNamed (bind_code c level at x v)
+  bind_named level at x (Calc e) =
+      valued e (plain (instr.Copy x c.expressions)) (simple (instr.Copy x c.expressions) tt)
+  bind_named level at x (Now place) = (simple (instr.Clock x) tt, tt)
+  bind_named level at x (Call s) =
+      all_append IsNamed (send_code c level at s) (plain (instr.Copy x c.spawns) ∷ []) (send_named level at s)
+      (simple (instr.Copy x c.spawns) tt, tt)
 
   -- the two choices of blocks whose lines are, wherever they stand
   branch_named : (at : ℕ) (first second : ℕ → List Line) (b : Block) → ((a : ℕ) → AreNamed (first a))
@@ -133,39 +180,19 @@ module _ (app : App) (c : Context) (numbers : (i : ℕ) → i < length app.irqs
     ),
   )
 
-  -- how a section masks names nothing
-  opening_named : (g : Guard) (level slot : ℕ) → HasInstr (names_of app) (opening_of c g level slot)
-  opening_named g level slot = go (nat_le g.ceiling level) (g.value == 0)
-    where
-      go : (low all : Bool) → HasInstr (names_of app)
-          (if low then instr.Mark else if all then instr.Mask slot else instr.Raise slot g.value)
-      go true all = tt
-      go false true = tt
-      go false false = tt
-
-  closing_named : (g : Guard) (level slot : ℕ) → HasInstr (names_of app) (closing_of c g level slot)
-  closing_named g level slot = go (nat_le g.ceiling level) (g.value == 0)
-    where
-      go : (low all : Bool) → HasInstr (names_of app)
-          (if low then instr.Mark else if all then instr.Unmask slot else instr.Restore slot)
-      go true all = tt
-      go false true = tt
-      go false false = tt
-
   lock_named : (level lock at r : ℕ) (block : ℕ → ℕ → ℕ → List Line) → r < length app.shared
       → ((inside slot a : ℕ) → AreNamed (block inside slot a)) → AreNamed (lock_code c level lock at r block)
   lock_named level lock at r block there are = (
-    record { instr = opening_named (guard_of c r) level lock; note = resource_named app r there },
-    all_append IsNamed _ (noted (closing_of c (guard_of c r) level lock) (note.Leave (section.Res r)) ∷ [])
-        (are _ _ (at + 1))
-        (record { instr = closing_named (guard_of c r) level lock; note = resource_named app r there }, tt),
+    enter_named (names_of app) (section.Res r) (guard_at c r) level lock (resource_named app r there),
+    all_append IsNamed _ (leave_line (section.Res r) (guard_at c r) level lock ∷ []) (are _ _ (at + 1))
+        (leave_named (names_of app) (section.Res r) (guard_at c r) level lock (resource_named app r there), tt),
   )
 
   module _ (listed : List ℕ) where
     mutual
       pub statement_named : (s : Statement) (n : ℕ) (visible : List ℕ) (level lock at : ℕ)
           → IsStatementPlaced app listed n visible s → AreNamed (statement_code c level lock at s)
-      statement_named (Bind x v) n visible level lock at placed = bind_named x v
+      statement_named (Bind x v) n visible level lock at placed = bind_named level at x v
       statement_named (Assign x e place) n visible level lock at placed =
           valued e (plain (store c x c.expressions)) (store_named x c.expressions)
       statement_named (Branch e first second) n visible level lock at placed =
@@ -185,7 +212,7 @@ module _ (app : App) (c : Context) (numbers : (i : ℕ) → i < length app.irqs
           valued e (plain (instr.Emit c.expressions)) (simple (instr.Emit c.expressions) tt)
       statement_named (Pend i) n visible level lock at placed =
           (simple (instr.Post (slice_index c.numbers i)) (numbers i placed), tt)
-      statement_named (Spawns s) n visible level lock at placed = tt
+      statement_named (Spawns s) n visible level lock at placed = send_named level at s
 
       pub block_named : (b : Block) (n : ℕ) (visible : List ℕ) (level lock at : ℕ)
           → IsBlockPlaced app listed n visible b → AreNamed (block_code c level lock at b)
@@ -198,23 +225,36 @@ module _ (app : App) (c : Context) (numbers : (i : ℕ) → i < length app.irqs
           (at + length first) placed.1)
 
 module _ (app : App) (accepted : IsAccepted app) where
-  end_named : (id : BodyId) (entry : ℕ) → IsNameable (names_of app) (end_code id entry)
+  end_named : (id : BodyId) (entry : ℕ) → IsNameable (names_of app) (end_code app id entry)
   end_named body.Init entry = record { instr = tt; note = tt }
   end_named body.Idle entry = record { instr = tt; note = tt }
-  end_named (body.Task n) entry = record { instr = tt; note = tt }
+  end_named (body.Task n) entry = go (slice_get app.tasks n) refl
+    where
+      go : (o : Option Task) → slice_get app.tasks n ≡ o → IsNameable (names_of app)
+          (if is_some_and is_software o then noted instr.Back (note.End (body.Task n)) else plain instr.Ret)
+      go None is = record { instr = tt; note = tt }
+      go (Some t) is = one (is_software t)
+        where
+          one : (b : Bool) → IsNameable (names_of app)
+              (if b then noted instr.Back (note.End (body.Task n)) else plain instr.Ret)
+          one false = record { instr = tt; note = tt }
+          one true = record {
+            instr = tt;
+            note = (let there = slice_get_within app.tasks n t is in omega (arith, length-map app.tasks (λ t. t.name)));
+          }
 
   blocks_named : (id : BodyId) (o : Option Member) (entry : ℕ) → member_at app id ≡ o
       → AllByRecursion (IsNameable (names_of app)) (blocks_of app o entry)
   blocks_named id None entry is = tt
   blocks_named id (Some m) entry is =
       let placed = (has_body app accepted id m is).placed in
-      block_named app (context_of app m) (number_named app)
-      (map (λ o. o.local) m.body.local) m.body.block m.args _ m.priority
+      block_named app (context_of app m) (number_named app) (spawns_named app m accepted)
+      (map (λ o. o.local) m.body.local) m.body.block m.args _ (level_of app m)
       (first_lock_slot m.args m.body) entry placed.block
 
   -- the lines of a body
   pub code_named : (id : BodyId) (entry : ℕ) → AllByRecursion (IsNameable (names_of app))
       (code_of app id (member_at app id) entry)
   code_named id entry =
-      all_append (IsNameable (names_of app)) (blocks_of app (member_at app id) entry) (end_code id entry ∷ [])
+      all_append (IsNameable (names_of app)) (blocks_of app (member_at app id) entry) (end_code app id entry ∷ [])
       (blocks_named id (member_at app id) entry refl) (end_named id entry, tt)

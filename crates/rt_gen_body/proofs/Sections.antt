@@ -1,7 +1,7 @@
 -- The code of a section round a block.
-use Rattle.std.proofs.Common.{◌≡◌, ◌≢◌, ℕ, suc, ◌+◌, ◌-◌, ◌<◌, ◌≤◌, ◌==◌, max, nat_le, Bool, true, false, Option, Some}
+use Rattle.std.proofs.Common.{◌≡◌, ◌≢◌, ℕ, suc, ◌+◌, ◌-◌, ◌<◌, ◌≤◌, ◌==◌, max, true, false, Option, Some}
 use Rattle.std.proofs.Common.{List, [], ◌∷◌, ◌++◌, length, slice_index, slice_get, Contains, refl, ap, sym, ◌∙◌, subst}
-use Rattle.std.proofs.Common.{arith, get_or-set_other, length-set, length-append}
+use Rattle.std.proofs.Common.{arith, length-append}
 use Rattle.std.specs.List.{AllByRecursion}
 use Rattle.std.proofs.lemmas.Bool.Decides.{nat_tests}
 use Rattle.rt_ids.specs.Holder.{Guarded}
@@ -28,25 +28,23 @@ use Rattle.rt_code.specs.declared.image.BodyRow.{BodyRow}
 use Rattle.rt_code.specs.declared.instr.Instr.{Instr}
 use Rattle.rt_code.specs.declared.instr.Note.TheVariants as note
 use Rattle.rt_lemmas.proofs.Bools.{or_left}
-use Rattle.rt_gen_body.specs.declared.guard.Guard.{Guard}
-use Rattle.rt_gen_body.specs.Inside.Code.{Line, Context, noted, next_slot, guard_of, opening_of, closing_of, block_code}
+use Rattle.rt_gen_queue.specs.Line.{Line, noted, HasCode}
+use Rattle.rt_gen_queue.specs.Guards.{kind_of, enter_line, leave_line}
+use Rattle.rt_gen_queue.specs.declared.guard.Guard.{Guard}
+use Rattle.rt_gen_queue.proofs.Masks.{mask_of, saves_in, saved_beside}
+use Rattle.rt_gen_body.specs.Inside.Values.{Context, next_slot}
+use Rattle.rt_gen_body.specs.Inside.Blocks.{guard_at, block_code}
 use Rattle.rt_gen_body.proofs.Spots.{Lasts, lasts_less, Here, spot, not_among}
 use Rattle.rt_gen_body.proofs.Steps.{S}
 use Rattle.rt_gen_body.proofs.Ends.{enters, leaves, within_section}
-use Rattle.rt_gen_body.proofs.Placing.{HasCode, code_front, code_behind}
+use Rattle.rt_gen_queue.proofs.Placing.{code_front, code_behind}
 use Rattle.rt_gen_body.proofs.Owning.{LaysOut}
 use Rattle.rt_gen_body.proofs.Values.{open_as_locked, not_locked, spelled_inside, spelled_outside, spelled_agreed}
-use Rattle.rt_gen_body.proofs.Facts.{LevelIs, level_inside, kind_asked, kind_by, kind_of, opens_as, closes_as, mask_of}
+use Rattle.rt_gen_body.proofs.Facts.{LevelIs, level_inside, kind_asked}
 use Rattle.rt_gen_body.proofs.Facts.{Facts}
 use Rattle.rt_gen_body.proofs.Settled.{Fits, Behind}
 use Rattle.rt_gen_body.proofs.Simple.{Ready'}
 use Rattle.rt_gen_body.proofs.Loops.{BlockStands}
-
--- what a slot saves is in the slot, or nothing is saved
-saves_in : (low all : Bool) (slot : ℕ) → AllByRecursion (λ d. d ≡ slot) (saved_slot (kind_by low all slot))
-saves_in true all slot = tt
-saves_in false true slot = (refl, tt)
-saves_in false false slot = (refl, tt)
 
 all_at : (P : ℕ → Type 0) (slots : List ℕ) (slot : ℕ) → P slot → AllByRecursion (λ d. d ≡ slot) slots
     → AllByRecursion P slots
@@ -63,19 +61,10 @@ wider [] low high more less between = tt
 wider (d ∷ slots) low high more less (first, rest) = ((first.0, omega arith), wider slots low high more less rest)
 
 -- a mask's slot is above all that is in scope
-saving_below : (low all : Bool) (slot saved y : ℕ) (slots : List ℕ) → y < slot
-    → slice_index (saving (kind_by low all slot) saved slots) y ≡ slice_index slots y
-saving_below true all slot saved y slots less = refl
-saving_below false true slot saved y slots less = let other : y ≢ slot = omega arith in
-    get_or-set_other slots slot y saved 0 other
-saving_below false false slot saved y slots less = let other : y ≢ slot = omega arith in
-    get_or-set_other slots slot y saved 0 other
-
-saving_long : (low all : Bool) (slot saved : ℕ) (slots : List ℕ)
-    → length (saving (kind_by low all slot) saved slots) ≡ length slots
-saving_long true all slot saved slots = refl
-saving_long false true slot saved slots = length-set slots slot saved
-saving_long false false slot saved slots = length-set slots slot saved
+saving_below : (g : Guard) (level slot saved y : ℕ) (slots : List ℕ) → y < slot
+    → slice_index (saving (kind_of g level slot) saved slots) y ≡ slice_index slots y
+saving_below g level slot saved y slots less =
+    let other : y ≢ slot = omega arith in (saved_beside g level slot saved slots).others y other
 
 -- a section costs its steps, where they are few
 pub section_cost : (app : App) (inner : Block) → 2 + block_steps (cost_measure app) inner ≤ BODY_COST
@@ -91,14 +80,14 @@ module _ (st : Storage) (code : List Line) (bodies : List BodyRow) (thread : ℕ
     (facts : Facts st who app m c) where
   abbrev pub locked_code : (r level lock at : ℕ) → Block → List Line
   locked_code r level lock at inner =
-      noted (opening_of c (guard_of c r) level lock) (note.Enter (section.Res r))
-      ∷ block_code c (max level (guard_of c r).ceiling) (next_slot lock) (at + 1) inner
-      ++ noted (closing_of c (guard_of c r) level lock) (note.Leave (section.Res r)) ∷ []
+      enter_line (section.Res r) (guard_at c r) level lock
+      ∷ block_code c (max level (guard_at c r).ceiling) (next_slot lock) (at + 1) inner
+      ++ leave_line (section.Res r) (guard_at c r) level lock ∷ []
 
   pub locks : (r place : ℕ) (inner : Block) (n k : ℕ) (h : Here) (visible fixed vars locked : List ℕ) (vs : Values)
       (level lock : ℕ) (later : List ℕ → Values → Doing Values)
       → BlockStands st code bodies thread who caller app m memory words top lays c facts inner visible fixed
-      (r ∷ locked) (max level (guard_of c r).ceiling) (next_slot lock)
+      (r ∷ locked) (max level (guard_at c r).ceiling) (next_slot lock)
       → 2 + block_steps (cost_measure app) inner + n ≤ k → 2 + block_steps (cost_measure app) inner ≤ BODY_COST
       → HasCode code h.at (locked_code r level lock h.at inner)
       → Lasts (h.done + (2 + block_steps (cost_measure app) inner)) h.deadlines
@@ -112,38 +101,36 @@ module _ (st : Storage) (code : List Line) (bodies : List BodyRow) (thread : ℕ
   locks r place inner n k h visible fixed vars locked vs level lock later stands fuel few has lasts ready fits room
       small sound is on =
       let x : Section = section.Res r in
-      let g : Guard = guard_of c r in
+      let g : Guard = guard_at c r in
       let guard_is : g ≡ record { ceiling = st.ceiling x; value = st.value (st.ceiling x) } =
       facts.guards r sound.is_there in
       let ceiling_is : g.ceiling ≡ st.ceiling x = ap (λ g. g.ceiling) guard_is in
       let value_is : g.value ≡ st.value (st.ceiling x) = ap (λ g. g.value) guard_is in
-      let low : Bool = nat_le g.ceiling level in
-      let all : Bool = g.value == 0 in
       let kind : Kind = kind_of g level lock in
       let steps : ℕ = block_steps (cost_measure app) inner in
       let cost : ℕ = lock_cost (block_cost (cost_measure app) inner) in
       let cost_is : cost ≡ 2 + steps = section_cost app inner few in
       let inner_code : List Line = block_code c (max level g.ceiling) (next_slot lock) (h.at + 1) inner in
-      let last : List Line = noted (closing_of c g level lock) (note.Leave x) ∷ [] in
+      let last : List Line = leave_line x g level lock ∷ [] in
       let size : length (inner_code ++ last) ≡ length inner_code + 1 = length-append inner_code last in
       let next : h.at + 1 ≡ suc h.at = omega arith in
       let Opens : Instr → Type 0 = λ i. slice_get code h.at ≡ Some (noted i (note.Enter x)) in
       let opens : Opens (opening (st.value (st.ceiling x)) kind) =
-      subst Opens (opens_as c g level lock ∙ ap (λ v. opening v kind) value_is) has.0 in
+      subst Opens (ap (λ v. opening v kind) value_is) has.0 in
       let mask : IsMask st who (st.ceiling x) level kind =
       subst (λ (ceiling : ℕ). IsMask st who ceiling level kind) ceiling_is
       (mask_of st who g level lock (value_is ∙ ap st.value (sym ceiling_is))) in
       let once : is_open h.held x ≡ false = open_as_locked h.held locked r ready.are ∙ not_locked locked r sound.once in
       let slot : AllByRecursion (λ d. (d < length h.slots) × (¬ Contains (saved_slots h.held) d)) (saved_slot kind) =
       all_at (λ d. (d < length h.slots) × (¬ Contains (saved_slots h.held) d)) (saved_slot kind) lock
-      (omega (arith, ready.frame), not_among h.held top lock ready.saved) (saves_in low all lock) in
+      (omega (arith, ready.frame), not_among h.held top lock ready.saved) (saves_in g level lock) in
       let lock_next : next_slot lock ≡ lock + 1 = omega (arith, fits.high, fits.word) in
       let k_is : suc (k - 1) ≡ k = omega arith in
       subst (λ (j : ℕ). S st code bodies thread who caller j h) k_is
       (enters st code bodies thread who caller (k - 1) h x kind cost
       (run_block app inner (λ vars. act (Leaves x) (later vars)) vars) vs opens
       (lasts_less (suc h.done) (h.done + (2 + steps)) h.deadlines (omega arith) lasts) is
-      (kind_asked st who who h.held level x kind ready.level_is (facts.starts_not locked r sound) mask)
+      (kind_asked app.bits st who who h.held level x kind ready.level_is (facts.starts_not locked r sound) mask)
       slot (facts.within locked r sound) once (facts.shared locked r sound)
       (λ saved ws cells queues taken.
       let rest : Doing Values = run_block app inner (λ vars. act (Leaves x) (later vars)) vars ws in
@@ -167,25 +154,26 @@ module _ (st : Storage) (code : List Line) (bodies : List BodyRow) (thread : ℕ
           low = ready.known.low;
           in_slots = λ y here.
               let less : y < c.expressions = ready.known.low y here in
-              saving_below low all lock saved y h.slots (omega (arith, fits.floor, fits.low))
+              saving_below g level lock saved y h.slots (omega (arith, fits.floor, fits.low))
               ∙ ready.known.in_slots y here;
           in_cells =
               spelled_inside st who (length app.shared) (length app.locals) memory lays r kind
               (passed (spot caller h)) vs ws cells queues sound.is_there taken ready.known.in_cells;
           long = taken.same.long ∙ ready.known.long;
         };
-        frame = saving_long low all lock saved h.slots ∙ ready.frame;
+        frame = (saved_beside g level lock saved h.slots).long ∙ ready.frame;
         variables = ready.variables;
         saved =
             all_both (λ d. (top ≤ d) × (d < next_slot lock)) (saved_slot kind) (saved_slots h.held)
             (all_at (λ d. (top ≤ d) × (d < next_slot lock)) (saved_slot kind) lock (fits.low, omega (arith, lock_next))
-            (saves_in low all lock))
+            (saves_in g level lock))
             (wider (saved_slots h.held) top lock (next_slot lock) (omega (arith, lock_next)) ready.saved);
         are = (refl, ready.are);
         level_is =
-            subst (λ (ceiling : ℕ). LevelIs st who (record { section = x; kind = kind } ∷ h.held) (max level ceiling))
+            subst (λ (ceiling : ℕ). LevelIs app.bits st who (record { section = x; kind = kind } ∷ h.held)
+            (max level ceiling))
             (sym ceiling_is)
-            (level_inside st who h.held level (record { section = x; kind = kind }) ready.level_is);
+            (level_inside app.bits st who h.held level (record { section = x; kind = kind }) ready.level_is);
       }) refl
       (λ k2 done2 at2 slots2 cells2 vars2 queues2 ws2 fuel2 within2 at2_is settled.
       let h2 : Here =
@@ -198,7 +186,7 @@ module _ (st : Storage) (code : List Line) (bodies : List BodyRow) (thread : ℕ
         rest = act (Leaves x) (later vars2) ws2;
       } in
       let Closes : Instr → Type 0 = λ i. slice_get code at2 ≡ Some (noted i (note.Leave x)) in
-      let closes : Closes (closing kind) = subst Closes (closes_as c g level lock) (last_has at2 at2_is).0 in
+      let closes : Closes (closing kind) = (last_has at2 at2_is).0 in
       let may : reads st who h1.held (Guarded x) ≡ true =
       or_left _ (st.is_constant who (Guarded x)) (or_left _ (st.is_kept who (Guarded x))
       (or_left (r == r) (is_open h.held x) (grind (arith, nat_tests)))) in
@@ -227,5 +215,5 @@ module _ (st : Storage) (code : List Line) (bodies : List BodyRow) (thread : ℕ
         variables = settled.variables;
         kept = λ y here.
             let less = small y here in
-            settled.kept y here ∙ saving_below low all lock saved y h.slots (omega (arith, fits.floor, fits.low));
+            settled.kept y here ∙ saving_below g level lock saved y h.slots (omega (arith, fits.floor, fits.low));
       }))))))

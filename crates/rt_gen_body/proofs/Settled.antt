@@ -1,5 +1,6 @@
 -- What holds before and behind each statement of a body, and how an expression's value comes.
 use Rattle.std.proofs.Common.{◌≡◌, ℕ, ◌+◌, ◌-◌, ◌^◌, ◌<◌, ◌≤◌, Option, List, length, map, slice_index, Contains, ◌∙◌}
+use Rattle.std.proofs.Common.{inl}
 use Rattle.std.proofs.Common.{arith}
 use Rattle.rt_ids.specs.Holder.{Holder}
 use Rattle.rt_ids.specs.Content.{Values}
@@ -17,10 +18,10 @@ use Rattle.rt_app.specs.Accepted.{IsMeant, AreMeant}
 use Rattle.rt_app.specs.Sound.{IsReached, AreReached}
 use Rattle.rt_code.specs.Owning.{Held}
 use Rattle.rt_code.specs.declared.image.BodyRow.{BodyRow}
-use Rattle.rt_gen_body.specs.Inside.Code.{Line, Context, next_slot, value_code}
+use Rattle.rt_gen_queue.specs.Line.{Line, HasCode}
+use Rattle.rt_gen_body.specs.Inside.Values.{Context, next_slot, value_code}
 use Rattle.rt_gen_body.proofs.Spots.{Lasts, Here, SavedBetween}
 use Rattle.rt_gen_body.proofs.Steps.{S}
-use Rattle.rt_gen_body.proofs.Placing.{HasCode}
 use Rattle.rt_gen_body.proofs.Owning.{LaysOut, IsReadable, AreReadable}
 use Rattle.rt_gen_body.proofs.Expressions.{KnowsValues, evaluates, one_deep}
 use Rattle.rt_gen_body.proofs.Values.{OpenAre}
@@ -43,13 +44,14 @@ module _ (st : Storage) (code : List Line) (bodies : List BodyRow) (thread : ℕ
     pub variables : length vars ≡ c.expressions
     pub saved : SavedBetween top lock held
     pub are : OpenAre held locked
-    pub level_is : LevelIs st who held level
+    pub level_is : LevelIs app.bits st who held level
 
-  -- a body's frame: its words, and where the slots for masks begin and go on
+  -- a body's frame: its words, and where the slots for masks begin and go on, up to those of spawns
   pub record Fits (lock : ℕ) : Type 0 where
     pub floor : c.expressions ≤ top
     pub low : top ≤ lock
     pub high : lock ≤ words
+    pub masks : lock ≤ c.spawns
     pub word : words < 2 ^ 32
 
   -- behind it: slots, cells, variables and values as they then are; loops' variables are in their slots as before
@@ -86,7 +88,7 @@ module _ (st : Storage) (code : List Line) (bodies : List BodyRow) (thread : ℕ
   readable_atom (atom.Local n) h visible vars vs locked level lock ready reached meant =
       (meant.0, facts.local_read h.held locked n reached)
 
-  readable : (e : Expression) (h : Here) (visible vars : List ℕ) (vs : Values) (locked : List ℕ) (level lock : ℕ)
+  pub readable : (e : Expression) (h : Here) (visible vars : List ℕ) (vs : Values) (locked : List ℕ) (level lock : ℕ)
       → Ready h.held h.slots h.cells visible vars vs locked level lock
       → AreReached app m locked e → AreMeant app (listed_by m) visible e
       → AreReadable st who (length app.shared) (length app.locals) h.held visible c.expressions e
@@ -123,14 +125,15 @@ module _ (st : Storage) (code : List Line) (bodies : List BodyRow) (thread : ℕ
       c.expressions (next_slot c.expressions) top lock c.expressions visible vars vs
       (omega arith) facts.locals has lasts
       (record {
-        low = omega arith;
-        below = omega arith;
+        target = inl (omega arith, omega arith);
+        there = omega (arith, ready.frame, fits.low, fits.high);
         depth = omega arith;
         within = omega (arith, ready.frame, fits.low, fits.high);
+        order = fits.low;
         word = omega (arith, fits.low, fits.high, fits.word);
         saved = ready.saved;
       })
-      (omega arith) (readable e h visible vars vs locked level lock ready reached meant) ready.known
+      (omega arith) (omega arith) (readable e h visible vars vs locked level lock ready reached meant) ready.known
       (λ done at slots done_is at_is value.
       on (k - expression_steps e) done at slots (omega arith) done_is at_is
       (record {

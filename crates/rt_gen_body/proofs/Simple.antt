@@ -20,14 +20,15 @@ use Rattle.rt_app.specs.Frame.{depth}
 use Rattle.rt_app.specs.Meaning.{value_in, run}
 use Rattle.rt_app.specs.Accepted.{IsMeant, AreMeant}
 use Rattle.rt_app.specs.Sound.{IsReached, IsChangeable, AreReached}
-use Rattle.rt_code.specs.Owning.{owns, MayStore, Agree}
+use Rattle.rt_code.specs.Owning.{Held, owns, MayStore, Agree}
 use Rattle.rt_code.specs.declared.image.BodyRow.{BodyRow}
 use Rattle.rt_code.specs.declared.instr.Instr.TheVariants as instr
-use Rattle.rt_gen_body.specs.Inside.Code.{Line, Context, plain, value_code, store}
+use Rattle.rt_gen_queue.specs.Line.{Line, plain, HasCode}
+use Rattle.rt_gen_body.specs.Inside.Values.{Context, value_code, store}
 use Rattle.rt_gen_body.proofs.Spots.{Lasts, lasts_less, Here, spot}
 use Rattle.rt_gen_body.proofs.Steps.{S}
 use Rattle.rt_gen_body.proofs.Instructions.{copies, stores, emits, posts}
-use Rattle.rt_gen_body.proofs.Placing.{HasCode, code_front, code_behind}
+use Rattle.rt_gen_queue.proofs.Placing.{code_front, code_behind}
 use Rattle.rt_gen_body.proofs.Owning.{LaysOut, IsSpelled}
 use Rattle.rt_gen_body.proofs.Expressions.{one_deep}
 use Rattle.rt_gen_body.proofs.Values.{spelled_agreed, spelled_resource, spelled_local}
@@ -63,14 +64,15 @@ module _ (st : Storage) (code : List Line) (bodies : List BodyRow) (thread : ℕ
       subst (λ (r : Doing Values). S st code bodies thread who caller k (record h { rest = r })) (sym is) stands
 
   -- a variable and its slot get a value
-  pub settled_variable : (h : Here) (visible fixed vars : List ℕ) (vs : Values) (value x : ℕ) (slots : List ℕ)
-      → Valued st code bodies thread who caller app m memory words top lays c facts h visible fixed vars vs value slots
-      → x < c.expressions → c.expressions ≤ words → ¬ Contains fixed x → (more : List ℕ)
+  pub settled_set : (held : List Held) (before : List ℕ) (visible fixed vars : List ℕ) (vs : Values) (v value x : ℕ)
+      (slots cells : List ℕ)
+      → Settled st code bodies thread who caller app m memory words top lays c facts held before visible fixed vars vs
+      slots cells
+      → v ≡ value → x < c.expressions → c.expressions ≤ words → ¬ Contains fixed x → (more : List ℕ)
       → ((y : ℕ) → Contains more y → (x ≡ y) ⊎ Contains visible y)
-      → Settled st code bodies thread who caller app m memory words top lays c facts h.held h.slots more fixed
-      (slice_set vars x value) vs (slice_set slots x (slice_index slots c.expressions)) h.cells
-  settled_variable h visible fixed vars vs value x slots valued small room changes more cases =
-      let settled = valued.settled in
+      → Settled st code bodies thread who caller app m memory words top lays c facts held before more fixed
+      (slice_set vars x value) vs (slice_set slots x v) cells
+  settled_set held before visible fixed vars vs v value x slots cells settled same small room changes more cases =
       let in_slots : x < length slots = omega (arith, settled.frame) in
       let in_vars : x < length vars = omega (arith, settled.variables) in
       record {
@@ -82,7 +84,7 @@ module _ (st : Storage) (code : List Line) (bodies : List BodyRow) (thread : ℕ
                 | inr old ↦ settled.known.low y old
               ];
           in_slots = λ y within.
-              both_set slots vars x (slice_index slots c.expressions) value y valued.result in_slots in_vars
+              both_set slots vars x v value y same in_slots in_vars
               (λ differ. elim (cases y within) [
                 | inl is ↦ absurd
                     (differ (sym is))
@@ -91,12 +93,22 @@ module _ (st : Storage) (code : List Line) (bodies : List BodyRow) (thread : ℕ
           in_cells = settled.known.in_cells;
           long = settled.known.long;
         };
-        frame = length-set slots x (slice_index slots c.expressions) ∙ settled.frame;
+        frame = length-set slots x v ∙ settled.frame;
         variables = length-set vars x value ∙ settled.variables;
         kept = λ y within.
             let other : y ≢ x = (λ (is : y ≡ x). changes (subst (λ (z : ℕ). Contains fixed z) is within)) in
-            get_or-set_other slots x y (slice_index slots c.expressions) 0 other ∙ settled.kept y within;
+            get_or-set_other slots x y v 0 other ∙ settled.kept y within;
       }
+
+  pub settled_variable : (h : Here) (visible fixed vars : List ℕ) (vs : Values) (value x : ℕ) (slots : List ℕ)
+      → Valued st code bodies thread who caller app m memory words top lays c facts h visible fixed vars vs value slots
+      → x < c.expressions → c.expressions ≤ words → ¬ Contains fixed x → (more : List ℕ)
+      → ((y : ℕ) → Contains more y → (x ≡ y) ⊎ Contains visible y)
+      → Settled st code bodies thread who caller app m memory words top lays c facts h.held h.slots more fixed
+      (slice_set vars x value) vs (slice_set slots x (slice_index slots c.expressions)) h.cells
+  settled_variable h visible fixed vars vs value x slots valued small room changes more cases =
+      settled_set h.held h.slots visible fixed vars vs (slice_index slots c.expressions) value x slots h.cells
+      valued.settled valued.result small room changes more cases
 
   abbrev pub Ready' : Here → (visible vars : List ℕ) → Values → List ℕ → ℕ → ℕ → Type 0
   Ready' h visible vars vs locked level lock =
@@ -135,7 +147,7 @@ module _ (st : Storage) (code : List Line) (bodies : List BodyRow) (thread : ℕ
       subst (λ (i : ℕ). S st code bodies thread who caller i h1) j_is
       (copies st code bodies thread who caller (j - 1) h1 x c.expressions top lock has1.0
       (lasts_less (suc done) (h.done + (expression_steps e + 1)) h.deadlines (omega arith) lasts) there from
-      (omega (arith, fits.floor)) ready.saved
+      (inl (omega (arith, fits.floor))) ready.saved
       (renamed (j - 1) (record h1 {
         done = suc done;
         slots = slice_set slots x (slice_index slots c.expressions);

@@ -1,5 +1,6 @@
 -- The code of a body is no longer than the rule on sizes counts for it.
-use Rattle.std.proofs.Common.{◌≡◌, ℕ, zero, suc, ◌+◌, ◌≤◌, max, Option, Some, None, option_map, List, [], ◌∷◌, ◌++◌}
+use Rattle.std.proofs.Common.{◌≡◌, ℕ, zero, suc, ◌+◌, ◌≤◌, max, Bool, true, false, if◌then◌else◌, Option, Some, None}
+use Rattle.std.proofs.Common.{option_map, List, [], ◌∷◌, ◌++◌}
 use Rattle.std.proofs.Common.{length, slice_get, sum_by, refl, ap, subst, arith, length-append}
 use Rattle.std.proofs.lemmas.List.Sums.{sum_by-cons, sum_by-append}
 use Rattle.std.proofs.lemmas.Option.{none-some, same_Some}
@@ -7,23 +8,56 @@ use Rattle.rt_ids.specs.declared.limits.TheConstants.{CODE_SIZE}
 use Rattle.rt_ids.specs.declared.ids.BodyId.{BodyId}
 use Rattle.rt_ids.specs.declared.ids.BodyId.TheVariants as body
 use Rattle.rt_ids.specs.declared.ids.Section.TheVariants as section
-use Rattle.rt_app.specs.Tree.{Expression, Num, Read, Oper, Calc, Now, Call, Body, Task, App}
+use Rattle.rt_app.specs.Tree.{Expression, Num, Read, Oper, Spawn, Soon, After, Calc, Now, Call, Body, Task, App}
 use Rattle.rt_app.specs.Tree.{Statement, Bind, Assign, Branch, Repeat, Locked, Emit, Pend, Spawns, Block, Empty, Then}
 use Rattle.rt_app.specs.Accepted.{IsAccepted}
 use Rattle.rt_app.specs.Bodies.{Member, thread_members, task_members, members, member_at, body_at}
 use Rattle.rt_app.specs.BodyCost.{size_measure, body_cost, cost_of}
-use Rattle.rt_app.specs.Frame.{first_lock_slot}
-use Rattle.rt_app.specs.Steps.{expression_steps, statement_steps, block_steps}
+use Rattle.rt_app.specs.Frame.{first_lock_slot, first_spawn_slot}
+use Rattle.rt_app.specs.Steps.{expression_steps, expressions_steps, spawn_steps, statement_steps, block_steps}
+use Rattle.rt_app.specs.declared.costs.TheConstants.{SPAWN_COST}
+use Rattle.rt_app.specs.Level.{is_software}
+use Rattle.rt_ids.specs.Lists.{is_some_and}
 use Rattle.rt_app.proofs.Capping.{cap_steps}
 use Rattle.rt_app.proofs.Members.{has_body}
 use Rattle.rt_app.proofs.Sound.{accepted_are_sound}
 use Rattle.rt_code.specs.declared.instr.Instr.TheVariants as instr
-use Rattle.rt_code.specs.declared.instr.Note.TheVariants as note
-use Rattle.rt_gen_body.specs.Inside.Code.{Line, Context, plain, noted, next_slot, guard_of, closing_of, expression_code}
-use Rattle.rt_gen_body.specs.Inside.Code.{value_code, branch_code, loop_back, statement_code, block_code, context_of}
-use Rattle.rt_gen_body.specs.Inside.Code.{end_code, blocks_of, code_of}
+use Rattle.rt_gen_queue.specs.Line.{Line, plain}
+use Rattle.rt_gen_queue.specs.Guards.{leave_line}
+use Rattle.rt_gen_queue.specs.SpawnCode.{spawn_code}
+use Rattle.rt_gen_body.specs.Inside.Values.{Context, next_slot, expression_code, value_code, arguments_code}
+use Rattle.rt_gen_body.specs.Inside.Simple.{message_code, send_code}
+use Rattle.rt_gen_body.specs.Inside.Blocks.{guard_at, branch_code, loop_back, statement_code, block_code}
+use Rattle.rt_gen_body.specs.Inside.Whole.{context_of, level_of, end_code, blocks_of, code_of}
+use Rattle.rt_gen_queue.proofs.Facts.{Spawned, arguments, few_arguments}
+use Rattle.rt_gen_queue.proofs.Placing.{spawn_long}
 
-module _ (app : App) (c : Context) where
+-- a spawn's own lines are few
+abbrev pub HasFewLines : Context → Type 0
+HasFewLines c = (level at task : ℕ) → length (message_code c level at task) ≤ SPAWN_COST
+
+pub has_few : (app : App) (m : Member) → IsAccepted app → HasFewLines (context_of app m)
+has_few app m accepted level at task = go (slice_get app.tasks task) refl
+  where
+    go : (o : Option Task) → slice_get app.tasks task ≡ o
+        → length (if is_some_and is_software o
+        then spawn_code app task level (first_spawn_slot m.args m.body) at else []) ≤ SPAWN_COST
+    go None is = omega arith
+    go (Some t) is = one (is_software t) refl
+      where
+        one : (b : Bool) → is_software t ≡ b
+            → length (if b then spawn_code app task level (first_spawn_slot m.args m.body) at else []) ≤ SPAWN_COST
+        one false software = omega arith
+        one true software =
+            let spawned : Spawned app task t = record { accepted = accepted; at = is; software = software } in
+            omega (
+              arith,
+              spawn_long app task level (first_spawn_slot m.args m.body) at,
+              arguments app task t spawned,
+              few_arguments app task t spawned,
+            )
+
+module _ (app : App) (c : Context) (few_lines : HasFewLines c) where
   abbrev size : Block → ℕ
   size b = block_steps (size_measure app) b
 
@@ -47,6 +81,28 @@ module _ (app : App) (c : Context) where
   valued : (e : Expression) (last : Line) → length (value_code c e ++ last ∷ []) ≤ expression_steps e + 1
   valued e last = omega (arith, length-append (value_code c e) (last ∷ []), value_size e)
 
+  arguments_size : (es : List Expression) (slot : ℕ) → length (arguments_code c es slot) ≡ expressions_steps es
+  arguments_size [] slot = refl
+  arguments_size (e ∷ es) slot =
+      let rest : List Line = arguments_code c es (next_slot slot) in
+      omega (
+        arith,
+        length-append (expression_code c e slot c.expressions) rest,
+        expression_size e slot c.expressions,
+        arguments_size es (next_slot slot),
+      )
+
+  send_size : (s : Spawn) (level at : ℕ) → length (send_code c level at s) ≤ spawn_steps (size_measure app) s
+  send_size (Soon task args place) level at =
+      let front : List Line = arguments_code c args c.spawns in
+      omega (
+        arith,
+        length-append front (message_code c level (at + length front) task),
+        arguments_size args c.spawns,
+        few_lines level (at + length front) task,
+      )
+  send_size (After word delay task args place) level at = omega arith
+
   branch_size : (at : ℕ) (first second : ℕ → List Line) (b : Block) (m n : ℕ) → ((a : ℕ) → length (first a) ≤ m)
       → ((a : ℕ) → length (second a) ≤ n)
       → length (branch_code c at first second b) ≤ 2 + (m + n)
@@ -62,7 +118,8 @@ module _ (app : App) (c : Context) where
         → length (statement_code c level lock at s) ≤ statement_steps (size_measure app) s
     statement_size (Bind x (Calc e)) level lock at = valued e _
     statement_size (Bind x (Now place)) level lock at = omega arith
-    statement_size (Bind x (Call s)) level lock at = omega arith
+    statement_size (Bind x (Call s)) level lock at =
+        omega (arith, length-append (send_code c level at s) (plain (instr.Copy x c.spawns) ∷ []), send_size s level at)
     statement_size (Assign x e place) level lock at = valued e _
     statement_size (Branch e first second) level lock at =
         let test : List Line = value_code c e in
@@ -81,8 +138,8 @@ module _ (app : App) (c : Context) where
           block_size turn level lock (at + 4),
         )
     statement_size (Locked r inner place) level lock at =
-        let inside : ℕ = max level (guard_of c r).ceiling in
-        let last : List Line = noted (closing_of c (guard_of c r) level lock) (note.Leave (section.Res r)) ∷ [] in
+        let inside : ℕ = max level (guard_at c r).ceiling in
+        let last : List Line = leave_line (section.Res r) (guard_at c r) level lock ∷ [] in
         omega (
           arith,
           length-append (block_code c inside (next_slot lock) (at + 1) inner) last,
@@ -90,7 +147,7 @@ module _ (app : App) (c : Context) where
         )
     statement_size (Emit e) level lock at = valued e _
     statement_size (Pend i) level lock at = omega arith
-    statement_size (Spawns s) level lock at = omega arith
+    statement_size (Spawns s) level lock at = send_size s level at
 
     pub block_size : (b : Block) (level lock at : ℕ)
         → length (block_code c level lock at b) ≤ block_steps (size_measure app) b
@@ -128,8 +185,9 @@ module _ (app : App) (accepted : IsAccepted app) where
       let blocks : List Line = blocks_of app (Some m) entry in
       omega (
         arith,
-        length-append blocks (end_code id entry ∷ []),
-        block_size app (context_of app m) m.body.block m.priority (first_lock_slot m.args m.body) entry,
+        length-append blocks (end_code app id entry ∷ []),
+        block_size app (context_of app m) (has_few app m accepted) m.body.block (level_of app m)
+            (first_lock_slot m.args m.body) entry,
         uncapped id m is,
       )
 

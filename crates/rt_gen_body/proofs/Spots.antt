@@ -1,6 +1,7 @@
 -- Where a job is while it runs the code of a body, by deadlines: after so many steps of its own it has to each deadline
 -- what is left.
-use Rattle.std.proofs.Common.{◌≡◌, ◌≢◌, ℕ, suc, ◌-◌, ◌<◌, ◌≤◌, Option, List, [], ◌∷◌, map, slice_index, slice_set}
+use Rattle.std.proofs.Common.{◌≡◌, ◌≢◌, ◌⊎◌, ℕ, suc, ◌+◌, ◌-◌, ◌<◌, ◌≤◌, Option, List, [], ◌∷◌, map, slice_index}
+use Rattle.std.proofs.Common.{slice_set, inl, inr}
 use Rattle.std.proofs.Common.{Contains, refl, ap, ◌∙◌, arith, get_or-set_other}
 use Rattle.std.specs.List.{AllByRecursion}
 use Rattle.rt_ids.specs.Holder.{Holder}
@@ -28,6 +29,20 @@ Lasts k deadlines = AllByRecursion (λ d. k ≤ d) deadlines
 pub lasts_less : (j k : ℕ) (deadlines : List ℕ) → j ≤ k → Lasts k deadlines → Lasts j deadlines
 lasts_less j k [] less lasts = tt
 lasts_less j k (d ∷ deadlines) less (first, rest) = (omega arith, lasts_less j k deadlines less rest)
+
+-- what is left for more steps, and behind them
+pub lasts_left : (k more : ℕ) (deadlines : List ℕ) → Lasts (k + more) deadlines
+    → AllByRecursion (λ n. more ≤ n) (left_at k deadlines)
+lasts_left k more [] lasts = tt
+lasts_left k more (d ∷ deadlines) (first, rest) = (omega arith, lasts_left k more deadlines rest)
+
+pub left_later : (k more : ℕ) (deadlines : List ℕ) → map (λ n. n - more) (left_at k deadlines)
+    ≡ left_at (k + more) deadlines
+left_later k more [] = refl
+left_later k more (d ∷ deadlines) =
+    let e : (d - k) - more ≡ d - (k + more) = omega arith in
+    ap (λ n. n ∷ map (λ m. m - more) (left_at k deadlines)) e
+    ∙ ap (λ ns. (d - (k + more)) ∷ ns) (left_later k more deadlines)
 
 pub has_left : (k : ℕ) (deadlines : List ℕ) → Lasts (suc k) deadlines → HaveLeft (left_at k deadlines)
 has_left k [] lasts = tt
@@ -62,17 +77,27 @@ spot caller h = record {
 abbrev pub SavedBetween : ℕ → ℕ → List Held → Type 0
 SavedBetween low high held = AllByRecursion (λ d. (low ≤ d) × (d < high)) (saved_slots held)
 
-kept_all : (saved slots : List ℕ) (low high d v : ℕ) → d < low → AllByRecursion (λ e. (low ≤ e) × (e < high)) saved
-    → AllByRecursion (λ e. slice_index (slice_set slots d v) e ≡ slice_index slots e) saved
-kept_all [] slots low high d v below between = tt
-kept_all (e ∷ saved) slots low high d v below (first, rest) =
-    let other : e ≢ d = omega arith in
-    (get_or-set_other slots d e v 0 other, kept_all saved slots low high d v below rest)
+-- a slot is below them, or above
+abbrev pub Apart : ℕ → ℕ → ℕ → Type 0
+Apart low high d = (d < low) ⊎ (high ≤ d)
 
--- a slot below them may be written
-pub kept_below : (held : List Held) (slots : List ℕ) (low high d v : ℕ) → d < low → SavedBetween low high held
+other_slot : (low high d e : ℕ) → Apart low high d → (low ≤ e) × (e < high) → e ≢ d
+other_slot low high d e (inl below) between = omega arith
+other_slot low high d e (inr above) between = omega arith
+
+kept_all : (saved slots : List ℕ) (low high d v : ℕ) → Apart low high d
+    → AllByRecursion (λ e. (low ≤ e) × (e < high)) saved
+    → AllByRecursion (λ e. slice_index (slice_set slots d v) e ≡ slice_index slots e) saved
+kept_all [] slots low high d v apart between = tt
+kept_all (e ∷ saved) slots low high d v apart (first, rest) = (
+  get_or-set_other slots d e v 0 (other_slot low high d e apart first),
+  kept_all saved slots low high d v apart rest,
+)
+
+-- a slot apart from them may be written
+pub kept_apart : (held : List Held) (slots : List ℕ) (low high d v : ℕ) → Apart low high d → SavedBetween low high held
     → KeepsSaved held slots (slice_set slots d v)
-kept_below held slots low high d v below between = kept_all (saved_slots held) slots low high d v below between
+kept_apart held slots low high d v apart between = kept_all (saved_slots held) slots low high d v apart between
 
 same_all : (saved slots : List ℕ) → AllByRecursion (λ e. slice_index slots e ≡ slice_index slots e) saved
 same_all [] slots = tt

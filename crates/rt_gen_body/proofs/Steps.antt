@@ -19,7 +19,7 @@ use Rattle.rt_code.specs.declared.instr.Note.{Note}
 use Rattle.rt_code.specs.declared.processor.Request.{Request}
 use Rattle.rt_code.specs.declared.processor.Request.TheVariants as request
 use Rattle.rt_code.proofs.Standing.{stands_step}
-use Rattle.rt_gen_body.specs.Inside.Code.{Line}
+use Rattle.rt_gen_queue.specs.Line.{Line}
 use Rattle.rt_gen_body.proofs.Spots.{left_passed, Lasts, has_left, Here, spot, kept_same}
 
 -- places that are there, one by one

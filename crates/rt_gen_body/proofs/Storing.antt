@@ -19,22 +19,24 @@ use Rattle.rt_app.specs.declared.app.IrqDecl.{IrqDecl}
 use Rattle.rt_app.specs.declared.app.Mono.{Mono}
 use Rattle.rt_app.specs.declared.body.Listed.{Listed}
 use Rattle.rt_app.specs.declared.body.Owned.{Owned}
-use Rattle.rt_app.specs.Tree.{Spawn, Soon, After, Task, App}
+use Rattle.rt_app.specs.Tree.{App}
 use Rattle.rt_app.specs.Bodies.{Member, members}
-use Rattle.rt_app.specs.Level.{is_software}
 use Rattle.rt_app.specs.Ceiling.{lists}
 use Rattle.rt_app.specs.Declarations.{owns as owns_local}
 use Rattle.rt_app.specs.Statements.{is_init, listing_in, is_lockable, is_free}
 use Rattle.rt_app.specs.Listing.{listings, is_lock_free}
-use Rattle.rt_app.specs.Handlers.{has_no_software, has_no_monotonic}
+use Rattle.rt_app.specs.Handlers.{has_no_monotonic}
+use Rattle.rt_app.specs.Accepted.{IsAccepted}
 use Rattle.rt_app.specs.Holding.{is_some_at, is_kept, is_constant, storage}
-use Rattle.rt_app.specs.Sound.{IsSoundLock, IsSoundSpawn}
+use Rattle.rt_app.specs.Sound.{IsSoundLock}
 use Rattle.rt_app.specs.Acceptance.{IsSound}
 use Rattle.rt_app.proofs.Members.{in_front, in_back}
 use Rattle.rt_app.proofs.Unbroken.{is_one_that}
 use Rattle.rt_code.specs.Owning.{Held, is_open}
-use Rattle.rt_gen_body.specs.declared.guard.Guard.{Guard}
-use Rattle.rt_gen_body.specs.Inside.Code.{guard_of, guard_in, context_of}
+use Rattle.rt_gen_queue.specs.Guards.{guard_of}
+use Rattle.rt_gen_queue.specs.declared.guard.Guard.{Guard}
+use Rattle.rt_gen_body.specs.Inside.Blocks.{guard_at}
+use Rattle.rt_gen_body.specs.Inside.Whole.{context_of}
 use Rattle.rt_gen_body.proofs.Values.{OpenAre, open_as_locked}
 use Rattle.rt_gen_body.proofs.Facts.{Facts}
 
@@ -46,10 +48,12 @@ range_at (suc n) first zero f d within = let e : first ≡ first + 0 = omega ari
 range_at (suc n) first (suc r) f d within = let e : (first + 1) + r ≡ first + suc r = omega arith in
     range_at n (first + 1) r f d (omega arith) ∙ ap f e
 
-guard_is : (app : App) (m : Member) (r : ℕ) → r < length app.shared → guard_of (context_of app m) r ≡ guard_in app r
+guard_is : (app : App) (m : Member) (r : ℕ) → r < length app.shared → guard_at (context_of app m) r
+    ≡ guard_of app (section.Res r)
 guard_is app m r within =
     let e : 0 + r ≡ r = omega arith in
-    range_at (length app.shared) 0 r (guard_in app) (record { ceiling = 0; value = 0 }) within ∙ ap (guard_in app) e
+    range_at (length app.shared) 0 r (λ k. guard_of app (section.Res k)) (record { ceiling = 0; value = 0 }) within
+    ∙ ap (λ k. guard_of app (section.Res k)) e
 
 number_is : (app : App) (i : ℕ) (irqs : List IrqDecl)
     → slice_index (map (λ d. d.number) irqs) i ≡ or_zero (option_map (λ d. d.number) (slice_get irqs i))
@@ -111,19 +115,8 @@ some_at app m test (i, at) no_start passes =
     same : (p : ℕ) → ((p == p) && true) ≡ true
     same p = grind (arith, nat_tests)
 
-module _ (app : App) (sound : IsSound app) (no_software : has_no_software app ≡ true)
-    (no_monotonic : has_no_monotonic app ≡ true) (m : Member) (member : IsIn (members app) m) where
-  no_spawned : (locked : List ℕ) (s : Spawn) → IsSoundSpawn app m locked s → ⊥
-  no_spawned locked s is = one (task_of locked s is)
-    where
-      task_of : (locked : List ℕ) (s : Spawn) → IsSoundSpawn app m locked s
-          → (n : ℕ) × (t : Task) × (slice_get app.tasks n ≡ Some t) × (is_software t ≡ true)
-      task_of locked (Soon n args at) is = (n, is.0, is.1.is_there, is.1.software)
-      task_of locked (After word delay n args at) is = (n, is.0, is.1.is_there, is.1.software)
-
-      one : (n : ℕ) × (t : Task) × (slice_get app.tasks n ≡ Some t) × (is_software t ≡ true) → ⊥
-      one (n, t, at, software) = cc (ap not (any_passes is_software app.tasks n t at software), no_software)
-
+module _ (app : App) (accepted : IsAccepted app) (sound : IsSound app) (no_monotonic : has_no_monotonic app ≡ true)
+    (m : Member) (member : IsIn (members app) m) where
   no_mono : app.mono ≡ None
   no_mono = none_is app.mono no_monotonic
     where
@@ -169,7 +162,9 @@ module _ (app : App) (sound : IsSound app) (no_software : has_no_software app �
         starts_not = λ locked r lock. absurd (never locked r lock);
         within = λ locked r lock. absurd (never locked r lock);
         shared = λ locked r lock. absurd (never locked r lock);
-        no_spawn = no_spawned;
+        enters = λ x less. tt;
+        accepted = accepted;
+        of_app = refl;
         no_clock = no_mono;
       }
 
@@ -269,7 +264,9 @@ module _ (app : App) (sound : IsSound app) (no_software : has_no_software app �
         starts_not = λ locked r lock. tt;
         within = λ locked r lock. lock.within;
         shared = λ locked r lock. nobody r lock.lockable;
-        no_spawn = no_spawned;
+        enters = λ x less. less;
+        accepted = accepted;
+        of_app = refl;
         no_clock = no_mono;
       }
     where

@@ -1,4 +1,7 @@
 -- What serves the contracts of private functions alone.
-pub mod Code
+pub mod Values
+pub mod Simple
+pub mod Blocks
+pub mod Whole
 pub mod Lines
 pub mod Generating

@@ -1,35 +1,40 @@
 ghost use Rattle.std.specs.Prelude.{◌≡◌, ◌+◌, OnOk};
-ghost use Rattle.rt_app.specs.View.{expression_of, value_of, statement_of, block_of};
-ghost use Rattle.rt_gen_body.specs.Inside.Code as spec;
+ghost use Rattle.rt_app.specs.View.{expression_of, value_of};
+ghost use Rattle.rt_gen_body.specs.Inside.Values as values;
+ghost use Rattle.rt_gen_body.specs.Inside.Simple as simple;
 ghost use Rattle.rt_gen_body.specs.Inside.Lines.{next_address, Appends};
 
-use crate::guard::Guard;
 use crate::lines::Lines;
-use rt_app::{Atom, Expr, IrqDecl, Value};
+use rt_app::{Atom, Expr, Plan, Value};
 use rt_code::Instr;
+use rt_gen_queue::Guard;
 use rt_ids::NoMemory;
+use std::alloc::Global;
 
 /// What the code of a body is generated with.
 #[derive(Clone, Copy, Debug)]
 pub(crate) struct Generator<'a> {
+    pub(crate) alloc: Global,
+    pub(crate) plan: &'a Plan<'a>,
     /// Of each shared resource.
     pub(crate) guards: &'a [Guard],
-    pub(crate) irqs: &'a [IrqDecl],
     /// The cell of the first local resource; the shared ones stand before it.
     pub(crate) locals: u16,
     /// The first slot where expressions are evaluated.
     pub(crate) expressions: u32,
+    /// The first slot of a spawn.
+    pub(crate) spawns: u32,
 }
 
 /// The next slot.
 pub(crate) fn next_slot(slot: u32) -> u32
-    ensures { result ≡ spec.next_slot slot }
+    ensures { result ≡ values.next_slot slot }
 {
     slot.saturating_add(1)
 }
 
 impl<'a> Generator<'a> {
-    ghost use Rattle.rt_gen_body.specs.Inside.Generating.{context};
+    ghost use Rattle.rt_gen_body.specs.Inside.Generating.{context, IsReady};
 
     /// The cell of a local resource.
     fn local_cell(&self, local: u8) -> u32
@@ -40,7 +45,7 @@ impl<'a> Generator<'a> {
 
     /// The instruction that brings the value of a name into a slot.
     fn load(&self, atom: Atom, slot: u32) -> Instr
-        ensures { result ≡ spec.load (context self.now) atom slot }
+        ensures { result ≡ values.load (context self.now) atom slot }
     {
         match atom {
             Atom::Var(variable) => Instr::Copy(slot, u32::from(variable)),
@@ -51,7 +56,7 @@ impl<'a> Generator<'a> {
 
     /// The instruction that brings a slot's value into a name.
     pub(crate) fn store(&self, atom: Atom, slot: u32) -> Instr
-        ensures { result ≡ spec.store (context self.now) atom slot }
+        ensures { result ≡ values.store (context self.now) atom slot }
     {
         match atom {
             Atom::Var(variable) => Instr::Copy(u32::from(variable), slot),
@@ -61,7 +66,7 @@ impl<'a> Generator<'a> {
     }
 
     /// The value of an expression comes into a slot; the slots from another on are free.
-    fn expression(
+    pub(crate) fn expression(
         &self,
         expr: &Expr,
         slot: u32,
@@ -69,7 +74,7 @@ impl<'a> Generator<'a> {
         code: &mut Lines,
     ) -> Result<(), NoMemory>
         ensures { OnOk result (Appends code.old code.new
-            (spec.expression_code (context self.now) (expression_of expr.now) slot free)) }
+            (values.expression_code (context self.now) (expression_of expr.now) slot free)) }
     {
         match expr {
             Expr::Num(number) => code.push(Instr::Set(slot, *number)),
@@ -85,20 +90,22 @@ impl<'a> Generator<'a> {
     /// The value of an expression comes into the first slot for expressions.
     pub(crate) fn value(&self, expr: &Expr, code: &mut Lines) -> Result<(), NoMemory>
         ensures { OnOk result (Appends code.old code.new
-            (spec.value_code (context self.now) (expression_of expr.now))) }
+            (values.value_code (context self.now) (expression_of expr.now))) }
     {
         self.expression(expr, self.expressions, next_slot(self.expressions), code)
     }
 
-    /// The binding of a variable to a value. A spawn has no code yet.
+    /// The binding of a variable to a value, at a static level.
     pub(crate) fn bind(
         &self,
+        level: u8,
         variable: u16,
         value: &Value,
         code: &mut Lines,
     ) -> Result<(), NoMemory>
+        requires { IsReady self.now }
         ensures { OnOk result (Appends code.old code.new
-            (spec.bind_code (context self.now) variable (value_of value.now))) }
+            (simple.bind_code (context self.now) level (next_address code.old) variable (value_of value.now))) }
     {
         match value {
             Value::Calc(expr) => {
@@ -106,14 +113,17 @@ impl<'a> Generator<'a> {
                 code.push(Instr::Copy(u32::from(variable), self.expressions))
             }
             Value::Now(_at) => code.push(Instr::Clock(u32::from(variable))),
-            Value::Call(_spawn) => Ok(()),
+            Value::Call(spawn) => {
+                self.send(level, spawn, code)?;
+                code.push(Instr::Copy(u32::from(variable), self.spawns))
+            }
         }
     }
 
     /// An assignment, to whatever its name stands for.
     pub(crate) fn assign(&self, atom: Atom, expr: &Expr, code: &mut Lines) -> Result<(), NoMemory>
         ensures { OnOk result (Appends code.old code.new
-            (spec.assign_code (context self.now) atom (expression_of expr.now))) }
+            (simple.assign_code (context self.now) atom (expression_of expr.now))) }
     {
         self.value(expr, code)?;
         code.push(self.store(atom, self.expressions))
@@ -121,7 +131,8 @@ impl<'a> Generator<'a> {
 
     /// The value of an expression is emitted.
     pub(crate) fn emit(&self, expr: &Expr, code: &mut Lines) -> Result<(), NoMemory>
-        ensures { OnOk result (Appends code.old code.new (spec.emit_code (context self.now) (expression_of expr.now))) }
+        ensures { OnOk result (Appends code.old code.new
+            (simple.emit_code (context self.now) (expression_of expr.now))) }
     {
         self.value(expr, code)?;
         code.push(Instr::Emit(self.expressions))

@@ -3,8 +3,8 @@
 
 pub mod body;
 pub mod generator;
-pub mod guard;
 pub mod lines;
+pub mod spawn;
 pub mod statement;
 
 pub use body::gen_body;

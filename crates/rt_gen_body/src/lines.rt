@@ -1,9 +1,15 @@
-ghost use Rattle.std.specs.Prelude.{◌≡◌, ◌<◌, [], ◌∷◌, length, slice_set, Option, IfOk, OnOk};
-ghost use Rattle.rt_gen_body.specs.Inside.Code.{plain, noted};
+ghost use Rattle.std.specs.Prelude.{◌≡◌, ◌<◌, true, [], ◌∷◌, length, slice_get, slice_set, Option, IfOk, OnOk};
+ghost use Rattle.rt_ids.specs.Lists.{is_some_and};
+ghost use Rattle.rt_app.specs.Level.{is_software};
+ghost use Rattle.rt_gen_queue.specs.Line.{plain, noted};
+ghost use Rattle.rt_gen_queue.specs.SpawnCode.{spawn_code};
+ghost use Rattle.rt_gen_body.specs.Inside.Generating.{context, IsReady};
 ghost use Rattle.rt_gen_body.specs.Inside.Lines.{next_address, Appends};
 
+use crate::generator::Generator;
 use rt_code::{Instr, Note};
-use rt_ids::NoMemory;
+use rt_gen_queue::{gen_spawn, next_entry};
+use rt_ids::{NoMemory, TaskId};
 use std::alloc::Global;
 use std::marker::Model;
 
@@ -44,7 +50,7 @@ impl Lines {
     pub(crate) fn next_address(&self) -> Result<u32, NoMemory>
         ensures { IfOk result (λ at. at ≡ next_address self.now) }
     {
-        let count = u32::try_from(self.lines.len()).ok().ok_or(NoMemory)?;
+        let count = next_entry(&self.lines)?;
         self.entry.checked_add(count).ok_or(NoMemory)
     }
 
@@ -77,5 +83,29 @@ impl Lines {
         ensures { result.now ≡ self.now.lines }
     {
         self.lines.as_slice()
+    }
+
+    /// The lines of the spawn of a software task, whose arguments stand in the slots from one on, at a static level.
+    pub(crate) fn push_spawn(
+        &mut self,
+        generator: &Generator<'_>,
+        level: u8,
+        task: TaskId,
+    ) -> Result<(), NoMemory>
+        requires ready { IsReady generator.now }
+        requires software { is_some_and is_software (slice_get (context generator.now).app.tasks task) ≡ true }
+        ensures { OnOk result (Appends self.old self.new
+            (spawn_code (context generator.now).app task level generator.now.spawns (next_address self.old))) }
+    {
+        let entry = self.next_address()?;
+        gen_spawn(
+            generator.alloc,
+            generator.plan,
+            task,
+            level,
+            generator.spawns,
+            entry,
+            &mut self.lines,
+        )
     }
 }

@@ -1,14 +1,14 @@
-ghost use Rattle.std.specs.Prelude.{◌≡◌, ◌<◌, ◌+◌, ◌∷◌, [], ◌++◌, ℕ, OnOk, IfOk, length, slice_index};
-ghost use Rattle.rt_app.specs.View.{expression_of, statement_of, block_of};
-ghost use Rattle.rt_gen_body.specs.Inside.Code as spec;
+ghost use Rattle.std.specs.Prelude.{◌≡◌, ◌<◌, ◌+◌, ℕ, OnOk, IfOk, length, slice_index};
+ghost use Rattle.rt_app.specs.View.{statement_of, block_of};
+ghost use Rattle.rt_gen_body.specs.Inside.Blocks as blocks;
 ghost use Rattle.rt_gen_body.specs.Inside.Lines.{next_address, Appends, EndsWith};
-ghost use Rattle.rt_gen_body.specs.Inside.Generating.{context};
+ghost use Rattle.rt_gen_body.specs.Inside.Generating.{context, IsReady};
 
 use crate::generator::{Generator, next_slot};
-use crate::guard::Guard;
 use crate::lines::Lines;
-use rt_app::{Expr, Stmt};
+use rt_app::Stmt;
 use rt_code::{Instr, Note};
+use rt_gen_queue::Guard;
 use rt_ids::{Irq, NoMemory, Op, ResId, Section};
 
 /// A loop's variable, its first number, and the one that it does not reach.
@@ -19,35 +19,9 @@ struct Bounds {
     last: u32,
 }
 
-/// The instruction that opens a section, at a static level, with a slot for what the mask was.
-fn opening(guard: Guard, level: u8, slot: u32) -> Instr
-    ensures { (c : spec.Context) → result ≡ spec.opening_of c guard level slot }
-{
-    if guard.ceiling <= level {
-        Instr::Mark
-    } else if guard.value == 0 {
-        Instr::Mask(slot)
-    } else {
-        Instr::Raise(slot, u32::from(guard.value))
-    }
-}
-
-/// The instruction that closes it.
-fn closing(guard: Guard, level: u8, slot: u32) -> Instr
-    ensures { (c : spec.Context) → result ≡ spec.closing_of c guard level slot }
-{
-    if guard.ceiling <= level {
-        Instr::Mark
-    } else if guard.value == 0 {
-        Instr::Unmask(slot)
-    } else {
-        Instr::Restore(slot)
-    }
-}
-
 /// How a resource's section masks; one that is not declared masks nothing.
-fn guard_of(generator: &Generator<'_>, resource: ResId) -> Guard
-    ensures { result ≡ spec.guard_of (context generator.now) resource }
+fn guard_at(generator: &Generator<'_>, resource: ResId) -> Guard
+    ensures { result ≡ blocks.guard_at (context generator.now) resource }
 {
     match generator.guards.get(usize::from(resource.0)) {
         Some(guard) => *guard,
@@ -62,7 +36,7 @@ fn guard_of(generator: &Generator<'_>, resource: ResId) -> Guard
 fn irq_number(generator: &Generator<'_>, irq: u8) -> Irq
     ensures { result ≡ slice_index (context generator.now).numbers irq }
 {
-    match generator.irqs.get(usize::from(irq)) {
+    match generator.plan.app.irqs.get(usize::from(irq)) {
         Some(declared) => declared.number,
         None => Irq::new(0).unwrap(),
     }
@@ -78,8 +52,9 @@ impl<'a> Generator<'a> {
         first: &[Stmt],
         code: &mut Lines,
     ) -> Result<(), NoMemory>
-        ensures { let block = λ (at : ℕ). spec.block_code (context self.now) level lock at (block_of first.now) in
-            OnOk result (Appends code.old code.new (spec.one_code (context self.now) (next_address code.old) block)) }
+        requires { IsReady self.now }
+        ensures { let block = λ (at : ℕ). blocks.block_code (context self.now) level lock at (block_of first.now) in
+            OnOk result (Appends code.old code.new (blocks.one_code (context self.now) (next_address code.old) block)) }
     {
         let over = code.len();
         code.push(Instr::JumpZ(self.expressions, 0))?;
@@ -98,12 +73,14 @@ impl<'a> Generator<'a> {
         first: &[Stmt],
         code: &mut Lines,
     ) -> Result<usize, NoMemory>
+        requires { IsReady self.now }
         ensures place { let at = next_address code.old + 1 in
-            let block = spec.block_code (context self.now) level lock at (block_of first.now) in
+            let block = blocks.block_code (context self.now) level lock at (block_of first.now) in
             IfOk result (λ over. over ≡ length code.old.lines + 1 + length block) }
         ensures lines { let at = next_address code.old + 1 in
-            let block = spec.block_code (context self.now) level lock at (block_of first.now) in
-            OnOk result (Appends code.old code.new (spec.first_code (context self.now) (next_address code.old) block)) }
+            let block = blocks.block_code (context self.now) level lock at (block_of first.now) in
+            OnOk result (Appends code.old code.new
+            (blocks.first_code (context self.now) (next_address code.old) block)) }
     {
         let over = code.len();
         code.push(Instr::JumpZ(self.expressions, 0))?;
@@ -125,9 +102,10 @@ impl<'a> Generator<'a> {
         over: usize,
         code: &mut Lines,
     ) -> Result<(), NoMemory>
-        requires { over < length code.old.lines }
+        requires ready { IsReady self.now }
+        requires place { over < length code.old.lines }
         ensures { let at = next_address code.old in
-            let block = spec.block_code (context self.now) level lock at (block_of second.now) in
+            let block = blocks.block_code (context self.now) level lock at (block_of second.now) in
             OnOk result (EndsWith code.old code.new over block) }
     {
         self.block(level, lock, second, code)?;
@@ -146,19 +124,20 @@ impl<'a> Generator<'a> {
         inner: &[Stmt],
         code: &mut Lines,
     ) -> Result<(), NoMemory>
+        requires { IsReady self.now }
         ensures { let block = λ (inside slot at : ℕ).
-            spec.block_code (context self.now) inside slot at (block_of inner.now) in
+            blocks.block_code (context self.now) inside slot at (block_of inner.now) in
             OnOk result (Appends code.old code.new
-            (spec.lock_code (context self.now) level lock (next_address code.old) resource block)) }
+            (blocks.lock_code (context self.now) level lock (next_address code.old) resource block)) }
     {
-        let guard = guard_of(self, resource);
+        let guard = guard_at(self, resource);
         code.push_noted(
-            opening(guard, level, lock),
+            guard.opening(level, lock),
             Note::Enter(Section::Res(resource)),
         )?;
         self.block(level.max(guard.ceiling), next_slot(lock), inner, code)?;
         code.push_noted(
-            closing(guard, level, lock),
+            guard.closing(level, lock),
             Note::Leave(Section::Res(resource)),
         )
     }
@@ -166,7 +145,7 @@ impl<'a> Generator<'a> {
     /// The lines before a loop's turns, up to the jump that ends it.
     fn loop_head(&self, bounds: &Bounds, code: &mut Lines) -> Result<(), NoMemory>
         ensures { OnOk result (Appends code.old code.new
-            (spec.loop_front (context self.now) bounds.now.variable bounds.now.first bounds.now.last)) }
+            (blocks.loop_front (context self.now) bounds.now.variable bounds.now.first bounds.now.last)) }
     {
         code.push(Instr::Set(bounds.variable, bounds.first))?;
         code.push(Instr::Set(self.expressions, bounds.last))?;
@@ -175,7 +154,7 @@ impl<'a> Generator<'a> {
 
     /// The lines behind a turn, which lead to the loop's test, behind its first line at an address.
     fn loop_tail(&self, variable: u32, entry: u32, code: &mut Lines) -> Result<(), NoMemory>
-        ensures { OnOk result (Appends code.old code.new (spec.loop_back (context self.now) variable (entry + 1))) }
+        ensures { OnOk result (Appends code.old code.new (blocks.loop_back (context self.now) variable (entry + 1))) }
     {
         let head = entry.checked_add(1).ok_or(NoMemory)?;
         code.push(Instr::Set(self.expressions, 1))?;
@@ -193,10 +172,11 @@ impl<'a> Generator<'a> {
         turn: &[Stmt],
         code: &mut Lines,
     ) -> Result<(), NoMemory>
+        requires { IsReady self.now }
         ensures { let at = next_address code.old in
-            let block = spec.block_code (context self.now) level lock (at + 4) (block_of turn.now) in
+            let block = blocks.block_code (context self.now) level lock (at + 4) (block_of turn.now) in
             OnOk result (Appends code.old code.new
-            (spec.loop_code (context self.now) at bounds.now.variable bounds.now.first bounds.now.last block)) }
+            (blocks.loop_code (context self.now) at bounds.now.variable bounds.now.first bounds.now.last block)) }
     {
         let entry = code.next_address()?;
         self.loop_head(bounds, code)?;
@@ -212,11 +192,12 @@ impl<'a> Generator<'a> {
     /// A statement, at a static level, with a slot for the mask of the next section.
     #[cycle(block)]
     fn statement(&self, level: u8, lock: u32, stmt: &Stmt, code: &mut Lines) -> Result<(), NoMemory>
+        requires { IsReady self.now }
         ensures { OnOk result (Appends code.old code.new
-            (spec.statement_code (context self.now) level lock (next_address code.old) (statement_of stmt.now))) }
+            (blocks.statement_code (context self.now) level lock (next_address code.old) (statement_of stmt.now))) }
     {
         match stmt {
-            Stmt::Bind(variable, value) => self.bind(*variable, value, code),
+            Stmt::Bind(variable, value) => self.bind(level, *variable, value, code),
             Stmt::Assign(atom, expr, _at) => self.assign(*atom, expr, code),
             Stmt::Branch(test, first, second) => {
                 self.value(test, code)?;
@@ -238,7 +219,7 @@ impl<'a> Generator<'a> {
             Stmt::Locked(resource, inner, _at) => self.lock(level, lock, *resource, inner, code),
             Stmt::Emit(expr) => self.emit(expr, code),
             Stmt::Pend(irq) => code.push(Instr::Post(irq_number(self, *irq))),
-            Stmt::Call(_spawn) => Ok(()),
+            Stmt::Call(spawn) => self.send(level, spawn, code),
         }
     }
 
@@ -251,8 +232,9 @@ impl<'a> Generator<'a> {
         stmts: &[Stmt],
         code: &mut Lines,
     ) -> Result<(), NoMemory>
+        requires { IsReady self.now }
         ensures { OnOk result (Appends code.old code.new
-            (spec.block_code (context self.now) level lock (next_address code.old) (block_of stmts.now))) }
+            (blocks.block_code (context self.now) level lock (next_address code.old) (block_of stmts.now))) }
     {
         for stmt in stmts {
             self.statement(level, lock, stmt, code)?;

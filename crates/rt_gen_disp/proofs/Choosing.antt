@@ -1,5 +1,5 @@
 -- The task of the oldest message is looked for among the tasks of its level, and its message is run.
-use Rattle.std.proofs.Common.{◌≡◌, ℕ, zero, suc, ◌+◌, ◌-◌, ◌*◌, ◌<◌, ◌≤◌, ◌==◌, nat_le, Bool, true, false, Some}
+use Rattle.std.proofs.Common.{◌≡◌, ℕ, zero, suc, ◌+◌, ◌-◌, ◌*◌, ◌<◌, ◌≤◌, ◌==◌, Bool, true, false, Some}
 use Rattle.std.proofs.Common.{Option, option_map, List, [], ◌∷◌, ◌++◌, length, map, filter, slice_get, slice_index}
 use Rattle.std.proofs.Common.{Contains, refl, ap, sym, ◌∙◌, subst, arith, if◌then◌else◌, find, unwrap_or}
 use Rattle.std.specs.Prelude.{count_by, cond}
@@ -12,57 +12,48 @@ use Rattle.rt_lemmas.proofs.Bools.{and_left, and_right}
 use Rattle.rt_lemmas.proofs.Lists.{AreFrom, first_from, rest_from}
 use Rattle.rt_lemmas.proofs.Membership.{all_at}
 use Rattle.rt_ids.specs.Lists.{greatest, or_zero}
-use Rattle.rt_ids.specs.Priority.{hardware}
 use Rattle.rt_ids.specs.Operation.{number_of}
 use Rattle.rt_ids.specs.Holder.{Holder, Guarded}
 use Rattle.rt_ids.specs.Content.{Messages, Message, Values}
 use Rattle.rt_ids.specs.Entry.{Entry}
-use Rattle.rt_ids.specs.Storage.{AtLevel}
 use Rattle.rt_ids.specs.declared.ids.Section.TheVariants as section
 use Rattle.rt_ids.specs.declared.op.Op.TheVariants as op
 use Rattle.rt_ids.proofs.Greatest.{greatest_has}
 use Rattle.rt_app.specs.Tree.{Task, App}
 use Rattle.rt_app.specs.Level.{is_software, is_of_level, levels}
-use Rattle.rt_app.specs.Ceiling.{ceiling}
 use Rattle.rt_app.specs.BodyCost.{cost_measure, body_cost}
 use Rattle.rt_app.specs.Layout.{inputs_at}
 use Rattle.rt_app.specs.Limits.{KeepsTaskLimits}
-use Rattle.rt_app.specs.Holding.{SpellsReady, message_at, arguments_of, storage}
+use Rattle.rt_app.specs.Holding.{SpellsReady, message_at, arguments_of}
 use Rattle.rt_app.specs.Sending.{capacity_of}
 use Rattle.rt_app.specs.Doings.{start_doing}
 use Rattle.rt_app.specs.Accepted.{IsAccepted}
-use Rattle.rt_app.proofs.LaidQueues.{capacity_is}
+use Rattle.rt_app.proofs.Spelling.{the_task}
+use Rattle.rt_app.proofs.LaidQueues.{capacity_is, input_is_home}
 use Rattle.rt_code.specs.Tables.{arguments_in}
 use Rattle.rt_code.specs.declared.image.BodyRow.{BodyRow}
 use Rattle.rt_code.specs.declared.instr.Instr.TheVariants as instr
-use Rattle.rt_gen_disp.specs.Inside.Code.{Line, plain, kind_of, arguments_code, start_code, choice_code, choices_code}
-use Rattle.rt_gen_disp.specs.Dispatching.{HasCode, AreSpelled, CalledAtLevel, CalledBodyStands, CalledTaskStands}
-use Rattle.rt_gen_disp.specs.Dispatching.{row_for, rows_for}
+use Rattle.rt_gen_queue.specs.Line.{Line, plain, HasCode}
+use Rattle.rt_gen_queue.specs.Guards.{kind_at}
+use Rattle.rt_gen_queue.specs.Queue.{queue_at}
+use Rattle.rt_gen_queue.specs.Called.{AreSpelled, CalledAtLevel, CalledBodyStands, CalledTaskStands, row_for, rows_for}
+use Rattle.rt_gen_queue.proofs.Places.{IsPlaceOf}
+use Rattle.rt_gen_queue.proofs.Placing.{code_front, code_behind}
+use Rattle.rt_gen_queue.proofs.Spots.{Setting, Here}
+use Rattle.rt_gen_queue.proofs.Steps.{S}
+use Rattle.rt_gen_disp.specs.Code.{argument_lines, start_lines, choice_code, choices_code, called_at, next_for}
+use Rattle.rt_gen_disp.specs.Code.{last_from}
+use Rattle.rt_gen_disp.specs.declared.lines.Exit.{Exit}
+use Rattle.rt_gen_disp.proofs.Generated.{none_behind}
 use Rattle.rt_gen_disp.proofs.Sizes.{choice_long}
-use Rattle.rt_gen_disp.proofs.Spots.{Here, SavedApart, frame}
+use Rattle.rt_gen_disp.proofs.Spots.{dispatching, alone, SavedApart, frame}
 use Rattle.rt_gen_disp.proofs.Steps.{sets, calculates, goes_on, jumps_at_zero}
-use Rattle.rt_gen_disp.proofs.Stored.{kind_apart, input_home}
-use Rattle.rt_gen_disp.proofs.Rings.{IsPlaced}
+use Rattle.rt_gen_disp.proofs.Stored.{saved_apart}
 use Rattle.rt_gen_disp.proofs.Places.{entry_at}
 use Rattle.rt_gen_disp.proofs.Kept.{open_here}
 use Rattle.rt_gen_disp.proofs.Frames.{times}
 use Rattle.rt_gen_disp.proofs.Loading.{all_load}
-use Rattle.rt_gen_disp.proofs.Running.{T, open_ready, start_runs}
-
--- code in front of other code, and behind
-pub code_front : (code : List Line) (at : ℕ) (front behind : List Line) → HasCode code at (front ++ behind)
-    → HasCode code at front
-code_front code at [] behind has = tt
-code_front code at (line ∷ front) behind (first, rest) = (first, code_front code (suc at) front behind rest)
-
-pub code_behind : (code : List Line) (at to : ℕ) (front behind : List Line) → to ≡ at + length front
-    → HasCode code at (front ++ behind) → HasCode code to behind
-code_behind code at to [] behind e has =
-    let same : at ≡ to = omega arith in
-    subst (λ (a : ℕ). HasCode code a behind) same has
-code_behind code at to (line ∷ front) behind e (first, rest) =
-    let next : to ≡ suc at + length front = omega arith in
-    code_behind code (suc at) to front behind next rest
+use Rattle.rt_gen_disp.proofs.Running.{start_runs}
 
 -- the row of a software task by its number
 find_row : (entry : ℕ → ℕ) (n k : ℕ) (ts : List Task) (t : Task) → slice_get ts k ≡ Some t → is_software t ≡ true
@@ -109,13 +100,17 @@ arguments_known entry n ts t at software =
 module _ (app : App) (accepted : IsAccepted app) (p : ℕ) (level_is : Contains (levels app) p) (code : List Line)
     (entry : ℕ → ℕ) (thread cost : ℕ)
     (bodies_stand : (n : ℕ) (t : Task) → slice_get app.tasks n ≡ Some t → is_of_level p t ≡ true
-    → CalledBodyStands app n code (row_for entry n t)) where
+    → CalledBodyStands app n code (row_for entry n t)) (exit : Exit)
+    (last_is : exit.last ≡ last_from p 0 0 app.tasks) where
   abbrev rows : List BodyRow
   rows = rows_for entry 0 app.tasks
 
-  called_at : (n : ℕ) (t : Task) → slice_get app.tasks n ≡ Some t → is_of_level p t ≡ true
+  abbrev z : Setting
+  z = dispatching app p code rows thread
+
+  body_stands : (n : ℕ) (t : Task) → slice_get app.tasks n ≡ Some t → is_of_level p t ≡ true
       → CalledAtLevel app n p t code (row_for entry n t)
-  called_at n t at of =
+  body_stands n t at of =
       subst (λ (q : ℕ). CalledAtLevel app n q t code (row_for entry n t))
       (eqb-true t.priority p (and_right (is_software t) (t.priority == p) of))
       (subst (λ (o : Option Task). CalledTaskStands app n o code (row_for entry n t)) at (bodies_stand n t at of))
@@ -126,10 +121,9 @@ module _ (app : App) (accepted : IsAccepted app) (p : ℕ) (level_is : Contains 
 
   -- where the dispatcher is once it has taken the oldest message off the queue
   abbrev pub chosen : (k deadline a b c d w i x task place e f g kept r at : ℕ) → List ℕ → (Holder → List Entry)
-      → Values
-      → List Entry → Here
+      → Values → List Entry → Here
   chosen k deadline a b c d w i x task place e f g kept r at cells queues vs es = record {
-    held = open_ready app accepted p code rows thread cost;
+    held = alone app p (section.Ready p);
     done = k;
     deadlines = deadline ∷ cost ∷ [];
     places = [];
@@ -149,24 +143,22 @@ module _ (app : App) (accepted : IsAccepted app) (p : ℕ) (level_is : Contains 
       pub content : vs (Guarded (section.Ready p))
           ≡ Messages (map (message_at app (slice_index cells)) (entry_at task place ∷ es))
       pub ready : SpellsReady app (slice_index cells) p es (Messages (map (message_at app (slice_index cells)) es))
-      pub placed : IsPlaced app p (entry_at task place)
+      pub placed : IsPlaceOf app p (entry_at task place)
 
-  apart : SavedApart (open_ready app accepted p code rows thread cost)
-  apart = kind_apart (section.Ready p) (nat_le (ceiling app (section.Ready p)) p)
-      (hardware app.bits (ceiling app (section.Ready p)) == 0)
+  apart : SavedApart (alone app p (section.Ready p))
+  apart = saved_apart app p (section.Ready p)
 
   -- the code of the task of the message
   task_runs : (n row : ℕ) (t : Task) (m k deadline a b c d w i x place e f g kept r at from : ℕ) (cells : List ℕ)
       (queues : Holder → List Entry) (vs : Values) (es : List Entry)
       → slice_get app.tasks n ≡ Some t → is_of_level p t ≡ true → slice_get rows row ≡ Some (row_for entry n t)
       → k + m ≡ cost → 18 + most ≤ m → k + 10 ≤ deadline → from ≡ at + (2 + t.args)
-      → HasCode code at (arguments_code app p n t.args ++ start_code app p from n row)
+      → HasCode code at (plain (instr.Set 7 t.args) ∷ plain (instr.Calc op.Mul 7 9 7)
+      ∷ (argument_lines (inputs_at app n) t.args ++ start_lines (queue_at app p) (called_at app n row t) from))
       → Known n place cells queues vs es
-      → T app accepted p code rows thread cost m
-      (chosen k deadline a b c d w i x n place e f g kept r at cells queues vs es)
+      → S z m (chosen k deadline a b c d w i x n place e f g kept r at cells queues vs es)
   task_runs n row t m k deadline a b c d w i x place e f g kept r at from cells queues vs es at_task of there fuel
-      enough
-      in_time from_is has known =
+      enough in_time from_is has known =
       let fin : ℕ = m - 2 in
       let m_is : suc (suc fin) ≡ m = omega arith in
       let limits : KeepsTaskLimits t = all_at KeepsTaskLimits app.tasks n t accepted.limits.tasks at_task in
@@ -198,30 +190,26 @@ module _ (app : App) (accepted : IsAccepted app) (p : ℕ) (level_is : Contains 
       let h : Here = record (chosen k deadline a b c d w i x n place e f g kept r at cells queues vs es) {
         rest = start_doing app p (record { task = n; args = args } ∷ others) vs;
       } in
-      subst (λ rest. T app accepted p code rows thread cost m
-      (record h { rest = rest })) (sym rest_is)
-      (subst (λ (m : ℕ). T app accepted p code rows thread cost m h) m_is
-      (sets (storage app) code rows thread (AtLevel p) (suc fin) h 7 t.args has.0 (omega arith, (omega arith, tt)) refl
-      refl
-      apart
-      (calculates (storage app) code rows thread (AtLevel p) fin
+      subst (λ rest. S z m (record h { rest = rest })) (sym rest_is)
+      (subst (λ (m : ℕ). S z m h) m_is
+      (sets z (suc fin) h 7 t.args has.0 (omega arith, (omega arith, tt)) refl refl apart
+      (calculates z fin
       (record h { done = suc k; at = suc at; slots = frame a b c d w (length es) i t.args 1 place n e f g kept r })
       op.Mul 7 9 7 (place * t.args) has.1.0 (omega arith, (omega arith, tt)) refl refl refl refl apart
       (times place t.args below few)
-      (all_load app p code rows thread n place (section.Ready p) (open_ready app accepted p code rows thread cost)
-      deadline
-      cost cells queues h.rest es apart (open_here (section.Ready p) (kind_of app p (section.Ready p))) known.queue
-      known.spelled.long w (length es) i 1 place n e f g r kept t.args (place * t.args) first fin (suc (suc k))
-      (suc (suc at)) (start_code app p from n row) a b c d few refl
-      (λ j small. input_home app n t at_task software place j less small) has.1.1 (omega arith) (omega arith)
+      (all_load z n place (section.Ready p) (alone app p (section.Ready p)) deadline cost cells queues h.rest es apart
+      (open_here app p (section.Ready p) (kind_at app (section.Ready p) p 14)) known.queue known.spelled.long w
+      (length es) i 1 place n e f g r kept t.args (place * t.args) first fin (suc (suc k)) (suc (suc at))
+      (start_lines (queue_at app p) (called_at app n row t) from) a b c d few refl
+      (λ j small. input_is_home app n t at_task software place j less small) has.1.1 (omega arith) (omega arith)
       (omega arith)
       (λ left to a2 b2 c2 d2 left_is to_is behind shown.
       let to_from : from ≡ to = omega arith in
-      start_runs app accepted p code rows thread cost n t at_task of row entry there (called_at n t at_task of)
+      start_runs app accepted p code rows thread cost n t at_task of row entry there (body_stands n t at_task of)
       a2 b2 c2 d2 w i (place * t.args) place n e f g r args level_is
       (arguments_known entry n app.tasks t at_task software) left (suc (suc k) + t.args) deadline kept to cells queues
       vs es (omega arith) (omega arith) (omega arith) less
-      (subst (λ (o : ℕ). HasCode code to (start_code app p o n row)) to_from behind)
+      (subst (λ (o : ℕ). HasCode code to (start_lines (queue_at app p) (called_at app n row t) o)) to_from behind)
       (λ y z v. shown y z v) known.spelled known.queue content known.ready)))))
 
   not_first : (task n j : ℕ) → task ≡ n + j → (task == n) ≡ false → (i : ℕ) × (j ≡ suc i)
@@ -230,44 +218,34 @@ module _ (app : App) (accepted : IsAccepted app) (p : ℕ) (level_is : Contains 
   not_first task n (suc i) is differs = (i, refl)
 
   -- whether the message is of a task
-  compared : (z : Bool) (n next task place m k deadline a b c d w i x e f g kept r at : ℕ) (cells : List ℕ)
-      (queues : Holder → List Entry) (vs : Values) (es : List Entry) → (task == n) ≡ z
+  compared : (y : Bool) (n next task place m k deadline a b c d w i x e f g kept r at : ℕ) (cells : List ℕ)
+      (queues : Holder → List Entry) (vs : Values) (es : List Entry) → (task == n) ≡ y
       → slice_get code at ≡ Some (plain (instr.Set 7 n)) → slice_get code (suc at) ≡ Some
       (plain (instr.Calc op.Eq 7 10 7))
       → slice_get code (suc (suc at)) ≡ Some (plain (instr.JumpZ 7 next)) → k + 3 ≤ deadline → k + 3 ≤ cost
-      → T app accepted p code rows thread cost m
-      (chosen (suc (suc (suc k))) deadline a b c d w i (number_of z) task place e f g kept r
-      (if z then suc (suc (suc at)) else next) cells queues vs es)
-      → T app accepted p code rows thread cost (suc (suc (suc m)))
-      (chosen k deadline a b c d w i x task place e f g kept r at cells queues vs es)
-  compared z n next task place m k deadline a b c d w i x e f g kept r at cells queues vs es test set equal jump in_time
+      → S z m (chosen (suc (suc (suc k))) deadline a b c d w i (number_of y) task place e f g kept r
+      (if y then suc (suc (suc at)) else next) cells queues vs es)
+      → S z (suc (suc (suc m))) (chosen k deadline a b c d w i x task place e f g kept r at cells queues vs es)
+  compared y n next task place m k deadline a b c d w i x e f g kept r at cells queues vs es test set equal jump in_time
       in_cost stands =
-      let h : ℕ → ℕ → ℕ → Here = λ k x at. chosen k deadline a b c d w i x task place e f g kept r at cells queues vs
-      es in
-      sets (storage app) code rows thread (AtLevel p) (suc (suc m)) (h k x at) 7 n set (omega arith, (omega arith, tt))
-      refl
-      refl apart
-      (calculates (storage app) code rows thread (AtLevel p) (suc m) (h (suc k) n (suc at)) op.Eq 7 10 7 (number_of z)
-      equal
-      (omega arith, (omega arith, tt)) refl refl refl refl apart (ap number_of test)
-      (jumped z stands))
+      let h : ℕ → ℕ → ℕ → Here =
+      λ k x at. chosen k deadline a b c d w i x task place e f g kept r at cells queues vs es in
+      sets z (suc (suc m)) (h k x at) 7 n set (omega arith, (omega arith, tt)) refl refl apart
+      (calculates z (suc m) (h (suc k) n (suc at)) op.Eq 7 10 7 (number_of y) equal (omega arith, (omega arith, tt))
+      refl refl refl refl apart (ap number_of test) (jumped y stands))
     where
-      jumped : (z : Bool) → T app accepted p code rows thread cost m
-          (chosen (suc (suc (suc k))) deadline a b c d w i (number_of z) task place e f g kept r
-          (if z then suc (suc (suc at)) else next) cells queues vs es)
-          → T app accepted p code rows thread cost (suc m)
-          (chosen (suc (suc k)) deadline a b c d w i (number_of z) task place e f g kept r (suc (suc at)) cells queues
-          vs es)
+      jumped : (y : Bool) → S z m (chosen (suc (suc (suc k))) deadline a b c d w i (number_of y) task place e f g kept
+          r (if y then suc (suc (suc at)) else next) cells queues vs es)
+          → S z (suc m) (chosen (suc (suc k)) deadline a b c d w i (number_of y) task place e f g kept r
+          (suc (suc at)) cells queues vs es)
       jumped true stands =
-          goes_on (storage app) code rows thread (AtLevel p) m
+          goes_on z m
           (chosen (suc (suc k)) deadline a b c d w i 1 task place e f g kept r (suc (suc at)) cells queues vs es) 7 next
-          jump
-          (omega arith, (omega arith, tt)) refl refl stands
+          jump (omega arith, (omega arith, tt)) refl refl stands
       jumped false stands =
-          jumps_at_zero (storage app) code rows thread (AtLevel p) m
+          jumps_at_zero z m
           (chosen (suc (suc k)) deadline a b c d w i 0 task place e f g kept r (suc (suc at)) cells queues vs es) 7 next
-          next
-          jump (omega arith, (omega arith, tt)) refl refl refl stands
+          next jump (omega arith, (omega arith, tt)) refl refl refl stands
 
   -- the tasks that are left, among which the message's is
   abbrev pub ChoicesRun : List Task → Type 0
@@ -278,10 +256,9 @@ module _ (app : App) (accepted : IsAccepted app) (p : ℕ) (level_is : Contains 
       → task ≡ n + j → slice_get ts j ≡ Some t → is_of_level p t ≡ true
       → k + m ≡ cost → 3 * count_by (is_of_level p) ts + (18 + most) ≤ m
       → k + 3 * count_by (is_of_level p) ts + 10 ≤ deadline
-      → HasCode code at (choices_code app p at n row ts)
+      → HasCode code at (choices_code app p exit at n row ts)
       → Known task place cells queues vs es
-      → T app accepted p code rows thread cost m
-      (chosen k deadline a b c d w i x task place e f g kept r at cells queues vs es)
+      → S z m (chosen k deadline a b c d w i x task place e f g kept r at cells queues vs es)
 
   more_tasks_run : (u : Task) (ts : List Task) → ChoicesRun ts
       → (n row task place j : ℕ) (t : Task) (m k deadline a b c d w i x e f g kept r at : ℕ)
@@ -290,13 +267,11 @@ module _ (app : App) (accepted : IsAccepted app) (p : ℕ) (level_is : Contains 
       → task ≡ n + j → slice_get (u ∷ ts) j ≡ Some t → is_of_level p t ≡ true
       → k + m ≡ cost → 3 * count_by (is_of_level p) (u ∷ ts) + (18 + most) ≤ m
       → k + 3 * count_by (is_of_level p) (u ∷ ts) + 10 ≤ deadline
-      → HasCode code at (choices_code app p at n row (u ∷ ts))
+      → HasCode code at (choices_code app p exit at n row (u ∷ ts))
       → Known task place cells queues vs es
-      → T app accepted p code rows thread cost m
-      (chosen k deadline a b c d w i x task place e f g kept r at cells queues vs es)
+      → S z m (chosen k deadline a b c d w i x task place e f g kept r at cells queues vs es)
   more_tasks_run u ts others n row task place j t m k deadline a b c d w i x e f g kept r at cells queues vs es
-      tasks_from
-      rows_from is there of fuel enough in_time has known =
+      tasks_from rows_from is there of fuel enough in_time has known =
       by_level (is_of_level p u) refl
     where
       counted : count_by (is_of_level p) (u ∷ ts) ≡ cond (is_of_level p u) 1 0 + count_by (is_of_level p) ts
@@ -311,19 +286,19 @@ module _ (app : App) (accepted : IsAccepted app) (p : ℕ) (level_is : Contains 
       state : ℕ → ℕ → ℕ → Here
       state k x at = chosen k deadline a b c d w i x task place e f g kept r at cells queues vs es
 
-      by_level : (b : Bool) → is_of_level p u ≡ b → T app accepted p code rows thread cost m (state k x at)
+      by_level : (b : Bool) → is_of_level p u ≡ b → S z m (state k x at)
       by_level false other =
-          let has_more : HasCode code at (choices_code app p at (n + 1) (if is_software u then row + 1 else row) ts) =
+          let has_more : HasCode code at
+          (choices_code app p exit at (n + 1) (if is_software u then row + 1 else row) ts) =
           subst (λ (z : Bool). HasCode code at (if z
-          then choice_code app p at n u.args row ++ choices_code app p (at + (17 + u.args)) (n + 1) (row + 1) ts
-          else choices_code app p at (n + 1) (if is_software u then row + 1 else row) ts)) other has in
+          then choice_code app p exit at n row u ++ choices_code app p exit (at + (17 + u.args)) (n + 1) (row + 1) ts
+          else choices_code app p exit at (n + 1) (if is_software u then row + 1 else row) ts)) other has in
           let one = behind_first j is there other in
           let next : task ≡ n + 1 + one.0 = omega (arith, one.1) in
           others (n + 1) (if is_software u then row + 1 else row) task place one.0 t m k deadline a b c d w i x e f g
           kept r at cells queues vs es more_tasks (rows_behind (is_software u) refl) next one.2 of fuel
           (omega (arith, counted, ap {B = ℕ} (λ z. cond z 1 0) other))
-          (omega (arith, counted, ap {B = ℕ} (λ z. cond z 1 0) other))
-          has_more known
+          (omega (arith, counted, ap {B = ℕ} (λ z. cond z 1 0) other)) has_more known
         where
           behind_first : (j : ℕ) → task ≡ n + j → slice_get (u ∷ ts) j ≡ Some t → is_of_level p u ≡ false
               → (i : ℕ) × (j ≡ suc i) × (slice_get ts i ≡ Some t)
@@ -352,16 +327,17 @@ module _ (app : App) (accepted : IsAccepted app) (p : ℕ) (level_is : Contains 
           m_is : suc (suc (suc fin)) ≡ m
           m_is = omega (arith, one_more)
 
-          has_choice : HasCode code at (choice_code app p at n u.args row
-              ++ choices_code app p (at + (17 + u.args)) (n + 1) (row + 1) ts)
+          has_choice : HasCode code at (choice_code app p exit at n row u
+              ++ choices_code app p exit (at + (17 + u.args)) (n + 1) (row + 1) ts)
           has_choice =
               subst (λ (z : Bool). HasCode code at (if z
-              then choice_code app p at n u.args row ++ choices_code app p (at + (17 + u.args)) (n + 1) (row + 1) ts
-              else choices_code app p at (n + 1) (if is_software u then row + 1 else row) ts)) level has
+              then choice_code app p exit at n row u
+              ++ choices_code app p exit (at + (17 + u.args)) (n + 1) (row + 1) ts
+              else choices_code app p exit at (n + 1) (if is_software u then row + 1 else row) ts)) level has
 
-          own : HasCode code at (choice_code app p at n u.args row)
-          own = code_front code at (choice_code app p at n u.args row)
-              (choices_code app p (at + (17 + u.args)) (n + 1) (row + 1) ts) has_choice
+          own : HasCode code at (choice_code app p exit at n row u)
+          own = code_front code at (choice_code app p exit at n row u)
+              (choices_code app p exit (at + (17 + u.args)) (n + 1) (row + 1) ts) has_choice
 
           software : is_software u ≡ true
           software = and_left (is_software u) (u.priority == p) level
@@ -371,17 +347,24 @@ module _ (app : App) (accepted : IsAccepted app) (p : ℕ) (level_is : Contains 
               subst (λ (z : Bool). AreFrom rows row ((if z then row_for entry n u ∷ [] else [])
               ++ rows_for entry (n + 1) ts)) software rows_from
 
-          by_test : (b : Bool) → (task == n) ≡ b → T app accepted p code rows thread cost m (state k x at)
+          -- the message's task is behind, so that this one is not the last
+          leads_behind : (i : ℕ) → task ≡ n + 1 + i → next_for exit n (at + (17 + u.args)) ≡ at + (17 + u.args)
+          leads_behind i further =
+              let own_task = the_task (is_of_level p) app task known.placed.0 in
+              let before = none_behind p 0 0 task app.tasks own_task.0 (omega arith) own_task.1 own_task.2 in
+              let less : n < exit.last = omega (arith, further, before, last_is) in
+              let other : (n == exit.last) ≡ false = grind (arith, nat_tests) in
+              ap (λ (b : Bool). if b then exit.address else at + (17 + u.args)) other
+
+          by_test : (b : Bool) → (task == n) ≡ b → S z m (state k x at)
           by_test true e1 =
               let same : n ≡ task = sym (eqb-true task n e1) in
-              subst (λ (m : ℕ). T app accepted p code rows thread cost m (state k x at)) m_is
-              (compared true n (at + (17 + u.args)) task place fin k deadline a b c d w i x e f g kept r at cells queues
-              vs es
-              e1 own.0 own.1.0 own.1.1.0 (omega (arith, one_more)) (omega (arith, one_more))
-              (subst (λ (y : ℕ). T app accepted p code rows thread cost fin
-              (chosen (suc (suc (suc k))) deadline a b c d w i 1 y place e f g kept r (suc (suc (suc at))) cells queues
-              vs es))
-              same
+              subst (λ (m : ℕ). S z m (state k x at)) m_is
+              (compared true n (next_for exit n (at + (17 + u.args))) task place fin k deadline a b c d w i x e f g kept
+              r at cells queues
+              vs es e1 own.0 own.1.0 own.1.1.0 (omega (arith, one_more)) (omega (arith, one_more))
+              (subst (λ (y : ℕ). S z fin (chosen (suc (suc (suc k))) deadline a b c d w i 1 y place e f g kept r
+              (suc (suc (suc at))) cells queues vs es)) same
               (task_runs n row u fin (suc (suc (suc k))) deadline a b c d w i 1 place e f g kept r (suc (suc (suc at)))
               (at + (5 + u.args)) cells queues vs es here level
               (first_from rows row (row_for entry n u) (rows_for entry (n + 1) ts) rows_are) (omega (arith, one_more))
@@ -392,22 +375,25 @@ module _ (app : App) (accepted : IsAccepted app) (p : ℕ) (level_is : Contains 
               let next : task ≡ n + 1 + one.0 = omega (arith, one.1) in
               let behind : slice_get ts one.0 ≡ Some t =
               subst (λ (y : ℕ). slice_get (u ∷ ts) y ≡ Some t) one.1 there in
-              subst (λ (m : ℕ). T app accepted p code rows thread cost m (state k x at)) m_is
-              (compared false n (at + (17 + u.args)) task place fin k deadline a b c d w i x e f g kept r at cells
-              queues vs es
-              e1 own.0 own.1.0 own.1.1.0 (omega (arith, one_more)) (omega (arith, one_more))
+              subst (λ (m : ℕ). S z m (state k x at)) m_is
+              (compared false n (next_for exit n (at + (17 + u.args))) task place fin k deadline a b c d w i x e f g
+              kept r at cells queues vs es e1 own.0 own.1.0 own.1.1.0 (omega (arith, one_more))
+              (omega (arith, one_more))
+              (subst (λ (to : ℕ). S z fin (state (suc (suc (suc k))) 0 to)) (sym (leads_behind one.0 next))
               (others (n + 1) (row + 1) task place one.0 t fin (suc (suc (suc k))) deadline a b c d w i 0 e f g kept r
               (at + (17 + u.args)) cells queues vs es more_tasks
               (rest_from rows row (row_for entry n u) (rows_for entry (n + 1) ts) rows_are) next behind of
               (omega (arith, one_more)) (omega (arith, one_more)) (omega (arith, one_more))
-              (code_behind code at (at + (17 + u.args)) (choice_code app p at n u.args row)
-              (choices_code app p (at + (17 + u.args)) (n + 1) (row + 1) ts)
-              (omega (arith, choice_long app p at n u.args row))
-              has_choice) known))
+              (code_behind code at (at + (17 + u.args)) (choice_code app p exit at n row u)
+              (choices_code app p exit (at + (17 + u.args)) (n + 1) (row + 1) ts)
+              (omega (
+                arith,
+                choice_long (queue_at app p) (called_at app n row u)
+                    (next_for exit n (at + (17 + u.args))) at,
+              )) has_choice) known)))
 
   pub choices_run : (ts : List Task) → ChoicesRun ts
   choices_run [] =
       λ n row task place j t m k deadline a b c d w i x e f g kept r at cells queues vs es tasks_from rows_from is there
-      of
-      fuel enough in_time has known. absurd (none-some t there)
+      of fuel enough in_time has known. absurd (none-some t there)
   choices_run (u ∷ ts) = more_tasks_run u ts (choices_run ts)

@@ -1,10 +1,9 @@
 -- Frames of called bodies, and small numbers: each case of up to four arguments by itself.
-use Rattle.std.proofs.Common.{◌≡◌, ℕ, zero, suc, ◌+◌, ◌-◌, ◌*◌, ◌/◌, ◌%◌, ◌^◌, ◌<◌, ◌≤◌, ◌==◌, nat_le, true, false}
+use Rattle.std.proofs.Common.{◌≡◌, ℕ, zero, suc, ◌+◌, ◌-◌, ◌*◌, ◌/◌, ◌%◌, ◌<◌, ◌≤◌, nat_le, true}
 use Rattle.std.proofs.Common.{List}
-use Rattle.std.proofs.Common.{◌++◌, length, take, drop, replicate, refl, ap, ◌∙◌, arith, if◌then◌else◌}
+use Rattle.std.proofs.Common.{◌++◌, length, take, drop, replicate, refl, ap, ◌∙◌, arith}
 use Rattle.std.proofs.lemmas.List.{length-replicate}
 use Rattle.std.proofs.lemmas.Bool.{le-leb}
-use Rattle.std.proofs.lemmas.Bool.Decides.{nat_tests}
 use Rattle.std.proofs.lemmas.Nat.{div-mul-add, mod-mul-add}
 use Rattle.rt_ids.specs.Operation.{operate}
 use Rattle.rt_ids.specs.declared.op.Op.TheVariants as op
@@ -70,17 +69,6 @@ pub words_enough : (args : ℕ) (b : Body) → args ≤ frame_words args b
 words_enough args b = omega arith
 
 -- what operations give on small numbers
-pub one_less : (m : ℕ) → suc m < 2 ^ 32 → operate op.Sub (suc m) 1 ≡ m
-one_less m small = omega arith
-
-pub one_more : (m : ℕ) → m + 1 < 2 ^ 32 → operate op.Add m 1 ≡ m + 1
-one_more m small = omega arith
-
-pub rest_of : (a b : ℕ) → 0 < b → operate op.Rem a b ≡ a % b
-rest_of a b some =
-    let e : (b == 0) ≡ false = grind (arith, nat_tests) in
-    ap (λ z. if z then a else a % b) e
-
 pub task_in : (task place : ℕ) → place < 16 → operate op.Div (16 * task + place) 16 ≡ task
 task_in task place less =
     let e : 16 * task + place ≡ task * 16 + place = omega arith in
@@ -98,6 +86,3 @@ times place (suc (suc zero)) less few = omega arith
 times place (suc (suc (suc zero))) less few = omega arith
 times place (suc (suc (suc (suc zero)))) less few = omega arith
 times place (suc (suc (suc (suc (suc args))))) less few = absurd (omega arith)
-
-pub next_number : (m : ℕ) → m < 2 ^ 16 → operate op.Add m 1 ≡ suc m
-next_number m small = omega arith

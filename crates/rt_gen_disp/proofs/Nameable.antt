@@ -1,63 +1,27 @@
 -- The lines of a dispatcher name only what the application declares.
-use Rattle.std.proofs.Common.{◌≡◌, ℕ, ◌+◌, ◌<◌, ◌==◌, nat_le, nat_lt, Bool, true, false, Option, Some, None, List, []}
-use Rattle.std.proofs.Common.{◌∷◌, ◌++◌, length, map, filter, slice_get, option_map, Contains, IsSome, refl, ap, sym}
-use Rattle.std.proofs.Common.{subst}
-use Rattle.std.proofs.Common.{◌∙◌, arith, if◌then◌else◌, eq-eqb}
+use Rattle.std.proofs.Common.{ℕ, ◌+◌, ◌<◌, Bool, true, false, List, []}
+use Rattle.std.proofs.Common.{◌∷◌, ◌++◌, length, map}
+use Rattle.std.proofs.Common.{arith, if◌then◌else◌}
 use Rattle.std.specs.List.{AllByRecursion, range_with_len}
 use Rattle.std.proofs.lemmas.List.{length-map}
 use Rattle.std.proofs.lemmas.Option.{slice_get_within}
-use Rattle.rt_lemmas.proofs.Lists.{AreFrom, all_from, first_from, rest_from, found, mapped_at}
-use Rattle.rt_lemmas.proofs.Membership.{all_append, all_at}
-use Rattle.rt_lemmas.proofs.Places.{there_is}
-use Rattle.rt_ids.specs.Lists.{or_zero, then_from}
-use Rattle.rt_ids.specs.Priority.{hardware}
-use Rattle.rt_ids.specs.declared.ids.Section.{Section}
+use Rattle.rt_lemmas.proofs.Lists.{AreFrom, all_from, first_from, rest_from}
+use Rattle.rt_lemmas.proofs.Membership.{all_append}
 use Rattle.rt_ids.specs.declared.ids.Section.TheVariants as section
-use Rattle.rt_app.specs.declared.app.Dispatcher.{Dispatcher}
 use Rattle.rt_app.specs.Tree.{Task, App}
-use Rattle.rt_app.specs.Level.{is_software, is_of_level, levels}
-use Rattle.rt_app.specs.Ceiling.{ceiling}
-use Rattle.rt_app.specs.Handlers.{dispatcher_of, irq_number}
+use Rattle.rt_app.specs.Level.{is_software, is_of_level}
 use Rattle.rt_app.specs.Names.{names_of}
 use Rattle.rt_app.specs.Sending.{dispatcher_number}
-use Rattle.rt_app.specs.Accepted.{IsAccepted}
-use Rattle.rt_app.proofs.Sound.{accepted_are_sound}
-use Rattle.rt_code.specs.Listable.{HasIrq, HasInstr, HasSection}
-use Rattle.rt_code.specs.Masking.{opening, closing}
+use Rattle.rt_code.specs.Listable.{HasIrq, HasInstr}
 use Rattle.rt_code.specs.declared.instr.Instr.{Instr}
-use Rattle.rt_gen_disp.specs.Inside.Code.{Line, plain, enter_line, leave_line, front_code, argument_line}
-use Rattle.rt_gen_disp.specs.Inside.Code.{start_code, choice_code, choices_code, dispatcher_code}
-use Rattle.rt_gen_disp.specs.Dispatching.{IsNameable}
-use Rattle.rt_gen_disp.proofs.Stored.{kind_by}
-
--- the interrupt of a declared one's number stands in the names
-number_named : (app : App) (i : ℕ) → i < length app.irqs → (k : ℕ) → or_zero (irq_number app i) ≡ k
-    → HasIrq (names_of app) k
-number_named app i within k is =
-    let one = there_is app.irqs i within in
-    let number : k ≡ one.0.number = sym is ∙ ap (λ o. or_zero (option_map (λ d. d.number) o)) one.1 in
-    let rows : List (List ℕ × ℕ) = map (λ d. (d.name, d.number)) app.irqs in
-    let there = found (λ irq. irq.1 == k) rows i (one.0.name, one.0.number)
-    (mapped_at (λ d. (d.name, d.number)) app.irqs i one.0 one.1) (eq-eqb one.0.number k (sym number)) in
-    subst IsSome (sym there.1) refl
-
--- and so does a level's
-pub dispatcher_named : (app : App) → IsAccepted app → (p : ℕ) → Contains (levels app) p
-    → HasIrq (names_of app) (dispatcher_number app p)
-dispatcher_named app accepted p level =
-    go (slice_get app.dispatchers place) refl ((accepted_are_sound app accepted).dispatched p level)
-  where
-    place : ℕ
-    place = length (filter (nat_lt p) (levels app))
-
-    go : (o : Option Dispatcher) → slice_get app.dispatchers place ≡ o → IsSome (dispatcher_of app p)
-        → HasIrq (names_of app) (dispatcher_number app p)
-    go None is some = absurd (cc (ap (option_map (λ (d : Dispatcher). d.irq)) is, some))
-    go (Some d) is some =
-        let within : d.irq < length app.irqs =
-        all_at (λ d. d.irq < length app.irqs) app.dispatchers place d accepted.dispatchers is in
-        number_named app d.irq within (dispatcher_number app p)
-        (sym (ap (λ o. or_zero (then_from (option_map (λ (d : Dispatcher). d.irq) o) (irq_number app))) is))
+use Rattle.rt_code.specs.declared.instr.Instr.TheVariants as instr
+use Rattle.rt_gen_queue.specs.Line.{Line, plain, IsNameable}
+use Rattle.rt_gen_queue.specs.Queue.{queue_at}
+use Rattle.rt_gen_queue.proofs.Masks.{enter_named, leave_named}
+use Rattle.rt_gen_disp.specs.declared.called.Called.{Called}
+use Rattle.rt_gen_disp.specs.Code.{test_lines, argument_lines, front_lines, start_lines, choice_lines, choice_code}
+use Rattle.rt_gen_disp.specs.Code.{choices_code, called_at, dispatcher_code, exit_of, next_for}
+use Rattle.rt_gen_disp.specs.declared.lines.Exit.{Exit}
 
 module _ (app : App) (p : ℕ) where
   abbrev AreNamed : List Line → Type 0
@@ -67,47 +31,24 @@ module _ (app : App) (p : ℕ) where
   simple : (i : Instr) → HasInstr (names_of app) i → IsNameable (names_of app) (plain i)
   simple i has = record { instr = has; note = tt }
 
-  opening_named : (low all : Bool) (value : ℕ) → HasInstr (names_of app) (opening value (kind_by low all))
-  opening_named true all value = tt
-  opening_named false true value = tt
-  opening_named false false value = tt
-
-  closing_named : (low all : Bool) → HasInstr (names_of app) (closing (kind_by low all))
-  closing_named true all = tt
-  closing_named false true = tt
-  closing_named false false = tt
-
-  enter_named : (x : Section) → HasSection (names_of app) x → IsNameable (names_of app) (enter_line app p x)
-  enter_named x has = record {
-    instr =
-        opening_named (nat_le (ceiling app x) p) (hardware app.bits (ceiling app x) == 0)
-        (hardware app.bits (ceiling app x));
-    note = has;
-  }
-
-  leave_named : (x : Section) → HasSection (names_of app) x → IsNameable (names_of app) (leave_line app p x)
-  leave_named x has = record {
-    instr = closing_named (nat_le (ceiling app x) p) (hardware app.bits (ceiling app x) == 0);
-    note = has;
-  }
-
-  arguments_named : (n : ℕ) (js : List ℕ) → AreNamed (map (argument_line app p n) js)
-  arguments_named n [] = tt
-  arguments_named n (j ∷ js) = (record { instr = tt; note = tt }, arguments_named n js)
+  arguments_named : (inputs : ℕ) (js : List ℕ) → AreNamed (map (λ j. plain (instr.LoadAt j (inputs + j) 7)) js)
+  arguments_named inputs [] = tt
+  arguments_named inputs (j ∷ js) = (record { instr = tt; note = tt }, arguments_named inputs js)
 
   module _ (irq : HasIrq (names_of app) (dispatcher_number app p)) where
-    start_named : (at n row : ℕ) → n < length app.tasks → AreNamed (start_code app p at n row)
-    start_named at n row there =
-        let has : n < length (names_of app).tasks = omega (arith, length-map app.tasks (λ (t : Task). t.name)) in (
+    start_named : (c : Called) (at : ℕ) → c.task < length app.tasks → AreNamed (start_lines (queue_at app p) c at)
+    start_named c at there =
+        let has : c.task < length (names_of app).tasks = omega (arith, length-map app.tasks (λ (t : Task). t.name)) in
+        let closed = leave_named (names_of app) (section.Free c.task) c.guard p 14 has in (
           record { instr = tt; note = has },
           (
             simple _ tt,
             (
               simple _ irq,
               (
-                leave_named (section.Ready p) tt,
+                leave_named (names_of app) (section.Ready p) (queue_at app p).guard p 14 tt,
                 (
-                  enter_named (section.Free n) has,
+                  enter_named (names_of app) (section.Free c.task) c.guard p 14 has,
                   (
                     simple _ tt,
                     (
@@ -116,7 +57,7 @@ module _ (app : App) (p : ℕ) where
                         simple _ tt,
                         (
                           record { instr = tt; note = has },
-                          (leave_named (section.Free n) has, (simple _ tt, (simple _ tt, tt))),
+                          (closed, (simple _ tt, (simple _ tt, tt))),
                         ),
                       ),
                     ),
@@ -127,43 +68,35 @@ module _ (app : App) (p : ℕ) where
           ),
         )
 
-    choices_named : (ts : List Task) (at n row : ℕ) → AreFrom app.tasks n ts → AreNamed (choices_code app p at n row ts)
-    choices_named [] at n row from = tt
-    choices_named (t ∷ ts) at n row from =
-        by_level (is_of_level p t) (λ at row. choices_named ts at (n + 1) row (rest_from app.tasks n t ts from))
+    choices_named : (exit : Exit) (ts : List Task) (at n row : ℕ) → AreFrom app.tasks n ts
+        → AreNamed (choices_code app p exit at n row ts)
+    choices_named exit [] at n row from = tt
+    choices_named exit (t ∷ ts) at n row from =
+        by_level (is_of_level p t) (λ at row. choices_named exit ts at (n + 1) row (rest_from app.tasks n t ts from))
       where
         there : n < length app.tasks
         there = slice_get_within app.tasks n t (first_from app.tasks n t ts from)
 
-        by_level : (b : Bool) → ((at row : ℕ) → AreNamed (choices_code app p at (n + 1) row ts)) → AreNamed (if b
-            then choice_code app p at n t.args row ++ choices_code app p (at + (17 + t.args)) (n + 1) (row + 1) ts
-            else choices_code app p at (n + 1) (if is_software t then row + 1 else row) ts)
+        by_level : (b : Bool) → ((at row : ℕ) → AreNamed (choices_code app p exit at (n + 1) row ts)) → AreNamed (if b
+            then choice_code app p exit at n row t ++ choices_code app p exit (at + (17 + t.args)) (n + 1) (row + 1) ts
+            else choices_code app p exit at (n + 1) (if is_software t then row + 1 else row) ts)
         by_level true others =
-            all_append (IsNameable (names_of app)) (choice_code app p at n t.args row)
-            (choices_code app p (at + (17 + t.args)) (n + 1) (row + 1) ts) (
-              simple _ tt,
-              (
-                simple _ tt,
-                (
-                  simple _ tt,
-                  (
-                    simple _ tt,
-                    (
-                      simple _ tt,
-                      all_append (IsNameable (names_of app)) (map (argument_line app p n) (range_with_len 0 t.args))
-                          (start_code app p (at + (5 + t.args)) n row) (arguments_named n (range_with_len 0 t.args))
-                          (start_named (at + (5 + t.args)) n row there),
-                    ),
-                  ),
-                ),
-              ),
-            )
+            let own : Called = called_at app n row t in
+            let loads : List Line = argument_lines own.inputs own.args in
+            let start : List Line = start_lines (queue_at app p) own (at + (5 + t.args)) in
+            let next : ℕ = next_for exit n (at + (17 + t.args)) in
+            all_append (IsNameable (names_of app)) (choice_lines (queue_at app p) own next at)
+            (choices_code app p exit (at + (17 + t.args)) (n + 1) (row + 1) ts)
+            (all_append (IsNameable (names_of app)) (test_lines own next) (loads ++ start)
+            (simple _ tt, (simple _ tt, (simple _ tt, (simple _ tt, (simple _ tt, tt)))))
+            (all_append (IsNameable (names_of app)) loads start
+            (arguments_named own.inputs (range_with_len 0 t.args)) (start_named own (at + (5 + t.args)) there)))
             (others (at + (17 + t.args)) (row + 1))
         by_level false others = others at (if is_software t then row + 1 else row)
 
-    front_named : (at : ℕ) → AreNamed (front_code app p at)
+    front_named : (at : ℕ) → AreNamed (front_lines (queue_at app p) at)
     front_named at = (
-      enter_named (section.Ready p) tt,
+      enter_named (names_of app) (section.Ready p) (queue_at app p).guard p 14 tt,
       (
         simple _ tt,
         (
@@ -171,7 +104,7 @@ module _ (app : App) (p : ℕ) where
           (
             simple _ tt,
             (
-              leave_named (section.Ready p) tt,
+              leave_named (names_of app) (section.Ready p) (queue_at app p).guard p 14 tt,
               (
                 simple _ tt,
                 (
@@ -205,5 +138,6 @@ module _ (app : App) (p : ℕ) where
 
     pub dispatcher_lines_named : (at : ℕ) → AreNamed (dispatcher_code app p at)
     dispatcher_lines_named at =
-        all_append (IsNameable (names_of app)) (front_code app p at) (choices_code app p (at + 18) 0 0 app.tasks)
-        (front_named at) (choices_named app.tasks (at + 18) 0 0 (all_from app.tasks))
+        all_append (IsNameable (names_of app)) (front_lines (queue_at app p) at)
+        (choices_code app p (exit_of app p at) (at + 18) 0 0 app.tasks) (front_named at)
+        (choices_named (exit_of app p at) app.tasks (at + 18) 0 0 (all_from app.tasks))

@@ -1,63 +1,34 @@
--- Where a job is while it runs the code of a dispatcher, by deadlines: after so many steps of its own it has to each
--- deadline what is left.
-use Rattle.std.proofs.Common.{◌≡◌, ◌≢◌, ℕ, zero, suc, ◌-◌, ◌<◌, ◌≤◌, nat_lt, true, None, List, [], ◌∷◌}
-use Rattle.std.proofs.Common.{map, length, slice_index, slice_set, refl, ap, ◌∙◌, arith}
+-- Where a job is while it runs the code of a dispatcher: at its level, in a frame of its own with sixteen slots, of
+-- which one may keep what the mask was.
+use Rattle.std.proofs.Common.{◌≡◌, ◌≢◌, ℕ, zero, suc, ◌<◌, nat_lt, true, None, List, [], ◌∷◌}
+use Rattle.std.proofs.Common.{length, slice_index, slice_set, arith}
 use Rattle.std.proofs.Common.{get_or-set_other}
 use Rattle.std.proofs.lemmas.Bool.{ltb-true}
 use Rattle.std.specs.List.{AllByRecursion}
-use Rattle.rt_ids.specs.Holder.{Holder}
-use Rattle.rt_ids.specs.Content.{Values}
-use Rattle.rt_ids.specs.Entry.{Entry}
-use Rattle.rt_ids.specs.Doing.{Doing}
-use Rattle.rt_code.specs.Owning.{Held, Spot, saved_slots}
-use Rattle.rt_code.specs.Standing.{HaveLeft, KeepsSaved}
+use Rattle.rt_ids.specs.Storage.{AtLevel}
+use Rattle.rt_ids.specs.declared.ids.Section.{Section}
+use Rattle.rt_app.specs.Tree.{App}
+use Rattle.rt_code.specs.Owning.{Held, saved_slots}
+use Rattle.rt_code.specs.Standing.{KeepsSaved}
+use Rattle.rt_code.specs.declared.image.BodyRow.{BodyRow}
+use Rattle.rt_gen_queue.specs.Line.{Line}
+use Rattle.rt_gen_queue.specs.Guards.{kind_at}
+use Rattle.rt_gen_queue.proofs.Spots.{Setting}
 
--- what is left to each deadline
-abbrev pub left_at : ℕ → List ℕ → List ℕ
-left_at k deadlines = map (λ d. d - k) deadlines
-
-pub left_passed : (k : ℕ) (deadlines : List ℕ) → map (λ n. n - 1) (left_at k deadlines) ≡ left_at (suc k) deadlines
-left_passed k [] = refl
-left_passed k (d ∷ deadlines) =
-    let e : (d - k) - 1 ≡ d - suc k = omega arith in
-    ap (λ n. n ∷ map (λ m. m - 1) (left_at k deadlines)) e ∙ ap (λ ns. (d - suc k) ∷ ns) (left_passed k deadlines)
-
--- so many steps are within each deadline
-abbrev pub Lasts : ℕ → List ℕ → Type 0
-Lasts k deadlines = AllByRecursion (λ d. k ≤ d) deadlines
-
-pub lasts_less : (j k : ℕ) (deadlines : List ℕ) → j ≤ k → Lasts k deadlines → Lasts j deadlines
-lasts_less j k [] less lasts = tt
-lasts_less j k (d ∷ deadlines) less (first, rest) = (omega arith, lasts_less j k deadlines less rest)
-
-pub has_left : (k : ℕ) (deadlines : List ℕ) → Lasts (suc k) deadlines → HaveLeft (left_at k deadlines)
-has_left k [] lasts = tt
-has_left k (d ∷ deadlines) (first, rest) = (omega arith, has_left k deadlines rest)
-
--- what a job's spot has in a dispatcher's own frame, with the steps done and the deadlines in place of what is left
-pub record Here : Type 0 where
-  pub held : List Held
-  pub done : ℕ
-  pub deadlines : List ℕ
-  pub places : List Entry
-  pub slots : List ℕ
-  pub at : ℕ
-  pub cells : List ℕ
-  pub queues : Holder → List Entry
-  pub rest : Doing Values
-
-abbrev pub spot : Here → Spot
-spot h = record {
-  held = h.held;
-  lefts = left_at h.done h.deadlines;
-  places = h.places;
-  slots = h.slots;
+-- code for the dispatcher of a level
+abbrev pub dispatching : App → ℕ → List Line → List BodyRow → ℕ → Setting
+dispatching app p code bodies thread = record {
+  app = app;
+  code = code;
+  bodies = bodies;
+  thread = thread;
+  who = AtLevel p;
   caller = None;
-  address = h.at;
-  cells = h.cells;
-  queues = h.queues;
-  rest = h.rest;
 }
+
+-- a section, open alone
+abbrev pub alone : App → ℕ → Section → List Held
+alone app p x = record { section = x; kind = kind_at app x p 14 } ∷ []
 
 -- what masks were is kept in the slot 14 alone
 abbrev pub SavedApart : List Held → Type 0
@@ -74,13 +45,6 @@ kept_all (e ∷ saved) slots d v below (first, rest) =
 pub kept_below : (held : List Held) (slots : List ℕ) (d v : ℕ) → nat_lt d 14 ≡ true → SavedApart held
     → KeepsSaved held slots (slice_set slots d v)
 kept_below held slots d v below apart = kept_all (saved_slots held) slots d v (ltb-true d 14 below) apart
-
-same_all : (saved slots : List ℕ) → AllByRecursion (λ e. slice_index slots e ≡ slice_index slots e) saved
-same_all [] slots = tt
-same_all (e ∷ saved) slots = (refl, same_all saved slots)
-
-pub kept_same : (held : List Held) (slots : List ℕ) → KeepsSaved held slots slots
-kept_same held slots = same_all (saved_slots held) slots
 
 -- a frame of a dispatcher
 abbrev pub frame : (a b c d e f g h i j k l m n o p : ℕ) → List ℕ

@@ -1,61 +1,64 @@
-ghost use Rattle.std.specs.Prelude.{◌≡◌, ℕ, slice_index, slice_get, Some, true};
+ghost use Rattle.std.specs.Prelude.{◌≡◌, ◌<◌, ◌≤◌, slice_get, Some, true};
 ghost use Rattle.rt_app.specs.Accepted.{IsAccepted};
 ghost use Rattle.rt_app.specs.Level as spec;
 ghost use Rattle.rt_app.specs.Plan.{IsPlan};
 ghost use Rattle.rt_app.specs.View.{task_of, app_of};
-ghost use Rattle.rt_gen_disp.specs.Inside.Generating.{IsCalledOf};
+ghost use Rattle.rt_gen_disp.specs.Code.{called_at};
 
 use rt_app::{Plan, Task};
+use rt_gen_queue::Guard;
+use rt_gen_queue::queue::cell_at;
+use rt_gen_queue::target::free_ceiling;
+use rt_ids::TaskId;
 
 /// A task whose body a dispatcher calls.
 #[derive(Clone, Copy, Debug)]
-pub(crate) struct Called {
-    pub(crate) number: u8,
+pub struct Called {
+    pub task: TaskId,
     /// Its row among the bodies of software tasks.
-    pub(crate) row: u32,
-    pub(crate) args: u8,
-    /// The cell of its first argument.
-    pub(crate) inputs: u16,
-    /// The cell of how many of its places are free.
-    pub(crate) free: u16,
-    /// The ceiling of the section of its free places.
-    pub(crate) ceiling: u8,
+    pub row: u32,
+    /// How many arguments it takes.
+    pub args: u8,
+    /// The first cell of its free places: how many there are, before the places.
+    pub free: u16,
+    /// The first cell of the arguments of its places.
+    pub inputs: u32,
+    /// How the section of its free places masks.
+    pub guard: Guard,
 }
 
-/// The cell at a place among cells, 0 where there is none.
-pub(crate) fn cell_at(cells: &[u16], place: usize) -> u16
-    ensures { result ≡ slice_index cells.now place }
+/// Whether a task binds no interrupt.
+pub(crate) fn is_software(task: &Task) -> bool
+    ensures { result ≡ spec.is_software (task_of task.now) }
 {
-    match cells.get(place) {
-        Some(cell) => *cell,
-        None => 0,
-    }
+    task.binds.is_none()
 }
 
-/// The ceiling at a place among ceilings, 0 where there is none.
-fn ceiling_at(ceilings: &[Option<u8>], place: usize) -> u8
-    ensures { (ceiling : ℕ) → slice_get ceilings.now place ≡ Some (Some ceiling) → result ≡ ceiling }
+/// Whether a task is a software task of this level.
+pub(crate) fn is_of_level(task: &Task, level: u8) -> bool
+    ensures { result ≡ spec.is_of_level level (task_of task.now) }
 {
-    match ceilings.get(place) {
-        Some(Some(ceiling)) => *ceiling,
-        _ => 0,
-    }
+    is_software(task) && task.priority == level
 }
 
-/// The task at a place, whose body has this row.
+/// The software task of a number, whose body has this row.
 pub(crate) fn called_of(plan: &Plan<'_>, number: usize, row: u32, task: &Task) -> Called
     requires accepted { IsAccepted (app_of plan.now.app.now) }
     requires planned { IsPlan plan.now }
     requires task { slice_get (app_of plan.now.app.now).tasks number ≡ Some (task_of task.now) }
     requires software { spec.is_software (task_of task.now) ≡ true }
-    ensures { IsCalledOf (app_of plan.now.app.now) number row (task_of task.now) result }
+    ensures is { result ≡ called_at (app_of plan.now.app.now) number row (task_of task.now) }
+    ensures few { result.args ≤ 4 }
+    ensures inputs { result.inputs < 131072 }
 {
+    let id = TaskId(number as u8);
+    let free = cell_at(&plan.lay.free, number);
     Called {
-        number: number as u8,
+        task: id,
         row,
         args: task.args,
-        inputs: cell_at(&plan.lay.inputs, number),
-        free: cell_at(&plan.lay.free, number),
-        ceiling: ceiling_at(&plan.ceil.free, number),
+        free,
+        inputs: u32::from(free) + 1 + u32::from(task.capacity),
+        guard: Guard::of(plan.app.bits, free_ceiling(&plan.ceil.free, id)),
     }
 }

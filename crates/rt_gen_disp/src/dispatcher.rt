@@ -1,4 +1,5 @@
-ghost use Rattle.std.specs.Prelude.{◌≡◌, ◌+◌, ◌≤◌, ◌<◌, ◌++◌, ◌^◌, length, take, drop, slice_get, Contains, IfOk, OnOk};
+ghost use Rattle.std.specs.Prelude.{◌≡◌, ◌+◌, ◌≤◌, ◌<◌, ◌++◌, ◌^◌, length, map, take, drop, slice_get, Contains, IfOk};
+ghost use Rattle.std.specs.Prelude.{OnOk};
 ghost use Rattle.std.specs.Prelude.{OnErr};
 ghost use Rattle.std.specs.List.{AllByRecursion};
 ghost use Rattle.rt_app.specs.Accepted.{IsAccepted};
@@ -6,25 +7,19 @@ ghost use Rattle.rt_app.specs.BodyCost.{dispatcher_size};
 ghost use Rattle.rt_app.specs.Level.{levels};
 ghost use Rattle.rt_app.specs.Names.{names_of};
 ghost use Rattle.rt_app.specs.Plan.{IsPlan};
-ghost use Rattle.rt_app.specs.View.{app_of};
-ghost use Rattle.rt_gen_disp.specs.Dispatching.{IsNameable};
-ghost use Rattle.rt_gen_disp.specs.Inside.Code.{choices_code, dispatcher_code};
-ghost use Rattle.rt_gen_disp.specs.Inside.Generating.{IsQueueOf, task_code};
+ghost use Rattle.rt_app.specs.View.{app_of, task_of};
+ghost use Rattle.rt_gen_queue.specs.Line.{IsNameable};
+ghost use Rattle.rt_gen_queue.specs.Queue.{queue_at};
+ghost use Rattle.rt_gen_disp.specs.Code.{choices_code, dispatcher_code, last_from};
+ghost use Rattle.rt_gen_disp.specs.Inside.Generating.{task_code};
 
-use crate::called::called_of;
-use crate::lines::{push_choice, push_front};
-use crate::queue::{Queue, is_of_level, is_software, queue_of};
-use rt_app::Plan;
+use crate::called::{called_of, is_of_level, is_software};
+use crate::lines::{Exit, push_choice, push_front};
+use rt_app::{Plan, Task};
 use rt_code::{Instr, Note};
+use rt_gen_queue::{ReadyQueue, next_entry, queue_of};
 use rt_ids::NoMemory;
 use std::alloc::Global;
-
-/// The address behind code. Where it has no 32 bits there is no memory for so much code either.
-fn next_entry(code: &[(Instr, Option<Note>)]) -> Result<u32, NoMemory>
-    ensures { IfOk result (λ entry. entry ≡ length code.now) }
-{
-    u32::try_from(code.len()).ok().ok_or(NoMemory)
-}
 
 /// The address of the next line, where the first stands at an entry. Where it, or what a task's lines lead to, has no
 /// 32 bits there is no memory for so much code either.
@@ -41,10 +36,24 @@ fn next_address(entry: u32, lines: &[(Instr, Option<Note>)]) -> Result<u32, NoMe
     }
 }
 
+/// The number of the last task of a level, 0 where it has none.
+fn last_of(tasks: &[Task], level: u8) -> usize
+    ensures { result ≡ last_from level 0 0 (map task_of tasks.now) }
+{
+    let mut last: usize = 0;
+    for number in 0..tasks.len() {
+        if is_of_level(&tasks[number], level) {
+            last = number;
+        }
+    }
+    last
+}
+
 /// The lines of the task at a place, where it is one of the level.
 fn push_task(
     plan: &Plan<'_>,
-    queue: &Queue,
+    queue: &ReadyQueue,
+    exit: Exit,
     number: usize,
     row: u32,
     entry: u32,
@@ -52,10 +61,10 @@ fn push_task(
 ) -> Result<(), NoMemory>
     requires accepted { IsAccepted (app_of plan.now.app.now) }
     requires planned { IsPlan plan.now }
-    requires software { Contains (levels (app_of plan.now.app.now)) queue.now.level }
-    requires queue { IsQueueOf (app_of plan.now.app.now) queue.now.level queue.now }
+    requires queue { queue.now ≡ queue_at (app_of plan.now.app.now) queue.now.level }
     ensures { let app = app_of plan.now.app.now in OnOk result (lines.new.items ≡ lines.old.items
-        ++ task_code app queue.now.level (entry + length lines.old.items) number row (slice_get app.tasks number)) }
+        ++ task_code app queue.now.level exit (entry + length lines.old.items) number row
+        (slice_get app.tasks number)) }
 {
     match plan.app.tasks.get(number) {
         Some(task) => {
@@ -63,7 +72,8 @@ fn push_task(
                 return Ok(());
             }
             let at = next_address(entry, lines)?;
-            push_choice(queue, &called_of(plan, number, row, task), at, lines)
+            let next = exit.next_for(number, at + (17 + u32::from(task.args)));
+            push_choice(queue, &called_of(plan, number, row, task), next, at, lines)
         }
         None => Ok(()),
     }
@@ -72,20 +82,20 @@ fn push_task(
 /// The lines of the tasks of a level.
 fn push_choices(
     plan: &Plan<'_>,
-    queue: &Queue,
+    queue: &ReadyQueue,
+    exit: Exit,
     entry: u32,
     lines: &mut Vec<(Instr, Option<Note>)>,
 ) -> Result<(), NoMemory>
     requires accepted { IsAccepted (app_of plan.now.app.now) }
     requires planned { IsPlan plan.now }
-    requires software { Contains (levels (app_of plan.now.app.now)) queue.now.level }
-    requires queue { IsQueueOf (app_of plan.now.app.now) queue.now.level queue.now }
+    requires queue { queue.now ≡ queue_at (app_of plan.now.app.now) queue.now.level }
     ensures { let app = app_of plan.now.app.now in OnOk result (lines.new.items ≡ lines.old.items
-        ++ choices_code app queue.now.level (entry + length lines.old.items) 0 0 app.tasks) }
+        ++ choices_code app queue.now.level exit (entry + length lines.old.items) 0 0 app.tasks) }
 {
     let mut row: u32 = 0;
     for number in 0..plan.app.tasks.len() {
-        push_task(plan, queue, number, row, entry, lines)?;
+        push_task(plan, queue, exit, number, row, entry, lines)?;
         let task = &plan.app.tasks[number];
         row += u32::from(is_software(task));
     }
@@ -108,7 +118,9 @@ fn generate(
     let queue = queue_of(plan, level);
     let at = next_address(entry, lines)?;
     push_front(&queue, at, lines)?;
-    push_choices(plan, &queue, entry, lines)
+    let last = last_of(&plan.app.tasks, level);
+    let address = at + 4;
+    push_choices(plan, &queue, Exit { address, last }, entry, lines)
 }
 
 /// Appends the code of the dispatcher of a level of software tasks to code, and answers the address where it begins.

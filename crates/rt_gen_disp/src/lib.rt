@@ -5,7 +5,6 @@ pub mod called;
 pub mod dispatcher;
 pub mod laws;
 pub mod lines;
-pub mod queue;
 
 pub use dispatcher::gen_dispatcher;
 pub use laws::dispatchers_stand;

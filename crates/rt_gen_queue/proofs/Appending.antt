@@ -10,9 +10,10 @@ use Rattle.rt_app.specs.Names.{names_of}
 use Rattle.rt_app.specs.Accepted.{IsAccepted}
 use Rattle.rt_app.specs.Level.{is_software}
 use Rattle.rt_app.proofs.Spelling.{the_task}
-use Rattle.rt_gen_queue.specs.Spawning.{IsNameable}
-use Rattle.rt_gen_queue.specs.Inside.Lines.{Line, Numbers, take_lines, fill_lines, ready_lines, end_lines, spawn_lines}
-use Rattle.rt_gen_queue.specs.Inside.Code.{numbers_of, spawn_code}
+use Rattle.rt_gen_queue.specs.Line.{IsNameable, Line}
+use Rattle.rt_gen_queue.specs.SpawnLines.{take_lines, fill_lines, ready_lines, end_lines, spawn_lines}
+use Rattle.rt_gen_queue.specs.SpawnCode.{target_of, spawn_code}
+use Rattle.rt_gen_queue.specs.declared.target.Target.{Target}
 use Rattle.rt_gen_queue.specs.Inside.Making.{Made, Appends}
 use Rattle.rt_gen_queue.proofs.Facts.{Spawned, arguments, few_arguments}
 use Rattle.rt_gen_queue.proofs.Placing.{spawn_long}
@@ -26,7 +27,7 @@ four_appended : (o a b c d : List Line) → (((o ++ a) ++ b) ++ c) ++ d ≡ o ++
 four_appended o a b c d =
     append_assoc ((o ++ a) ++ b) c d ∙ append_assoc (o ++ a) b (c ++ d) ∙ append_assoc o a (b ++ (c ++ d))
 
-pub spawn_appended : (c : Numbers) (level slot entry end : ℕ) (m0 m1 m2 m3 m4 : Made) (take ready answer : List Line)
+pub spawn_appended : (c : Target) (level slot entry end : ℕ) (m0 m1 m2 m3 m4 : Made) (take ready answer : List Line)
     → end ≡ entry + (28 + c.args) → take ≡ take_lines c level slot (end - 2) → ready ≡ ready_lines c level slot
     → answer ≡ end_lines c level slot end → Appends m0 m1 take → Appends m1 m2 (fill_lines c level slot)
     → Appends m2 m3 ready → Appends m3 m4 answer → Appends m0 m4 (spawn_lines c level slot entry)
@@ -51,17 +52,16 @@ spawn_appended c level slot entry end m0 m1 m2 m3 m4 take ready answer end_is ta
     answered)
 
 -- a spawn's lines were made of none, and then put behind the code
-module _ (app : App) (task level slot : ℕ) (c : Numbers) (front new slice : List Line) (first made : Made) (entry : ℕ)
-    (same : c ≡ numbers_of app task) (begins : entry ≡ length front) (empty : first ≡ record { lines = [] })
+module _ (app : App) (task level slot : ℕ) (c : Target) (front new slice : List Line) (first made : Made) (entry : ℕ)
+    (same : c ≡ target_of app task) (empty : first ≡ record { lines = [] })
     (made_of : Appends first made (spawn_lines c level slot entry)) (sliced : slice ≡ made.lines)
     (is : new ≡ front ++ slice) where
-  pub appended_is : new ≡ front ++ spawn_code app task level slot (length front)
+  pub appended_is : new ≡ front ++ spawn_code app task level slot entry
   appended_is =
-      let lines : slice ≡ spawn_code app task level slot (length front) =
+      let lines : slice ≡ spawn_code app task level slot entry =
       sliced ∙ ap (λ (m : Made). m.lines) made_of
       ∙ ap (λ (m : Made). m.lines ++ spawn_lines c level slot entry) empty
-      ∙ ap (λ (n : Numbers). spawn_lines n level slot entry) same
-      ∙ ap (λ n. spawn_code app task level slot n) begins in
+      ∙ ap (λ (n : Target). spawn_lines n level slot entry) same in
       is ∙ ap (λ (ls : List Line). front ++ ls) lines
 
   module _ (accepted : IsAccepted app) (software : is_some_and is_software (slice_get app.tasks task) ≡ true) where
@@ -73,21 +73,21 @@ module _ (app : App) (task level slot : ℕ) (c : Numbers) (front new slice : Li
 
     pub appended_short : length new ≤ length front + SPAWN_COST
     appended_short =
-        let code : List Line = spawn_code app task level slot (length front) in
+        let code : List Line = spawn_code app task level slot entry in
         let long : length new ≡ length front + length code =
         ap (λ (ls : List Line). length ls) appended_is ∙ length-append front code in
         omega (
           arith,
           long,
-          spawn_long app task level slot (length front),
+          spawn_long app task level slot entry,
           arguments app task found.0 facts,
           few_arguments app task found.0 facts,
         )
 
     pub appended_named : AllByRecursion (IsNameable (names_of app)) (drop (length front) new)
     appended_named =
-        let code : List Line = spawn_code app task level slot (length front) in
+        let code : List Line = spawn_code app task level slot entry in
         let behind : drop (length front) new ≡ code =
         ap (drop (length front)) appended_is ∙ drop_at front code (length front) refl in
         subst (AllByRecursion (IsNameable (names_of app))) (sym behind)
-        (spawn_named app task found.0 facts level slot (length front))
+        (spawn_named app task found.0 facts level slot entry)

@@ -12,8 +12,9 @@ use Rattle.rt_app.specs.Layout.{memory, inputs_at, home_of}
 use Rattle.rt_app.specs.Holding.{message_word, arguments_of}
 use Rattle.rt_app.proofs.LaidQueues.{input_is_home}
 use Rattle.rt_code.specs.declared.instr.Instr.TheVariants as instr
-use Rattle.rt_gen_queue.specs.Inside.Lines.{Line, plain, store_code}
-use Rattle.rt_gen_queue.specs.Inside.Code.{HasCode, fill_code}
+use Rattle.rt_gen_queue.specs.Line.{Line, plain, HasCode}
+use Rattle.rt_gen_queue.specs.SpawnLines.{store_code}
+use Rattle.rt_gen_queue.specs.SpawnCode.{fill_code}
 use Rattle.rt_gen_queue.proofs.Numbers.{added, multiplied, steps_and}
 use Rattle.rt_gen_queue.proofs.Owning.{stores_place, place_in_memory}
 use Rattle.rt_gen_queue.proofs.Facts.{Spawned, capacity, arguments, few_arguments, few_free, small}

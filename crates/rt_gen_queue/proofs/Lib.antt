@@ -1,6 +1,7 @@
 pub mod Spots
 pub mod Steps
 pub mod Noting
+pub mod Masks
 pub mod Sections
 pub mod Numbers
 pub mod Places
@@ -13,6 +14,7 @@ pub mod Filling
 pub mod Readying
 pub mod Whole
 pub mod Named
+pub mod Levels
 pub mod Planned
 pub mod Rooms
 pub mod Stores

@@ -1,5 +1,5 @@
 -- The lines of a spawn name only what the application declares.
-use Rattle.std.proofs.Common.{◌≡◌, ℕ, zero, suc, ◌+◌, ◌*◌, ◌<◌, ◌==◌, nat_le, Bool, true, false, if◌then◌else◌}
+use Rattle.std.proofs.Common.{◌≡◌, ℕ, zero, suc, ◌+◌, ◌*◌, ◌<◌, ◌==◌}
 use Rattle.std.proofs.Common.{Option, Some, None}
 use Rattle.std.proofs.Common.{List, [], ◌∷◌, ◌++◌, length, map, filter, nat_lt, slice_get, option_map, Contains, IsSome}
 use Rattle.std.proofs.Common.{refl, sym, ap, subst, arith, eq-eqb}
@@ -8,14 +8,12 @@ use Rattle.std.proofs.lemmas.List.{length-map}
 use Rattle.rt_lemmas.proofs.Lists.{found, some_at, mapped_at}
 use Rattle.rt_lemmas.proofs.Membership.{all_append, all_at}
 use Rattle.rt_ids.specs.Lists.{or_zero, then_from}
-use Rattle.rt_ids.specs.declared.ids.Section.{Section}
 use Rattle.rt_ids.specs.declared.ids.Section.TheVariants as section
 use Rattle.rt_ids.specs.declared.op.Op.TheVariants as op
 use Rattle.rt_app.specs.declared.app.Dispatcher.{Dispatcher}
 use Rattle.rt_app.specs.declared.app.IrqDecl.{IrqDecl}
 use Rattle.rt_app.specs.Tree.{Task, App}
 use Rattle.rt_app.specs.Bodies.{task_priority}
-use Rattle.rt_app.specs.Ceiling.{ceiling}
 use Rattle.rt_app.specs.Handlers.{irq_number}
 use Rattle.rt_app.specs.Layout.{inputs_at}
 use Rattle.rt_app.specs.Level.{levels}
@@ -24,18 +22,17 @@ use Rattle.rt_app.specs.Sending.{dispatcher_number}
 use Rattle.rt_app.specs.Holding.{arguments_of}
 use Rattle.rt_app.specs.Accepted.{IsAccepted}
 use Rattle.rt_app.proofs.Sound.{accepted_are_sound}
-use Rattle.rt_code.specs.Listable.{HasIrq, HasTask, HasInstr, HasSection}
-use Rattle.rt_code.specs.Masking.{opening, closing}
-use Rattle.rt_code.specs.Owning.{Marked, Raised, Masked}
+use Rattle.rt_code.specs.Listable.{HasIrq, HasTask}
 use Rattle.rt_code.specs.declared.instr.Instr.TheVariants as instr
-use Rattle.rt_gen_queue.specs.Inside.Lines.{Line, plain, store_code}
-use Rattle.rt_gen_queue.specs.Inside.Code.{value_of, enter, leave, take_code, fill_code, ready_code, end_code}
-use Rattle.rt_gen_queue.specs.Inside.Code.{spawn_code}
-use Rattle.rt_gen_queue.specs.Spawning.{IsNameable}
+use Rattle.rt_gen_queue.specs.Line.{Line, plain, IsNameable}
+use Rattle.rt_gen_queue.specs.Guards.{guard_of}
+use Rattle.rt_gen_queue.specs.SpawnLines.{store_code}
+use Rattle.rt_gen_queue.specs.SpawnCode.{take_code, fill_code, ready_code, end_code, spawn_code}
+use Rattle.rt_gen_queue.proofs.Masks.{enter_named, leave_named}
 use Rattle.rt_gen_queue.proofs.Facts.{Spawned, is_there, known, priority}
 
 -- the interrupt that serves a level is declared
-dispatcher_named : (app : App) (p : ℕ) → IsAccepted app → Contains (levels app) p
+pub dispatcher_named : (app : App) (p : ℕ) → IsAccepted app → Contains (levels app) p
     → HasIrq (names_of app) (dispatcher_number app p)
 dispatcher_named app p accepted level =
     go (slice_get app.dispatchers (length (filter (nat_lt p) (levels app)))) refl
@@ -65,28 +62,6 @@ module _ (app : App) (task : ℕ) (t : Task) (facts : Spawned app task t) where
   task_named : HasTask (names_of app) task
   task_named = omega (arith, is_there app task t facts, length-map app.tasks (λ t. t.name))
 
-  enter_named : (x : Section) (level slot : ℕ) → HasSection (names_of app) x
-      → IsNameable (names_of app) (enter app x level slot)
-  enter_named x level slot has =
-      record { instr = go (nat_le (ceiling app x) level) (value_of app x == 0); note = has }
-    where
-      go : (low all : Bool) → HasInstr (names_of app)
-          (opening (value_of app x) (if low then Marked else if all then Masked slot else Raised slot))
-      go true all = tt
-      go false true = tt
-      go false false = tt
-
-  leave_named : (x : Section) (level slot : ℕ) → HasSection (names_of app) x
-      → IsNameable (names_of app) (leave app x level slot)
-  leave_named x level slot has =
-      record { instr = go (nat_le (ceiling app x) level) (value_of app x == 0); note = has }
-    where
-      go : (low all : Bool) → HasInstr (names_of app)
-          (closing (if low then Marked else if all then Masked slot else Raised slot))
-      go true all = tt
-      go false true = tt
-      go false false = tt
-
   store_named : (count cell slot from : ℕ) → AreNamed (store_code count cell slot from)
   store_named zero cell slot from = tt
   store_named (suc count) cell slot from =
@@ -94,7 +69,7 @@ module _ (app : App) (task : ℕ) (t : Task) (facts : Spawned app task t) where
 
   take_named : (level slot full : ℕ) → AreNamed (take_code app task level slot full)
   take_named level slot full = (
-    enter_named (section.Free task) level (slot + 8) task_named,
+    enter_named (names_of app) (section.Free task) (guard_of app (section.Free task)) level (slot + 8) task_named,
     (
       record { instr = tt; note = tt },
       (
@@ -107,7 +82,7 @@ module _ (app : App) (task : ℕ) (t : Task) (facts : Spawned app task t) where
               record { instr = tt; note = tt },
               (
                 record { instr = tt; note = task_named },
-                (leave_named (section.Free task) level (slot + 8) task_named, tt),
+                (leave_named (names_of app) (section.Free task) (guard_of app (section.Free task)) level (slot + 8) task_named, tt),
               ),
             ),
           ),
@@ -131,7 +106,7 @@ module _ (app : App) (task : ℕ) (t : Task) (facts : Spawned app task t) where
 
   ready_named : (p level slot : ℕ) → Contains (levels app) p → AreNamed (ready_code app task p level slot)
   ready_named p level slot level_known = (
-    enter_named (section.Ready p) level (slot + 8) tt,
+    enter_named (names_of app) (section.Ready p) (guard_of app (section.Ready p)) level (slot + 8) tt,
     (
       record { instr = tt; note = tt },
       (
@@ -153,7 +128,7 @@ module _ (app : App) (task : ℕ) (t : Task) (facts : Spawned app task t) where
                       (
                         record { instr = dispatcher_named app p facts.accepted level_known; note = tt },
                         (
-                          leave_named (section.Ready p) level (slot + 8) tt,
+                          leave_named (names_of app) (section.Ready p) (guard_of app (section.Ready p)) level (slot + 8) tt,
                           tt,
                         ),
                       ),
@@ -176,7 +151,7 @@ module _ (app : App) (task : ℕ) (t : Task) (facts : Spawned app task t) where
       (
         record { instr = tt; note = task_named },
         (
-          leave_named (section.Free task) level (slot + 8) task_named,
+          leave_named (names_of app) (section.Free task) (guard_of app (section.Free task)) level (slot + 8) task_named,
           tt,
         ),
       ),

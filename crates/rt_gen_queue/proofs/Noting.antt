@@ -17,7 +17,7 @@ use Rattle.rt_code.specs.Standing.{processor_of}
 use Rattle.rt_code.specs.declared.instr.Instr.TheVariants as instr
 use Rattle.rt_code.specs.declared.instr.Note.TheVariants as note
 use Rattle.rt_code.proofs.Done.{effect_is_done}
-use Rattle.rt_gen_queue.specs.Inside.Lines.{noted}
+use Rattle.rt_gen_queue.specs.Line.{noted}
 use Rattle.rt_gen_queue.proofs.Spots.{Lasts, Setting, Here, spot, Wrote, wrote, wrote_as, Inside, Room}
 use Rattle.rt_gen_queue.proofs.Spots.{kept_beside, kept_same}
 use Rattle.rt_gen_queue.proofs.Steps.{S, one_there, two_there, shows, at_passed, by_line, made}

@@ -1,5 +1,6 @@
 -- Where lines stand in code, and how many there are.
-use Rattle.std.proofs.Common.{◌≡◌, ℕ, zero, suc, ◌+◌, ◌*◌, ◌++◌, List, [], ◌∷◌, length, refl, ap, subst, arith}
+use Rattle.std.proofs.Common.{◌≡◌, ℕ, zero, suc, ◌+◌, ◌*◌, ◌++◌, Some, List, [], ◌∷◌, length, slice_get, refl, ap}
+use Rattle.std.proofs.Common.{subst, arith, append_assoc}
 use Rattle.std.proofs.lemmas.List.{length-append}
 use Rattle.rt_ids.specs.declared.op.Op.TheVariants as op
 use Rattle.rt_app.specs.Tree.{App}
@@ -7,9 +8,9 @@ use Rattle.rt_app.specs.Bodies.{task_priority}
 use Rattle.rt_app.specs.Layout.{inputs_at}
 use Rattle.rt_app.specs.Holding.{arguments_of}
 use Rattle.rt_code.specs.declared.instr.Instr.TheVariants as instr
-use Rattle.rt_gen_queue.specs.Inside.Lines.{Line, plain, store_code}
-use Rattle.rt_gen_queue.specs.Inside.Code.{HasCode, fill_code, ready_code, end_code}
-use Rattle.rt_gen_queue.specs.Inside.Code.{spawn_code}
+use Rattle.rt_gen_queue.specs.Line.{Line, plain, HasCode}
+use Rattle.rt_gen_queue.specs.SpawnLines.{store_code}
+use Rattle.rt_gen_queue.specs.SpawnCode.{fill_code, ready_code, end_code, spawn_code}
 
 pub code_front : (code : List Line) (at : ℕ) (front behind : List Line) → HasCode code at (front ++ behind)
     → HasCode code at front
@@ -24,6 +25,28 @@ code_behind code at to [] behind e has =
 code_behind code at to (line ∷ front) behind e (first, rest) =
     let next : to ≡ suc at + length front = omega arith in
     code_behind code (suc at) to front behind next rest
+
+-- code between other code
+pub code_there : (front lines behind : List Line) → HasCode (front ++ (lines ++ behind)) (length front) lines
+code_there front lines behind = go front lines behind front refl
+  where
+    at_front : (front : List Line) (line : Line) (behind : List Line)
+        → slice_get (front ++ line ∷ behind) (length front) ≡ Some line
+    at_front [] line behind = refl
+    at_front (x ∷ front) line behind = at_front front line behind
+
+    go : (front lines behind all : List Line) → all ≡ front → HasCode (front ++ (lines ++ behind)) (length front) lines
+    go front [] behind all e = tt
+    go front (line ∷ lines) behind all e =
+        let moved : (front ++ line ∷ []) ++ (lines ++ behind) ≡ front ++ line ∷ (lines ++ behind) =
+        append_assoc front (line ∷ []) (lines ++ behind) in
+        let long : length (front ++ line ∷ []) ≡ suc (length front) = omega (arith, length-append front (line ∷ [])) in
+        let H : List Line → ℕ → Type 0 = λ code at. HasCode code at lines in (
+          at_front front line (lines ++ behind),
+          subst (λ (a : ℕ). H (front ++ line ∷ (lines ++ behind)) a) long
+              (subst (λ (code : List Line). H code (length (front ++ line ∷ []))) moved
+              (go (front ++ line ∷ []) lines behind (front ++ line ∷ []) refl)),
+        )
 
 pub stores_long : (count cell slot from : ℕ) → length (store_code count cell slot from) ≡ count
 stores_long zero cell slot from = refl

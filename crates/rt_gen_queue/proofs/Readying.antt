@@ -21,7 +21,8 @@ use Rattle.rt_code.specs.Masking.{TakesOver}
 use Rattle.rt_code.specs.Owning.{Marked, is_open, mine, reads, MayLoad, Agree, LeavesMine}
 use Rattle.rt_code.specs.Standing.{passed}
 use Rattle.rt_code.proofs.Mine.{queued_more, owns_open, owns_reads, reads_more}
-use Rattle.rt_gen_queue.specs.Inside.Code.{HasCode, ready_code}
+use Rattle.rt_gen_queue.specs.Line.{HasCode}
+use Rattle.rt_gen_queue.specs.SpawnCode.{ready_code}
 use Rattle.rt_gen_queue.proofs.Numbers.{added, rest_of}
 use Rattle.rt_gen_queue.proofs.Places.{IsPlaceOf, count_more, one_itself, ring_room}
 use Rattle.rt_gen_queue.proofs.Queues.{ready_put, message_alike}

@@ -1,17 +1,15 @@
--- Sections of queues: how they opens and close, by their ceilings, at any level.
-use Rattle.std.proofs.Common.{◌≡◌, ◌≢◌, ◌⊎◌, ℕ, suc, ◌+◌, ◌-◌, ◌^◌, ◌<◌, ◌≤◌, ◌==◌, nat_le, Bool, true, false}
+-- Sections of queues: how they open and close, by their ceilings, at any level.
+use Rattle.std.proofs.Common.{◌≡◌, ◌⊎◌, ℕ, suc, ◌+◌, ◌-◌, ◌^◌, ◌<◌, ◌≤◌, ◌==◌, nat_le, Bool, true, false}
 use Rattle.std.proofs.Common.{if◌then◌else◌, List, [], ◌∷◌, Some, length, map, drop, Contains}
 use Rattle.std.proofs.Common.{slice_get, slice_index, refl, sym, ap, subst, ◌∙◌, arith, inl, inr}
-use Rattle.std.proofs.Common.{get_or-set_other, length-set}
 use Rattle.std.specs.List.{AllByRecursion}
 use Rattle.std.proofs.lemmas.Bool.{le-leb}
-use Rattle.std.proofs.lemmas.Bool.Decides.{nat_tests}
 use Rattle.rt_ids.specs.Holder.{Holder, Guarded}
 use Rattle.rt_ids.specs.Content.{Values}
 use Rattle.rt_ids.specs.Entry.{Entry}
 use Rattle.rt_ids.specs.Action.{Enters, Leaves}
 use Rattle.rt_ids.specs.Doing.{Doing, does}
-use Rattle.rt_ids.specs.Storage.{Storage, Runner, Starting, AtLevel}
+use Rattle.rt_ids.specs.Storage.{Runner, Starting, AtLevel}
 use Rattle.rt_ids.specs.declared.ids.Section.{Section}
 use Rattle.rt_app.specs.Tree.{App}
 use Rattle.rt_app.specs.Ceiling.{ceiling}
@@ -21,22 +19,11 @@ use Rattle.rt_code.specs.Owning.{Kind, Marked, Raised, Masked, Held, is_open, sa
 use Rattle.rt_code.specs.Standing.{passed}
 use Rattle.rt_code.specs.declared.instr.Note.TheVariants as note
 use Rattle.rt_lemmas.proofs.Membership.{all_has, all_append, all_weaker}
-use Rattle.rt_gen_queue.specs.Inside.Lines.{kind_of}
-use Rattle.rt_gen_queue.specs.Inside.Code.{value_of, kind_at, enter, leave}
+use Rattle.rt_gen_queue.specs.Guards.{value_of, guard_of, kind_at, enter, leave}
 use Rattle.rt_gen_queue.specs.Spawning.{HoldsOff}
 use Rattle.rt_gen_queue.proofs.Spots.{left_at, left_passed, Lasts, Setting, Here, spot, Room}
+use Rattle.rt_gen_queue.proofs.Masks.{mask_of, saves_in, Beside, saved_beside}
 use Rattle.rt_gen_queue.proofs.Steps.{S, Later, by_line}
-
--- the mask that is asked for
-mask_of : (st : Storage) (who : Runner) (top value level slot : ℕ) → value ≡ st.value top
-    → IsMask st who top level (kind_of top value level slot)
-mask_of st who top value level slot is = go (nat_le top level) (value == 0) refl refl
-  where
-    go : (low all : Bool) → nat_le top level ≡ low → (value == 0) ≡ all
-        → IsMask st who top level (if low then Marked else if all then Masked slot else Raised slot)
-    go true all e f = grind (arith, nat_tests)
-    go false true e f = let v : value ≡ 0 = grind (arith, nat_tests) in (grind (arith, nat_tests), sym is ∙ v)
-    go false false e f = let v : 0 < value = grind (arith, nat_tests) in (grind (arith, nat_tests), omega (arith, is))
 
 pub kind_fits : (app : App) (who runner : Runner) (held : List Held) (x : Section) (level slot : ℕ)
     → HoldsOff app who runner held level → ceiling app x ≤ 2 ^ app.bits
@@ -47,31 +34,7 @@ kind_fits app who Starting held x level slot off top =
     ap (λ (b : Bool). if b then Marked else if value_of app x == 0 then Masked slot else Raised slot) low
 kind_fits app who (AtLevel p) held x level slot off top =
     subst (λ (l : ℕ). IsMask (storage app) who (ceiling app x) l (kind_at app x level slot)) off
-    (mask_of (storage app) who (ceiling app x) (value_of app x) level slot refl)
-
--- the slot that keeps the mask
-saves_in : (low all : Bool) (slot : ℕ)
-    → AllByRecursion (λ d. d ≡ slot) (saved_slot (if low then Marked else if all then Masked slot else Raised slot))
-saves_in true all slot = tt
-saves_in false true slot = (refl, tt)
-saves_in false false slot = (refl, tt)
-
-pub saves_at : (app : App) (x : Section) (level slot : ℕ)
-    → AllByRecursion (λ d. d ≡ slot) (saved_slot (kind_at app x level slot))
-saves_at app x level slot = saves_in (nat_le (ceiling app x) level) (value_of app x == 0) slot
-
--- what a section saves is written there, and other slots are as before
-pub record Beside (mask : ℕ) (before after : List ℕ) : Type 0 where
-  pub others : (d : ℕ) → d ≢ mask → slice_index after d ≡ slice_index before d
-  pub long : length after ≡ length before
-
-saved_beside : (low all : Bool) (mask saved : ℕ) (slots : List ℕ)
-    → Beside mask slots (saving (if low then Marked else if all then Masked mask else Raised mask) saved slots)
-saved_beside true all mask saved slots = record { others = λ d other. refl; long = refl }
-saved_beside false true mask saved slots =
-    record { others = λ d other. get_or-set_other slots mask d saved 0 other; long = length-set slots mask saved }
-saved_beside false false mask saved slots =
-    record { others = λ d other. get_or-set_other slots mask d saved 0 other; long = length-set slots mask saved }
+    (mask_of (storage app) who (guard_of app x) level slot refl)
 
 not_kept : (saved : List ℕ) (slot : ℕ) → AllByRecursion (λ d. d < slot) saved → ¬ Contains saved (slot + 8)
 not_kept saved slot below has =
@@ -99,7 +62,7 @@ module _ (z : Setting) where
         all_append (λ e. (e < slot) ⊎ (e ≡ slot + 8)) (saved_slot (kind_at z.app x level (slot + 8)))
         (saved_slots h.held)
         (all_weaker (λ e. e ≡ slot + 8) (λ e. (e < slot) ⊎ (e ≡ slot + 8)) (λ e is. inr is) _
-        (saves_at z.app x level (slot + 8)))
+        (saves_in (guard_of z.app x) level (slot + 8)))
         (all_weaker (λ e. e < slot) (λ e. (e < slot) ⊎ (e ≡ slot + 8)) (λ e less. inl less) _ may.masks);
   }
 
@@ -139,13 +102,13 @@ module _ (z : Setting) where
               omega (arith, d_is, may.frame),
               subst (λ (k : ℕ). ¬ Contains (saved_slots h.held) k) (sym d_is)
                   (not_kept (saved_slots h.held) slot may.masks),
-            )) (saved_slot kind) (saves_at z.app x level (slot + 8));
+            )) (saved_slot kind) (saves_in (guard_of z.app x) level (slot + 8));
         within = may.within;
         once = may.closed;
         shared = may.nobody;
         on = λ saved vs cells queues taken.
             let beside =
-            saved_beside (nat_le (ceiling z.app x) level) (value_of z.app x == 0) (slot + 8) saved h.slots in
+            saved_beside (guard_of z.app x) level (slot + 8) saved h.slots in
             let e : cost - 1 ≡ (h.done + cost) - suc h.done = omega arith in
             subst (λ (lefts : List ℕ). Later z n
             (record (inside (storage z.app) z.who x kind saved cost (rest vs) cells queues

@@ -13,7 +13,7 @@ use Rattle.rt_app.specs.Tree.{App}
 use Rattle.rt_code.specs.Owning.{Held, Spot, saved_slots}
 use Rattle.rt_code.specs.Standing.{HaveLeft, KeepsSaved}
 use Rattle.rt_code.specs.declared.image.BodyRow.{BodyRow}
-use Rattle.rt_gen_queue.specs.Inside.Lines.{Line}
+use Rattle.rt_gen_queue.specs.Line.{Line}
 
 -- what is left to each deadline
 abbrev pub left_at : ℕ → List ℕ → List ℕ

@@ -23,7 +23,7 @@ use Rattle.rt_code.specs.declared.instr.Note.{Note}
 use Rattle.rt_code.specs.declared.processor.Request.TheVariants as request
 use Rattle.rt_code.proofs.Standing.{stands_step}
 use Rattle.rt_code.proofs.Done.{effect_is_done}
-use Rattle.rt_gen_queue.specs.Inside.Lines.{Line, plain}
+use Rattle.rt_gen_queue.specs.Line.{Line, plain}
 use Rattle.rt_gen_queue.proofs.Spots.{left_passed, Lasts, lasts_less, has_left, Setting, Here, spot}
 use Rattle.rt_gen_queue.proofs.Spots.{Wrote, wrote, wrote_as, Inside, Room, kept_beside, kept_same}
 

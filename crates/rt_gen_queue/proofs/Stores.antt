@@ -2,7 +2,8 @@
 use Rattle.std.proofs.Common.{◌≡◌, ℕ, zero, suc, ◌+◌, List, [], ◌∷◌, ◌++◌, sym, ap, ◌∙◌, arith, append_assoc}
 use Rattle.std.proofs.Common.{append-nil}
 use Rattle.rt_code.specs.declared.instr.Instr.TheVariants as instr
-use Rattle.rt_gen_queue.specs.Inside.Lines.{Line, plain, store_code}
+use Rattle.rt_gen_queue.specs.Line.{Line, plain}
+use Rattle.rt_gen_queue.specs.SpawnLines.{store_code}
 
 abbrev pub store_line : ℕ → ℕ → ℕ → Line
 store_line cell slot j = plain (instr.StoreAt (cell + j) (slot + 7) (slot + j))

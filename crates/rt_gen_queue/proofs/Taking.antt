@@ -24,8 +24,9 @@ use Rattle.rt_code.specs.Standing.{passed}
 use Rattle.rt_code.specs.declared.instr.Instr.TheVariants as instr
 use Rattle.rt_code.specs.declared.instr.Note.TheVariants as note
 use Rattle.rt_code.proofs.Mine.{queued, queued_more, queues_same, owns_open, owns_reads, reads_more}
-use Rattle.rt_gen_queue.specs.Inside.Lines.{Line, noted}
-use Rattle.rt_gen_queue.specs.Inside.Code.{HasCode, leave, take_code}
+use Rattle.rt_gen_queue.specs.Line.{Line, noted, HasCode}
+use Rattle.rt_gen_queue.specs.Guards.{leave}
+use Rattle.rt_gen_queue.specs.SpawnCode.{take_code}
 use Rattle.rt_gen_queue.proofs.Numbers.{one_less, not_zero}
 use Rattle.rt_gen_queue.proofs.Places.{count_more, one_itself}
 use Rattle.rt_gen_queue.proofs.Queues.{free_taken}
@@ -35,7 +36,8 @@ use Rattle.rt_gen_queue.proofs.Facts.{Spawned, capacity, few_free}
 use Rattle.rt_gen_queue.proofs.Spots.{Lasts, Setting, Here, spot, Wrote, Room}
 use Rattle.rt_gen_queue.proofs.Steps.{S, sets, calculates, loads, stores, jumps_by}
 use Rattle.rt_gen_queue.proofs.Noting.{takes, refuses}
-use Rattle.rt_gen_queue.proofs.Sections.{Beside, MayEnter, opened, enters, leaves}
+use Rattle.rt_gen_queue.proofs.Masks.{Beside}
+use Rattle.rt_gen_queue.proofs.Sections.{MayEnter, opened, enters, leaves}
 
 -- all but the working slots is as before
 pub record Kept (slot : ℕ) (before after : List ℕ) : Type 0 where

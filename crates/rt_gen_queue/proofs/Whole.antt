@@ -20,9 +20,9 @@ use Rattle.rt_code.specs.Standing.{Stands}
 use Rattle.rt_code.specs.declared.instr.Instr.TheVariants as instr
 use Rattle.rt_code.specs.declared.instr.Note.TheVariants as note
 use Rattle.rt_code.proofs.Mine.{queued, queues_same, owns_open, may_load}
-use Rattle.rt_gen_queue.specs.Inside.Lines.{Line, noted}
-use Rattle.rt_gen_queue.specs.Inside.Code.{HasCode, leave}
-use Rattle.rt_gen_queue.specs.Inside.Code.{take_code, fill_code, ready_code, end_code, spawn_code}
+use Rattle.rt_gen_queue.specs.Line.{Line, noted, HasCode}
+use Rattle.rt_gen_queue.specs.Guards.{leave}
+use Rattle.rt_gen_queue.specs.SpawnCode.{take_code, fill_code, ready_code, end_code, spawn_code}
 use Rattle.rt_gen_queue.specs.Spawning.{SpawnsStand}
 use Rattle.rt_gen_queue.proofs.Numbers.{steps_and, steps_are}
 use Rattle.rt_gen_queue.proofs.Places.{count_more, one_itself}

@@ -1,4 +1,2 @@
--- The lines of a spawn, one by one, and what serves the contracts of private functions.
-pub mod Lines
-pub mod Code
+-- What serves the contracts of private functions alone.
 pub mod Making

@@ -8,7 +8,6 @@ use Rattle.rt_ids.specs.Lists.{greatest}
 use Rattle.rt_ids.specs.Holder.{Holder}
 use Rattle.rt_ids.specs.Content.{Values}
 use Rattle.rt_ids.specs.Entry.{Entry}
-use Rattle.rt_ids.specs.Names.{Names}
 use Rattle.rt_ids.specs.Storage.{Runner, Starting, AtLevel}
 use Rattle.rt_ids.specs.declared.ids.Section.TheVariants as section
 use Rattle.rt_app.specs.declared.costs.TheConstants.{SPAWN_COST, SPAWN_WORDS}
@@ -19,13 +18,12 @@ use Rattle.rt_app.specs.Sending.{Rest, spawn_actions}
 use Rattle.rt_app.specs.Layout.{memory}
 use Rattle.rt_app.specs.Holding.{storage}
 use Rattle.rt_app.specs.Accepted.{IsAccepted}
-use Rattle.rt_code.specs.Listable.{HasInstr, HasNote}
 use Rattle.rt_code.specs.Masking.{IsWithin}
 use Rattle.rt_code.specs.Owning.{Held, Spot, is_open, saved_slots, Agree, LeavesMine}
 use Rattle.rt_code.specs.Standing.{Stands}
 use Rattle.rt_code.specs.declared.image.BodyRow.{BodyRow}
-use Rattle.rt_gen_queue.specs.Inside.Lines.{Line}
-use Rattle.rt_gen_queue.specs.Inside.Code.{HasCode, spawn_code}
+use Rattle.rt_gen_queue.specs.Line.{Line, HasCode}
+use Rattle.rt_gen_queue.specs.SpawnCode.{spawn_code}
 
 module _ (app : App) (who : Runner) where
   -- The level that what runs holds off, with these sections open: `init` holds off all, another runner all up to the
@@ -67,11 +65,6 @@ module _ (app : App) (who : Runner) where
     queues = queues;
     rest = rest ws;
   }
-
--- what a line names is declared: the interrupt that it posts, and the task of its note or its section
-pub record IsNameable (names : Names) (line : Line) : Type 0 where
-  pub instr : HasInstr names line.0
-  pub note : HasNote names line.1
 
 -- The code of a spawn stands for its actions and for any rest, where the code behind it stands for that rest.
 abbrev pub SpawnsStand : Type 0

@@ -1,12 +1,17 @@
-// The code of queues: spawns.
+// What code of bodies and of dispatchers stands on: lines, guards of sections, ready queues, and the code of spawns.
 #![tactic(auto)]
 
-mod guard;
+pub mod entry;
+pub mod guard;
 mod laws;
 mod lines;
 mod parts;
+pub mod queue;
 pub mod spawn;
-mod target;
+pub mod target;
 
+pub use entry::next_entry;
+pub use guard::Guard;
 pub use laws::spawns_stand;
+pub use queue::{ReadyQueue, queue_of};
 pub use spawn::gen_spawn;

@@ -1,5 +1,5 @@
-ghost use Rattle.std.specs.Prelude.{◌≡◌, ◌∷◌, [], ◌++◌, OnOk};
-ghost use Rattle.rt_gen_queue.specs.Inside.Lines.{Line, plain, noted};
+ghost use Rattle.std.specs.Prelude.{◌≡◌, ◌∷◌, [], OnOk};
+ghost use Rattle.rt_gen_queue.specs.Line.{plain};
 ghost use Rattle.rt_gen_queue.specs.Inside.Making.{Appends};
 
 use rt_code::{Instr, Note};

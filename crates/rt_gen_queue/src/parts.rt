@@ -1,8 +1,8 @@
 ghost use Rattle.std.specs.Prelude.{◌≡◌, ◌+◌, ◌<◌, ◌≤◌, ◌^◌, OnOk};
-ghost use Rattle.rt_gen_queue.specs.Inside.Lines as spec;
-ghost use Rattle.rt_gen_queue.specs.Inside.Making.{numbers, Appends};
+ghost use Rattle.rt_gen_queue.specs.Line as line;
+ghost use Rattle.rt_gen_queue.specs.SpawnLines as spec;
+ghost use Rattle.rt_gen_queue.specs.Inside.Making.{Appends};
 
-use crate::guard::{closing, opening};
 use crate::lines::Lines;
 use crate::target::Target;
 use rt_code::{Instr, Note};
@@ -10,14 +10,14 @@ use rt_ids::{NoMemory, Op, Prio, Section};
 
 /// A line without a note.
 fn plain(instr: Instr) -> (Instr, Option<Note>)
-    ensures { result ≡ spec.plain instr }
+    ensures { result ≡ line.plain instr }
 {
     (instr, None)
 }
 
 /// A line with a note.
 fn noted(instr: Instr, note: Note) -> (Instr, Option<Note>)
-    ensures { result ≡ spec.noted instr note }
+    ensures { result ≡ line.noted instr note }
 {
     (instr, Some(note))
 }
@@ -25,27 +25,27 @@ fn noted(instr: Instr, note: Note) -> (Instr, Option<Note>)
 /// The lines that take a place of the task, or lead to an address where none is left.
 pub(crate) fn take(target: &Target, level: u8, slot: u32, full: u32) -> [(Instr, Option<Note>); 8]
     requires slots { slot + 16 < 2 ^ 32 }
-    requires cells { target.now.free + 1 < 2 ^ 32 }
-    ensures { result ≡ spec.take_lines (numbers target.now) level slot full }
+    ensures { result ≡ spec.take_lines target.now level slot full }
 {
-    let guard = target.free_guard;
+    let guard = target.guard;
+    let free = u32::from(target.free);
     let (count, place, one, mask) = (slot + 4, slot + 6, slot + 7, slot + 8);
     [
         noted(
-            opening(guard, level, mask),
+            guard.opening(level, mask),
             Note::Enter(Section::Free(target.task)),
         ),
-        plain(Instr::Load(count, target.free)),
+        plain(Instr::Load(count, free)),
         plain(Instr::JumpZ(count, full)),
         plain(Instr::Set(one, 1)),
         plain(Instr::Calc(Op::Sub, count, count, one)),
-        plain(Instr::Store(target.free, count)),
+        plain(Instr::Store(free, count)),
         noted(
-            Instr::LoadAt(place, target.free + 1, count),
+            Instr::LoadAt(place, free + 1, count),
             Note::Placed(target.task),
         ),
         noted(
-            closing(guard, level, mask),
+            guard.closing(level, mask),
             Note::Leave(Section::Free(target.task)),
         ),
     ]
@@ -70,7 +70,7 @@ pub(crate) fn fill(target: &Target, level: u8, slot: u32, lines: &mut Lines) -> 
     requires slots { slot + 16 < 2 ^ 32 }
     requires cells { target.now.inputs + 16 < 2 ^ 32 }
     requires few { target.now.args ≤ 4 }
-    ensures { OnOk result (Appends lines.old lines.new (spec.fill_lines (numbers target.now) level slot)) }
+    ensures { OnOk result (Appends lines.old lines.new (spec.fill_lines target.now level slot)) }
 {
     let (place, factor) = (slot + 6, slot + 7);
     lines.push(Instr::Set(factor, u32::from(target.args)))?;
@@ -83,32 +83,29 @@ pub(crate) fn fill(target: &Target, level: u8, slot: u32, lines: &mut Lines) -> 
 /// The lines that put the message into the ring of its level, and pend the level's dispatcher.
 pub(crate) fn ready(target: &Target, level: u8, slot: u32) -> [(Instr, Option<Note>); 12]
     requires slots { slot + 16 < 2 ^ 32 }
-    requires cells { target.now.ready + 2 < 2 ^ 32 }
-    ensures { result ≡ spec.ready_lines (numbers target.now) level slot }
+    ensures { result ≡ spec.ready_lines target.now level slot }
 {
-    let ring = target.level;
-    let guard = target.ready_guard;
+    let ring = target.queue.level;
+    let guard = target.queue.guard;
+    let head = u32::from(target.queue.at);
     let (count, index, word, size, mask) = (slot + 4, slot + 5, slot + 6, slot + 7, slot + 8);
     [
         noted(
-            opening(guard, level, mask),
+            guard.opening(level, mask),
             Note::Enter(Section::Ready(Prio(ring))),
         ),
-        plain(Instr::Load(count, target.ready + 1)),
-        plain(Instr::Load(index, target.ready)),
+        plain(Instr::Load(count, head + 1)),
+        plain(Instr::Load(index, head)),
         plain(Instr::Calc(Op::Add, index, index, count)),
-        plain(Instr::Set(size, target.room)),
+        plain(Instr::Set(size, target.queue.room)),
         plain(Instr::Calc(Op::Rem, index, index, size)),
-        plain(Instr::StoreAt(target.ready + 2, index, word)),
+        plain(Instr::StoreAt(head + 2, index, word)),
         plain(Instr::Set(size, 1)),
         plain(Instr::Calc(Op::Add, count, count, size)),
+        noted(Instr::Store(head + 1, count), Note::Ready(target.task)),
+        plain(Instr::Post(target.queue.irq)),
         noted(
-            Instr::Store(target.ready + 1, count),
-            Note::Ready(target.task),
-        ),
-        plain(Instr::Post(target.dispatcher)),
-        noted(
-            closing(guard, level, mask),
+            guard.closing(level, mask),
             Note::Leave(Section::Ready(Prio(ring))),
         ),
     ]
@@ -117,9 +114,9 @@ pub(crate) fn ready(target: &Target, level: u8, slot: u32) -> [(Instr, Option<No
 /// The lines of the two answers, of which the first leads to an address.
 pub(crate) fn answer(target: &Target, level: u8, slot: u32, end: u32) -> [(Instr, Option<Note>); 4]
     requires slots { slot + 16 < 2 ^ 32 }
-    ensures { result ≡ spec.end_lines (numbers target.now) level slot end }
+    ensures { result ≡ spec.end_lines target.now level slot end }
 {
-    let closing = closing(target.free_guard, level, slot + 8);
+    let closing = target.guard.closing(level, slot + 8);
     [
         plain(Instr::Set(slot, 1)),
         plain(Instr::Jump(end)),

@@ -8,10 +8,10 @@ ghost use Rattle.rt_app.specs.Names.{names_of};
 ghost use Rattle.rt_app.specs.Plan.{IsPlan};
 ghost use Rattle.rt_app.specs.View.{app_of};
 ghost use Rattle.rt_app.specs.declared.costs.TheConstants.{SPAWN_COST};
-ghost use Rattle.rt_gen_queue.specs.Spawning.{IsNameable};
-ghost use Rattle.rt_gen_queue.specs.Inside.Lines.{spawn_lines};
-ghost use Rattle.rt_gen_queue.specs.Inside.Code.{spawn_code};
-ghost use Rattle.rt_gen_queue.specs.Inside.Making.{numbers, Appends};
+ghost use Rattle.rt_gen_queue.specs.Line.{IsNameable};
+ghost use Rattle.rt_gen_queue.specs.SpawnLines.{spawn_lines};
+ghost use Rattle.rt_gen_queue.specs.SpawnCode.{spawn_code};
+ghost use Rattle.rt_gen_queue.specs.Inside.Making.{Appends};
 
 use crate::lines::Lines;
 use crate::parts::{answer, fill, ready, take};
@@ -20,13 +20,6 @@ use rt_app::Plan;
 use rt_code::{Instr, Note};
 use rt_ids::{NoMemory, TaskId};
 use std::alloc::Global;
-
-/// The address behind code. Where it has no 32 bits there is no memory for so much code either.
-fn next_entry(code: &[(Instr, Option<Note>)]) -> Result<u32, NoMemory>
-    ensures { IfOk result (λ entry. entry ≡ length code.now) }
-{
-    u32::try_from(code.len()).ok().ok_or(NoMemory)
-}
 
 /// The address behind the lines of a spawn, by the address where they begin.
 fn next_end(target: &Target, entry: u32) -> Result<u32, NoMemory>
@@ -45,11 +38,9 @@ fn append_spawn(
     entry: u32,
     lines: &mut Lines,
 ) -> Result<(), NoMemory>
-    requires free { target.now.free + 1 < 2 ^ 32 }
     requires inputs { target.now.inputs + 16 < 2 ^ 32 }
-    requires ready { target.now.ready + 2 < 2 ^ 32 }
     requires few { target.now.args ≤ 4 }
-    ensures { OnOk result (Appends lines.old lines.new (spawn_lines (numbers target.now) level slot entry)) }
+    ensures { OnOk result (Appends lines.old lines.new (spawn_lines target.now level slot entry)) }
 {
     slot.checked_add(16).ok_or(NoMemory)?;
     let end = next_end(target, entry)?;
@@ -60,31 +51,31 @@ fn append_spawn(
     Ok(())
 }
 
-/// Appends the code of a spawn of a software task, at a static level, whose arguments stand in the slots from one on.
-/// It takes a place of the task, stores the arguments, puts the message into the ready queue of the task's level and
-/// pends the level's dispatcher; the answer comes into the first slot: 1, or 0 where no place is left. It writes the
-/// 16 slots from there on alone. Its lines name only what the application declares, and there are at most 128 of them.
-/// An error leaves the code as it was.
+/// Appends the code of a spawn of a software task, at a static level, whose arguments stand in the slots from one on,
+/// and whose first line will stand at the address `entry`. It takes a place of the task, stores the arguments, puts the
+/// message into the ready queue of the task's level and pends the level's dispatcher; the answer comes into the first
+/// slot: 1, or 0 where no place is left. It writes the 16 slots from there on alone. Its lines name only what the
+/// application declares, and there are at most 128 of them. An error leaves the code as it was.
 pub fn gen_spawn(
     alloc: Global,
     plan: &Plan<'_>,
     task: TaskId,
     level: u8,
     slot: u32,
+    entry: u32,
     code: &mut Vec<(Instr, Option<Note>)>,
 ) -> Result<(), NoMemory>
     requires accepted { IsAccepted (app_of plan.now.app.now) }
     requires planned { IsPlan plan.now }
     requires software { is_some_and is_software (slice_get (app_of plan.now.app.now).tasks task) ≡ true }
     ensures code { OnOk result (code.new.items ≡ code.old.items
-        ++ spawn_code (app_of plan.now.app.now) task level slot (length code.old.items)) }
+        ++ spawn_code (app_of plan.now.app.now) task level slot entry) }
     ensures size { OnOk result (length code.new.items ≤ length code.old.items + SPAWN_COST) }
     ensures lines { OnOk result (AllByRecursion (IsNameable (names_of (app_of plan.now.app.now)))
         (drop (length code.old.items) code.new.items)) }
     ensures left { OnErr result (code.new.items ≡ code.old.items) }
 {
     let target = find_target(plan, task);
-    let entry = next_entry(code)?;
     let mut lines = Lines::new(alloc);
     append_spawn(&target, level, slot, entry, &mut lines)?;
     code.extend_from_slice(lines.as_slice())?;

@@ -15,7 +15,9 @@ use Rattle.rt_app.specs.Frame.{frame_words}
 use Rattle.rt_app.specs.Level.{is_software, is_of_level, levels}
 use Rattle.rt_app.specs.Stack.{has_handler, is_timed_at, frames_of, dispatcher_need, need}
 use Rattle.rt_app.proofs.SoundCeilings.{those_all}
-use Rattle.rt_build.specs.Image.{Entries, rows_for, body_rows}
+use Rattle.rt_gen_queue.specs.Called.{rows_for}
+use Rattle.rt_build.specs.Entries.{Entries}
+use Rattle.rt_build.specs.Image.{callable_rows}
 use Rattle.rt_code.specs.Image.{Image}
 use Rattle.rt_code.specs.Tables.{arguments_in}
 use Rattle.rt_code.specs.declared.image.BodyRow.{BodyRow}
@@ -24,19 +26,19 @@ use Rattle.rt_sim.specs.Inside.Calling.{CallsWithin}
 
 -- the rows of those who call no body
 abbrev pub no_rows : App → Image → List BodyRow
-no_rows app img = rows_for app (λ t. false) (length img.code) img.bodies
+no_rows app img = callable_rows app (λ t. false) (length img.code) img.bodies
 
 -- the rows of a dispatcher of a level
 abbrev pub level_rows : App → Image → ℕ → List BodyRow
-level_rows app img p = rows_for app (is_of_level p) (length img.code) img.bodies
+level_rows app img p = callable_rows app (is_of_level p) (length img.code) img.bodies
 
-abbrev row_for : App → (Task → Bool) → ℕ → BodyRow → BodyRow
-row_for app test behind row =
+abbrev callable_row : App → (Task → Bool) → ℕ → BodyRow → BodyRow
+callable_row app test behind row =
     if is_some_and test (slice_get app.tasks row.task) then row else record row { entry = behind }
 
 -- a row keeps its task and its arguments
 row_keeps : (app : App) (test : Task → Bool) (behind : ℕ) (row : BodyRow)
-    → ((row_for app test behind row).task ≡ row.task) × ((row_for app test behind row).args ≡ row.args)
+    → ((callable_row app test behind row).task ≡ row.task) × ((callable_row app test behind row).args ≡ row.args)
 row_keeps app test behind row = by (is_some_and test (slice_get app.tasks row.task))
   where
     by : (b : Bool) → ((if b then row else record row { entry = behind }).task ≡ row.task)
@@ -45,19 +47,19 @@ row_keeps app test behind row = by (is_some_and test (slice_get app.tasks row.ta
     by false = (refl, refl)
 
 arguments_kept : (app : App) (test : Task → Bool) (behind : ℕ) (rows : List BodyRow) (t : ℕ)
-    → arguments_in (rows_for app test behind rows) t ≡ arguments_in rows t
+    → arguments_in (callable_rows app test behind rows) t ≡ arguments_in rows t
 arguments_kept app test behind [] t = refl
 arguments_kept app test behind (row ∷ rows) t =
     let kept = row_keeps app test behind row in
     ap (λ (n : ℕ). unwrap_or (option_map (λ (r : BodyRow). r.args)
-    (if n == t then Some (row_for app test behind row)
-    else find (λ (r : BodyRow). r.task == t) (rows_for app test behind rows))) 0) kept.0
+    (if n == t then Some (callable_row app test behind row)
+    else find (λ (r : BodyRow). r.task == t) (callable_rows app test behind rows))) 0) kept.0
     ∙ by (row.task == t) kept.1 (arguments_kept app test behind rows t)
   where
-    by : (b : Bool) → (row_for app test behind row).args ≡ row.args
-        → arguments_in (rows_for app test behind rows) t ≡ arguments_in rows t
-        → unwrap_or (option_map (λ (r : BodyRow). r.args) (if b then Some (row_for app test behind row)
-        else find (λ (r : BodyRow). r.task == t) (rows_for app test behind rows))) 0
+    by : (b : Bool) → (callable_row app test behind row).args ≡ row.args
+        → arguments_in (callable_rows app test behind rows) t ≡ arguments_in rows t
+        → unwrap_or (option_map (λ (r : BodyRow). r.args) (if b then Some (callable_row app test behind row)
+        else find (λ (r : BodyRow). r.task == t) (callable_rows app test behind rows))) 0
         ≡ unwrap_or (option_map (λ (r : BodyRow). r.args) (if b then Some row
         else find (λ (r : BodyRow). r.task == t) rows)) 0
     by true here rest = here
@@ -69,7 +71,7 @@ pub record IsRowFor (app : App) (test : Task → Bool) (rows : List BodyRow) (k 
   pub passes : is_some_and test (slice_get app.tasks row.task) ≡ true
 
 each_row : (app : App) (test : Task → Bool) (behind : ℕ) (rows : List BodyRow) (k : ℕ) (row : BodyRow)
-    → slice_get (rows_for app test behind rows) k ≡ Some row
+    → slice_get (callable_rows app test behind rows) k ≡ Some row
     → (row.entry ≡ behind) ⊎ IsRowFor app test rows k row
 each_row app test behind [] k row is = absurd (none-some row is)
 each_row app test behind (r ∷ rows) zero row is =
@@ -96,7 +98,7 @@ pub record IsOfBody (app : App) (row : BodyRow) : Type 0 where
 
 rows_of_bodies : (app : App) (at : Entries) (n : ℕ) (ts : List Task)
     → ((k : ℕ) (t : Task) → slice_get ts k ≡ Some t → slice_get app.tasks (n + k) ≡ Some t)
-    → AllByRecursion (IsOfBody app) (body_rows app at n ts)
+    → AllByRecursion (IsOfBody app) (rows_for at.task n ts)
 rows_of_bodies app at n [] are = tt
 rows_of_bodies app at n (t ∷ ts) are =
     let here : n + 0 ≡ n = omega arith in
@@ -105,11 +107,11 @@ rows_of_bodies app at n (t ∷ ts) are =
     let next : n + 1 + k ≡ n + suc k = omega arith in
     ap (slice_get app.tasks) next ∙ are (suc k) u is))
   where
-    by : (b : Bool) → slice_get app.tasks n ≡ Some t → AllByRecursion (IsOfBody app) (body_rows app at (n + 1) ts)
+    by : (b : Bool) → slice_get app.tasks n ≡ Some t → AllByRecursion (IsOfBody app) (rows_for at.task (n + 1) ts)
         → AllByRecursion (IsOfBody app)
         ((if b
         then record { task = n; entry = at.task n; frame = frame_words t.args t.body; args = t.args } ∷ [] else [])
-        ++ body_rows app at (n + 1) ts)
+        ++ rows_for at.task (n + 1) ts)
     by true there rest = (record { body = t; there = there; frame = refl }, rest)
     by false there rest = rest
 
@@ -127,7 +129,7 @@ module _ (app : App) (img : Image) where
       never None is = cc (is)
       never (Some t) is = cc (is)
 
-  module _ (at : Entries) (bodies : img.bodies ≡ body_rows app at 0 app.tasks) (p : ℕ)
+  module _ (at : Entries) (bodies : img.bodies ≡ rows_for at.task 0 app.tasks) (p : ℕ)
       (is : Contains (levels app) p) where
     has_tasks : list_any (is_of_level p) app.tasks ≡ true
     has_tasks = all_has (λ q. list_any (is_of_level q) app.tasks ≡ true) (levels app) p
@@ -164,7 +166,7 @@ module _ (app : App) (img : Image) where
         room : (k : ℕ) (row : BodyRow) → IsRowFor app (is_of_level p) img.bodies k row
             → DISPATCHER_WORDS + row.frame ≤ need app p
         room k row one =
-            let its : IsOfBody app row = all_at (IsOfBody app) (body_rows app at 0 app.tasks) k row
+            let its : IsOfBody app row = all_at (IsOfBody app) (rows_for at.task 0 app.tasks) k row
             (rows_of_bodies app at 0 app.tasks (λ k t is. let same : 0 + k ≡ k = omega arith in
             ap (slice_get app.tasks) same ∙ is)) (ap (λ rows. slice_get rows k) (sym bodies) ∙ one.same) in
             let passes : is_of_level p its.body ≡ true =

@@ -19,7 +19,7 @@ use Rattle.rt_app.specs.declared.app.IrqDecl.{IrqDecl}
 use Rattle.rt_app.specs.Tree.{App}
 use Rattle.rt_app.specs.Acceptance.{IsSound}
 use Rattle.rt_app.specs.Handlers.{Service, services, service_of, irq_number}
-use Rattle.rt_build.specs.Image.{Entries, handler_row, irq_rows}
+use Rattle.rt_build.specs.Entries.{Entries, handler_row, irq_rows}
 use Rattle.rt_code.specs.Image.{Image}
 use Rattle.rt_code.specs.declared.image.IrqRow.{IrqRow}
 use Rattle.rt_core.specs.Core.{Core}

@@ -24,7 +24,8 @@ use Rattle.rt_app.specs.Level.{is_software, levels}
 use Rattle.rt_app.specs.Sending.{act}
 use Rattle.rt_app.specs.Stack.{is_bound_at, frames_of, is_timed_at}
 use Rattle.rt_ids.specs.Action.{Returns}
-use Rattle.rt_build.specs.Image.{IsImageOf, handler_words, task_words}
+use Rattle.rt_build.specs.Entries.{handler_words, task_words}
+use Rattle.rt_build.specs.Image.{IsImageOf}
 use Rattle.rt_code.specs.Image.{Image}
 use Rattle.rt_code.specs.Standing.{StandsFrom}
 use Rattle.rt_laws.specs.Services.{handler_cost}

@@ -22,7 +22,8 @@ use Rattle.rt_app.specs.Handlers.{Service, services, irq_number, has_no_monotoni
 use Rattle.rt_app.specs.Holding.{storage, IsHeld}
 use Rattle.rt_app.specs.Level.{is_software, levels}
 use Rattle.rt_app.specs.Sending.{act}
-use Rattle.rt_build.specs.Image.{Entries, IsImageOf, handler_row, handler_words}
+use Rattle.rt_build.specs.Entries.{Entries, handler_row, handler_words}
+use Rattle.rt_build.specs.Image.{IsImageOf}
 use Rattle.rt_code.specs.Cells.{resource_cell}
 use Rattle.rt_code.specs.Image.{Image, entry_words}
 use Rattle.rt_code.specs.declared.image.IrqRow.{IrqRow}

@@ -20,7 +20,7 @@ use Rattle.rt_app.specs.Handlers.{Service}
 use Rattle.rt_app.specs.Holding.{storage, is_kept, is_constant, IsHeld}
 use Rattle.rt_app.specs.Layout.{memory}
 use Rattle.rt_app.specs.Stack.{has_handler, need}
-use Rattle.rt_build.specs.Image.{Entries, entry_of, handler_words, handler_row}
+use Rattle.rt_build.specs.Entries.{Entries, entry_of, handler_words, handler_row}
 use Rattle.rt_code.specs.Image.{Image}
 use Rattle.rt_code.specs.Masking.{NobodyKeeps}
 use Rattle.rt_code.specs.Owning.{Held, owns, reads, is_open}

@@ -6,9 +6,7 @@ use Rattle.rt_ids.specs.declared.status.Status.TheVariants as status
 use Rattle.rt_ast.specs.Tree as tree
 use Rattle.rt_ast.specs.Canonical.{canonical}
 use Rattle.rt_grammar.specs.Text.{IsText}
-use Rattle.rt_lemmas.proofs.Bools.{and_parts}
 use Rattle.rt_app.specs.Accepted.{IsAccepted}
-use Rattle.rt_app.specs.Handlers.{has_no_software, has_no_monotonic}
 use Rattle.rt_app.specs.Names.{names_of}
 use Rattle.rt_app.specs.Tree.{App}
 use Rattle.rt_baker.specs.declared.verdict.Verdict.{Verdict}
@@ -158,9 +156,6 @@ module _ (first second third : Option (List ℕ)) (app : App) (accepted : (text 
       trace_decided refusal line (λ more f. subst (λ m. trace.IsRefused (names_of app) m refusal) (same more f) met) says
 
   -- a listing
-  parts : has_image app ≡ true → (has_no_software app ≡ true) × (has_no_monotonic app ≡ true)
-  parts = and_parts (has_no_software app) (has_no_monotonic app)
-
   pub listed_decided : IsAccepted app → has_image app ≡ true → (items : List ℕ) → Lists app items → (bytes : List ℕ)
       → bytes ≡ items
       → IsDecided Build u status.Done bytes
@@ -180,7 +175,7 @@ module _ (first second third : Option (List ℕ)) (app : App) (accepted : (text 
               made = made;
               of_application = of_application;
               runnable = runnable;
-              good = images_are_good app image is_accepted (parts made).1 of_application;
+              good = images_are_good app image is_accepted made of_application;
             };
             written = same ∙ says;
           },

@@ -58,7 +58,7 @@ refusal_line fault =
     decimal fault.place.line ++ codes ":" ++ decimal fault.place.col ++ codes " "
     ++ refusal_words fault.refusal ++ codes "\n"
 
--- the line for an application of which no image is made
+-- the line for an application of which no image is made: one with a monotonic
 abbrev pub unbuilt_line : List ℕ
 unbuilt_line = codes "1:1 E00 not built\n"
 

@@ -20,7 +20,7 @@ use rt_outside::{ReadFail, Source, read_text};
 use rt_parse::parse;
 use std::alloc::Global;
 
-/// The line for an application of which no image is made.
+/// The line for an application of which no image is made: one with a monotonic.
 const UNBUILT: &[u8] = b"1:1 E00 not built\n";
 
 /// A text that is too long is refused at its first byte.

@@ -1,24 +1,28 @@
 -- What stands in the code of an application while it grows, whatever code is put behind it.
-use Rattle.std.specs.Prelude.{◌≡◌, ℕ, ◌+◌, ◌<◌, ◌≤◌, List, ◌++◌, length, take, drop, slice_get, slice_index, Option, Some}
+use Rattle.std.specs.Prelude.{◌≡◌, ◌==◌, ℕ, ◌+◌, ◌<◌, ◌≤◌, Bool, true, not, List, ◌++◌, length, take, drop, slice_get}
+use Rattle.std.specs.Prelude.{slice_index, Some, position, if◌then◌else◌}
 use Rattle.std.specs.List.{AllByRecursion}
+use Rattle.rt_ids.specs.Lists.{is_some_and, or_zero}
 use Rattle.rt_ids.specs.Storage.{Starting}
+use Rattle.rt_ids.specs.declared.limits.TheConstants.{CODE_SIZE}
 use Rattle.rt_app.specs.Tree.{Task, App}
-use Rattle.rt_app.specs.BodyCost.{cost_measure, cost_of}
+use Rattle.rt_app.specs.BodyCost.{cost_measure, size_measure, body_cost, cost_of}
 use Rattle.rt_app.specs.Doings.{init_doing}
 use Rattle.rt_app.specs.Holding.{storage}
 use Rattle.rt_app.specs.Layout.{memory}
+use Rattle.rt_app.specs.Level.{is_software, levels}
 use Rattle.rt_app.specs.Names.{names_of}
 use Rattle.rt_app.specs.Stack.{thread_words}
 use Rattle.rt_code.specs.Standing.{StandsFrom}
 use Rattle.rt_code.specs.declared.image.BodyRow.{BodyRow}
-use Rattle.rt_code.specs.declared.instr.Instr.{Instr}
-use Rattle.rt_code.specs.declared.instr.Note.{Note}
-use Rattle.rt_gen_body.specs.Bodies.{IsNameable, TaskStands}
-use Rattle.rt_build.specs.Image.{Entries, IdleStands}
+use Rattle.rt_gen_queue.specs.Line.{Line, HasCode, IsNameable}
+use Rattle.rt_gen_body.specs.Bodies.{DeclaredStands}
+use Rattle.rt_gen_disp.specs.Code.{dispatcher_code}
+use Rattle.rt_build.specs.Entries.{Entries}
+use Rattle.rt_build.specs.Image.{IdleStands}
 use Rattle.rt_build.specs.declared.code.Code.{Code}
-
-abbrev pub Line : Type 0
-Line = Instr × Option Note
+use Rattle.rt_build.specs.declared.code.Kind.{Kind}
+use Rattle.rt_build.specs.declared.code.Kind.TheVariants.{Hardware, Software}
 
 -- code that begins with what was there before
 abbrev pub IsKept : List Line → List Line → Type 0
@@ -30,6 +34,19 @@ pub record Adds (app : App) (size : ℕ) (before after : List Line) : Type 0 whe
   pub named : AllByRecursion (IsNameable (names_of app)) (drop (length before) after)
   pub short : length after ≤ length before + size
 
+-- the tasks that bind an interrupt, and those that do not
+abbrev pub is_of_kind : Kind → Task → Bool
+is_of_kind Hardware t = not (is_software t)
+is_of_kind Software t = is_software t
+
+-- the size of the body of a task of a kind
+abbrev pub kind_size : App → Kind → Task → ℕ
+kind_size app kind t = if is_of_kind kind t then body_cost (size_measure app) t.body else 0
+
+-- the code of the dispatcher of a level stands at an address
+pub record HasDispatcher (app : App) (level : ℕ) (code : List Line) (entry : ℕ) : Type 0 where
+  pub there : HasCode code entry (dispatcher_code app level entry)
+
 module _ (app : App) (lines : List Line) where
   -- that of the thread, which goes on at this address behind `init`
   pub record HasThread (entry : ℕ) : Type 0 where
@@ -38,12 +55,41 @@ module _ (app : App) (lines : List Line) where
         (cost_of (cost_measure app) app.init) (init_doing app)
     pub idle : (more : List Line) (bodies : List BodyRow) → IdleStands app (lines ++ more) bodies entry app.idle
 
-  -- that of the tasks that begin at these addresses
-  abbrev pub HasTasks : List ℕ → Type 0
-  HasTasks entries =
-      (n : ℕ) (t : Task) → n < length entries → slice_get app.tasks n ≡ Some t
-      → (more : List Line) → TaskStands app n (Some t) (lines ++ more) (slice_index entries n)
+  -- that of the tasks of a kind, which begin at these addresses
+  abbrev pub HasTasks : Kind → List ℕ → Type 0
+  HasTasks kind entries =
+      (n : ℕ) → n < length entries → (t : Task) → slice_get app.tasks n ≡ Some t → is_of_kind kind t ≡ true
+      → (more : List Line) → DeclaredStands app n (lines ++ more) (slice_index entries n)
 
--- where the parts of code begin; there are no dispatchers and no timer handler
-abbrev pub entries_of : Code → Entries
-entries_of code = record { idle = code.idle; task = slice_index code.tasks.items; dispatcher = λ p. 0; timer = 0 }
+  -- that of the dispatchers of levels, rising, that begin at these addresses
+  abbrev pub HasDispatchers : List ℕ → Type 0
+  HasDispatchers entries =
+      (k : ℕ) → k < length entries → (p : ℕ) → slice_get (levels app) k ≡ Some p
+      → (more : List Line) → HasDispatcher app p (lines ++ more) (slice_index entries k)
+
+-- there is an address for each task, of both kinds, and one for each level
+pub record HasEntries (app : App) (code : Code) : Type 0 where
+  pub of_hardware : length code.hardware.items ≡ length app.tasks
+  pub of_software : length code.software.items ≡ length app.tasks
+  pub of_levels : length code.dispatchers.items ≡ length (levels app)
+
+-- all code, which names only what is declared, and of which there is no more than an image may have
+pub record IsCodeOf (app : App) (code : Code) : Type 0 where
+  pub entries : HasEntries app code
+  pub thread : HasThread app code.lines.items code.idle
+  pub hardware : HasTasks app code.lines.items Hardware code.hardware.items
+  pub software : HasTasks app code.lines.items Software code.software.items
+  pub dispatchers : HasDispatchers app code.lines.items code.dispatchers.items
+  pub named : AllByRecursion (IsNameable (names_of app)) code.lines.items
+  pub short : length code.lines.items ≤ CODE_SIZE
+
+-- Where the parts of code begin: a task at the address of its kind, the dispatcher of a level at that at the level's
+-- place. There is no timer handler.
+abbrev pub entries_of : App → Code → Entries
+entries_of app code = record {
+  idle = code.idle;
+  task = λ n. slice_index
+      (if is_some_and is_software (slice_get app.tasks n) then code.software.items else code.hardware.items) n;
+  dispatcher = λ p. slice_index code.dispatchers.items (or_zero (position (λ q. q == p) (levels app)));
+  timer = 0;
+}

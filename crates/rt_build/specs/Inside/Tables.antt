@@ -5,7 +5,7 @@ use Rattle.rt_app.specs.Tree.{App}
 use Rattle.rt_app.specs.Handlers.{Service}
 use Rattle.rt_code.specs.declared.image.Handler.{Handler}
 use Rattle.rt_code.specs.declared.image.IrqRow.{IrqRow}
-use Rattle.rt_build.specs.Image.{Entries, handler_row}
+use Rattle.rt_build.specs.Entries.{Entries, handler_row}
 
 module _ (app : App) (at : Entries) (services : List Service) where
   -- how the interrupt of this place is served, if only these are served

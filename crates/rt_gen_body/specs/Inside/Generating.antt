@@ -1,26 +1,40 @@
 -- What a generator has, as the context of the definitions.
 use Rattle.std.specs.Prelude.{ℕ, List, map, length}
-use Rattle.rt_gen_body.specs.Inside.Code.{Context, Line, block_code}
-use Rattle.rt_app.specs.Frame.{first_expression_slot, first_lock_slot}
+use Rattle.rt_app.specs.Accepted.{IsAccepted}
+use Rattle.rt_app.specs.Frame.{first_expression_slot, first_lock_slot, first_spawn_slot}
+use Rattle.rt_app.specs.Plan.{IsPlan}
+use Rattle.rt_app.specs.View.{app_of}
 use Rattle.rt_app.specs.Tree.{Body, App}
-use Rattle.rt_gen_body.specs.declared.guard.Guard.{Guard}
+use Rattle.rt_gen_queue.specs.Line.{Line}
+use Rattle.rt_gen_queue.specs.declared.guard.Guard.{Guard}
+use Rattle.rt_gen_body.specs.Inside.Values.{Context}
+use Rattle.rt_gen_body.specs.Inside.Blocks.{block_code}
 use Rattle.rt_gen_body.specs.declared.generator.Generator.{Generator}
 
 abbrev pub context : Generator → Context
 context g = record {
+  app = app_of g.plan.now.app.now;
   guards = g.guards.now;
-  numbers = map (λ d. d.number) g.irqs.now;
+  numbers = map (λ d. d.number) (app_of g.plan.now.app.now).irqs;
   locals = g.locals;
   expressions = g.expressions;
+  spawns = g.spawns;
 }
 
--- the blocks of a body with so many arguments, at a priority, in an application whose resources are guarded so
+-- what it generates code of: an accepted application, by its plan
+pub record IsReady (g : Generator) : Type 0 where
+  pub accepted : IsAccepted (app_of g.plan.now.app.now)
+  pub planned : IsPlan g.plan.now
+
+-- the blocks of a body with so many arguments, at a level, in an application whose resources are guarded so
 abbrev pub slots_code : App → List Guard → ℕ → ℕ → Body → ℕ → List Line
-slots_code app guards args priority b entry =
+slots_code app guards args level b entry =
     let with : Context = record {
+      app = app;
       guards = guards;
       numbers = map (λ d. d.number) app.irqs;
       locals = length app.shared;
       expressions = first_expression_slot args b;
+      spawns = first_spawn_slot args b;
     } in
-    block_code with priority (first_lock_slot args b) entry b.block
+    block_code with level (first_lock_slot args b) entry b.block

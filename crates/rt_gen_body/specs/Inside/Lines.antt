@@ -1,7 +1,7 @@
 -- The lines of a body as they are generated, one behind the other.
 use Rattle.std.specs.Prelude.{◌≡◌, ℕ, ◌+◌, ◌++◌, List, length, slice_set}
 use Rattle.rt_code.specs.declared.instr.Instr.TheVariants as instr
-use Rattle.rt_gen_body.specs.Inside.Code.{Line, plain}
+use Rattle.rt_gen_queue.specs.Line.{Line, plain}
 
 pub record Lines : Type 0 where
   -- the address of the first line

@@ -1,25 +1,7 @@
--- What a spawn's code is made of, as the generator has it.
+-- The lines of a spawn as they are generated, one behind the other.
 use Rattle.std.specs.Prelude.{◌≡◌, ◌++◌, List}
-use Rattle.rt_gen_queue.specs.Inside.Lines.{Line, Numbers}
-use Rattle.rt_gen_queue.specs.declared.target.Target.{Target}
+use Rattle.rt_gen_queue.specs.Line.{Line}
 
-abbrev pub numbers : Target → Numbers
-numbers t = record {
-  task = t.task;
-  args = t.args;
-  level = t.level;
-  dispatcher = t.dispatcher;
-  free = t.free;
-  inputs = t.inputs;
-  ready = t.ready;
-  room = t.room;
-  free_top = t.free_guard.ceiling;
-  free_value = t.free_guard.value;
-  ready_top = t.ready_guard.ceiling;
-  ready_value = t.ready_guard.value;
-}
-
--- the lines that are made
 pub record Made : Type 0 where
   pub lines : List Line
 

@@ -4,8 +4,8 @@ use Rattle.rt_app.specs.View.{app_of, body_of}
 use Rattle.rt_code.specs.declared.image.BodyRow.{BodyRow}
 use Rattle.rt_gen_body.specs.Bodies.{BodyStands}
 use Rattle.rt_ids.specs.declared.ids.BodyId.TheVariants as body
+use Rattle.rt_gen_queue.specs.Line.{Line}
 use Rattle.rt_build.specs.Image.{IdleStands}
-use Rattle.rt_build.specs.Inside.Code.{Line}
 use Rattle.rt_build.proofs.Grown.{idle_declared, idle_absent}
 use Rattle.rt_build.proofs.code.push_idle.Goals as goal
 
@@ -24,7 +24,7 @@ returns-in-Some-clause-stands c =
     (app_of c.args.plan.now.app.now).idle)
     (λ entry stands. idle_declared (app_of c.args.plan.now.app.now) c.gen_body.new.code.items entry
     (body_of c.in-Some._body) (ap (option_map body_of) c.in-Some.is) stands)
-    (c.gen_body.ensures.stands c.requires.software c.requires.monotonic)
+    (c.gen_body.ensures.stands c.requires.monotonic)
 
 pub returns-in-None-clause-stands : goal.returns-in-None-clause-stands
 returns-in-None-clause-stands c =

@@ -1,7 +1,7 @@
 use Rattle.std.proofs.Common.{List, ◌++◌, if◌then◌else◌, length, ap, ◌∙◌}
 use Rattle.std.specs.Prelude.{is_ok}
 use Rattle.rt_app.specs.View.{app_of}
-use Rattle.rt_gen_body.specs.Inside.Code.{Line}
+use Rattle.rt_gen_queue.specs.Line.{Line}
 use Rattle.rt_gen_body.proofs.Appended.{appended_named, appended_short, appended_stands}
 use Rattle.rt_gen_body.proofs.body.gen_body.Goals as goal
 
@@ -26,7 +26,7 @@ returns-clause-size c =
     c.in_ok-extend_from_slice.was)
 
 pub returns-clause-stands : goal.returns-clause-stands
-returns-clause-stands c = λ software monotonic.
+returns-clause-stands c = λ monotonic.
     appended_stands (app_of c.args.plan.now.app.now) c.requires.accepted c.args.id c.args.code.now.items
     c.extend_from_slice.new.self.items c.as_slice.result.now c.new-lines.result c.generate.new.lines c.in_ok-entry.entry
     (c.in_ok-entry.ensures ∙ ap (λ (l : List Line). length l) c.deref.ensures.value) c.new-lines.ensures
@@ -34,4 +34,4 @@ returns-clause-stands c = λ software monotonic.
     (c.extend_from_slice.ensures.items
     ∙ ap (λ r. if is_ok r then c.args.code.now.items ++ c.as_slice.result.now else c.args.code.now.items)
     c.in_ok-extend_from_slice.was)
-    software monotonic c.requires.of_app
+    monotonic c.requires.of_app

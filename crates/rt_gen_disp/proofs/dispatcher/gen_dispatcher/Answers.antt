@@ -1,7 +1,7 @@
 use Rattle.std.proofs.Common.{List, ◌++◌, if◌then◌else◌, length, ap, ◌∙◌}
 use Rattle.std.specs.Prelude.{is_ok}
 use Rattle.rt_app.specs.View.{app_of}
-use Rattle.rt_gen_disp.specs.Inside.Code.{Line}
+use Rattle.rt_gen_queue.specs.Line.{Line}
 use Rattle.rt_gen_disp.proofs.Appended.{appended_lines, appended_named, appended_short}
 use Rattle.rt_gen_disp.proofs.dispatcher.gen_dispatcher.Goals as goal
 

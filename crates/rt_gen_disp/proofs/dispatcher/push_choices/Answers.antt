@@ -6,14 +6,16 @@ use Rattle.rt_gen_disp.proofs.dispatcher.push_choices.Goals as goal
 
 pub loop-number-init : goal.loop-number-init
 loop-number-init c = record {
-  lines = choices_none (app_of c.args.plan.now.app.now) c.args.queue.now.level c.args.entry c.args.lines.now.items;
+  lines = choices_none (app_of c.args.plan.now.app.now) c.args.queue.now.level c.args.exit c.args.entry
+      c.args.lines.now.items;
   row = refl;
 }
 
 pub loop-number-preserved : goal.loop-number-preserved
 loop-number-preserved c = record {
   lines =
-      choices_next c.args.plan.now.app.now c.args.queue.now.level c.args.entry c.loop-number.number c.loop-number.row
+      choices_next c.args.plan.now.app.now c.args.queue.now.level c.args.exit c.args.entry c.loop-number.number
+      c.loop-number.row
       c.index-task.result.now c.args.lines.now.items c.loop-number.lines.items c.push_task.new.lines.items (omega arith)
       c.index-task.ensures c.loop-number.invariant.lines c.loop-number.invariant.row c.in_ok-push_task.ensures;
   row =
@@ -24,5 +26,6 @@ loop-number-preserved c = record {
 
 pub returns : goal.returns
 returns c =
-    choices_all c.args.plan.now.app.now c.args.queue.now.level c.args.entry c.loop-number.number c.args.lines.now.items
+    choices_all c.args.plan.now.app.now c.args.queue.now.level c.args.exit c.args.entry c.loop-number.number
+    c.args.lines.now.items
     c.loop-number.lines.items (omega arith) c.loop-number.invariant.lines

@@ -1,6 +1,6 @@
 -- The arguments so far are stored.
 use Rattle.std.proofs.Common.{◌≡◌, ◌++◌}
-use Rattle.rt_gen_queue.specs.Inside.Lines.{store_code}
+use Rattle.rt_gen_queue.specs.SpawnLines.{store_code}
 use Rattle.rt_gen_queue.proofs.parts.store.Given as goal
 
 abbrev pub invariant-loop-place : goal.invariant-loop-place

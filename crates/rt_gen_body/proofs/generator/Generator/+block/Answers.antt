@@ -1,18 +1,19 @@
-use Rattle.std.proofs.Common.{OnOk, length, refl, sym, ap, subst, ◌∙◌, ℕ, ◌+◌, max, List, [], ◌∷◌}
+use Rattle.std.proofs.Common.{rules, OnOk, length, refl, sym, ap, subst, ◌∙◌, ℕ, ◌+◌, List, [], ◌∷◌}
 use Rattle.rt_ids.specs.declared.ids.Section.TheVariants as section
+use Rattle.rt_app.specs.Limits.{statements_in}
 use Rattle.rt_app.specs.Tree as tree
 use Rattle.rt_app.specs.View.{expression_of, statement_of, block_of}
 use Rattle.rt_code.specs.declared.instr.Instr.TheVariants as instr
 use Rattle.rt_code.specs.declared.instr.Note.TheVariants as note
 use Rattle.rt_lemmas.proofs.Results.{on_ok_weaker}
 use Rattle.rt_frames.proofs.Views.{branch_at, repeat_at, locked_at}
-use Rattle.rt_gen_body.specs.declared.guard.Guard.{Guard}
-use Rattle.rt_gen_body.specs.Inside.Code.{Line, plain, noted, opening_of, closing_of, one_code, loop_code, lock_code}
-use Rattle.rt_gen_body.specs.Inside.Code.{statement_code, block_code}
+use Rattle.rt_gen_queue.specs.Line.{Line, plain, noted}
+use Rattle.rt_gen_body.specs.Inside.Blocks.{one_code, loop_code, lock_code, statement_code, block_code}
 use Rattle.rt_gen_body.specs.Inside.Lines.{next_address, Appends, EndsWith}
 use Rattle.rt_gen_body.specs.Inside.Generating.{context}
 use Rattle.rt_gen_body.proofs.Emitted.{next_behind, block_more, one_emitted, first_emitted, loop_emitted, lock_emitted}
-use Rattle.rt_gen_body.proofs.Emitted.{no_statements, some_statements, alone_emitted, two_emitted, between_emitted}
+use Rattle.rt_gen_body.proofs.Emitted.{first_within, statement_within, no_statements, some_statements, alone_emitted}
+use Rattle.rt_gen_body.proofs.Emitted.{two_emitted, between_emitted}
 use Rattle.rt_gen_body.proofs.generator.Generator.+block.Goals as goal
 
 pub block-loop-stmt-preserved : goal.block-loop-stmt-preserved
@@ -46,20 +47,15 @@ pub lock-returns : goal.lock-returns
 lock-returns t c =
     let block : ℕ → ℕ → ℕ → List Line =
     λ inside slot at. block_code (context c.args.self.now) inside slot at (block_of c.args.inner.now) in
-    let guard = c.guard_of-guard.ensures in
     on_ok_weaker c.push_noted-2.result
     (Appends c.block.new.code c.push_noted-2.new.self
     (noted c.closing.result (note.Leave (section.Res c.args.resource)) ∷ []))
     (Appends c.args.code.now c.push_noted-2.new.self
     (lock_code (context c.args.self.now) c.args.level c.args.lock (next_address c.args.code.now) c.args.resource block))
     (λ last. lock_emitted (context c.args.self.now) c.args.level c.args.lock c.args.resource c.args.code.now
-    c.push_noted.new.self c.block.new.code c.push_noted-2.new.self c.opening.result c.closing.result c.max.result
-    c.next_slot.result
-    block (c.opening.ensures (context c.args.self.now)
-    ∙ ap (λ g. opening_of (context c.args.self.now) g c.args.level c.args.lock) guard)
-    (c.closing.ensures (context c.args.self.now) ∙ ap
-    (λ g. closing_of (context c.args.self.now) g c.args.level c.args.lock) guard)
-    (c.max.ensures ∙ ap (λ (g : Guard). max c.args.level g.ceiling) guard) c.next_slot.ensures
+    c.push_noted.new.self c.block.new.code c.push_noted-2.new.self c.opening.result c.closing.result
+    c.guard_at-guard.result c.max.result c.next_slot.result block c.guard_at-guard.ensures c.opening.ensures
+    c.closing.ensures c.max.ensures c.next_slot.ensures
     c.in_ok-push_noted.ensures c.in_ok-block.ensures last)
     c.push_noted-2.ensures
 
@@ -151,3 +147,51 @@ statement-returns-in-Locked t c =
     (subst (λ s. Appends c.args.code.now c.lock.new.code
     (statement_code (context c.args.self.now) c.args.level c.args.lock (next_address c.args.code.now) s)) (sym is))
     c.lock.ensures
+
+pub block-statement-requires : goal.block-statement-requires
+block-statement-requires t c =
+    let few =
+    statement_within c.args.stmts.now c.loop-stmt.stmt-index c.stmt-item.result c.loop-stmt-test.true c.stmt-item.is in
+    search rules
+
+pub statement-choose_one-requires : goal.statement-choose_one-requires
+statement-choose_one-requires t c =
+    let s =
+    ap statements_in (branch_at c.args.stmt.now c.in-Branch.test c.in-Branch.first c.in-Branch.second c.deref.result.now
+    c.in-Branch.second.items c.in-Branch.is c.deref.ensures.value refl) in
+    search rules
+
+pub statement-choose_first-requires : goal.statement-choose_first-requires
+statement-choose_first-requires t c =
+    let s =
+    ap statements_in (branch_at c.args.stmt.now c.in-Branch.test c.in-Branch.first c.in-Branch.second
+    c.deref-else-is_empty.result.now c.in-Branch.second.items c.in-Branch.is c.deref-else-is_empty.ensures.value refl)
+    in
+    search rules
+
+pub statement-choose_second-requires : goal.statement-choose_second-requires
+statement-choose_second-requires t c =
+    let s =
+    ap statements_in (branch_at c.args.stmt.now c.in-Branch.test c.in-Branch.first c.in-Branch.second
+    c.deref-else-is_empty.result.now c.deref-else-is_empty-2.result.now c.in-Branch.is
+    c.deref-else-is_empty.ensures.value c.deref-else-is_empty-2.ensures.value) in
+    let within =
+    first_within (context c.args.self.now) c.value.new.code c.choose_first.new.code c.in_ok-over-in-Branch.over
+    (block_code (context c.args.self.now) c.args.level c.args.lock (next_address c.value.new.code + 1)
+    (block_of c.deref-else-is_empty.result.now)) c.in_ok-over-in-Branch.ensures.place
+    c.in_ok-over-in-Branch.ensures.lines in
+    search rules
+
+pub statement-repeat-requires : goal.statement-repeat-requires
+statement-repeat-requires t c =
+    let s =
+    ap statements_in (repeat_at c.args.stmt.now c.in-Repeat.variable c.in-Repeat.first c.in-Repeat.last c.in-Repeat.turn
+    c.deref-in-Repeat.result.now c.in-Repeat.is c.deref-in-Repeat.ensures.value) in
+    search rules
+
+pub statement-lock-requires : goal.statement-lock-requires
+statement-lock-requires t c =
+    let s =
+    ap statements_in (locked_at c.args.stmt.now c.in-Locked.resource c.in-Locked.inner c.in-Locked._at
+    c.deref-in-Locked.result.now c.in-Locked.is c.deref-in-Locked.ensures.value) in
+    search rules

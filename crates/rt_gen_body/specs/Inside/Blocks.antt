@@ -1,0 +1,85 @@
+-- The code of statements and blocks, instruction by instruction, from an address on: choices, loops, and sections of
+-- resources. What it means is not told here but by the promise that it stands.
+use Rattle.std.specs.Prelude.{ℕ, ◌+◌, max, List, [], ◌∷◌, ◌++◌, length, slice_index, slice_index_or}
+use Rattle.rt_ids.specs.declared.ids.Section.TheVariants as section
+use Rattle.rt_ids.specs.declared.op.Op.TheVariants as op
+use Rattle.rt_app.specs.Tree.{Statement, Bind, Assign, Branch, Repeat, Locked, Emit, Pend, Spawns, Block, Empty, Then}
+use Rattle.rt_code.specs.declared.instr.Instr.TheVariants as instr
+use Rattle.rt_gen_queue.specs.Line.{Line, plain}
+use Rattle.rt_gen_queue.specs.Guards.{enter_line, leave_line}
+use Rattle.rt_gen_queue.specs.declared.guard.Guard.{Guard}
+use Rattle.rt_gen_body.specs.Inside.Values.{Context, next_slot, value_code}
+use Rattle.rt_gen_body.specs.Inside.Simple.{send_code, bind_code, assign_code, emit_code}
+
+module _ (c : Context) where
+  -- how a resource's sections mask; those of one that is not declared mask nothing
+  abbrev pub guard_at : ℕ → Guard
+  guard_at r = slice_index_or c.guards r (record { ceiling = 0; value = 0 })
+
+  -- the choice behind a test, whose jump stands at an address: of one block of code, or between two
+  abbrev pub one_code : ℕ → (ℕ → List Line) → List Line
+  one_code at first = plain (instr.JumpZ c.expressions (at + 1 + length (first (at + 1)))) ∷ first (at + 1)
+
+  abbrev pub two_code : ℕ → (ℕ → List Line) → (ℕ → List Line) → List Line
+  two_code at first second =
+      let then_code : List Line = first (at + 1) in
+      let else_at : ℕ = at + 1 + length then_code + 1 in
+      let else_code : List Line = second else_at in
+      plain (instr.JumpZ c.expressions else_at)
+      ∷ (then_code ++ plain (instr.Jump (else_at + length else_code)) ∷ else_code)
+
+  abbrev pub branch_code : ℕ → (ℕ → List Line) → (ℕ → List Line) → Block → List Line
+  branch_code at first second Empty = one_code at first
+  branch_code at first second other = two_code at first second
+
+  -- the first of two blocks, with jumps that lead behind it and that are still to lead behind the second
+  abbrev pub first_code : ℕ → List Line → List Line
+  first_code at block =
+      plain (instr.JumpZ c.expressions (at + 1 + length block + 1)) ∷ (block ++ plain (instr.Jump 0) ∷ [])
+
+  -- the lines before and behind the turns of a loop
+  abbrev pub loop_front : ℕ → ℕ → ℕ → List Line
+  loop_front x first last =
+      plain (instr.Set x first) ∷ plain (instr.Set c.expressions last)
+      ∷ plain (instr.Calc op.Lt c.expressions x c.expressions) ∷ []
+
+  abbrev pub loop_back : ℕ → ℕ → List Line
+  loop_back x head =
+      plain (instr.Set c.expressions 1) ∷ plain (instr.Calc op.Add x x c.expressions) ∷ plain (instr.Jump head) ∷ []
+
+  -- a loop, whose turn's code begins four instructions behind the loop's address
+  abbrev pub loop_code : ℕ → ℕ → ℕ → ℕ → List Line → List Line
+  loop_code at x first last turn =
+      loop_front x first last
+      ++ plain (instr.JumpZ c.expressions (at + 4 + length turn + 3)) ∷ (turn ++ loop_back x (at + 1))
+
+  -- a section of a resource, whose block has code at a level, with a slot and an address
+  abbrev pub lock_code : ℕ → ℕ → ℕ → ℕ → (ℕ → ℕ → ℕ → List Line) → List Line
+  lock_code level lock at r block =
+      enter_line (section.Res r) (guard_at r) level lock
+      ∷ (block (max level (guard_at r).ceiling) (next_slot lock) (at + 1)
+      ++ leave_line (section.Res r) (guard_at r) level lock ∷ [])
+
+  -- at a static level, with a slot for the mask of the next section, from an address on
+  abbrev mutual
+    pub statement_code : ℕ → ℕ → ℕ → Statement → List Line
+    statement_code level lock at (Bind x v) = bind_code c level at x v
+    statement_code level lock at (Assign x e place) = assign_code c x e
+    statement_code level lock at (Branch e first second) =
+        let test : List Line = value_code c e in
+        test
+        ++ branch_code (at + length test) (λ a. block_code level lock a first)
+        (λ a. block_code level lock a second) second
+    statement_code level lock at (Repeat x first last turn) =
+        loop_code at x first last (block_code level lock (at + 4) turn)
+    statement_code level lock at (Locked r inner place) =
+        lock_code level lock at r (λ inside slot a. block_code inside slot a inner)
+    statement_code level lock at (Emit e) = emit_code c e
+    statement_code level lock at (Pend i) = plain (instr.Post (slice_index c.numbers i)) ∷ []
+    statement_code level lock at (Spawns s) = send_code c level at s
+
+    pub block_code : ℕ → ℕ → ℕ → Block → List Line
+    block_code level lock at Empty = []
+    block_code level lock at (Then s rest) =
+        let first : List Line = statement_code level lock at s in
+        first ++ block_code level lock (at + length first) rest

@@ -1,0 +1,56 @@
+-- What the code of a body is generated with, and the code that brings values into slots, instruction by instruction.
+-- What it means is not told here but by the promise that it stands.
+use Rattle.std.specs.Prelude.{ℕ, ◌+◌, ◌-◌, ◌^◌, min, List, [], ◌∷◌, ◌++◌}
+use Rattle.rt_app.specs.declared.expr.Atom.{Atom}
+use Rattle.rt_app.specs.declared.expr.Atom.TheVariants as atom
+use Rattle.rt_app.specs.Tree.{Expression, Num, Read, Oper, App}
+use Rattle.rt_code.specs.declared.instr.Instr.{Instr}
+use Rattle.rt_code.specs.declared.instr.Instr.TheVariants as instr
+use Rattle.rt_gen_queue.specs.Line.{Line, plain}
+use Rattle.rt_gen_queue.specs.declared.guard.Guard.{Guard}
+
+-- what code is generated with, the same for a whole body
+pub record Context : Type 0 where
+  pub app : App
+  -- of each shared resource
+  pub guards : List Guard
+  -- the numbers of the declared interrupts
+  pub numbers : List ℕ
+  -- the cell of the first local resource
+  pub locals : ℕ
+  -- the first slot where expressions are evaluated
+  pub expressions : ℕ
+  -- the first slot of a spawn
+  pub spawns : ℕ
+
+-- the next slot; frames are far shorter than where this stops
+abbrev pub next_slot : ℕ → ℕ
+next_slot slot = min (slot + 1) (2 ^ 32 - 1)
+
+module _ (c : Context) where
+  -- the value of a name in a slot, and a slot's value in a name
+  abbrev pub load : Atom → ℕ → Instr
+  load (atom.Var x) slot = instr.Copy slot x
+  load (atom.Shared r) slot = instr.Load slot r
+  load (atom.Local n) slot = instr.Load slot (c.locals + n)
+
+  abbrev pub store : Atom → ℕ → Instr
+  store (atom.Var x) slot = instr.Copy x slot
+  store (atom.Shared r) slot = instr.Store r slot
+  store (atom.Local n) slot = instr.Store (c.locals + n) slot
+
+  -- An expression's value comes into a slot; the slots from another on are free.
+  abbrev pub expression_code : Expression → ℕ → ℕ → List Line
+  expression_code (Num n) slot free = plain (instr.Set slot n) ∷ []
+  expression_code (Read x at) slot free = plain (load x slot) ∷ []
+  expression_code (Oper o left right) slot free =
+      expression_code left slot free
+      ++ (expression_code right free (next_slot free) ++ plain (instr.Calc o slot slot free) ∷ [])
+
+  abbrev pub value_code : Expression → List Line
+  value_code e = expression_code e c.expressions (next_slot c.expressions)
+
+  -- The values of arguments come into the slots from one on.
+  abbrev pub arguments_code : List Expression → ℕ → List Line
+  arguments_code [] slot = []
+  arguments_code (e ∷ es) slot = expression_code e slot c.expressions ++ arguments_code es (next_slot slot)

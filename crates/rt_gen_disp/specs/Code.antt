@@ -1,0 +1,106 @@
+-- The code of the dispatcher of a level of software tasks, instruction by instruction (the RTIC 1 book, software tasks
+-- and their dispatchers): it takes the oldest message of the level's ready queue, whose word is 16 times its task and
+-- its place, looks among the tasks of the level for its task, loads its arguments, gives its place back and calls the
+-- body. What it means is not told here but by the law that it stands. That it is made of these instructions is this
+-- project's own.
+use Rattle.std.specs.Prelude.{ℕ, ◌+◌, ◌==◌, List, [], ◌∷◌, ◌++◌, map, if◌then◌else◌}
+use Rattle.std.specs.List.{range_with_len}
+use Rattle.rt_ids.specs.declared.ids.Section.TheVariants as section
+use Rattle.rt_ids.specs.declared.op.Op.TheVariants as op
+use Rattle.rt_app.specs.Tree.{Task, App}
+use Rattle.rt_app.specs.Level.{is_software, is_of_level}
+use Rattle.rt_app.specs.Layout.{free_at, inputs_at}
+use Rattle.rt_code.specs.declared.instr.Instr.TheVariants as instr
+use Rattle.rt_code.specs.declared.instr.Note.TheVariants as note
+use Rattle.rt_gen_queue.specs.Line.{Line, plain, noted}
+use Rattle.rt_gen_queue.specs.Guards.{guard_of, enter_line, leave_line}
+use Rattle.rt_gen_queue.specs.Queue.{queue_at}
+use Rattle.rt_gen_queue.specs.declared.queue.ReadyQueue.{ReadyQueue}
+use Rattle.rt_gen_disp.specs.declared.called.Called.{Called}
+use Rattle.rt_gen_disp.specs.declared.lines.Exit.{Exit}
+
+-- where the slot 10 has not the task's number an address is next; else it comes into the slot 7 how far a place's
+-- arguments are from the task's first
+abbrev pub test_lines : Called → ℕ → List Line
+test_lines c next =
+    plain (instr.Set 7 c.task) ∷ plain (instr.Calc op.Eq 7 10 7) ∷ plain (instr.JumpZ 7 next)
+    ∷ plain (instr.Set 7 c.args) ∷ plain (instr.Calc op.Mul 7 9 7) ∷ []
+
+-- so many arguments of the place come into the first slots, where a task's arguments lie from a cell on
+abbrev pub argument_lines : ℕ → ℕ → List Line
+argument_lines inputs count = map (λ j. plain (instr.LoadAt j (inputs + j) 7)) (range_with_len 0 count)
+
+-- Sections keep in the slot 14 what the mask was.
+module _ (q : ReadyQueue) where
+  -- From an address on: where nothing is ready it returns; else the word of the oldest message comes into the slot 4,
+  -- its place and its task into the slots 9 and 10, how many are left into the slot 5, and the queue is without it.
+  abbrev pub front_lines : ℕ → List Line
+  front_lines at =
+      enter_line (section.Ready q.level) q.guard q.level 14 ∷ plain (instr.Load 5 (q.at + 1))
+      ∷ plain (instr.JumpZ 5 (at + 4)) ∷ plain (instr.Jump (at + 6))
+      ∷ leave_line (section.Ready q.level) q.guard q.level 14 ∷ plain instr.Ret
+      ∷ plain (instr.Load 6 q.at) ∷ plain (instr.LoadAt 4 (q.at + 2) 6)
+      ∷ plain (instr.Set 8 1) ∷ plain (instr.Calc op.Sub 5 5 8) ∷ plain (instr.Store (q.at + 1) 5)
+      ∷ plain (instr.Calc op.Add 6 6 8) ∷ plain (instr.Set 7 q.room)
+      ∷ plain (instr.Calc op.Rem 6 6 7) ∷ plain (instr.Store q.at 6)
+      ∷ plain (instr.Set 7 16) ∷ plain (instr.Calc op.Div 10 4 7) ∷ plain (instr.Calc op.Rem 9 4 7) ∷ []
+
+  -- from an address on: the message starts, and where more are ready the dispatcher is pended again; then the place is
+  -- given back, and the body runs
+  abbrev pub start_lines : Called → ℕ → List Line
+  start_lines c at =
+      noted instr.Mark (note.Start c.task 0) ∷ plain (instr.JumpZ 5 (at + 3)) ∷ plain (instr.Post q.irq)
+      ∷ leave_line (section.Ready q.level) q.guard q.level 14
+      ∷ enter_line (section.Free c.task) c.guard q.level 14 ∷ plain (instr.Load 6 c.free)
+      ∷ plain (instr.StoreAt (c.free + 1) 6 9) ∷ plain (instr.Calc op.Add 6 6 8)
+      ∷ noted (instr.Store c.free 6) (note.Free c.task) ∷ leave_line (section.Free c.task) c.guard q.level 14
+      ∷ plain (instr.Call c.row 0) ∷ plain instr.Ret ∷ []
+
+  -- from an address on: a message of the task is run, and one of another is left to the code at a further one
+  abbrev pub choice_lines : Called → ℕ → ℕ → List Line
+  choice_lines c next at = test_lines c next ++ (argument_lines c.inputs c.args ++ start_lines c (at + (5 + c.args)))
+
+-- a task by its number, whose body has this row
+abbrev pub called_at : App → ℕ → ℕ → Task → Called
+called_at app n row t = record {
+  task = n;
+  row = row;
+  args = t.args;
+  free = free_at app n;
+  inputs = inputs_at app n;
+  guard = guard_of app (section.Free n);
+}
+
+-- What is next where a message is not of a task: the code behind the task's, and for the last task of the level the
+-- exit, which no message reaches.
+abbrev pub next_for : Exit → ℕ → ℕ → ℕ
+next_for exit n behind = if n == exit.last then exit.address else behind
+
+-- the number of the last task of a level among these, the first of which has this number; another where there is none
+abbrev pub last_from : ℕ → ℕ → ℕ → List Task → ℕ
+last_from level found n [] = found
+last_from level found n (t ∷ more) = last_from level (if is_of_level level t then n else found) (n + 1) more
+
+module _ (app : App) (level : ℕ) (exit : Exit) where
+  -- from an address on: a task of the level
+  abbrev pub choice_code : ℕ → ℕ → ℕ → Task → List Line
+  choice_code at n row t =
+      choice_lines (queue_at app level) (called_at app n row t) (next_for exit n (at + (17 + t.args))) at
+
+  -- from an address on: the tasks of the level among these, the first of which has this number, with the rows of
+  -- software tasks from another on
+  abbrev pub choices_code : ℕ → ℕ → ℕ → List Task → List Line
+  choices_code at n row [] = []
+  choices_code at n row (t ∷ more) =
+      if is_of_level level t
+      then choice_code at n row t ++ choices_code (at + (17 + t.args)) (n + 1) (row + 1) more
+      else choices_code at (n + 1) (if is_software t then row + 1 else row) more
+
+-- the exit of the dispatcher of a level that begins at an address: where it returns because nothing is ready
+abbrev pub exit_of : App → ℕ → ℕ → Exit
+exit_of app level at = record { address = at + 4; last = last_from level 0 0 app.tasks }
+
+-- all of it, from an address on
+abbrev pub dispatcher_code : App → ℕ → ℕ → List Line
+dispatcher_code app level at =
+    front_lines (queue_at app level) at ++ choices_code app level (exit_of app level at) (at + 18) 0 0 app.tasks

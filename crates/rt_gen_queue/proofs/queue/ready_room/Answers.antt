@@ -1,0 +1,19 @@
+use Rattle.std.proofs.Common.{arith}
+use Rattle.rt_gen_queue.proofs.Rooms.{room_more}
+use Rattle.rt_gen_queue.proofs.queue.ready_room.Goals as goal
+
+pub loop-task-preserved : goal.loop-task-preserved
+loop-task-preserved c = (
+  omega (
+    arith,
+    c.loop-task.invariant.0,
+    c.capacity_at-room.ensures.is,
+    room_more c.args.level c.args.tasks.now c.loop-task.task-index c.task-item.result c.loop-task-test.true
+        c.task-item.is,
+  ),
+  omega (arith, c.loop-task.invariant.1, c.capacity_at-room.ensures.few),
+)
+
+pub overflow_add-room : goal.overflow_add-room
+overflow_add-room c =
+    omega (arith, c.loop-task.invariant.1, c.capacity_at-room.ensures.few, c.requires.few, c.loop-task-test.true)

@@ -1,0 +1,27 @@
+-- A line of generated code, with the note that it may have; where lines stand in code, and what each of them may name.
+-- That notes stand beside the instructions is this project's own.
+use Rattle.std.specs.Prelude.{◌≡◌, ℕ, suc, List, [], ◌∷◌, slice_get, Option, Some, None}
+use Rattle.rt_ids.specs.Names.{Names}
+use Rattle.rt_code.specs.Listable.{HasInstr, HasNote}
+use Rattle.rt_code.specs.declared.instr.Instr.{Instr}
+use Rattle.rt_code.specs.declared.instr.Note.{Note}
+
+abbrev pub Line : Type 0
+Line = Instr × Option Note
+
+abbrev pub plain : Instr → Line
+plain i = (i, None)
+
+abbrev pub noted : Instr → Note → Line
+noted i told = (i, Some told)
+
+-- these lines stand in the code from an address on
+abbrev pub HasCode : List Line → ℕ → List Line → Type 0
+HasCode code at [] = Unit {0}
+HasCode code at (line ∷ lines) = (slice_get code at ≡ Some line) × HasCode code (suc at) lines
+
+-- what a line names is declared: the interrupt that it posts, and the resource, task or body of its note. So the line
+-- can be written, and the item that its note gives
+pub record IsNameable (names : Names) (line : Line) : Type 0 where
+  pub instr : HasInstr names line.0
+  pub note : HasNote names line.1

@@ -1,0 +1,46 @@
+-- The code of a spawn of a task of an application, by what the application determines: where the task's places and its
+-- ring lie in memory, and how their sections mask (the RTIC 1 book, software tasks, `spawn`). That code is made of
+-- these numbers is this project's own.
+use Rattle.std.specs.Prelude.{ℕ, List}
+use Rattle.rt_ids.specs.declared.ids.Section.TheVariants as section
+use Rattle.rt_app.specs.Tree.{App}
+use Rattle.rt_app.specs.Bodies.{task_priority}
+use Rattle.rt_app.specs.Layout.{free_at, inputs_at}
+use Rattle.rt_app.specs.Holding.{arguments_of}
+use Rattle.rt_gen_queue.specs.Line.{Line}
+use Rattle.rt_gen_queue.specs.Guards.{guard_of}
+use Rattle.rt_gen_queue.specs.Queue.{queue_at}
+use Rattle.rt_gen_queue.specs.SpawnLines.{take_lines, fill_lines, ready_lines, end_lines, spawn_lines}
+use Rattle.rt_gen_queue.specs.declared.target.Target.{Target}
+
+module _ (app : App) where
+  -- what the code of a spawn of a task of a level is made of
+  abbrev pub target_at : ℕ → ℕ → Target
+  target_at task p = record {
+    task = task;
+    args = arguments_of app task;
+    free = free_at app task;
+    inputs = inputs_at app task;
+    guard = guard_of app (section.Free task);
+    queue = queue_at app p;
+  }
+
+  abbrev pub target_of : ℕ → Target
+  target_of task = target_at task (task_priority app task)
+
+  -- its parts
+  abbrev pub take_code : ℕ → ℕ → ℕ → ℕ → List Line
+  take_code task level slot full = take_lines (target_of task) level slot full
+
+  abbrev pub fill_code : ℕ → ℕ → List Line
+  fill_code task slot = fill_lines (target_of task) 0 slot
+
+  abbrev pub ready_code : ℕ → ℕ → ℕ → ℕ → List Line
+  ready_code task p level slot = ready_lines (target_at task p) level slot
+
+  abbrev pub end_code : ℕ → ℕ → ℕ → ℕ → List Line
+  end_code task level slot end = end_lines (target_of task) level slot end
+
+  -- All of it, from an address on: 28 lines, and one for each argument.
+  abbrev pub spawn_code : ℕ → ℕ → ℕ → ℕ → List Line
+  spawn_code task level slot at = spawn_lines (target_of task) level slot at

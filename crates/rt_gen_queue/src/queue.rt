@@ -1,0 +1,135 @@
+ghost use Rattle.std.specs.Prelude.{◌≡◌, ◌<◌, ◌≤◌, ◌==◌, if◌then◌else◌, nat_lt, length, map, filter, position};
+ghost use Rattle.std.specs.Prelude.{sum_by, slice_get, slice_index, option_map, Contains};
+ghost use Rattle.rt_ids.specs.Lists.{or_zero, then_from};
+ghost use Rattle.rt_ids.specs.declared.limits.TheConstants.{TASKS};
+ghost use Rattle.rt_app.specs.Accepted.{IsAccepted};
+ghost use Rattle.rt_app.specs.Handlers as handlers;
+ghost use Rattle.rt_app.specs.Level as levels;
+ghost use Rattle.rt_app.specs.Plan.{IsPlan};
+ghost use Rattle.rt_app.specs.View.{app_of, task_of};
+ghost use Rattle.rt_gen_queue.specs.Queue.{queue_at};
+
+use crate::guard::Guard;
+use rt_app::{App, IrqDecl, Plan, ReadyCeiling, Task};
+use rt_ids::Irq;
+
+/// The ready queue of a level of software tasks, as code finds it.
+#[derive(Clone, Copy, Debug)]
+pub struct ReadyQueue {
+    pub level: u8,
+    /// The first cell of its ring: where the oldest message is, before how many there are and the messages.
+    pub at: u16,
+    /// The messages that the ring holds.
+    pub room: u32,
+    /// How its section masks.
+    pub guard: Guard,
+    /// The interrupt that serves the level.
+    pub irq: Irq,
+}
+
+/// The cell of a table at a place, and 0 where none stands there.
+pub fn cell_at(cells: &[u16], place: usize) -> u16
+    ensures { result ≡ slice_index cells.now place }
+{
+    match cells.get(place) {
+        Some(cell) => *cell,
+        None => 0,
+    }
+}
+
+/// The place of a level among those of the ready queues.
+fn find_level(queues: &[ReadyCeiling], level: u8) -> Option<usize>
+    ensures { result ≡ position (λ r. r.level == level) queues.now }
+{
+    queues.iter().position(|queue| queue.level == level)
+}
+
+/// The same, and 0 where it is none of them.
+fn place_of(queues: &[ReadyCeiling], level: u8) -> usize
+    ensures { result ≡ or_zero (position (λ r. r.level == level) queues.now) }
+{
+    match find_level(queues, level) {
+        Some(place) => place,
+        None => 0,
+    }
+}
+
+/// The ceiling of the ready queue at a place, and 0 where none stands there.
+fn ceiling_at(queues: &[ReadyCeiling], place: usize) -> u8
+    ensures { result ≡ or_zero (option_map (λ r. r.ceiling) (slice_get queues.now place)) }
+{
+    match queues.get(place) {
+        Some(queue) => queue.ceiling,
+        None => 0,
+    }
+}
+
+/// How many levels are above a level.
+fn levels_above(queues: &[ReadyCeiling], level: u8) -> usize
+    ensures { result ≡ length (filter (λ r. nat_lt level r.level) queues.now) }
+{
+    queues.iter().filter(|queue| queue.level > level).count()
+}
+
+/// The number of an interrupt, by its place, and 0 where it is not declared.
+fn irq_number(irqs: &[IrqDecl], irq: u8) -> Irq
+    ensures { result ≡ or_zero (option_map (λ d. d.number) (slice_get irqs.now irq)) }
+{
+    match irqs.get(usize::from(irq)) {
+        Some(declared) => declared.number,
+        None => Irq::new(0).unwrap(),
+    }
+}
+
+/// The number of the interrupt of a dispatcher, by its place, and 0 where there is none.
+fn dispatcher_number(app: &App, place: usize) -> Irq
+    ensures { result ≡ or_zero (then_from (option_map (λ d. d.irq) (slice_get (app_of app.now).dispatchers place))
+        (handlers.irq_number (app_of app.now))) }
+{
+    match app.dispatchers.get(place) {
+        Some(dispatcher) => irq_number(&app.irqs, dispatcher.irq),
+        None => Irq::new(0).unwrap(),
+    }
+}
+
+/// The capacity of a task, where it is one of a level.
+fn capacity_at(task: &Task, level: u8) -> u32
+    ensures is { result ≡ (if levels.is_of_level level (task_of task.now) then (task_of task.now).capacity else 0) }
+    ensures few { result < 256 }
+{
+    if task.binds.is_none() && task.priority == level {
+        u32::from(task.capacity)
+    } else {
+        0
+    }
+}
+
+/// The messages of a level that may be ready at once.
+fn ready_room(tasks: &[Task], level: u8) -> u32
+    requires few { length tasks.now ≤ TASKS }
+    ensures { result ≡ sum_by (λ t. t.capacity) (filter (levels.is_of_level level) (map task_of tasks.now)) }
+{
+    let mut room: u32 = 0;
+    for task in tasks {
+        room += capacity_at(task, level);
+    }
+    room
+}
+
+/// The ready queue of a level that has software tasks.
+pub fn queue_of(plan: &Plan<'_>, level: u8) -> ReadyQueue
+    requires accepted { IsAccepted (app_of plan.now.app.now) }
+    requires planned { IsPlan plan.now }
+    requires software { Contains (levels.levels (app_of plan.now.app.now)) level }
+    ensures { result ≡ queue_at (app_of plan.now.app.now) level }
+{
+    let app = plan.app;
+    let place = place_of(&plan.ceil.ready, level);
+    ReadyQueue {
+        level,
+        at: cell_at(&plan.lay.ready, place),
+        room: ready_room(&app.tasks, level),
+        guard: Guard::of(app.bits, ceiling_at(&plan.ceil.ready, place)),
+        irq: dispatcher_number(app, levels_above(&plan.ceil.ready, level)),
+    }
+}
