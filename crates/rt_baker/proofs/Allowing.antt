@@ -17,7 +17,7 @@ use Rattle.rt_laws.specs.Run.{RunsOn}
 use Rattle.rt_laws.specs.ByItems.{label_of, after_all, silent}
 use Rattle.rt_laws.specs.Silent.{HasSteps, MaySpend, spending}
 use Rattle.rt_laws.proofs.Silent.{silent_steps_by_cost}
-use Rattle.rt_baker.specs.Inside.State.{Held, StateIs}
+use Rattle.rt_moves.specs.State.{Held, StateIs}
 use Rattle.rt_baker.specs.Inside.Judging.{IsTurn, IsEarly, Came, Judges, Passes}
 
 -- what a state stands for owes an alarm where the one that is kept does

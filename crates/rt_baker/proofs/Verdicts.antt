@@ -15,11 +15,11 @@ use Rattle.rt_laws.specs.Run.{RunsOn, IsWithinStack, IsTold, Judged}
 use Rattle.rt_laws.specs.ByItems.{label_of, done_after, after_all, silent, Comes}
 use Rattle.rt_laws.proofs.ByItems.{runs_are_by_items}
 use Rattle.rt_laws.proofs.Keeping.{judged_traces_keep_laws}
-use Rattle.rt_baker.specs.Audit.{front, IsRight, IsWrongAt}
+use Rattle.rt_moves.specs.State.{Held, StateIs}
 use Rattle.rt_baker.specs.declared.done.Done.{Done}
 use Rattle.rt_baker.specs.declared.reached.Reached.{Reached}
 use Rattle.rt_baker.specs.declared.reached.Reached.TheVariants as reached
-use Rattle.rt_baker.specs.Inside.State.{Held, StateIs}
+use Rattle.rt_baker.specs.Audit.{front, IsRight, IsWrongAt}
 use Rattle.rt_baker.specs.Inside.Judging.{steps_done, IsEarly, Judges, Passes, Behind, ItemComes, ItemJudged}
 use Rattle.rt_baker.specs.Inside.Items.{state_behind, done_behind, AreRight, Follows, FailsAt, ItemsJudged, Ends}
 use Rattle.rt_baker.specs.Inside.Items.{TotalJudged}

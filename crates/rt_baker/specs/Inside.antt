@@ -1,15 +1,3 @@
-pub mod Store
-pub mod Actions
-pub mod Todo
-pub mod Work
-pub mod Code
-pub mod Job
-pub mod State
-pub mod Shown
+-- What private contracts alone cite.
 pub mod Judging
 pub mod Items
-pub mod Tables
-pub mod Guards
-pub mod Level
-pub mod Moves
-pub mod Starts

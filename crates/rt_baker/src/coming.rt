@@ -4,14 +4,13 @@ ghost use Rattle.rt_laws.specs.Level as level;
 ghost use Rattle.rt_laws.specs.Services.{is_declared};
 ghost use Rattle.rt_laws.specs.Silent.{MaySpend};
 ghost use Rattle.rt_laws.specs.State as laws;
-ghost use Rattle.rt_baker.specs.Inside.Code.{IsCode};
+ghost use Rattle.rt_moves.specs.Machine.{IsMachine};
+ghost use Rattle.rt_moves.specs.State.{StateIs};
 ghost use Rattle.rt_baker.specs.Inside.Judging.{IsTurn, IsEarly, Judges, Passes};
-ghost use Rattle.rt_baker.specs.Inside.State.{StateIs};
 
-use crate::code::Code;
-use crate::state::State;
 use rt_app::App;
 use rt_ids::{Irq, NoMemory};
+use rt_moves::{Machine, State};
 use rt_trace::What;
 
 /// Whether an interrupt of this number is declared.
@@ -21,137 +20,139 @@ fn is_declared(app: &App, irq: u16) -> bool
     app.irqs.iter().any(|declared| declared.number.get() == irq)
 }
 
-impl<'a> State<'a> {
-    /// Whether no interrupt is to be taken, and the running job may take so many steps.
-    fn may_go(&self, code: &Code<'a>, steps: u64) -> bool
-        requires { IsCode code.now }
-        ensures may { IsTrue result → (t : laws.State) → StateIs (app_of code.now.app.now) self.now t
-            → (level.candidate (app_of code.now.app.now) t ≡ None) × MaySpend steps t.jobs }
-        ensures may_not { IsFalse result → (t : laws.State) → StateIs (app_of code.now.app.now) self.now t
-            → level.candidate (app_of code.now.app.now) t ≡ None → MaySpend steps t.jobs → ⊥ }
-    {
-        if self.candidate(code).is_some() {
-            return false;
-        }
-        self.may_spend(steps)
+/// Whether no interrupt is to be taken, and the running job may take so many steps.
+fn may_go<'a>(state: &State<'a>, machine: &Machine<'a>, steps: u64) -> bool
+    requires { IsMachine machine.now }
+    ensures may { IsTrue result → (t : laws.State) → StateIs (app_of machine.now.code.now.app.now) state.now t
+        → (level.candidate (app_of machine.now.code.now.app.now) t ≡ None) × MaySpend steps t.jobs }
+    ensures may_not { IsFalse result → (t : laws.State) → StateIs (app_of machine.now.code.now.app.now) state.now t
+        → level.candidate (app_of machine.now.code.now.app.now) t ≡ None → MaySpend steps t.jobs → ⊥ }
+{
+    if state.candidate(machine).is_some() {
+        return false;
     }
+    state.may_spend(steps)
+}
 
-    /// So many silent steps pass, where they may.
-    pub(crate) fn pass_steps(&mut self, code: &Code<'a>, steps: u64) -> bool
-        requires { IsCode code.now }
-        ensures { Passes (app_of code.now.app.now) result self.old self.new steps }
-    {
-        if steps == 0 {
-            return true;
-        }
-        if self.owing {
-            return false;
-        }
-        if !self.may_go(code, steps) {
-            return false;
-        }
-        self.spend(steps);
-        true
+/// So many silent steps pass, where they may.
+pub(crate) fn pass_steps<'a>(state: &mut State<'a>, machine: &Machine<'a>, steps: u64) -> bool
+    requires { IsMachine machine.now }
+    ensures { Passes (app_of machine.now.code.now.app.now) result state.old state.new steps }
+{
+    if steps == 0 {
+        return true;
     }
+    if state.is_owing() {
+        return false;
+    }
+    if !may_go(state, machine, steps) {
+        return false;
+    }
+    state.spend(steps);
+    true
+}
 
-    /// The alarm that is owed comes. Nothing else may.
-    fn rings(&mut self, app: &App, what: &What) -> bool
-        requires { self.old.owing ≡ true }
-        ensures { Judges (app_of app.now) result self.old self.new what.now }
-    {
-        match what {
-            What::Alarm => {
-                self.ring(app);
-                true
+/// The alarm that is owed comes. Nothing else may.
+fn rings<'a>(state: &mut State<'a>, app: &App, what: &What) -> bool
+    requires { state.old.owing ≡ true }
+    ensures { Judges (app_of app.now) result state.old state.new what.now }
+{
+    match what {
+        What::Alarm => {
+            state.ring(app);
+            true
+        }
+        _other => false,
+    }
+}
+
+/// An interrupt arrives, where it is declared.
+fn arrives<'a>(state: &mut State<'a>, app: &App, irq: Irq) -> bool
+    requires { state.old.owing ≡ false }
+    ensures { Judges (app_of app.now) result state.old state.new (What.Pend irq) }
+{
+    let number = irq.get();
+    if !is_declared(app, number) {
+        return false;
+    }
+    state.arrive(number);
+    true
+}
+
+/// An interrupt is taken, where it is the one that is to be.
+fn takes<'a>(state: &mut State<'a>, machine: &Machine<'a>, irq: Irq) -> Result<bool, NoMemory>
+    requires machine { IsMachine machine.now }
+    requires free { state.old.owing ≡ false }
+    ensures { IfOk result (λ came. (depth : ℕ) → Judges (app_of machine.now.code.now.app.now) came state.old state.new
+        (What.Take irq depth)) }
+{
+    let number = irq.get();
+    match state.candidate(machine) {
+        None => Ok(false),
+        Some(first) => {
+            if first != number {
+                return Ok(false);
             }
-            _other => false,
+            state.take(machine, number)?;
+            Ok(true)
         }
     }
+}
 
-    /// An interrupt arrives, where it is declared.
-    fn arrives(&mut self, app: &App, irq: Irq) -> bool
-        requires { self.old.owing ≡ false }
-        ensures { Judges (app_of app.now) result self.old self.new (What.Pend irq) }
-    {
-        let number = irq.get();
-        if !is_declared(app, number) {
-            return false;
-        }
-        self.arrive(number);
-        true
+/// The running job does its next action, where it may and this is the item of that.
+fn turn<'a>(state: &mut State<'a>, machine: &Machine<'a>, what: &What) -> Result<bool, NoMemory>
+    requires machine { IsMachine machine.now }
+    requires free { state.old.owing ≡ false }
+    requires action { IsTurn what.now }
+    ensures { IfOk result (λ came. Judges (app_of machine.now.code.now.app.now) came state.old state.new what.now) }
+{
+    if !may_go(state, machine, 1) {
+        return Ok(false);
     }
+    if !state.shows(what) {
+        return Ok(false);
+    }
+    state.advance(machine.code)?;
+    Ok(true)
+}
 
-    /// An interrupt is taken, where it is the one that is to be.
-    fn takes(&mut self, code: &Code<'a>, irq: Irq) -> Result<bool, NoMemory>
-        requires code { IsCode code.now }
-        requires free { self.old.owing ≡ false }
-        ensures { IfOk result (λ came. (depth : ℕ) → Judges (app_of code.now.app.now) came self.old self.new (What.Take
-            irq depth)) }
-    {
-        let number = irq.get();
-        match self.candidate(code) {
-            None => Ok(false),
-            Some(first) => {
-                if first != number {
-                    return Ok(false);
-                }
-                self.take(code, number)?;
-                Ok(true)
-            }
+/// An item comes where no alarm is owed, where it may.
+fn comes<'a>(state: &mut State<'a>, machine: &Machine<'a>, what: &What) -> Result<bool, NoMemory>
+    requires machine { IsMachine machine.now }
+    requires free { state.old.owing ≡ false }
+    requires early { IsEarly (app_of machine.now.code.now.app.now) state.old }
+    ensures { IfOk result (λ came. Judges (app_of machine.now.code.now.app.now) came state.old state.new what.now) }
+{
+    match what {
+        What::Pend(irq) => Ok(arrives(state, machine.code.app, *irq)),
+        What::Tick => {
+            state.tick();
+            Ok(true)
+        }
+        What::Take(irq, _depth) => {
+            let came = takes(state, machine, *irq)?;
+            Ok(came)
+        }
+        other => {
+            let came = turn(state, machine, other)?;
+            Ok(came)
         }
     }
+}
 
-    /// The running job does its next action, where it may and this is the item of that.
-    fn turn(&mut self, code: &Code<'a>, what: &What) -> Result<bool, NoMemory>
-        requires code { IsCode code.now }
-        requires free { self.old.owing ≡ false }
-        requires action { IsTurn what.now }
-        ensures { IfOk result (λ came. Judges (app_of code.now.app.now) came self.old self.new what.now) }
-    {
-        if !self.may_go(code, 1) {
-            return Ok(false);
-        }
-        if !self.shows(what) {
-            return Ok(false);
-        }
-        self.advance(code)?;
-        Ok(true)
+/// An item comes, where it may.
+pub(crate) fn come<'a>(
+    state: &mut State<'a>,
+    machine: &Machine<'a>,
+    what: &What,
+) -> Result<bool, NoMemory>
+    requires machine { IsMachine machine.now }
+    requires early { IsEarly (app_of machine.now.code.now.app.now) state.old }
+    ensures { IfOk result (λ came. Judges (app_of machine.now.code.now.app.now) came state.old state.new what.now) }
+{
+    if state.is_owing() {
+        return Ok(rings(state, machine.code.app, what));
     }
-
-    /// An item comes where no alarm is owed, where it may.
-    fn comes(&mut self, code: &Code<'a>, what: &What) -> Result<bool, NoMemory>
-        requires code { IsCode code.now }
-        requires free { self.old.owing ≡ false }
-        requires early { IsEarly (app_of code.now.app.now) self.old }
-        ensures { IfOk result (λ came. Judges (app_of code.now.app.now) came self.old self.new what.now) }
-    {
-        match what {
-            What::Pend(irq) => Ok(self.arrives(code.app, *irq)),
-            What::Tick => {
-                self.tick();
-                Ok(true)
-            }
-            What::Take(irq, _depth) => {
-                let came = self.takes(code, *irq)?;
-                Ok(came)
-            }
-            other => {
-                let came = self.turn(code, other)?;
-                Ok(came)
-            }
-        }
-    }
-
-    /// An item comes, where it may.
-    pub(crate) fn come(&mut self, code: &Code<'a>, what: &What) -> Result<bool, NoMemory>
-        requires code { IsCode code.now }
-        requires early { IsEarly (app_of code.now.app.now) self.old }
-        ensures { IfOk result (λ came. Judges (app_of code.now.app.now) came self.old self.new what.now) }
-    {
-        if self.owing {
-            return Ok(self.rings(code.app, what));
-        }
-        let came = self.comes(code, what)?;
-        Ok(came)
-    }
+    let came = comes(state, machine, what)?;
+    Ok(came)
 }

@@ -2,41 +2,40 @@ ghost use Rattle.std.specs.Prelude.{◌≡◌, IfOk};
 ghost use Rattle.rt_app.specs.View.{app_of};
 ghost use Rattle.rt_app.specs.Accepted.{IsAccepted};
 ghost use Rattle.rt_app.specs.Stack as stack;
+ghost use Rattle.rt_moves.specs.Machine.{IsMachine};
 ghost use Rattle.rt_baker.specs.Audit.{IsVerdict};
-ghost use Rattle.rt_baker.specs.Inside.Code.{IsCode};
 
-use crate::code::Code;
+use crate::items::{judge_items, judge_total};
 use crate::reached::Reached;
-use crate::state::State;
-use crate::tables::Tables;
 use crate::verdict::Verdict;
 use rt_app::App;
 use rt_frames::bounds;
 use rt_ids::NoMemory;
+use rt_moves::{Machine, State, Tables};
 use rt_trace::Trace;
 use std::alloc::Global;
 
 /// The bytes of the stack.
-fn stack_bytes(code: &Code<'_>) -> Result<u32, NoMemory>
-    requires { IsCode code.now }
-    ensures { IfOk result (λ bytes. bytes ≡ stack.stack_bytes (app_of code.now.app.now)) }
+fn stack_bytes(machine: &Machine<'_>) -> Result<u32, NoMemory>
+    requires { IsMachine machine.now }
+    ensures { IfOk result (λ bytes. bytes ≡ stack.stack_bytes (app_of machine.now.code.now.app.now)) }
 {
-    let bounds = bounds(code.alloc, code.app, code.ceilings)?;
+    let bounds = bounds(machine.code.alloc, machine.code.app, machine.ceilings)?;
     Ok(bounds.stack_bytes)
 }
 
 /// Judges a trace whose code is followed.
-fn judge(code: &Code<'_>, trace: &Trace) -> Result<Verdict, NoMemory>
-    requires { IsCode code.now }
-    ensures { IfOk result (IsVerdict (app_of code.now.app.now) trace.now) }
+fn judge(machine: &Machine<'_>, trace: &Trace) -> Result<Verdict, NoMemory>
+    requires { IsMachine machine.now }
+    ensures { IfOk result (IsVerdict (app_of machine.now.code.now.app.now) trace.now) }
 {
     let items = trace.items();
-    let stack = stack_bytes(code)?;
-    let mut state = State::first(code)?;
-    match state.judge_items(code, stack, items)? {
+    let stack = stack_bytes(machine)?;
+    let mut state = State::first(machine.code)?;
+    match judge_items(&mut state, machine, stack, items)? {
         Reached::Wrong(place) => Ok(Verdict::No(place as u64 + 1)),
         Reached::End(done) => {
-            if state.judge_total(code, done, trace.total()) {
+            if judge_total(&mut state, machine, done, trace.total()) {
                 return Ok(Verdict::Yes);
             }
             Ok(Verdict::No(items.len() as u64 + 1))
@@ -52,6 +51,7 @@ pub fn audit(alloc: Global, app: &App, trace: &Trace) -> Result<Verdict, NoMemor
 {
     let tables = Tables::new(alloc, app)?;
     let code = tables.code(alloc, app);
-    let verdict = judge(&code, trace)?;
+    let machine = tables.machine(&code);
+    let verdict = judge(&machine, trace)?;
     Ok(verdict)
 }

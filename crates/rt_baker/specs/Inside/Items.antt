@@ -9,10 +9,10 @@ use Rattle.rt_app.specs.Tree.{App}
 use Rattle.rt_laws.specs.State as laws
 use Rattle.rt_laws.specs.Run.{RunsOn, IsWithinStack}
 use Rattle.rt_laws.specs.ByItems.{label_of, done_after, silent, Comes, after_item}
+use Rattle.rt_moves.specs.State.{Held, StateIs}
 use Rattle.rt_baker.specs.declared.reached.Reached.{Reached}
 use Rattle.rt_baker.specs.declared.reached.Reached.TheVariants as reached
 use Rattle.rt_baker.specs.Inside.Judging.{steps_done}
-use Rattle.rt_baker.specs.Inside.State.{Held, StateIs}
 
 module _ (app : App) where
   -- the state behind items, and the core steps that are done there

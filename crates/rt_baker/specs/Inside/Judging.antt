@@ -10,8 +10,8 @@ use Rattle.rt_laws.specs.State as laws
 use Rattle.rt_laws.specs.Allowed.{May, after}
 use Rattle.rt_laws.specs.Run.{RunsOn, IsWithinStack}
 use Rattle.rt_laws.specs.ByItems.{label_of, done_after, after_all, silent, Comes, after_item}
+use Rattle.rt_moves.specs.State.{Held, StateIs}
 use Rattle.rt_baker.specs.declared.done.Done.{Done}
-use Rattle.rt_baker.specs.Inside.State.{Held, StateIs}
 
 -- the core steps that are done
 abbrev pub steps_done : Done → ℕ

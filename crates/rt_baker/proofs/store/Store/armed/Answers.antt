@@ -1,7 +1,0 @@
-use Rattle.std.proofs.Common.{ap, ◌∙◌}
-use Rattle.rt_baker.specs.Inside.Store.{Store, contents}
-use Rattle.rt_baker.proofs.store.Store.armed.Goals as goal
-
-pub returns : goal.returns
-unfolding contents
-returns c = c.as_slice.ensures.value ∙ ap (λ (s : Store). s.armed) c.self.view_is

@@ -1,0 +1,13 @@
+pub mod Spawning
+pub mod Ceilings
+pub mod Filling
+pub mod Serving
+pub mod Resets
+pub mod Jobs
+pub mod Acts
+pub mod Idling
+pub mod Starting
+pub mod Advancing
+pub mod Levels
+pub mod Steps
+pub mod Showing

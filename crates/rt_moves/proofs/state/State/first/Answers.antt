@@ -1,0 +1,10 @@
+use Rattle.rt_app.specs.View.{app_of}
+use Rattle.rt_moves.proofs.Starting.{first_stands, reset_is}
+use Rattle.rt_moves.proofs.state.State.first.Goals as goal
+
+pub returns : goal.returns
+returns c =
+    first_stands (app_of c.args.code.now.app.now) c.in_ok-store.store c.first_job.new.store c.in_ok-job.job _
+    c.in_ok-job.ensures c.in_ok-store.ensures
+    (reset_is c.in_ok-job.job c.push.new.self.items c.new-jobs.result.items c.in_ok-pending.pending.items
+    c.first_job.new.store c.in_ok-push.ensures.items c.new-jobs.ensures.items c.in_ok-pending.ensures)

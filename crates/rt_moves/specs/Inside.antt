@@ -1,0 +1,8 @@
+-- What private contracts alone cite.
+pub mod Guards
+pub mod Level
+pub mod Acts
+pub mod Moves
+pub mod Starts
+pub mod Shown
+pub mod Serving

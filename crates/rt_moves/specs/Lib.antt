@@ -1,0 +1,5 @@
+pub mod Job
+pub mod State
+pub mod Machine
+pub mod Tables
+pub mod Inside

@@ -1,0 +1,39 @@
+-- What an auditor keeps of a state of Baker's machine (Stack-Based Scheduling of Realtime Processes, 1991), and the
+-- states that it stands for. Contents are lists by number here, and what jobs have left to do lists of things to do.
+use Rattle.std.specs.Prelude.{◌≡◌, ℕ, Bool, List, [], ◌∷◌, Option}
+use Rattle.rt_app.specs.Tree.{App}
+use Rattle.rt_laws.specs.State as laws
+use Rattle.rt_work.specs.Store.{Store, contents}
+use Rattle.rt_moves.specs.Job.{Kept, JobIs}
+
+pub record Held : Type 0 where
+  -- the last started first
+  pub jobs : List Kept
+  -- by interrupt number
+  pub pending : List Bool
+  pub store : Store
+  pub time : ℕ
+  pub alarm : Option ℕ
+  pub owing : Bool
+
+-- with these jobs
+abbrev pub with_jobs : Held → List laws.Job → laws.State
+with_jobs s jobs = record {
+  jobs = jobs;
+  pending = s.pending;
+  values = contents s.store;
+  time = s.time;
+  alarm =
+      s.alarm;
+  owing = s.owing;
+}
+
+abbrev pub JobsAre : App → List Kept → List laws.Job → Type 0
+JobsAre app [] [] = Unit {0}
+JobsAre app [] (k ∷ ks) = ⊥
+JobsAre app (j ∷ js) [] = ⊥
+JobsAre app (j ∷ js) (k ∷ ks) = JobIs app j k × JobsAre app js ks
+
+pub record StateIs (app : App) (s : Held) (t : laws.State) : Type 0 where
+  pub jobs : JobsAre app s.jobs t.jobs
+  pub is : t ≡ with_jobs s t.jobs

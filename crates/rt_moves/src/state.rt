@@ -1,0 +1,145 @@
+ghost use Rattle.std.specs.Prelude.{◌≡◌, OnOk};
+ghost use Rattle.rt_app.specs.View.{app_of};
+ghost use Rattle.rt_laws.specs.Allowed.{given};
+ghost use Rattle.rt_laws.specs.Giving.{is_due};
+ghost use Rattle.rt_laws.specs.Services.{timer_number};
+ghost use Rattle.rt_laws.specs.State as laws;
+ghost use Rattle.rt_work.specs.Actions.{action_of};
+ghost use Rattle.rt_work.specs.Code.{IsCode};
+ghost use Rattle.rt_moves.specs.State.{StateIs};
+ghost use Rattle.rt_moves.specs.Inside.Acts.{before, held_pended, held_alarm, Resumes};
+
+use crate::job::Job;
+use rt_app::App;
+use rt_ids::NoMemory;
+use rt_work::lookup::number;
+use rt_work::timer::least_instant;
+use rt_work::{Action, Code, Store};
+use std::marker::Model;
+
+/// A state of Baker's machine.
+#[derive(Drop)]
+pub struct State<'a> {
+    /// The last started first; the thread is the last.
+    pub(crate) jobs: Vec<Job<'a>>,
+    /// By interrupt number.
+    pub(crate) pending: Vec<bool>,
+    pub(crate) store: Store,
+    /// In ticks.
+    pub(crate) time: u64,
+    /// The instant for which the alarm is set.
+    pub(crate) alarm: Option<u64>,
+    /// A tick has made the alarm due, and it has not come yet.
+    pub(crate) owing: bool,
+}
+
+impl<'a> Model for State<'a> {
+    ghost use Rattle.rt_moves.specs.State.{Held};
+    ghost use Rattle.rt_app.specs.contracts.stmt.Stmt as stmt;
+    ghost use Rattle.std.specs.Coded.{codes};
+
+    ghost Value = { Held };
+
+    ghost coded = { Prim.hlevel (codes, stmt.the_row.coded) };
+
+    ghost view = { λ s. record {
+      jobs = s.jobs.items;
+      pending = s.pending.items;
+      store = s.store;
+      time = s.time;
+      alarm = s.alarm;
+      owing = s.owing;
+    } };
+}
+
+/// The number of the monotonic's interrupt, and 0 where there is no monotonic.
+pub(crate) fn timer(app: &App) -> u16
+    ensures { result ≡ timer_number (app_of app.now) }
+{
+    match app.mono {
+        None => 0,
+        Some(mono) => number(app, mono.irq),
+    }
+}
+
+/// Whether an instant is not later than the time.
+pub(crate) fn is_due(time: u64, instant: Option<u64>) -> bool
+    ensures { result ≡ is_due time instant }
+{
+    match instant {
+        None => false,
+        Some(instant) => instant <= time,
+    }
+}
+
+impl<'a> State<'a> {
+    /// Whether a tick has made the alarm due, and it has not come yet.
+    pub fn is_owing(&self) -> bool
+        ensures { result ≡ self.now.owing }
+    {
+        self.owing
+    }
+
+    /// The interrupt of this number is pending from now on.
+    pub(crate) fn pend(&mut self, irq: u16)
+        ensures { self.new ≡ held_pended irq self.old }
+    {
+        let place = usize::from(irq);
+        if place < self.pending.len() {
+            self.pending[place] = true;
+        }
+    }
+
+    /// The running job, taken out of the state, does an action of its work, and runs on.
+    fn resume(&mut self, code: &Code<'a>, action: Action, mut job: Job<'a>) -> Result<(), NoMemory>
+        requires { IsCode code.now }
+        ensures { OnOk result (Resumes (app_of code.now.app.now) (action_of action) job.entry self.old self.new) }
+    {
+        job.perform(code, action, &mut self.store)?;
+        self.jobs.insert(0, job)?;
+        Ok(())
+    }
+
+    /// The alarm is set to an instant, or to none. Where the instant is due, it comes at once.
+    fn set_alarm(&mut self, app: &App, instant: Option<u64>)
+        ensures { self.new ≡ held_alarm (app_of app.now) instant self.old }
+    {
+        if is_due(self.time, instant) {
+            self.alarm = None;
+            self.pend(timer(app));
+            return;
+        }
+        self.alarm = instant;
+    }
+
+    /// The running job, taken out of the state, does an action of its work, which stood on top, and runs on.
+    pub(crate) fn act(
+        &mut self,
+        code: &Code<'a>,
+        action: Action,
+        job: Job<'a>,
+    ) -> Result<(), NoMemory>
+        requires { IsCode code.now }
+        ensures { let app = app_of code.now.app.now in
+            OnOk result ((t : laws.State) → StateIs app (before action job.entry self.old) t
+            → StateIs app self.new (given app t t.jobs)) }
+    {
+        match action {
+            Action::Post(irq) => {
+                self.resume(code, Action::Post(irq), job)?;
+                self.pend(irq);
+                Ok(())
+            }
+            Action::SetAlarm => {
+                let instant = least_instant(self.store.armed());
+                self.resume(code, Action::SetAlarm, job)?;
+                self.set_alarm(code.app, instant);
+                Ok(())
+            }
+            plain => {
+                self.resume(code, plain, job)?;
+                Ok(())
+            }
+        }
+    }
+}

@@ -1,0 +1,9 @@
+pub mod Stores
+pub mod Walks
+pub mod Zeros
+pub mod Beginning
+pub mod Statements
+pub mod Pushing
+pub mod Clocks
+pub mod Timing
+pub mod Handling

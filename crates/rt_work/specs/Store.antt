@@ -1,0 +1,26 @@
+-- What an auditor keeps of resources and queues: lists by their numbers, of which a number behind the end has nothing.
+-- The definitions have one function from what holds something to what it holds (`rt_ids`; the RTIC 1 book, resources,
+-- software tasks and the monotonic).
+use Rattle.std.specs.Prelude.{ℕ, List, [], slice_index, slice_index_or}
+use Rattle.rt_ids.specs.Holder.{Guarded, Own}
+use Rattle.rt_ids.specs.Content.{Message, Armed, Number, Messages, Delays, Values}
+use Rattle.rt_ids.specs.declared.ids.Section.TheVariants as section
+
+pub record Store : Type 0 where
+  -- the values of resources
+  pub shared : List ℕ
+  pub locals : List ℕ
+  -- how many places of each task are out
+  pub out : List ℕ
+  -- the ready messages of each level, the oldest first
+  pub ready : List (List Message)
+  -- the armed messages, in order of arming
+  pub armed : List Armed
+
+-- the contents that it stands for
+unfoldable pub contents : Store → Values
+contents s (Guarded (section.Res r)) = Number (slice_index s.shared r)
+contents s (Guarded (section.Free t)) = Number (slice_index s.out t)
+contents s (Guarded (section.Ready p)) = Messages (slice_index_or s.ready p [])
+contents s (Guarded section.Timer) = Delays s.armed
+contents s (Own l) = Number (slice_index s.locals l)

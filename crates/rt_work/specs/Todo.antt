@@ -1,0 +1,93 @@
+-- What a thing on an auditor's list of things to do comes to: the actions of what it stands for, and then those of what
+-- is left behind it. The definitions run a body on its tree, with what is left as a function (`rt_app`; the RTIC 1
+-- book, resources, software tasks and the monotonic).
+use Rattle.std.specs.Prelude.{ℕ, ◌+◌, ◌-◌, min, List, [], ◌∷◌, ◌++◌, replicate, slice_get, slice_set, Option, Some}
+use Rattle.std.specs.Prelude.{None, if◌then◌else◌}
+use Rattle.rt_ids.specs.Lists.{is_empty, then_from}
+use Rattle.rt_ids.specs.Holder.{Guarded}
+use Rattle.rt_ids.specs.Content.{Message, Armed, messages, delays}
+use Rattle.rt_ids.specs.Action.{Enters, Leaves, Posts, Clocks, Takes, Refuses, Starts, Frees, Arms, Fires}
+use Rattle.rt_ids.specs.Action.{SetsAlarm, Ends}
+use Rattle.rt_ids.specs.Doing.{does}
+use Rattle.rt_ids.specs.declared.ids.BodyId.TheVariants as body
+use Rattle.rt_ids.specs.declared.ids.Section.TheVariants as section
+use Rattle.rt_ids.specs.declared.limits.TheConstants.{LONGEST_DELAY}
+use Rattle.rt_app.specs.declared.costs.TheConstants.{FREE_COST}
+use Rattle.rt_app.specs.Tree.{Body, App}
+use Rattle.rt_app.specs.View.{block_of}
+use Rattle.rt_app.specs.Variables.{variables}
+use Rattle.rt_app.specs.Bodies.{task_priority}
+use Rattle.rt_app.specs.Sending.{Rest, act, act_all, has_place, dispatcher_number, ready_actions, arm_actions}
+use Rattle.rt_app.specs.Meaning.{Later, turns_from, run_block}
+use Rattle.rt_app.specs.Doings.{due}
+use Rattle.rt_work.specs.declared.todo.Todo.{Todo}
+use Rattle.rt_work.specs.declared.todo.Todo.TheVariants as todo
+use Rattle.rt_work.specs.declared.todo.Reading.{Reading}
+use Rattle.rt_work.specs.declared.todo.Reading.TheVariants as reading
+use Rattle.rt_work.specs.Actions.{action_of}
+
+-- a variable, where there is one, comes to hold this
+abbrev pub given : Option ℕ → ℕ → Later → Later
+given None n later vars = later vars
+given (Some x) n later vars = later (slice_set vars x n)
+
+module _ (app : App) where
+  -- a message that has a place goes to its queue, at once or behind a delay
+  abbrev pub sent : Option ℕ → Message → Rest → Rest
+  sent None m rest = act_all (ready_actions app (task_priority app m.task) m) rest
+  sent (Some delay) m rest = arm_actions app delay m rest
+
+  -- a place of the task is taken where one is left, inside its section
+  abbrev pub placed : Option ℕ → Option ℕ → Message → Later → Later
+  placed variable delay m later vars vs =
+      if has_place app m.task vs
+      then act_all (Takes m.task ∷ Leaves (section.Free m.task) ∷ []) (sent delay m (given variable 1 later vars)) vs
+      else act_all (Refuses m.task ∷ Leaves (section.Free m.task) ∷ []) (given variable 0 later vars) vs
+
+  -- a body begins, where it is declared
+  abbrev pub entered : Option Body → List ℕ → Later → Later
+  entered None args later vars = later vars
+  entered (Some b) args later vars = run_block app b.block later (args ++ replicate (variables b.block) 0)
+
+  abbrev pub task_body : ℕ → Option Body
+  task_body n = then_from (slice_get app.tasks n) (λ t. Some t.body)
+
+  -- the oldest ready message of a level starts, where there is one
+  abbrev pub started : ℕ → List Message → Later → Later
+  started p [] later vars = act (Leaves (section.Ready p)) (later vars)
+  started p (m ∷ more) later vars =
+      act_all
+      (Starts p m ∷ (if is_empty more then [] else Posts (dispatcher_number app p) ∷ [])
+      ++ Leaves (section.Ready p) ∷ Enters (section.Free m.task) FREE_COST ∷ Frees m.task ∷ Leaves (section.Free
+      m.task) ∷ [])
+      (entered (task_body m.task) m.args (λ vars. act (Ends (body.Task m.task)) (later vars)) vars)
+
+  -- a message that is due becomes ready
+  abbrev pub fired : Option Armed → Rest → Rest
+  fired None rest = act_all (SetsAlarm ∷ Leaves section.Timer ∷ []) rest
+  fired (Some a) rest =
+      act_all (Fires a.message ∷ SetsAlarm ∷ Leaves section.Timer ∷ ready_actions app (task_priority app
+      a.message.task) a.message) rest
+
+  -- the clock is read, for this
+  abbrev pub clocked : Reading → ℕ → Later → Later
+  clocked (reading.Bind x) time later vars vs = later (slice_set vars x time) vs
+  clocked (reading.Arm delay m) time later vars vs = act (Arms (time + min delay LONGEST_DELAY) m) (later vars) vs
+  clocked reading.Fire time later vars vs = fired (due app time (delays (vs (Guarded section.Timer)))) (later vars) vs
+
+  abbrev pub meaning : Todo → Later → Later
+  meaning (todo.Run stmts) later vars vs = run_block app (block_of stmts.now) later vars vs
+  meaning (todo.Turns x i last stmts) later vars vs = turns_from (last - i) x i (run_block app (block_of
+      stmts.now)) later vars vs
+  meaning (todo.Set x n) later vars vs = later (slice_set vars x n) vs
+  meaning (todo.Place variable delay m) later vars vs = placed variable delay m later vars vs
+  meaning (todo.Dispatch p) later vars vs = started p (messages (vs (Guarded (section.Ready p)))) later vars vs
+  meaning (todo.Begin m) later vars vs = entered (task_body m.task) m.args later vars vs
+  meaning (todo.Due time) later vars vs = clocked reading.Fire time later vars vs
+  meaning (todo.Act a) later vars vs = act (action_of a) (later vars) vs
+  meaning (todo.Clock r) later vars vs = does Clocks vs (λ time. clocked r time later vars)
+
+  -- things to do, the next one last
+  unfoldable pub behind : List Todo → Later → Later
+  behind [] later = later
+  behind (t ∷ ts) later = behind ts (meaning t later)

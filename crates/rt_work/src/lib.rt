@@ -1,0 +1,28 @@
+// A job's work: what bodies and handlers have to do, one thing after another up to the next action, what actions change
+// in resources and queues, and which items show them.
+#![tactic(auto)]
+
+pub mod action;
+pub mod begin;
+pub mod clock;
+pub mod code;
+mod dispatch;
+pub mod handler;
+pub mod lookup;
+pub mod message;
+mod sending;
+pub mod shown;
+mod statement;
+pub mod store;
+pub mod timer;
+pub mod todo;
+mod value;
+pub mod walk;
+pub mod work;
+
+pub use action::Action;
+pub use code::{Code, Handler};
+pub use message::{Armed, Message};
+pub use store::Store;
+pub use todo::{Reading, Todo};
+pub use work::Work;

@@ -1,0 +1,128 @@
+ghost use Rattle.std.specs.Prelude.{◌≡◌, OnOk};
+ghost use Rattle.rt_app.specs.Tree.{App};
+ghost use Rattle.rt_app.specs.View.{app_of};
+ghost use Rattle.rt_app.specs.Bodies.{task_priority};
+ghost use Rattle.rt_app.specs.Sending.{act_all, arm_actions, dispatcher_number, ready_actions};
+ghost use Rattle.rt_work.specs.Code.{IsCode};
+ghost use Rattle.rt_work.specs.Todo.{given, sent, placed};
+ghost use Rattle.rt_work.specs.Work.{Becomes};
+ghost use Rattle.rt_work.specs.Inside.Pushes.{Pushes};
+
+use crate::action::Action;
+use crate::code::Code;
+use crate::lookup::{capacity, priority};
+use crate::message::Message;
+use crate::store::Store;
+use crate::todo::{Reading, Todo};
+use crate::work::Work;
+use rt_app::costs::READY_COST;
+use rt_ids::{NoMemory, Prio, Section};
+
+/// The number of the dispatcher of a level.
+pub(crate) fn dispatcher<'a>(code: &Code<'a>, level: u8) -> u16
+    requires { IsCode code.now }
+    ensures { result ≡ dispatcher_number (app_of code.now.app.now) level }
+{
+    let place = usize::from(level);
+    code.dispatchers.get(place).copied().unwrap_or(0)
+}
+
+/// A variable, where there is one, comes to hold what a spawn gave.
+fn tell<'a>(variable: Option<u16>, value: u32, work: &mut Work<'a>) -> Result<(), NoMemory>
+    ensures { OnOk result ((app : App) → Pushes app (given variable value) work.old work.new) }
+{
+    match variable {
+        None => Ok(()),
+        Some(variable) => {
+            work.push(Todo::Set(variable, value))?;
+            Ok(())
+        }
+    }
+}
+
+/// A message becomes ready at the level of its task.
+pub(crate) fn make_ready<'a>(
+    code: &Code<'a>,
+    message: Message,
+    work: &mut Work<'a>,
+) -> Result<(), NoMemory>
+    requires { IsCode code.now }
+    ensures { let app = app_of code.now.app.now in
+        OnOk result (Pushes app (λ later vars. act_all (ready_actions app (task_priority app message.task) message)
+        (later vars)) work.old work.new) }
+{
+    let level = priority(code.app, message.task);
+    work.push(Todo::Act(Action::Leave(Section::Ready(Prio(level)))))?;
+    work.push(Todo::Act(Action::Post(dispatcher(code, level))))?;
+    work.push(Todo::Act(Action::Ready(level, message)))?;
+    work.push(Todo::Act(Action::Enter(Section::Ready(Prio(level)), READY_COST)))?;
+    Ok(())
+}
+
+/// A message is armed, so many ticks from the time that is then.
+fn arm<'a>(
+    code: &Code<'a>,
+    ticks: u32,
+    message: Message,
+    work: &mut Work<'a>,
+) -> Result<(), NoMemory>
+    requires { IsCode code.now }
+    ensures { let app = app_of code.now.app.now in
+        OnOk result (Pushes app (λ later vars. arm_actions app ticks message (later vars)) work.old work.new) }
+{
+    work.push(Todo::Act(Action::Leave(Section::Timer)))?;
+    work.push(Todo::Act(Action::SetAlarm))?;
+    work.push(Todo::Clock(Reading::Arm(ticks, message)))?;
+    work.push(Todo::Act(Action::Enter(Section::Timer, code.timer_section)))?;
+    Ok(())
+}
+
+/// A message goes to its queue, at once or behind a delay.
+fn send<'a>(
+    code: &Code<'a>,
+    delay: Option<u32>,
+    message: Message,
+    work: &mut Work<'a>,
+) -> Result<(), NoMemory>
+    requires { IsCode code.now }
+    ensures { let app = app_of code.now.app.now in
+        OnOk result (Pushes app (λ later vars. sent app delay message (later vars)) work.old work.new) }
+{
+    match delay {
+        None => {
+            make_ready(code, message, work)?;
+            Ok(())
+        }
+        Some(ticks) => {
+            arm(code, ticks, message, work)?;
+            Ok(())
+        }
+    }
+}
+
+/// Inside the section of its task's places, a message is sent where one is left.
+pub(crate) fn place<'a>(
+    code: &Code<'a>,
+    variable: Option<u16>,
+    delay: Option<u32>,
+    message: Message,
+    work: &mut Work<'a>,
+    store: &Store,
+) -> Result<(), NoMemory>
+    requires { IsCode code.now }
+    ensures { let app = app_of code.now.app.now in
+        OnOk result (Becomes app (placed app variable delay message) work.old store.now work.new store.now) }
+{
+    let task = message.task;
+    if store.places_out(task) >= u32::from(capacity(code.app, task)) {
+        tell(variable, 0, work)?;
+        work.push(Todo::Act(Action::Leave(Section::Free(task))))?;
+        work.push(Todo::Act(Action::Refuse(task)))?;
+        return Ok(());
+    }
+    tell(variable, 1, work)?;
+    send(code, delay, message, work)?;
+    work.push(Todo::Act(Action::Leave(Section::Free(task))))?;
+    work.push(Todo::Act(Action::Place(task)))?;
+    Ok(())
+}

@@ -1,0 +1,235 @@
+ghost use Rattle.std.specs.Prelude.{◌≡◌, ◌≤◌, [], OnOk, drop, length, map, slice_index};
+ghost use Rattle.rt_ids.specs.Action.{effect, Takes, Frees, Readies, Starts, Arms, Fires};
+ghost use Rattle.rt_ids.specs.Content as content;
+ghost use Rattle.rt_ids.specs.Holder.{Guarded, Own};
+ghost use Rattle.rt_ids.specs.Content.{Number, number, messages, delays, put_at};
+ghost use Rattle.rt_ids.specs.declared.ids.Section.TheVariants as section;
+ghost use Rattle.rt_work.specs.Actions.{action_of};
+ghost use Rattle.rt_work.specs.Store.{contents};
+
+use crate::action::Action;
+use crate::message::{Armed, Message};
+use crate::timer::least;
+use rt_ids::{NoMemory, ResId, TaskId};
+use std::alloc::Global;
+use std::marker::Model;
+
+/// What resources and queues hold. Contracts see lists by number. There is room for every number of a byte.
+#[derive(Drop)]
+pub struct Store {
+    shared: Vec<u32>,
+    locals: Vec<u32>,
+    out: Vec<u32>,
+    ready: Vec<Vec<Message>>,
+    armed: Vec<Armed>,
+}
+
+impl Model for Store {
+    ghost use Rattle.std.specs.Prelude.{◌≤◌, length, map};
+    ghost use Rattle.rt_work.specs.Store.{Store};
+
+    ghost Value = { Store };
+
+    ghost view = { λ s. record {
+      shared = s.shared.items;
+      locals = s.locals.items;
+      out = s.out.items;
+      ready = map (λ q. q.items) s.ready.items;
+      armed = s.armed.items;
+    } };
+
+    ghost invariant = { λ s.
+        (256 ≤ length s.shared.items) × (256 ≤ length s.locals.items) × (256 ≤ length s.out.items) × (256 ≤ length
+        s.ready.items) };
+}
+
+/// The number at a place, and 0 behind the end.
+pub(crate) fn at(numbers: &[u32], place: usize) -> u32
+    ensures { result ≡ slice_index numbers.now place }
+{
+    numbers.get(place).copied().unwrap_or(0)
+}
+
+/// Drops the first item, where there is one.
+pub fn drop_first<T: Drop>(items: &mut Vec<T>)
+    ensures { items.new.items ≡ drop 1 items.old.items }
+{
+    if items.len() > 0 {
+        items.remove(0);
+    }
+}
+
+impl Store {
+    /// What these lists hold, by number, where nothing is armed. Each has room for every number of a byte.
+    pub fn new(
+        alloc: Global,
+        shared: Vec<u32>,
+        locals: Vec<u32>,
+        out: Vec<u32>,
+        ready: Vec<Vec<Message>>,
+    ) -> Store
+        requires shared { 256 ≤ length shared.items }
+        requires locals { 256 ≤ length locals.items }
+        requires out { 256 ≤ length out.items }
+        requires ready { 256 ≤ length ready.items }
+        ensures { result ≡ record {
+          shared = shared.items;
+          locals = locals.items;
+          out = out.items;
+          ready = map (λ q. q.items) ready.items;
+          armed = [];
+        } }
+    {
+        Store {
+            shared,
+            locals,
+            out,
+            ready,
+            armed: Vec::new(alloc),
+        }
+    }
+
+    /// The value of a shared resource.
+    pub fn shared(&self, resource: ResId) -> u32
+        ensures { result ≡ number (contents self.now (Guarded (section.Res resource))) }
+    {
+        at(&self.shared, usize::from(resource.0))
+    }
+
+    /// The value of a local resource.
+    pub(crate) fn local(&self, local: u8) -> u32
+        ensures { result ≡ number (contents self.now (Own local)) }
+    {
+        at(&self.locals, usize::from(local))
+    }
+
+    /// How many places of a task are out.
+    pub(crate) fn places_out(&self, task: TaskId) -> u32
+        ensures { result ≡ number (contents self.now (Guarded (section.Free task))) }
+    {
+        at(&self.out, usize::from(task.0))
+    }
+
+    /// The ready messages of a level, the oldest first.
+    pub(crate) fn ready(&self, level: u8) -> &[Message]
+        ensures { result.now ≡ messages (contents self.now (Guarded (section.Ready level))) }
+    {
+        self.ready[usize::from(level)].as_slice()
+    }
+
+    /// The armed messages, in order of arming.
+    pub fn armed(&self) -> &[Armed]
+        ensures { result.now ≡ delays (contents self.now (Guarded section.Timer)) }
+    {
+        self.armed.as_slice()
+    }
+
+    /// A shared resource has another value.
+    pub(crate) fn set_shared(&mut self, resource: ResId, value: u32)
+        ensures { contents self.new ≡ put_at (contents self.old) (Guarded (section.Res resource)) (Number value) }
+    {
+        self.shared[usize::from(resource.0)] = value;
+    }
+
+    /// A local resource has another value.
+    pub(crate) fn set_local(&mut self, local: u8, value: u32)
+        ensures { contents self.new ≡ put_at (contents self.old) (Own local) (Number value) }
+    {
+        self.locals[usize::from(local)] = value;
+    }
+
+    /// A place of a task is taken.
+    pub(crate) fn take_place(&mut self, task: TaskId) -> Result<(), NoMemory>
+        ensures { OnOk result (contents self.new ≡ effect (Takes task) (contents self.old)) }
+    {
+        let place = usize::from(task.0);
+        let out = self.out[place];
+        match out.checked_add(1) {
+            None => Err(NoMemory),
+            Some(more) => {
+                self.out[place] = more;
+                Ok(())
+            }
+        }
+    }
+
+    /// A place of a task is given back.
+    pub(crate) fn give_back(&mut self, task: TaskId)
+        ensures { contents self.new ≡ effect (Frees task) (contents self.old) }
+    {
+        let place = usize::from(task.0);
+        let out = self.out[place];
+        self.out[place] = out.saturating_sub(1);
+    }
+
+    /// A message becomes ready, the last of its level.
+    pub(crate) fn make_ready(&mut self, level: u8, message: Message) -> Result<(), NoMemory>
+        ensures { OnOk result (contents self.new ≡ effect (Readies level message) (contents self.old)) }
+    {
+        self.ready[usize::from(level)].push(message)?;
+        Ok(())
+    }
+
+    /// The oldest message of a level is taken.
+    pub(crate) fn start(&mut self, level: u8)
+        ensures { (m : content.Message) → contents self.new ≡ effect (Starts level m) (contents self.old) }
+    {
+        drop_first(&mut self.ready[usize::from(level)]);
+    }
+
+    /// A message is armed.
+    pub(crate) fn arm(&mut self, instant: u64, message: Message) -> Result<(), NoMemory>
+        ensures { OnOk result (contents self.new ≡ effect (Arms instant message) (contents self.old)) }
+    {
+        self.armed.push(Armed { instant, message })?;
+        Ok(())
+    }
+
+    /// The least armed message is taken.
+    pub(crate) fn fire(&mut self)
+        ensures { (m : content.Message) → contents self.new ≡ effect (Fires m) (contents self.old) }
+    {
+        if let Some(place) = least(&self.armed) {
+            self.armed.remove(place);
+        }
+    }
+
+    /// What an action changes in queues; it changes nothing else here.
+    pub fn effect(&mut self, action: Action) -> Result<(), NoMemory>
+        ensures { OnOk result (contents self.new ≡ effect (action_of action) (contents self.old)) }
+    {
+        match action {
+            Action::Enter(_section, _cost) => Ok(()),
+            Action::Leave(_section) => Ok(()),
+            Action::Emit(_value) => Ok(()),
+            Action::Post(_irq) => Ok(()),
+            Action::Place(task) => {
+                self.take_place(task)?;
+                Ok(())
+            }
+            Action::Refuse(_task) => Ok(()),
+            Action::Ready(level, message) => {
+                self.make_ready(level, message)?;
+                Ok(())
+            }
+            Action::Start(level, _message) => {
+                self.start(level);
+                Ok(())
+            }
+            Action::Free(task) => {
+                self.give_back(task);
+                Ok(())
+            }
+            Action::Arm(instant, message) => {
+                self.arm(instant, message)?;
+                Ok(())
+            }
+            Action::Fire(_message) => {
+                self.fire();
+                Ok(())
+            }
+            Action::SetAlarm => Ok(()),
+            Action::End(_task) => Ok(()),
+        }
+    }
+}

@@ -1,0 +1,94 @@
+ghost use Rattle.std.specs.Prelude.{◌≡◌, OnOk, None, Some, option_map, position};
+ghost use Rattle.rt_ids.specs.Content.{least_instant, lesser, has_instant};
+ghost use Rattle.rt_app.specs.Tree as tree;
+ghost use Rattle.rt_app.specs.View.{app_of};
+ghost use Rattle.rt_app.specs.Doings.{due};
+ghost use Rattle.rt_work.specs.Code.{IsCode};
+ghost use Rattle.rt_work.specs.Todo.{meaning};
+ghost use Rattle.rt_work.specs.Work.{Becomes};
+
+use crate::action::Action;
+use crate::code::Code;
+use crate::message::Armed;
+use crate::sending::make_ready;
+use crate::store::Store;
+use crate::todo::Todo;
+use crate::work::Work;
+use rt_ids::{NoMemory, Section};
+
+/// The lesser of an instant and of another, where there is one.
+fn lesser(instant: u64, other: Option<u64>) -> u64
+    ensures { result ≡ lesser instant other }
+{
+    match other {
+        None => instant,
+        Some(other) => instant.min(other),
+    }
+}
+
+/// The least instant that is armed.
+pub fn least_instant(armed: &[Armed]) -> Option<u64>
+    ensures { result ≡ least_instant armed.now }
+{
+    let mut least = None;
+    for message in armed {
+        least = Some(lesser(message.instant, least));
+    }
+    least
+}
+
+/// The place of the first that was armed of those of the least instant.
+pub(crate) fn least(armed: &[Armed]) -> Option<usize>
+    ensures { result ≡ position (has_instant (least_instant armed.now)) armed.now }
+{
+    match least_instant(armed) {
+        None => None,
+        Some(instant) => armed.iter().position(|message| message.instant == instant),
+    }
+}
+
+/// The least armed message, where its instant is not later than the time.
+fn due(armed: &[Armed], time: u64) -> Option<&Armed>
+    ensures { (app : tree.App) → option_map (λ a. a.now) result ≡ due app time armed.now }
+{
+    match least(armed) {
+        None => None,
+        Some(place) => match armed.get(place) {
+            None => None,
+            Some(first) => {
+                if first.instant > time {
+                    return None;
+                }
+                Some(first)
+            }
+        },
+    }
+}
+
+/// Inside the section of the armed messages, one that is due becomes ready.
+pub(crate) fn fire<'a>(
+    code: &Code<'a>,
+    time: u64,
+    work: &mut Work<'a>,
+    store: &Store,
+) -> Result<(), NoMemory>
+    requires { IsCode code.now }
+    ensures { let app = app_of code.now.app.now in
+        OnOk result (Becomes app (meaning app (Todo.Due time)) work.old store.now work.new store.now) }
+{
+    match due(store.armed(), time) {
+        None => {
+            work.push(Todo::Act(Action::Leave(Section::Timer)))?;
+            work.push(Todo::Act(Action::SetAlarm))?;
+            Ok(())
+        }
+        Some(first) => {
+            let fired = first.message.copied(code.alloc)?;
+            make_ready(code, first.message.copied(code.alloc)?, work)?;
+            work.push(Todo::Act(Action::Leave(Section::Timer)))?;
+            work.push(Todo::Act(Action::SetAlarm))?;
+            work.push(Todo::Act(Action::Fire(fired)))?;
+            Ok(())
+        }
+    }
+}
