@@ -1,16 +1,18 @@
 ghost use Rattle.std.specs.Prelude.{◌≡◌};
 ghost use Rattle.rt_code.specs.Runnable.{IsRunnable};
 
+use crate::answers::answers_as_said;
 use crate::execution::executed;
-use crate::image::{case_names, image};
-use crate::play::play;
-use anyhow::{Context, Result};
+use crate::held::Held;
+use crate::image::image;
+use crate::play::{play, script};
+use anyhow::Result;
 use rt_cases::Case;
 use rt_code::Image;
 use rt_core::Core;
-use rt_ids::Names;
 use rt_listing::listing;
-use rt_program::is_runnable;
+use rt_program::{Program, is_runnable};
+use rt_script::Script;
 use std::alloc::Global;
 
 /// What is told of a case that comes out as it says.
@@ -27,6 +29,8 @@ pub enum Table {
     Conditions,
     /// Images with their texts.
     Listings,
+    /// Images with what their programs answer by number.
+    Programs,
 }
 
 impl Table {
@@ -37,6 +41,7 @@ impl Table {
             Table::Instructions => "instructions",
             Table::Conditions => "conditions",
             Table::Listings => "listings",
+            Table::Programs => "programs",
         }
     }
 }
@@ -61,14 +66,13 @@ fn difference(core: &Core, case: &Case, trace: &[u8]) -> &'static str {
     OK
 }
 
-/// What differs as a core runs under the script of its case, with the names of that case.
-fn run_script(alloc: Global, core: &mut Core, case: &Case, names: &Names) -> Result<&'static str>
+/// What differs as a core runs under a script, from what its case says.
+fn run_script(alloc: Global, core: &mut Core, case: &Case, script: &Script) -> Result<&'static str>
     requires no_steps { core.old.steps ≡ 0 }
     requires no_ticks { core.old.core.time ≡ 0 }
 {
-    let script = case.text("script").context("no script")?;
-    let trace = play(alloc, core, names, script)?;
-    Ok(difference(core, case, trace.as_bytes()))
+    let trace = play(alloc, core, script)?;
+    Ok(difference(core, case, trace.as_slice()))
 }
 
 /// What differs as a core runs under the script of its case.
@@ -76,8 +80,8 @@ fn run(alloc: Global, core: &mut Core, case: &Case) -> Result<&'static str>
     requires no_steps { core.old.steps ≡ 0 }
     requires no_ticks { core.old.core.time ≡ 0 }
 {
-    let names = case_names(alloc, case)?;
-    run_script(alloc, core, case, &names)
+    let script = script(alloc, case, &core.image().names)?;
+    run_script(alloc, core, case, &script)
 }
 
 /// What differs of a fresh core.
@@ -85,16 +89,19 @@ fn run_fresh(alloc: Global, fresh: &mut Core, case: &Case) -> Result<&'static st
     requires no_steps { fresh.old.steps ≡ 0 }
     requires no_ticks { fresh.old.core.time ≡ 0 }
 {
-    if !has_its_text(alloc, fresh.image(), case)? {
-        return Ok("the fresh core has another image");
+    if has_its_text(alloc, fresh.image(), case)? {
+        run(alloc, fresh, case)
+    } else {
+        Ok("the fresh core has another image")
     }
-    run(alloc, fresh, case)
 }
 
 /// Makes a fresh core of one that has run, and runs it.
 fn run_again(alloc: Global, core: &Core, case: &Case) -> Result<&'static str> {
-    let mut fresh = core.fresh(alloc)?;
-    run_fresh(alloc, &mut fresh, case)
+    let mut fresh = Held {
+        value: core.fresh(alloc)?,
+    };
+    run_fresh(alloc, &mut fresh.value, case)
 }
 
 /// Runs a new core, and then a fresh one.
@@ -103,40 +110,45 @@ fn run_twice(alloc: Global, core: &mut Core, case: &Case) -> Result<&'static str
     requires no_ticks { core.old.core.time ≡ 0 }
 {
     let told = run(alloc, core, case)?;
-    if told != OK {
-        return Ok(told);
+    if told == OK {
+        run_again(alloc, core, case)
+    } else {
+        Ok(told)
     }
-    run_again(alloc, core, case)
 }
 
 /// Runs the core of an image that is runnable.
-fn runnable_case(alloc: Global, image: Image, case: &Case) -> Result<&'static str>
-    requires runnable { IsRunnable image }
+fn run_image(alloc: Global, image: Held<Image>, case: &Case) -> Result<&'static str>
+    requires runnable { IsRunnable image.value }
 {
-    let mut core = Core::new(alloc, image)?;
-    run_twice(alloc, &mut core, case)
+    let mut core = Held {
+        value: Core::new(alloc, image.take())?,
+    };
+    run_twice(alloc, &mut core.value, case)
 }
 
 fn core_case(alloc: Global, case: &Case) -> Result<&'static str> {
     let image = image(alloc, case)?;
-    if !is_runnable(&image) {
-        return Ok("the image is not runnable");
+    if is_runnable(&image.value) {
+        run_image(alloc, image, case)
+    } else {
+        Ok("the image is not runnable")
     }
-    runnable_case(alloc, image, case)
 }
 
 fn instruction_case(alloc: Global, case: &Case) -> Result<&'static str> {
     let gives = executed(alloc, case)?;
-    if gives.as_bytes() == case.bytes("gives") {
-        Ok(OK)
+    Ok(if gives.as_bytes() == case.bytes("gives") {
+        OK
     } else {
-        Ok("the effect differs")
-    }
+        "the effect differs"
+    })
 }
 
 fn condition_case(alloc: Global, case: &Case) -> Result<&'static str> {
     let image = image(alloc, case)?;
-    Ok(if is_runnable(&image) == (case.bytes("runnable") == b"yes\n".as_slice()) {
+    let wanted = case.bytes("runnable") == b"yes\n".as_slice();
+    Ok(if is_runnable(&image.value) == wanted {
         OK
     } else {
         "it is judged in another way"
@@ -145,16 +157,54 @@ fn condition_case(alloc: Global, case: &Case) -> Result<&'static str> {
 
 /// What differs of the text of an image.
 fn text_difference(alloc: Global, image: &Image, case: &Case) -> Result<&'static str> {
-    if has_its_text(alloc, image, case)? {
-        Ok(OK)
+    Ok(if has_its_text(alloc, image, case)? {
+        OK
     } else {
-        Ok("the text differs")
-    }
+        "the text differs"
+    })
 }
 
 fn listing_case(alloc: Global, case: &Case) -> Result<&'static str> {
     let image = image(alloc, case)?;
-    text_difference(alloc, &image, case)
+    text_difference(alloc, &image.value, case)
+}
+
+/// What differs of a program: its image, or what it answers.
+fn program_difference(alloc: Global, program: &Program, case: &Case) -> Result<&'static str> {
+    if !has_its_text(alloc, program.image(), case)? {
+        return Ok("the program has another image");
+    }
+    Ok(if answers_as_said(alloc, program, case)? {
+        OK
+    } else {
+        "the program answers in another way"
+    })
+}
+
+/// What differs of the program of a copy of the image of another.
+fn copy_difference(alloc: Global, program: &Program, case: &Case) -> Result<&'static str> {
+    let copy = Held {
+        value: Program::new(alloc, program.copy_of_image(alloc)?)?,
+    };
+    program_difference(alloc, &copy.value, case)
+}
+
+/// What differs of a program, and then of that of a copy of its image.
+fn both_differences(alloc: Global, program: &Program, case: &Case) -> Result<&'static str> {
+    let told = program_difference(alloc, program, case)?;
+    if told == OK {
+        copy_difference(alloc, program, case)
+    } else {
+        Ok(told)
+    }
+}
+
+fn program_case(alloc: Global, case: &Case) -> Result<&'static str> {
+    let image = image(alloc, case)?;
+    let program = Held {
+        value: Program::new(alloc, image.take())?,
+    };
+    both_differences(alloc, &program.value, case)
 }
 
 /// What is told of a case of a table: `ok`, or what differs.
@@ -164,5 +214,6 @@ pub fn verdict(alloc: Global, table: Table, case: &Case) -> Result<&'static str>
         Table::Instructions => instruction_case(alloc, case),
         Table::Conditions => condition_case(alloc, case),
         Table::Listings => listing_case(alloc, case),
+        Table::Programs => program_case(alloc, case),
     }
 }

@@ -1,106 +1,147 @@
-use crate::instr::{number, take_code, word};
-use crate::names::{irq_of, names, task};
-use anyhow::{Context, Result};
+use crate::code::take_code;
+use crate::held::Held;
+use crate::instr::number;
+use crate::names::{add_irq, add_resources, add_tasks, irq_of, task};
+use crate::part::{push, text, words_of};
+use anyhow::{Context, Result, bail};
 use rt_cases::Case;
-use rt_code::{BodyRow, Handler, Image, Instr, IrqRow, Note};
-use rt_ids::{CellRow, Name, Names, NoMemory};
+use rt_code::{BodyRow, Handler, Image, IrqRow};
+use rt_ids::{CellRow, Irq, Name, Names};
 use std::alloc::Global;
-use std::str::SplitWhitespace;
 
-/// The rows of an image, as far as they are read.
-#[derive(Drop)]
-struct Rows {
-    bits: u8,
-    stack_bytes: u32,
-    thread_words: u32,
-    cells: Vec<CellRow>,
-    irqs: Vec<IrqRow>,
-    bodies: Vec<BodyRow>,
-    code: Vec<(Instr, Option<Note>)>,
+/// Takes the sizes that the first line says.
+fn take_sizes(image: &mut Image, words: &[&str]) -> Option<()> {
+    let [_version, bits, stack, thread, _code, _cells] = words else {
+        return None;
+    };
+    image.bits = bits.parse::<u8>().ok()?;
+    image.stack_bytes = number(stack)?;
+    image.thread_words = number(thread)?;
+    Some(())
 }
 
-fn cell_row(alloc: Global, words: &mut SplitWhitespace<'_>) -> Result<CellRow> {
-    let _number = number(words)?;
-    let first = number(words)?;
-    let name = Name::of(alloc, word(words)?.as_bytes())?;
-    Ok(CellRow { name, first })
-}
-
-/// How an interrupt is served, from its priority value on, where a dash stands in place of an interrupt that is not
-/// enabled.
-fn handler(words: &mut SplitWhitespace<'_>) -> Result<Option<Handler>> {
-    let value = word(words)?;
-    if value == "-" {
-        return Ok(None);
+/// The first value and the name of a cell.
+fn cell<'a>(words: &[&'a str]) -> Option<(u32, &'a str)> {
+    match words {
+        [_number, first, name] => Some((number(first)?, *name)),
+        _ => None,
     }
-    Ok(Some(Handler {
-        value: value.parse::<u8>()?,
-        entry: number(words)?,
-        frame: number(words)?,
-    }))
 }
 
-fn irq_row(alloc: Global, words: &mut SplitWhitespace<'_>) -> Result<IrqRow> {
-    let name = word(words)?;
-    let number = irq_of(word(words)?)?;
-    let handler = handler(words)?;
-    Ok(IrqRow {
-        name: Name::of(alloc, name.as_bytes())?,
+/// Appends a cell.
+fn take_cell(alloc: Global, cells: &mut Vec<CellRow>, words: &[&str]) -> Result<()> {
+    let Some((first, name)) = cell(words) else {
+        bail!("no cell");
+    };
+    let name = Name::of(alloc, name.as_bytes())?;
+    Ok(push(cells, CellRow { name, first })?)
+}
+
+/// How an interrupt is served, where a dash stands in place of one that is not enabled.
+fn handler(words: &[&str]) -> Option<Option<Handler>> {
+    match words {
+        [_dash] => Some(None),
+        [value, entry, frame] => Some(Some(Handler {
+            value: value.parse::<u8>().ok()?,
+            entry: number(entry)?,
+            frame: number(frame)?,
+        })),
+        _ => None,
+    }
+}
+
+/// The name and the number of an interrupt, and how it is served.
+fn irq<'a>(words: &[&'a str]) -> Option<(&'a str, Irq, Option<Handler>)> {
+    match words {
+        [name, number, service @ ..] => Some((*name, irq_of(number)?, handler(service)?)),
+        _ => None,
+    }
+}
+
+/// Takes an interrupt: its name, and its row.
+fn take_irq(alloc: Global, image: &mut Image, words: &[&str]) -> Result<()> {
+    let Some((name, number, handler)) = irq(words) else {
+        bail!("no interrupt");
+    };
+    add_irq(alloc, &mut image.names, name.as_bytes(), number)?;
+    let name = Name::of(alloc, name.as_bytes())?;
+    let row = IrqRow {
+        name,
         number,
         handler,
-    })
+    };
+    Ok(push(&mut image.irqs, row)?)
 }
 
-fn body_row(names: &Names, words: &mut SplitWhitespace<'_>) -> Result<BodyRow> {
-    Ok(BodyRow {
-        task: task(names, word(words)?)?,
-        entry: number(words)?,
-        frame: number(words)?,
-        args: word(words)?.parse::<u8>()?,
-    })
-}
-
-/// The sizes that the first line says.
-fn sizes(rows: &mut Rows, words: &mut SplitWhitespace<'_>) -> Result<()> {
-    let _version = number(words)?;
-    rows.bits = word(words)?.parse::<u8>()?;
-    rows.stack_bytes = number(words)?;
-    rows.thread_words = number(words)?;
-    Ok(())
-}
-
-/// Appends a row.
-fn push<T: Drop>(rows: &mut Vec<T>, row: T) -> Result<(), NoMemory> {
-    Ok(rows.push(row)?)
-}
-
-/// Reads a line of an image into its rows.
-fn take_line(alloc: Global, rows: &mut Rows, names: &Names, line: &str) -> Result<()> {
-    let (kind, rest) = line.split_once(' ').context("no words")?;
-    if kind == "code" {
-        return take_code(&mut rows.code, names, rest);
+/// The row of a body.
+fn body(names: &Names, words: &[&str]) -> Option<BodyRow> {
+    match words {
+        [name, entry, frame, args] => Some(BodyRow {
+            task: task(names, name)?,
+            entry: number(entry)?,
+            frame: number(frame)?,
+            args: args.parse::<u8>().ok()?,
+        }),
+        _ => None,
     }
-    let mut words = rest.split_whitespace();
+}
+
+/// Appends a body.
+fn take_body(image: &mut Image, words: &[&str]) -> Result<()> {
+    match body(&image.names, words) {
+        Some(row) => Ok(push(&mut image.bodies, row)?),
+        None => bail!("no body"),
+    }
+}
+
+/// Takes a row of a kind, of the words behind that.
+fn take_kind(alloc: Global, image: &mut Image, kind: &str, words: &[&str]) -> Result<()> {
     match kind {
-        "image" => sizes(rows, &mut words)?,
-        "cell" => push(&mut rows.cells, cell_row(alloc, &mut words)?)?,
-        "irq" => push(&mut rows.irqs, irq_row(alloc, &mut words)?)?,
-        _ => push(&mut rows.bodies, body_row(names, &mut words)?)?,
+        "image" => take_sizes(image, words).context("no sizes"),
+        "cell" => take_cell(alloc, &mut image.cells, words),
+        "irq" => take_irq(alloc, image, words),
+        _ => take_body(image, words),
     }
-    Ok(())
 }
 
-/// Reads the lines of an image into its rows.
-fn take_lines(alloc: Global, rows: &mut Rows, names: &Names, listing: &str) -> Result<()> {
+/// Takes a line of another kind than code.
+fn take_row(alloc: Global, image: &mut Image, line: &str) -> Result<()> {
+    let words = words_of(alloc, line)?;
+    match words.as_slice() {
+        [kind, words @ ..] => take_kind(alloc, image, kind, words),
+        [] => bail!("no words"),
+    }
+}
+
+/// Takes a line of the text of an image.
+fn take_line(alloc: Global, image: &mut Image, line: &str) -> Result<()> {
+    match line.strip_prefix("code ") {
+        Some(rest) => {
+            let (_address, code) = rest.split_once(' ').context("no address")?;
+            take_code(alloc, &mut image.code, &image.names, code)
+        }
+        None => take_row(alloc, image, line),
+    }
+}
+
+/// Takes the lines of the text of an image.
+fn take_lines(alloc: Global, image: &mut Image, listing: &str) -> Result<()> {
     for line in listing.lines() {
-        take_line(alloc, rows, names, line)?;
+        take_line(alloc, image, line)?;
     }
     Ok(())
 }
 
-/// The rows of a listing.
-fn read_rows(alloc: Global, names: &Names, listing: &str) -> Result<Rows> {
-    let mut rows = Rows {
+/// Takes the names of a case, and the lines of its image.
+fn take_case(alloc: Global, image: &mut Image, case: &Case) -> Result<()> {
+    add_tasks(alloc, &mut image.names, text(case, "tasks")?)?;
+    add_resources(alloc, &mut image.names, text(case, "shared")?)?;
+    take_lines(alloc, image, text(case, "image")?)
+}
+
+/// An image without rows.
+fn empty(alloc: Global) -> Image {
+    Image {
         bits: 0,
         stack_bytes: 0,
         thread_words: 0,
@@ -108,37 +149,15 @@ fn read_rows(alloc: Global, names: &Names, listing: &str) -> Result<Rows> {
         irqs: Vec::new(alloc),
         bodies: Vec::new(alloc),
         code: Vec::new(alloc),
-    };
-    take_lines(alloc, &mut rows, names, listing)?;
-    Ok(rows)
-}
-
-/// An image of these rows.
-fn image_of(rows: Rows, names: Names) -> Image {
-    Image {
-        bits: rows.bits,
-        stack_bytes: rows.stack_bytes,
-        thread_words: rows.thread_words,
-        cells: rows.cells,
-        irqs: rows.irqs,
-        bodies: rows.bodies,
-        code: rows.code,
-        names,
+        names: Names::new(alloc),
     }
 }
 
-/// The names of a case: those that its image declares, and those of its parts `tasks` and `shared`.
-pub fn case_names(alloc: Global, case: &Case) -> Result<Names> {
-    let listing = case.text("image").context("no image")?;
-    let tasks = case.text("tasks").context("no tasks")?;
-    let shared = case.text("shared").context("no resources")?;
-    names(alloc, listing, tasks, shared)
-}
-
 /// The image of a case.
-pub fn image(alloc: Global, case: &Case) -> Result<Image> {
-    let listing = case.text("image").context("no image")?;
-    let names = case_names(alloc, case)?;
-    let rows = read_rows(alloc, &names, listing)?;
-    Ok(image_of(rows, names))
+pub fn image(alloc: Global, case: &Case) -> Result<Held<Image>> {
+    let mut image = Held {
+        value: empty(alloc),
+    };
+    take_case(alloc, &mut image.value, case)?;
+    Ok(image)
 }

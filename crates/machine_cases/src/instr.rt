@@ -1,25 +1,10 @@
 use crate::names::{body, irq, section, task};
-use anyhow::{Context, Result, bail};
 use rt_code::{Instr, Note};
-use rt_ids::{Names, NoMemory, Op};
-use std::str::SplitWhitespace;
+use rt_ids::{Names, Op, TaskId};
 
-/// The next word of a line.
-pub fn word<'a>(words: &mut SplitWhitespace<'a>) -> Result<&'a str> {
-    words.next().context("a word is missing")
-}
-
-/// The next word, a number.
-pub fn number(words: &mut SplitWhitespace<'_>) -> Result<u32> {
-    Ok(word(words)?.parse::<u32>()?)
-}
-
-/// The next word as a number, and 0 where there is none.
-fn operand(words: &mut SplitWhitespace<'_>) -> Result<u32> {
-    match words.next() {
-        Some(word) => Ok(word.parse::<u32>()?),
-        None => Ok(0),
-    }
+/// The number that a word is.
+pub fn number(word: &str) -> Option<u32> {
+    word.parse::<u32>().ok()
 }
 
 /// The operation of a word, where it is one.
@@ -35,6 +20,13 @@ fn operation(word: &str) -> Option<Op> {
         "xor" => Op::Xor,
         "shl" => Op::Shl,
         "shr" => Op::Shr,
+        _ => return comparison(word),
+    })
+}
+
+/// The comparison of a word, where it is one.
+fn comparison(word: &str) -> Option<Op> {
+    Some(match word {
         "eq" => Op::Eq,
         "ne" => Op::Ne,
         "lt" => Op::Lt,
@@ -45,103 +37,120 @@ fn operation(word: &str) -> Option<Op> {
     })
 }
 
-/// An instruction of a word and the numbers behind it.
-fn numbered(first: &str, a: u32, b: u32, c: u32) -> Option<Instr> {
-    Some(match first {
+/// An instruction of a word alone.
+fn plain(word: &str) -> Option<Instr> {
+    Some(match word {
+        "noalarm" => Instr::NoAlarm,
+        "mark" => Instr::Mark,
+        "serve" => Instr::Serve,
+        "wait" => Instr::Wait,
+        "back" => Instr::Back,
+        "ret" => Instr::Ret,
+        _ => return None,
+    })
+}
+
+/// An instruction of a word and a number.
+fn of_one(word: &str, a: u32) -> Option<Instr> {
+    Some(match word {
+        "jump" => Instr::Jump(a),
+        "emit" => Instr::Emit(a),
+        "clock" => Instr::Clock(a),
+        "restore" => Instr::Restore(a),
+        "mask" => Instr::Mask(a),
+        "unmask" => Instr::Unmask(a),
+        _ => return None,
+    })
+}
+
+/// An instruction of a word and two numbers.
+fn of_two(word: &str, a: u32, b: u32) -> Option<Instr> {
+    Some(match word {
         "set" => Instr::Set(a, b),
         "copy" => Instr::Copy(a, b),
         "load" => Instr::Load(a, b),
         "store" => Instr::Store(a, b),
+        "jumpz" => Instr::JumpZ(a, b),
+        "raise" => Instr::Raise(a, b),
+        "call" => Instr::Call(a, b),
+        _ => return None,
+    })
+}
+
+/// An instruction of a word and three numbers.
+fn of_three(word: &str, a: u32, b: u32, c: u32) -> Option<Instr> {
+    Some(match word {
         "loadat" => Instr::LoadAt(a, b, c),
         "storeat" => Instr::StoreAt(a, b, c),
-        "jump" => Instr::Jump(a),
-        "jumpz" => Instr::JumpZ(a, b),
-        "emit" => Instr::Emit(a),
-        "clock" => Instr::Clock(a),
-        "noalarm" => Instr::NoAlarm,
-        "raise" => Instr::Raise(a, b),
-        "restore" => Instr::Restore(a),
-        "mask" => Instr::Mask(a),
-        "unmask" => Instr::Unmask(a),
-        "mark" => Instr::Mark,
-        "serve" => Instr::Serve,
-        "wait" => Instr::Wait,
-        "call" => Instr::Call(a, b),
-        "back" => Instr::Back,
-        "ret" => Instr::Ret,
-        other => Instr::Calc(operation(other)?, a, b, c),
+        _ => Instr::Calc(operation(word)?, a, b, c),
     })
+}
+
+/// An instruction of a word and another, the name of an interrupt or a number.
+fn of_word(names: &Names, word: &str, a: &str) -> Option<Instr> {
+    if word == "post" {
+        Some(Instr::Post(irq(names, a)?))
+    } else {
+        of_one(word, number(a)?)
+    }
+}
+
+/// An instruction of a word, a number and another word, the name of an interrupt or a number.
+fn of_words(names: &Names, word: &str, a: u32, b: &str) -> Option<Instr> {
+    if word == "alarm" {
+        Some(Instr::Alarm(a, irq(names, b)?))
+    } else {
+        of_two(word, a, number(b)?)
+    }
 }
 
 /// An instruction of a word and what stands behind it.
-fn instr_of(names: &Names, first: &str, words: &mut SplitWhitespace<'_>) -> Result<Instr> {
-    if first == "post" {
-        return Ok(Instr::Post(irq(names, word(words)?)?));
+pub fn instr(names: &Names, word: &str, operands: &[&str]) -> Option<Instr> {
+    match operands {
+        [] => plain(word),
+        [a] => of_word(names, word, a),
+        [a, b] => of_words(names, word, number(a)?, b),
+        [a, b, c] => of_three(word, number(a)?, number(b)?, number(c)?),
+        _ => None,
     }
-    let a = operand(words)?;
-    if first == "alarm" {
-        return Ok(Instr::Alarm(a, irq(names, word(words)?)?));
-    }
-    let b = operand(words)?;
-    let c = operand(words)?;
-    numbered(first, a, b, c).context("no such instruction")
 }
 
-/// An instruction.
-pub fn instr(names: &Names, line: &str) -> Result<Instr> {
-    let mut words = line.split_whitespace();
-    let first = word(&mut words)?;
-    instr_of(names, first, &mut words)
-}
-
-/// A note of a word, what it names, and what stands behind that.
-fn note_of(
-    names: &Names,
-    first: &str,
-    subject: &str,
-    words: &mut SplitWhitespace<'_>,
-) -> Result<Note> {
-    Ok(match first {
-        "enter" => Note::Enter(section(names, subject)?),
-        "leave" => Note::Leave(section(names, subject)?),
-        "ok" => Note::Placed(task(names, subject)?),
-        "full" => Note::Full(task(names, subject)?),
-        "ready" => Note::Ready(task(names, subject)?),
-        "start" => Note::Start(task(names, subject)?, number(words)?),
-        "free" => Note::Free(task(names, subject)?),
-        "arm" => Note::Arm(task(names, subject)?, number(words)?),
-        "fire" => Note::Fire(task(names, subject)?),
-        "end" => Note::End(body(names, subject)?),
-        _ => bail!("no such note"),
+/// A note of a task.
+fn task_note(word: &str, task: TaskId) -> Option<Note> {
+    Some(match word {
+        "ok" => Note::Placed(task),
+        "full" => Note::Full(task),
+        "ready" => Note::Ready(task),
+        "free" => Note::Free(task),
+        "fire" => Note::Fire(task),
+        _ => return None,
     })
 }
 
-/// A note.
-fn note(names: &Names, line: &str) -> Result<Note> {
-    let mut words = line.split_whitespace();
-    let first = word(&mut words)?;
-    let subject = word(&mut words)?;
-    note_of(names, first, subject, &mut words)
+/// A note of a task and a number.
+fn numbered_note(word: &str, task: TaskId, number: u32) -> Option<Note> {
+    match word {
+        "start" => Some(Note::Start(task, number)),
+        "arm" => Some(Note::Arm(task, number)),
+        _ => None,
+    }
 }
 
-/// Appends an instruction with its note.
-fn push_row(
-    code: &mut Vec<(Instr, Option<Note>)>,
-    instr: Instr,
-    note: Option<Note>,
-) -> Result<(), NoMemory> {
-    code.push((instr, note))?;
-    Ok(())
+/// A note of what is named.
+fn named_note(names: &Names, word: &str, name: &str) -> Option<Note> {
+    match word {
+        "enter" => Some(Note::Enter(section(names, name)?)),
+        "leave" => Some(Note::Leave(section(names, name)?)),
+        "end" => Some(Note::End(body(names, name)?)),
+        _ => task_note(word, task(names, name)?),
+    }
 }
 
-/// Appends the instruction of a line behind its address, with the note that stands behind a semicolon, if one does.
-pub fn take_code(code: &mut Vec<(Instr, Option<Note>)>, names: &Names, line: &str) -> Result<()> {
-    let (_address, line) = line.split_once(' ').context("no address")?;
-    match line.split_once(" ; ") {
-        Some((line, words)) => {
-            let note = note(names, words)?;
-            Ok(push_row(code, instr(names, line)?, Some(note))?)
-        }
-        None => Ok(push_row(code, instr(names, line)?, None)?),
+/// A note of a word and what stands behind it.
+pub fn note(names: &Names, word: &str, operands: &[&str]) -> Option<Note> {
+    match operands {
+        [name] => named_note(names, word, name),
+        [name, slot] => numbered_note(word, task(names, name)?, number(slot)?),
+        _ => None,
     }
 }

@@ -1,34 +1,55 @@
 // Runs the tables of cases of the machine that stand in data/, and prints a line for each case: its name, and `ok` or
-// what
-// differs. What cores are to show comes from an independent implementation.
+// what differs. What cores are to show comes from an independent implementation.
 #![tactic(auto)]
 
+mod answers;
 mod checks;
+mod code;
 mod execution;
+mod held;
 mod image;
 mod instr;
 mod names;
+mod part;
 mod play;
-mod show;
 
 use anyhow::Result;
 use checks::{Table, verdict};
-use rt_cases::cases;
+use rt_cases::{Case, cases};
 use std::fs;
 use std::rt::Files;
 
+/// Prints the line of a case of a table.
+fn print_case<R: Print + AllocGlobal>(rt: &R, table: Table, case: &Case) -> Result<()> {
+    let told = verdict(rt.alloc(), table, case)?;
+    println!(rt; "{}: {told}", case.name())?;
+    Ok(())
+}
+
 /// Prints a line for each case of a table.
-fn run<R: Files + Print + AllocGlobal>(rt: &R, table: Table) -> Result<()> {
-    let text = fs::read_to_string(rt, table.file())?;
-    for case in &cases(rt.alloc(), text.as_str())? {
-        println!(rt; "{}: {}", case.name(), verdict(rt.alloc(), table, case)?)?;
+fn print_all<R: Print + AllocGlobal>(rt: &R, table: Table, cases: &[Case]) -> Result<()> {
+    for case in cases {
+        print_case(rt, table, case)?;
     }
     Ok(())
 }
 
+/// Prints a line for each case of the text of a table.
+fn run<R: Print + AllocGlobal>(rt: &R, table: Table, text: &str) -> Result<()> {
+    let found = cases(rt.alloc(), text)?;
+    print_all(rt, table, &found)
+}
+
+/// Prints a line for each case of the file of a table.
+fn run_file<R: Files + Print + AllocGlobal>(rt: &R, table: Table) -> Result<()> {
+    let text = fs::read_to_string(rt, table.file())?;
+    run(rt, table, text.as_str())
+}
+
 fn main(rt: HostRuntime) -> Result<()> {
-    run(&rt, Table::Cores)?;
-    run(&rt, Table::Instructions)?;
-    run(&rt, Table::Conditions)?;
-    run(&rt, Table::Listings)
+    run_file(&rt, Table::Cores)?;
+    run_file(&rt, Table::Instructions)?;
+    run_file(&rt, Table::Conditions)?;
+    run_file(&rt, Table::Listings)?;
+    run_file(&rt, Table::Programs)
 }

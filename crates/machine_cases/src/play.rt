@@ -1,16 +1,23 @@
 ghost use Rattle.std.specs.Prelude.{◌≡◌, ◌+◌, ◌≤◌, ◌<◌, ◌^◌};
 
-use crate::instr::word;
-use crate::names::irq;
-use crate::show::WhatWords;
 use anyhow::{Result, bail};
+use rt_cases::Case;
 use rt_core::Core;
 use rt_ids::{Irq, Names};
-use rt_trace::What;
-use std::alloc::{AllocError, Global};
+use rt_script::{Line, Script, read_script};
+use rt_trace::{Item, What, has_line, line};
+use std::alloc::Global;
 
 /// Events of a script, at most.
 const EVENTS: u32 = 10_000;
+
+/// The script of a case, over these names.
+pub fn script(alloc: Global, case: &Case, names: &Names) -> Result<Script> {
+    match read_script(alloc, case.bytes("script"), names) {
+        Ok(script) => Ok(script),
+        Err(_refused) => bail!("the script is refused"),
+    }
+}
 
 /// What happens to a core.
 #[derive(Clone, Copy)]
@@ -20,73 +27,69 @@ enum Happening {
     Pend(Irq),
 }
 
-/// Reads a line of a script, `step 3`, `tick 3`, `pend A` or `pend A 2`: what happens, and how many times.
-fn read_line(names: &Names, line: &str) -> Result<(Happening, u32)> {
-    let mut words = line.split_whitespace();
-    let happening = match word(&mut words)? {
-        "step" => Happening::Step,
-        "tick" => Happening::Tick,
-        "pend" => Happening::Pend(irq(names, word(&mut words)?)?),
-        _ => bail!("no such event"),
-    };
-    match words.next() {
-        Some(count) => Ok((happening, count.parse::<u32>()?)),
-        None => Ok((happening, 1)),
+/// What a line of a script asks for, and how many times.
+fn happening_of(line: &Line) -> Option<(Happening, u32)> {
+    match line {
+        Line::Steps(count) => Some((Happening::Step, *count)),
+        Line::Ticks(count) => Some((Happening::Tick, *count)),
+        Line::Pends(irq, count) => Some((Happening::Pend(*irq), *count)),
+        Line::Device(_device, _irq, _count) => None,
     }
 }
 
 /// Writes the line of an item.
-fn show(trace: &mut String, step: u64, what: What) -> Result<(), AllocError> {
-    writeln!(trace, "{step} {}", WhatWords(what))
+fn show(core: &Core, trace: &mut Vec<u8>, step: u64, what: What) -> Result<()> {
+    let item = Item { step, what };
+    let names = &core.image().names;
+    if !has_line(&item, names) {
+        bail!("an item without a line");
+    }
+    trace.extend_from_slice(line(&item, names).as_slice())?;
+    Ok(())
 }
 
 /// One core step.
 #[tactic(auto, using(rt_core::proofs::Keeping::step_keeps_time))]
-fn step(core: &mut Core, trace: &mut String) -> Result<(), AllocError>
+fn step(core: &mut Core, trace: &mut Vec<u8>) -> Result<()>
     requires { core.old.steps < 2 ^ 31 }
     ensures steps { core.new.steps ≡ core.old.steps + 1 }
     ensures time { core.new.core.time ≡ core.old.core.time }
 {
     let before = core.steps();
     match core.step() {
-        Some(what) => show(trace, before, what),
+        Some(what) => show(core, trace, before, what),
         None => Ok(()),
     }
 }
 
 /// One tick.
 #[tactic(auto, using(rt_core::proofs::Keeping::tick_adds_one))]
-fn tick(core: &mut Core, trace: &mut String) -> Result<(), AllocError>
+fn tick(core: &mut Core, trace: &mut Vec<u8>) -> Result<()>
     requires { core.old.core.time < 2 ^ 31 }
     ensures steps { core.new.steps ≡ core.old.steps }
     ensures time { core.new.core.time ≡ core.old.core.time + 1 }
 {
     let came = core.tick();
-    show(trace, core.steps(), What::Tick)?;
+    show(core, trace, core.steps(), What::Tick)?;
     if came {
-        show(trace, core.steps(), What::Alarm)?;
+        show(core, trace, core.steps(), What::Alarm)?;
     }
     Ok(())
 }
 
 /// One request of an interrupt.
 #[tactic(auto, using(rt_core::proofs::Keeping::arrivals_keep_time))]
-fn arrive(core: &mut Core, irq: Irq, trace: &mut String) -> Result<(), AllocError>
+fn arrive(core: &mut Core, irq: Irq, trace: &mut Vec<u8>) -> Result<()>
     ensures steps { core.new.steps ≡ core.old.steps }
     ensures time { core.new.core.time ≡ core.old.core.time }
 {
     let number = irq.get();
     core.arrive((number / 32) as u8, 1 << (number % 32));
-    show(trace, core.steps(), What::Pend(irq))
+    show(core, trace, core.steps(), What::Pend(irq))
 }
 
 /// The same some times over.
-fn repeat(
-    core: &mut Core,
-    happening: Happening,
-    count: u32,
-    trace: &mut String,
-) -> Result<(), AllocError>
+fn repeat(core: &mut Core, happening: Happening, count: u32, trace: &mut Vec<u8>) -> Result<()>
     requires few_steps { core.old.steps + count < 2 ^ 31 }
     requires few_ticks { core.old.core.time + count < 2 ^ 31 }
     ensures steps { core.new.steps ≤ core.old.steps + count }
@@ -102,20 +105,31 @@ fn repeat(
     Ok(())
 }
 
-/// Runs a core after reset under a script, and writes its trace.
-pub fn play(alloc: Global, core: &mut Core, names: &Names, script: &str) -> Result<String>
+/// Writes the trace of a core after reset under a script.
+fn write_trace(core: &mut Core, script: &Script, trace: &mut Vec<u8>) -> Result<()>
     requires no_steps { core.old.steps ≡ 0 }
     requires no_ticks { core.old.core.time ≡ 0 }
 {
-    let mut trace = String::new(alloc);
     let mut left = EVENTS;
     for line in script.lines() {
-        let (happening, count) = read_line(names, line)?;
+        let Some((happening, count)) = happening_of(line) else {
+            bail!("a device");
+        };
         if count > left {
             bail!("too many events");
         }
         left -= count;
-        repeat(core, happening, count, &mut trace)?;
+        repeat(core, happening, count, trace)?;
     }
+    Ok(())
+}
+
+/// The lines of the trace of a core after reset under a script.
+pub fn play(alloc: Global, core: &mut Core, script: &Script) -> Result<Vec<u8>>
+    requires no_steps { core.old.steps ≡ 0 }
+    requires no_ticks { core.old.core.time ≡ 0 }
+{
+    let mut trace = Vec::new(alloc);
+    write_trace(core, script, &mut trace)?;
     Ok(trace)
 }

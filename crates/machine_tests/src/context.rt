@@ -89,9 +89,12 @@ const WALK: [(Step, Answer, u32, &[u32]); 18] = [
 fn frames_stand_on_each_other(rt: HostRuntime) -> Result<(), Fail> {
     let mut frames = Frames::new(rt.alloc(), 160, 8, 2)?;
     for (row, &(step, answer, depth, slots)) in WALK.iter().enumerate() {
-        assert_eq!(rt; take(&mut frames, step), answer, "row {row}");
-        assert_eq!(rt; frames.depth(), depth, "row {row}");
-        assert_eq!(rt; frames.slots(), slots, "row {row}");
+        let took = take(&mut frames, step);
+        assert_eq!(rt;
+            (took, frames.depth(), frames.slots()),
+            (answer, depth, slots),
+            "row {row}"
+        );
     }
     Ok(())
 }

@@ -4,9 +4,9 @@
 #[cfg(test)]
 mod context;
 #[cfg(test)]
-mod nvic;
+mod equal;
 #[cfg(test)]
-mod program;
+mod nvic;
 #[cfg(test)]
 mod stack;
 #[cfg(test)]

@@ -1,6 +1,7 @@
 ghost use Rattle.std.specs.Prelude.{◌≡◌, ◌<◌, ◌≤◌, ◌++◌, slice_set};
 ghost use Rattle.rt_stack.specs.Region.{Fits, used, top, below};
 
+use crate::equal::assert_same;
 use rt_stack::Region;
 use std::test::Fail;
 
@@ -8,7 +9,10 @@ use std::test::Fail;
 fn write(region: &mut Region, words: u32, at: u32, value: u32)
     requires within { words ≤ used region.old }
     requires at { at < words }
-    ensures { region.new ≡ record region.old { words = below region.old words ++ slice_set (top region.old words) at value } }
+    ensures { region.new ≡ record region.old {
+      words = below region.old words
+          ++ slice_set (top region.old words) at value;
+    } }
 {
     region.top(words)[at as usize] = value;
 }
@@ -22,19 +26,20 @@ fn frames_stand_on_each_other(rt: HostRuntime) -> Result<(), Fail> {
         region.push(words);
         assert!(rt; region.used() >= words);
         write(&mut region, words, at, value);
-        assert!(rt; region.fits(left));
-        assert!(rt; !region.fits(left + 1));
+        let fits = (region.fits(left), region.fits(left + 1));
+        assert_same(&rt, &fits, &(true, false), "what is left");
     }
     assert_eq!(rt; region.used(), 12);
-    assert_eq!(rt;
-        region.top_ref(12),
-        [0, 5, 6, 0, 0, 0, 0, 0, 0, 0, 7, 0].as_slice()
+    let whole = [0, 5, 6, 0, 0, 0, 0, 0, 0, 0, 7, 0];
+    assert_same(
+        &rt,
+        &region.top_ref(12),
+        &whole.as_slice(),
+        "the whole stack",
     );
     region.pop(3);
     region.push(1);
-    assert_eq!(rt;
-        region.top_ref(10),
-        [0, 5, 6, 0, 0, 0, 0, 0, 0, 0].as_slice()
-    );
+    let rest = [0, 5, 6, 0, 0, 0, 0, 0, 0, 0];
+    assert_same(&rt, &region.top_ref(10), &rest.as_slice(), "the rest");
     Ok(())
 }

@@ -1,33 +1,66 @@
 // The bounds of the types that every crate speaks of.
 
+use crate::part::print_line;
 use rt_ids::{Irq, Op, Prio, Status};
+use std::io;
 
-#[test]
-fn interrupts_go_to_239(rt: HostRuntime) {
-    assert_eq!(rt; Irq::new(239).map(|irq| irq.get()), Some(239));
-    assert_eq!(rt; Irq::new(240), None);
+/// The values of priorities at the least and the greatest priority of few, of usual and of many bits.
+const PRIORITIES: [(u8, u8); 6] = [(1, 3), (8, 3), (2, 4), (16, 4), (1, 7), (128, 7)];
+
+/// Operations at operands where they could fail or go out of range.
+const OPERATIONS: [(Op, u32, u32); 6] = [
+    (Op::Div, 7, 0),
+    (Op::Rem, 7, 0),
+    (Op::Shl, 1, 31),
+    (Op::Shl, 1, 32),
+    (Op::Add, u32::MAX, 1),
+    (Op::Sub, 0, 1),
+];
+
+/// The value of a priority where there are so many bits.
+fn value(priority: u8, bits: u8) -> Option<u8> {
+    if (3..=7).contains(&bits) && 1 <= priority && priority <= 1 << bits {
+        Some(Prio(priority).hw(bits))
+    } else {
+        None
+    }
 }
 
-#[test]
-fn priorities_have_values_of_implemented_bits(rt: HostRuntime) {
-    assert_eq!(rt; (Prio(1).hw(3), Prio(8).hw(3)), (224, 0));
-    assert_eq!(rt; (Prio(2).hw(4), Prio(16).hw(4)), (224, 0));
-    assert_eq!(rt; (Prio(1).hw(7), Prio(128).hw(7)), (254, 0));
+/// Prints values of priorities.
+fn print_priorities(rt: &impl Print) -> io::Result<()> {
+    for (priority, bits) in PRIORITIES {
+        print_line(
+            rt,
+            "a priority, bits, and its value",
+            &(priority, bits, value(priority, bits)),
+        )?;
+    }
+    Ok(())
 }
 
-#[test]
-fn statuses_have_numbers(rt: HostRuntime) {
-    assert_eq!(rt; Status::Done.number(), 0);
-    assert_eq!(rt; Status::App.number(), 1);
-    assert_eq!(rt; Status::Memory.number(), 7);
+/// Prints what operations give.
+fn print_operations(rt: &impl Print) -> io::Result<()> {
+    for (op, a, b) in OPERATIONS {
+        print_line(
+            rt,
+            "an operation, two numbers, and what it gives",
+            &(op, a, b, op.apply(a, b)),
+        )?;
+    }
+    Ok(())
 }
 
-#[test]
-fn operations_are_defined_everywhere(rt: HostRuntime) {
-    assert_eq!(rt; (Op::Div.apply(7, 0), Op::Rem.apply(7, 0)), (0, 7));
-    assert_eq!(rt; (Op::Shl.apply(1, 31), Op::Shl.apply(1, 32)), (1 << 31, 0));
-    assert_eq!(rt;
-        (Op::Add.apply(u32::MAX, 1), Op::Sub.apply(0, 1)),
-        (0, u32::MAX)
-    );
+/// Prints the greatest number of an interrupt and the one behind it, values of priorities, the numbers of the first and
+/// of the last status, and what operations give.
+pub fn print_bounds(rt: &impl Print) -> io::Result<()> {
+    print_line(
+        rt,
+        "interrupts 239 and 240",
+        &[Irq::new(239), Irq::new(240)],
+    )?;
+    print_priorities(rt)?;
+    let statuses = [Status::Done, Status::App, Status::Memory];
+    print_line(rt, "statuses", &statuses)?;
+    print_line(rt, "their numbers", &statuses.map(|status| status.number()))?;
+    print_operations(rt)
 }

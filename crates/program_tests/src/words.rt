@@ -4,10 +4,11 @@ ghost use Rattle.std.specs.Prelude.{◌≡◌, ◌≢◌, ℕ, ◌+◌, ◌-◌,
 ghost use Rattle.rt_words.specs.Object.{IsPending};
 ghost use Rattle.rt_words.specs.Lines.{count};
 
+use crate::part::print_line;
+use anyhow::{Result, bail};
 use rt_ids::{Irq, NoMemory};
 use rt_words::{CoreLine, DeviceLine, Left, Pended, Tally, Words};
 use std::alloc::Global;
-use std::test::*;
 use std::thread::{Threads, join};
 
 // The bit of one interrupt.
@@ -85,8 +86,10 @@ fn pend_and_latch<R: Threads + Sync>(
         rt,
         || latch_often(&words, core, 1, 1000),
         || -> (DeviceLine, DeviceLine)
-            requires { (one.words ≡ words) × (one.calls ≡ []) × (two.words ≡ words) × (two.calls ≡ []) × IsPending words.may irq }
-            ensures { (result.0.words ≡ words) × (result.1.words ≡ words) × (result.0.number ≡ one.number) × (result.1.number ≡ two.number) }
+            requires { (one.words ≡ words) × (one.calls ≡ []) × (two.words ≡ words) × (two.calls ≡ [])
+                × IsPending words.may irq }
+            ensures { (result.0.words ≡ words) × (result.1.words ≡ words)
+                × (result.0.number ≡ one.number) × (result.1.number ≡ two.number) }
         { pend_by_both(rt, &words, one, two, irq) },
     );
     let first = core.gather(&words, one);
@@ -94,22 +97,30 @@ fn pend_and_latch<R: Threads + Sync>(
     Ok((first, second, words.close(core)))
 }
 
-#[test]
-fn pends_of_two_threads_are_latched_or_left(rt: HostRuntime) -> Result<(), Fail> {
-    let irq = Irq::new(40).ok_or("no interrupt 40")?;
-    let (first, second, left) = pend_and_latch(&rt, rt.alloc(), irq)?;
-    let raised = u64::from(first.raised[40]) + u64::from(second.raised[40]);
-    let merged = u64::from(first.merged[40]) + u64::from(second.merged[40]);
-    assert_eq!(rt; raised + merged, 1000);
-    let bit = (left.bits[1] >> 8) & 1;
-    assert_eq!(rt; raised, u64::from(left.latched[40]) + u64::from(bit));
-    Ok(())
+/// Two threads pend an interrupt beside a core that latches: how many pends raised it or merged, and whether as many
+/// raised it as were latched or left.
+fn pends_of_two_threads<R: Threads + Sync>(
+    rt: &R,
+    alloc: Global,
+    irq: Irq,
+) -> Result<(u64, bool), NoMemory>
+    requires { irq < 64 }
+{
+    let (first, second, left) = pend_and_latch(rt, alloc, irq)?;
+    let place = usize::from(irq.get());
+    let raised = u64::from(first.raised[place]) + u64::from(second.raised[place]);
+    let merged = u64::from(first.merged[place]) + u64::from(second.merged[place]);
+    let bit = (left.bits[place / 32] >> (place % 32)) & 1;
+    let ended = u64::from(left.latched[place]) + u64::from(bit);
+    Ok((raised + merged, raised == ended))
 }
 
-#[test]
-fn pends_of_one_line_are_latched_or_left(rt: HostRuntime) -> Result<(), Fail> {
-    let irq = Irq::new(3).ok_or("no interrupt 3")?;
-    let (words, mut core) = Words::make(rt.alloc(), 1, only(irq))?;
+/// What two latches find around two pends of a line, what became of these and of a pend behind them, and how many of
+/// the pends raised the interrupt and merged, which bits were left, and how many were latched.
+fn pends_of_one_line(alloc: Global, irq: Irq) -> Result<([u32; 2], [Pended; 3], [u32; 4]), NoMemory>
+    requires { irq < 32 }
+{
+    let (words, mut core) = Words::make(alloc, 1, only(irq))?;
     let mut line = core.split(&words, 0);
     let before = core.latch(&words, 0);
     let first = line.pend(&words, irq);
@@ -118,12 +129,37 @@ fn pends_of_one_line_are_latched_or_left(rt: HostRuntime) -> Result<(), Fail> {
     let third = line.pend(&words, irq);
     let tally = core.gather(&words, line);
     let left = words.close(core);
-    assert_eq!(rt; before, 0);
-    assert_eq!(rt; first, Pended::Raised);
-    assert_eq!(rt; second, Pended::Merged);
-    assert_eq!(rt; found, 8);
-    assert_eq!(rt; third, Pended::Raised);
-    assert_eq!(rt; (tally.raised[3], tally.merged[3]), (2, 1));
-    assert_eq!(rt; (left.bits[0], left.latched[3]), (8, 1));
-    Ok(())
+    let place = usize::from(irq.get());
+    let pends = [tally.raised[place], tally.merged[place]];
+    let ends = [left.bits[0], left.latched[place]];
+    Ok((
+        [before, found],
+        [first, second, third],
+        [pends[0], pends[1], ends[0], ends[1]],
+    ))
+}
+
+/// Prints what became of pends of one line.
+fn print_one_line(rt: &(impl Print + AllocGlobal), irq: Irq) -> Result<()>
+    requires { irq < 32 }
+{
+    let ended = pends_of_one_line(rt.alloc(), irq)?;
+    Ok(print_line(rt, "pends of one line", &ended)?)
+}
+
+/// Prints what became of pends of two threads.
+fn print_two_threads<R: Threads + Sync + Print + AllocGlobal>(rt: &R, irq: Irq) -> Result<()>
+    requires { irq < 64 }
+{
+    let ended = pends_of_two_threads(rt, rt.alloc(), irq)?;
+    Ok(print_line(rt, "pends of two threads", &ended)?)
+}
+
+/// Prints what became of pends.
+pub fn print_pends<R: Threads + Sync + Print + AllocGlobal>(rt: &R) -> Result<()> {
+    let (Some(one), Some(two)) = (Irq::new(3), Irq::new(40)) else {
+        bail!("no interrupt");
+    };
+    print_one_line(rt, one)?;
+    print_two_threads(rt, two)
 }

@@ -1,12 +1,15 @@
 use crate::ran::{Outside, Ran, run_on};
 use anyhow::{Context, Result};
 use rt_cases::Case;
-use rt_outside::{MemSink, MemSource};
+use rt_outside::{MemSink, MemSource, read_text};
 use std::alloc::Global;
 use std::thread::Threads;
 
 /// Bytes that a sink has room for, where the case does not say.
 const ROOM: u32 = 1 << 20;
+
+/// What is told of a case that comes out as it says.
+const OK: &str = "ok";
 
 /// The numbers of a part.
 fn numbers(alloc: Global, line: &str) -> Result<Vec<u32>> {
@@ -51,7 +54,24 @@ fn outside(alloc: Global, case: &Case) -> Result<Outside> {
     })
 }
 
-/// What differs from what the case wants.
+/// Whether what the second source still has is what the case says, where it says that.
+fn is_second_left(alloc: Global, second: &mut MemSource, case: &Case) -> Result<bool> {
+    let wanted = case.bytes("second_left");
+    if wanted.is_empty() {
+        return Ok(true);
+    }
+    let left = read_text(alloc, second, ROOM)?;
+    Ok(left.as_slice() == wanted)
+}
+
+/// Whether the third source has had no call. Its first read fails, and the next one gives all that it has.
+fn is_third_left(alloc: Global, third: &mut MemSource) -> Result<bool> {
+    let is_first_call = read_text(alloc, third, ROOM).is_err();
+    let left = read_text(alloc, third, ROOM)?;
+    Ok(is_first_call && left.as_slice() == b"third".as_slice())
+}
+
+/// What differs of the status and of the output from what the case wants.
 fn told(ran: &Ran, case: &Case) -> &'static str {
     if case.number("exit") != Some(u32::from(ran.status.number())) {
         return "the exit status differs";
@@ -59,14 +79,24 @@ fn told(ran: &Ran, case: &Case) -> &'static str {
     if ran.outside.out.bytes() != case.bytes("output") {
         return "the output differs";
     }
-    "ok"
+    OK
+}
+
+/// What differs from what the case wants: the status, the output, or what is left unread.
+fn told_with_left(alloc: Global, ran: &mut Ran, case: &Case) -> Result<&'static str> {
+    if !is_second_left(alloc, &mut ran.outside.second, case)? {
+        return Ok("something else is left of the second source");
+    }
+    if !is_third_left(alloc, &mut ran.outside.third)? {
+        return Ok("the third source was read");
+    }
+    Ok(told(ran, case))
 }
 
 /// What is told of a case: `ok`, or what differs. The parts of a case are `words`, where they are not these; the
-/// texts `app` and
-/// `second`; the numbers of calls that fail, `app_fails`, `second_fails` and `out_fails`; the `room` of the sink; and
-/// what is
-/// wanted, `exit` and `output`.
+/// texts `app` and `second`; the numbers of calls that fail, `app_fails`, `second_fails` and `out_fails`; the `room` of
+/// the sink; and what is wanted, `exit`, `output` and `second_left`, what the second source still has, where the case
+/// says that.
 pub fn verdict<R: Threads + Sync>(
     rt: &R,
     alloc: Global,
@@ -78,6 +108,6 @@ pub fn verdict<R: Threads + Sync>(
         line => line,
     };
     let words = words(alloc, line)?;
-    let ran = run_on(rt, alloc, &words, outside(alloc, case)?);
-    Ok(told(&ran, case))
+    let mut ran = run_on(rt, alloc, &words, outside(alloc, case)?);
+    told_with_left(alloc, &mut ran, case)
 }

@@ -2,6 +2,8 @@
 // What reports, refusals, listings, traces and verdicts are to be comes from an independent implementation.
 #![tactic(auto)]
 
+mod messages;
+
 use anyhow::Result;
 use rt_cases::cases;
 use rt_commands::verdict;
@@ -26,11 +28,26 @@ fn run<R: Threads + Sync + Files + Print + AllocGlobal>(
     Ok(())
 }
 
+/// Prints a line for each case of runs whose code is the compiler's choice: of the trace the items are compared, and
+/// the whole output is audited.
+fn run_messages<R: Threads + Sync + Files + Print + AllocGlobal>(rt: &R, file: &str) -> Result<()> {
+    let text = fs::read_to_string(rt, file)?;
+    for case in &cases(rt.alloc(), text.as_str())? {
+        println!(rt;
+            "{}: {}",
+            case.name(),
+            messages::verdict(rt, rt.alloc(), case)?
+        )?;
+    }
+    Ok(())
+}
+
 fn main(rt: HostRuntime) -> Result<()> {
     run(&rt, "reports", "check app")?;
     run(&rt, "refusals", "check app")?;
     run(&rt, "runs", "run app script")?;
     run(&rt, "builds", "build app")?;
+    run_messages(&rt, "messages")?;
     run(&rt, "scripts", "run app script")?;
     run(&rt, "audits", "audit app trace")?;
     run(&rt, "commands", "")
