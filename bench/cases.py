@@ -197,7 +197,7 @@ def main():
     head = "; Written by bench/cases.py: images with scripts, and what an independent core makes of them.\n\n"
     (crate / "data" / "cores").write_text(head + "".join(written(*case) for case in cases))
     told = "".join(f"{name}: ok\n" for name, _, _ in cases)
-    for table in ("instructions", "conditions", "listings"):
+    for table in ("instructions", "conditions", "listings", "programs"):
         lines = (crate / "data" / table).read_text().splitlines()
         told += "".join(f"{line[2:]}: ok\n" for line in lines if line.startswith("= "))
     (crate / "stdout").write_text(told)

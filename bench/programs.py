@@ -87,7 +87,7 @@ def output(program, app, script):
     if ran.returncode != 0:
         sys.exit("status %d: %s" % (ran.returncode, ran.stdout))
     listing, _, rest = ran.stdout.partition("trace\n")
-    return listing, [line for line in rest.splitlines() if not line.startswith("total ")]
+    return listing, rest.splitlines()
 
 
 def main():

@@ -65,6 +65,7 @@ def main(program, folder):
     half = measure(program, folder, "build", "hardware tasks", texts.hardware(DENSEST // 2))
     whole = measure(program, folder, "build", "hardware tasks", texts.hardware(DENSEST))
     judged = measure(program, folder, "check", "hardware tasks", texts.hardware(DENSEST))
+    measure(program, folder, "build", "software tasks", texts.dense(DENSEST))
     print(f"build takes {whole / judged:.2f} times check, and {whole / half:.2f} times build of half the text")
     many = measure(program, folder, "check", "930 variables in scope", texts.variables(930))
     one = measure(program, folder, "check", "one variable in scope", texts.variables(1))

@@ -1,11 +1,11 @@
 #!/usr/bin/env python3
-"""Prints the times of `rtic run` beside those of a plain simulator, and of `rtic audit` beside `wc -w` and a plain reader.
+"""Prints the times of `rtic run` beside a plain simulator, and of `rtic audit` beside `wc -w` and a plain reader.
 
     python3 running.py PROGRAM SIMULATOR READER FOLDER
 
-PROGRAM is rtic, SIMULATOR and READER are bench/simulator.rs and bench/reader.rs, FOLDER takes the texts. The programs take
-turns, and of five turns the least time of each counts, from start to end of the process. What the simulator writes is
-compared with what rtic writes, byte for byte.
+PROGRAM is rtic, SIMULATOR and READER are bench/simulator.rs and bench/reader.rs, FOLDER takes the texts. The programs
+take turns, and of five turns the least time of each counts, from start to end of the process. What the simulator writes
+is compared with what rtic writes, byte for byte.
 """
 
 import os
@@ -30,11 +30,32 @@ task slow(binds = SLOW, priority = 1, shared = [low, high]) {
 task fast(binds = FAST, priority = 2, shared = [high]) { lock high { high = 6; emit high; } }
 """
 
+# An interrupt, the thread and messages send messages to two levels, with two values and with four; some find no place.
+MESSAGES = """\
+shared { lost = 0 }
+local { turns = 0 }
+idle(local = [turns]) { turns = turns + 1; spawn low(turns, 7); }
+task slow(binds = SLOW, priority = 1) {}
+task fast(binds = FAST, priority = 3, shared = [lost]) {
+    for i in 0..3 {
+        let sent = spawn low(i, 5);
+        if sent == 0 { lock lost { lost = lost + 1; } }
+    }
+    spawn high(1, 2, 3, 4);
+}
+task low(priority = 1, capacity = 2) with a, b { spawn high(a, b, b, a); }
+task high(priority = 2, capacity = 4) with a, b, c, d { emit a + b + c + d; }
+"""
 
-def application(irqs, has_bodies):
-    """So many declared interrupts, of which two are served; without bodies the thread waits."""
+
+def application(irqs, name):
+    """So many declared interrupts, of which a few are served; with `waiting` the thread waits."""
+    if name == "messages":
+        more = "".join(f", X{n} = {n}" for n in range(4, irqs))
+        head = "app bench(bits = 4, dispatchers = [HIGH, LOW]);\ninterrupts { SLOW = 0, FAST = 1, HIGH = 2, LOW = 3"
+        return f"{head}{more} }}\n{MESSAGES}"
     more = "".join(f", X{n} = {n}" for n in range(2, irqs))
-    bodies = BODIES if has_bodies else BODIES[BODIES.index("task") :]
+    bodies = BODIES[BODIES.index("task") :] if name == "waiting" else BODIES
     return (
         f"app bench(bits = 4);\ninterrupts {{ SLOW = 0, FAST = 1{more} }}\n"
         f"shared {{ low = 1, high = 2 }}\nlocal {{ turns = 0 }}\n{bodies}"
@@ -61,7 +82,7 @@ def turns(*programs):
 
 
 def measure_run(program, simulator, folder, irqs, name, script):
-    app = write(folder, "app", application(irqs, name != "waiting"))
+    app = write(folder, "app", application(irqs, name))
     events = write(folder, "script", script)
     listing = output([program, "build", app], os.path.join(folder, "listing"))
     ours = output([program, "run", app, events], os.path.join(folder, "ours"))
@@ -71,8 +92,9 @@ def measure_run(program, simulator, folder, irqs, name, script):
     words = [program, "run", app, events]
     seconds, other = turns(words, [simulator, listing, events])
     print(
-        f"run, {name}, {irqs} interrupts, {EVENTS} events: {seconds * 1000:.0f} ms, {seconds / other:.2f} times a plain "
-        f"simulator ({other * 1000:.0f} ms); {peak(words, folder)} KiB for {os.path.getsize(ours) // 1024} KiB of output"
+        f"run, {name}, {irqs} interrupts, {EVENTS} events: {seconds * 1000:.0f} ms, {seconds / other:.2f} times a "
+        f"plain simulator ({other * 1000:.0f} ms); {peak(words, folder)} KiB for {os.path.getsize(ours) // 1024} KiB "
+        "of output"
     )
 
 
@@ -91,7 +113,7 @@ def trace_of(program, folder, app, items):
 
 
 def measure_audit(program, reader, folder, items):
-    app = write(folder, "app", application(2, False))
+    app = write(folder, "app", application(2, "waiting"))
     trace = trace_of(program, folder, app, items)
     told = subprocess.run([program, "audit", app, trace], capture_output=True, check=False).stdout
     if told != f"yes {items}\n".encode("ascii"):
@@ -109,10 +131,13 @@ def measure_audit(program, reader, folder, items):
 
 def main(program, simulator, reader, folder):
     busy = "pend SLOW\nstep 9\npend FAST\nstep 29\n" * (EVENTS // 40)
+    messages = "pend FAST\nstep 499\n" * (EVENTS // 500)
     for irqs in 2, 240:
         measure_run(program, simulator, folder, irqs, "waiting", f"step {EVENTS}\n")
         measure_run(program, simulator, folder, irqs, "spinning", f"step {EVENTS}\n")
         measure_run(program, simulator, folder, irqs, "busy", busy)
+    for irqs in 4, 240:
+        measure_run(program, simulator, folder, irqs, "messages", messages)
     for items in 500_000, 1_000_000:
         measure_audit(program, reader, folder, items)
 

@@ -1,6 +1,6 @@
-// A plain simulator of images of hardware tasks, for bench/run: `simulator LISTING SCRIPT` writes the listing, the line
-// `trace`, and the trace of the image under the script, as `rtic run` does. As bench/interpreter.rs it takes a step at a
-// time, which shows an item, is silent, or traps; and it has no proofs.
+// A plain simulator of images without timers, for bench/run: `simulator LISTING SCRIPT` writes the listing, the line
+// `trace`, and the trace of the image under the script, as `rtic run` does. As bench/interpreter.rs it takes a step at
+// a time, which shows an item, is silent, or traps; and it has no proofs.
 use std::collections::{BTreeSet, HashMap};
 use std::env;
 use std::error::Error;
@@ -13,6 +13,8 @@ enum Instr {
     Calc(fn(u32, u32) -> u32, usize, usize, usize),
     Load(usize, usize),
     Store(usize, usize),
+    LoadAt(usize, usize, usize),
+    StoreAt(usize, usize, usize),
     Jump(usize),
     JumpZ(usize, usize),
     Emit(usize),
@@ -25,15 +27,19 @@ enum Instr {
     Mark,
     Serve,
     Wait,
+    Call(usize, usize),
+    Back,
     Ret,
 }
 
-// A section or a body by its place among the names, and the cell of a resource.
+// A section, a task or a body by its place among the names; the cell of a resource; the first slot of arguments, and
+// how many there are.
 #[derive(Clone, Copy)]
 enum Note {
-    Enter(usize),
     Leave(usize, Option<usize>),
-    End(usize),
+    Start(usize, usize, usize),
+    // any other, which shows its verb and its name
+    Plain(&'static str, usize),
 }
 
 #[derive(Clone, Copy)]
@@ -43,9 +49,9 @@ enum What {
     Emit(u32),
     Post(usize),
     Clock(u32),
-    Enter(usize),
     Leave(usize, Option<u32>),
-    End(usize),
+    Start(usize, [u32; 4], usize),
+    Plain(&'static str, usize),
     Trap(u8),
 }
 
@@ -60,10 +66,18 @@ struct Irq {
     handler: Option<(u32, usize, usize)>,
 }
 
+// The body of a software task.
+struct Body {
+    entry: usize,
+    frame: usize,
+    args: usize,
+}
+
 struct Image {
     thread_words: usize,
     cells: Vec<(u32, String)>,
     irqs: Vec<Irq>,
+    bodies: Vec<Body>,
     code: Vec<(Instr, Option<Note>)>,
     names: Vec<String>,
     stack_words: usize,
@@ -102,6 +116,8 @@ fn instr(words: &[&str], irqs: &HashMap<String, usize>) -> Result<Instr, Box<dyn
         "copy" => Instr::Copy(place(1)?, place(2)?),
         "load" => Instr::Load(place(1)?, place(2)?),
         "store" => Instr::Store(place(1)?, place(2)?),
+        "loadat" => Instr::LoadAt(place(1)?, place(2)?, place(3)?),
+        "storeat" => Instr::StoreAt(place(1)?, place(2)?, place(3)?),
         "jump" => Instr::Jump(place(1)?),
         "jumpz" => Instr::JumpZ(place(1)?, place(2)?),
         "emit" => Instr::Emit(place(1)?),
@@ -114,8 +130,32 @@ fn instr(words: &[&str], irqs: &HashMap<String, usize>) -> Result<Instr, Box<dyn
         "mark" => Instr::Mark,
         "serve" => Instr::Serve,
         "wait" => Instr::Wait,
+        "call" => Instr::Call(place(1)?, place(2)?),
+        "back" => Instr::Back,
         "ret" => Instr::Ret,
         other => return Err(format!("no instruction {other}").into()),
+    })
+}
+
+// What a note says, by the numbers of declared cells and of the arguments of tasks.
+fn note(
+    told: &str,
+    names: &mut Vec<String>,
+    cells: &HashMap<String, usize>,
+    args: &HashMap<String, usize>,
+) -> Result<Note, Box<dyn Error>> {
+    let words: Vec<&str> = told.split(' ').collect();
+    let name = names.len();
+    names.push(words[1].to_string());
+    let verb = words[0];
+    Ok(match verb {
+        "leave" => Note::Leave(name, cells.get(words[1]).copied()),
+        "start" => Note::Start(name, words[2].parse()?, args[words[1]]),
+        _ => {
+            let verbs = ["enter", "ok", "full", "ready", "free", "end"];
+            let known = verbs.iter().copied().find(|known| *known == verb);
+            Note::Plain(known.ok_or(format!("no note {verb}"))?, name)
+        }
     })
 }
 
@@ -124,12 +164,14 @@ fn read_image(text: &str) -> Result<Image, Box<dyn Error>> {
         thread_words: 0,
         cells: Vec::new(),
         irqs: Vec::new(),
+        bodies: Vec::new(),
         code: Vec::new(),
         names: Vec::new(),
         stack_words: 0,
     };
     let mut numbers = HashMap::new();
     let mut cells = HashMap::new();
+    let mut args = HashMap::new();
     for line in text.lines() {
         let (line, told) = match line.split_once(" ; ") {
             Some((line, told)) => (line, Some(told)),
@@ -153,17 +195,13 @@ fn read_image(text: &str) -> Result<Image, Box<dyn Error>> {
                 };
                 image.irqs.push(Irq { name: words[1].to_string(), number: words[2].parse()?, handler });
             }
+            "body" => {
+                let body = Body { entry: words[2].parse()?, frame: words[3].parse()?, args: words[4].parse()? };
+                args.insert(words[1].to_string(), body.args);
+                image.bodies.push(body);
+            }
             "code" => {
-                let note = told.map(|told| {
-                    let (verb, what) = told.split_once(' ').expect("a note has two words");
-                    let name = image.names.len();
-                    image.names.push(what.to_string());
-                    match verb {
-                        "enter" => Note::Enter(name),
-                        "leave" => Note::Leave(name, cells.get(what).copied()),
-                        _ => Note::End(name),
-                    }
-                });
+                let note = told.map(|told| note(told, &mut image.names, &cells, &args)).transpose()?;
                 image.code.push((instr(&words[2..], &numbers)?, note));
             }
             other => return Err(format!("no line {other}").into()),
@@ -177,6 +215,7 @@ struct Context {
     address: usize,
     frame: usize,
     irq: Option<usize>,
+    caller: Option<usize>,
 }
 
 struct Core<'a> {
@@ -186,6 +225,8 @@ struct Core<'a> {
     frame: usize,
     contexts: Vec<Context>,
     running: Option<usize>,
+    // while a body runs that a handler called, the words of the handler's frame
+    caller: Option<usize>,
     // those that are enabled and pending, by priority value and number, with their row
     ready: BTreeSet<(u32, u16, usize)>,
     address: usize,
@@ -205,6 +246,7 @@ impl<'a> Core<'a> {
             frame: image.thread_words,
             contexts: Vec::new(),
             running: None,
+            caller: None,
             ready: BTreeSet::new(),
             address: 0,
             basepri: 0,
@@ -255,18 +297,52 @@ impl<'a> Core<'a> {
             return Err(STACK);
         }
         self.ready.remove(&(value, self.image.irqs[irq].number, irq));
-        self.contexts.push(Context { address: self.address, frame: self.frame, irq: self.running });
+        let caller = self.caller.take();
+        self.contexts.push(Context { address: self.address, frame: self.frame, irq: self.running, caller });
         self.stack.resize(self.stack.len() + 8 + frame, 0);
         (self.address, self.frame, self.running) = (entry, frame, Some(irq));
         Ok(Some(What::Take(irq, self.stack.len() * 4)))
     }
 
     fn leave(&mut self) -> Result<What, u8> {
+        if self.caller.is_some() {
+            return Err(STACK);
+        }
         let irq = self.running.ok_or(STACK)?;
         let context = self.contexts.pop().ok_or(STACK)?;
         self.stack.truncate(self.stack.len() - self.frame - 8);
         (self.address, self.frame, self.running) = (context.address, context.frame, context.irq);
+        self.caller = context.caller;
         Ok(What::Ret(irq))
+    }
+
+    // Calls a body from the handler that runs, with arguments from a slot on. The handler's last slot has the address
+    // to come back to.
+    fn call(&mut self, row: usize, from: usize) -> Result<usize, u8> {
+        if self.running.is_none() || self.caller.is_some() || self.frame == 0 {
+            return Err(STACK);
+        }
+        let body = self.image.bodies.get(row).ok_or(JUMP)?;
+        let top = self.stack.len();
+        let fits = top + body.frame <= self.image.stack_words;
+        if !fits || from + body.args > self.frame || body.args > body.frame {
+            return Err(STACK);
+        }
+        self.set(self.frame - 1, (self.address + 1) as u32)?;
+        let first = top - self.frame + from;
+        self.stack.resize(top + body.frame, 0);
+        self.stack.copy_within(first..first + body.args, top);
+        self.caller = Some(self.frame);
+        self.frame = body.frame;
+        Ok(body.entry)
+    }
+
+    // From a called body back to where its handler goes on.
+    fn back(&mut self) -> Result<usize, u8> {
+        let frame = self.caller.take().ok_or(STACK)?;
+        self.stack.truncate(self.stack.len() - self.frame);
+        self.frame = frame;
+        Ok(self.slot(frame - 1)? as usize)
     }
 
     fn execute(&mut self) -> Result<Option<What>, u8> {
@@ -279,6 +355,15 @@ impl<'a> Core<'a> {
             Instr::Calc(apply, slot, a, b) => self.set(slot, apply(self.slot(a)?, self.slot(b)?))?,
             Instr::Load(slot, cell) => self.set(slot, *self.cells.get(cell).ok_or(CELL)?)?,
             Instr::Store(cell, from) => {
+                let value = self.slot(from)?;
+                *self.cells.get_mut(cell).ok_or(CELL)? = value;
+            }
+            Instr::LoadAt(slot, cell, index) => {
+                let cell = cell + self.slot(index)? as usize;
+                self.set(slot, *self.cells.get(cell).ok_or(CELL)?)?;
+            }
+            Instr::StoreAt(cell, index, from) => {
+                let cell = cell + self.slot(index)? as usize;
                 let value = self.slot(from)?;
                 *self.cells.get_mut(cell).ok_or(CELL)? = value;
             }
@@ -306,18 +391,29 @@ impl<'a> Core<'a> {
             Instr::Unmask(slot) => self.primask = self.slot(slot)? == 1,
             Instr::Serve => self.primask = false,
             Instr::Wait => next = self.address,
+            Instr::Call(row, from) => next = self.call(row, from)?,
+            Instr::Back => next = self.back()?,
             Instr::Ret => return self.leave().map(Some),
         }
         self.address = next;
-        Ok(what.or_else(|| note.map(|note| self.noted(note))))
+        match (what, note) {
+            (None, Some(note)) => self.noted(*note).map(Some),
+            _ => Ok(what),
+        }
     }
 
-    fn noted(&self, note: Note) -> What {
-        match note {
-            Note::Enter(section) => What::Enter(section),
+    fn noted(&self, note: Note) -> Result<What, u8> {
+        Ok(match note {
             Note::Leave(section, cell) => What::Leave(section, cell.map(|cell| self.cells[cell])),
-            Note::End(body) => What::End(body),
-        }
+            Note::Start(task, from, count) => {
+                let mut values = [0; 4];
+                for (place, value) in values.iter_mut().enumerate().take(count) {
+                    *value = self.slot(from + place)?;
+                }
+                What::Start(task, values, count)
+            }
+            Note::Plain(verb, name) => What::Plain(verb, name),
+        })
     }
 
     // One core step; behind a trap every step is silent.
@@ -345,10 +441,16 @@ fn write_item(out: &mut Vec<u8>, image: &Image, step: u64, what: What) -> io::Re
         What::Emit(value) => writeln!(out, "{step} emit {value}"),
         What::Post(number) => writeln!(out, "{step} post {}", irq(number)),
         What::Clock(time) => writeln!(out, "{step} clock {time}"),
-        What::Enter(section) => writeln!(out, "{step} enter {}", image.names[section]),
         What::Leave(section, None) => writeln!(out, "{step} leave {}", image.names[section]),
         What::Leave(section, Some(value)) => writeln!(out, "{step} leave {} {value}", image.names[section]),
-        What::End(body) => writeln!(out, "{step} end {}", image.names[body]),
+        What::Start(task, values, count) => {
+            write!(out, "{step} start {}", image.names[task])?;
+            for value in &values[..count] {
+                write!(out, " {value}")?;
+            }
+            writeln!(out)
+        }
+        What::Plain(verb, name) => writeln!(out, "{step} {verb} {}", image.names[name]),
         What::Trap(trap) => writeln!(out, "{step} trap {trap}"),
     }
 }
