@@ -7,7 +7,7 @@ use Rattle.rt_ids.specs.Lists.{AreDifferent}
 use Rattle.rt_app.specs.declared.app.Mono.{Mono}
 use Rattle.rt_app.specs.declared.expr.Atom.{Atom}
 use Rattle.rt_app.specs.declared.expr.Atom.TheVariants.{Var, Shared, Local}
-use Rattle.rt_app.specs.Tree.{Expression, Num, Read, Oper, Spawn, Soon, After, Value, Calc, Now, Call, Statement, Bind}
+use Rattle.rt_app.specs.Tree.{Expression, Num, Read, Oper, Spawn, Soon, After, Cancel, Move, Value, Calc, Now, Call, Statement, Bind}
 use Rattle.rt_app.specs.Tree.{Assign, Branch, Repeat, Locked, Emit, Pend, Spawns, Block, Empty, Then, Body, Task, App}
 use Rattle.rt_app.specs.Variables.{variables, variables_in}
 use Rattle.rt_app.specs.Limits.{KeepsLimits}
@@ -28,11 +28,14 @@ module _ (app : App) (listed : List ℕ) where
   AreMeant visible (Read atom at) = IsMeant visible atom
   AreMeant visible (Oper o left right) = AreMeant visible left × AreMeant visible right
 
-  -- the task that is spawned is declared, and the arguments are meant
+  -- the task of a spawn is declared, and the delay, the arguments and the handle are meant
   abbrev pub IsSpawnPlaced : List ℕ → Spawn → Type 0
   IsSpawnPlaced visible (Soon task args at) = (task < length app.tasks) × AllByRecursion (AreMeant visible) args
   IsSpawnPlaced visible (After word delay task args at) =
       AreMeant visible delay × (task < length app.tasks) × AllByRecursion (AreMeant visible) args
+  IsSpawnPlaced visible (Cancel word task handle at) = (task < length app.tasks) × AreMeant visible handle
+  IsSpawnPlaced visible (Move word delay task handle at) =
+      AreMeant visible delay × (task < length app.tasks) × AreMeant visible handle
 
   -- of the value of a `let`
   abbrev pub IsValuePlaced : List ℕ → Value → Type 0

@@ -4,6 +4,7 @@ use Rattle.rt_app.specs.declared.app.Mono.{Mono}
 use Rattle.rt_app.specs.declared.costs.TheConstants.{MESSAGE_COST, READY_COST, READY_TASK_COST, TIMER_SECTION_COST}
 use Rattle.rt_app.specs.declared.costs.TheConstants.{DISPATCHER_COST, TIMER_COST, TIMER_TASK_COST, SIZED_MESSAGES}
 use Rattle.rt_app.specs.declared.costs.TheConstants.{DISPATCHER_TASK_SIZE, TIMER_TASK_SIZE, THREAD_SIZE}
+use Rattle.rt_app.specs.declared.costs.TheConstants.{HANDLE_SECTION_COST, HANDLE_MESSAGE_COST}
 use Rattle.rt_app.specs.Tree.{Body, App}
 use Rattle.rt_app.specs.Level.{is_of_level, levels, tasks_of_level, armed_messages, armed_tasks}
 use Rattle.rt_ids.specs.Lists.{greatest}
@@ -30,9 +31,13 @@ cost_of m (Some b) = body_cost m b
 abbrev pub dispatcher_section_cost : App → ℕ → ℕ
 dispatcher_section_cost app p = READY_COST + READY_TASK_COST * tasks_of_level app p
 
--- a section of the timer queue
+-- a section of the timer queue, in a `spawn_after` and in the timer handler
 abbrev pub timer_section_cost : App → ℕ
 timer_section_cost app = TIMER_SECTION_COST + MESSAGE_COST * armed_messages app
+
+-- and in a `cancel` and a `reschedule_after`, which look for the message of a handle
+abbrev pub handle_section_cost : App → ℕ
+handle_section_cost app = HANDLE_SECTION_COST + HANDLE_MESSAGE_COST * armed_messages app
 
 -- it runs one body of its level, and this sum does not stop
 abbrev pub dispatcher_cost : App → ℕ → ℕ

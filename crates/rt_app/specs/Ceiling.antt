@@ -1,7 +1,7 @@
 -- Priority ceilings (Baker, Stack-Based Scheduling of Realtime Processes, 1991; the RTIC 1 book): the greatest
 -- priority of the bodies that use what a section guards. That queues are guarded so, and by which ceilings, is this
 -- project's own. The code fills a table for each kind in one pass over the bodies.
-use Rattle.std.specs.Prelude.{ℕ, ◌+◌, ◌==◌, max, Bool, not, ◌&&◌, List, [], ◌∷◌, map, filter, length, slice_get, Option}
+use Rattle.std.specs.Prelude.{ℕ, ◌+◌, ◌==◌, max, Bool, ◌&&◌, List, [], ◌∷◌, map, filter, length, slice_get, Option}
 use Rattle.std.specs.Prelude.{Some, None, option_map, if◌then◌else◌}
 use Rattle.std.specs.List.{list_any, range_with_len}
 use Rattle.rt_ids.specs.declared.ids.Section.{Section}
@@ -10,7 +10,7 @@ use Rattle.rt_app.specs.declared.app.Mono.{Mono}
 use Rattle.rt_app.specs.declared.ceilings.ReadyCeiling.{ReadyCeiling}
 use Rattle.rt_app.specs.Tree.{Task, App, Spawn}
 use Rattle.rt_app.specs.Bodies.{Member, members, task_priority}
-use Rattle.rt_app.specs.Spawned.{is_soon, target}
+use Rattle.rt_app.specs.Spawned.{makes_ready, arms_message, uses_places, uses_timer, target}
 use Rattle.rt_app.specs.Level.{is_software, is_of_level, levels, holds}
 use Rattle.rt_ids.specs.Lists.{is_some_and, greatest, or_zero}
 
@@ -33,17 +33,21 @@ lists r m = list_any (λ l. l.resource == r) m.body.shared
 abbrev pub resource_ceiling : App → ℕ → ℕ
 resource_ceiling app r = greatest_priority (lists r) app
 
--- the task itself, and the bodies that spawn it, at once or after a delay
+-- whether a spawn takes a place of this task or gives one back
+abbrev pub uses_places_of : ℕ → Spawn → Bool
+uses_places_of n s = uses_places s && (target s == n)
+
+-- the task itself, and the bodies that spawn it, at once or after a delay, or cancel a message of it
 abbrev pub free_ceiling : App → ℕ → ℕ
-free_ceiling app n = max (task_priority app n) (greatest_priority (holds (λ s. target s == n)) app)
+free_ceiling app n = max (task_priority app n) (greatest_priority (holds (uses_places_of n)) app)
 
 -- whether a spawn at once is of a task of this level
 abbrev pub readies : App → ℕ → Spawn → Bool
-readies app p s = is_soon s && is_some_and (is_of_level p) (slice_get app.tasks (target s))
+readies app p s = makes_ready s && is_some_and (is_of_level p) (slice_get app.tasks (target s))
 
 -- whether a spawn after a delay is of a task of this level
 abbrev pub arms_level : App → ℕ → Spawn → Bool
-arms_level app p s = not (is_soon s) && is_some_and (is_of_level p) (slice_get app.tasks (target s))
+arms_level app p s = arms_message s && is_some_and (is_of_level p) (slice_get app.tasks (target s))
 
 -- the priority of the monotonic, which moves messages that are due to the ready queue of their level
 abbrev pub mover_priority : App → ℕ → Option Mono → ℕ
@@ -54,10 +58,10 @@ mover_priority app p (Some mono) = if list_any (holds (arms_level app p)) (membe
 abbrev pub ready_ceiling : App → ℕ → ℕ
 ready_ceiling app p = max p (max (greatest_priority (holds (readies app p)) app) (mover_priority app p app.mono))
 
--- the monotonic, and the bodies that spawn after a delay
+-- the monotonic, and the bodies that spawn after a delay, cancel or put off
 abbrev pub timer_ceiling : App → ℕ
 timer_ceiling app =
-    max (or_zero (option_map (λ mono. mono.priority) app.mono)) (greatest_priority (holds (λ s. not (is_soon s))) app)
+    max (or_zero (option_map (λ mono. mono.priority) app.mono)) (greatest_priority (holds uses_timer) app)
 
 -- the priority that a section of this holds off, with all below it
 abbrev pub ceiling : App → Section → ℕ

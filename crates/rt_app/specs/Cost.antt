@@ -4,7 +4,8 @@
 use Rattle.std.specs.Prelude.{ℕ, ◌+◌, ◌-◌, ◌*◌, min, max, Bool, List, [], ◌∷◌, if◌then◌else◌}
 use Rattle.rt_ids.specs.declared.limits.TheConstants.{BODY_COST}
 use Rattle.rt_app.specs.declared.costs.TheConstants.{SPAWN_COST, SPAWN_AFTER_COST, MESSAGE_COST, LOOP_COST, TURN_COST}
-use Rattle.rt_app.specs.Tree.{Expression, Num, Read, Oper, Spawn, Soon, After, Value, Calc, Now, Call, Statement, Bind}
+use Rattle.rt_app.specs.declared.costs.TheConstants.{HANDLE_COST, HANDLE_MESSAGE_COST}
+use Rattle.rt_app.specs.Tree.{Expression, Num, Read, Oper, Spawn, Soon, After, Cancel, Move, Value, Calc, Now, Call, Statement, Bind}
 use Rattle.rt_app.specs.Tree.{Assign, Branch, Repeat, Locked, Emit, Pend, Spawns, Block, Empty, Then}
 
 -- what is counted
@@ -29,11 +30,15 @@ abbrev pub expressions_cost : List Expression → ℕ
 expressions_cost [] = 0
 expressions_cost (e ∷ es) = capped (expression_cost e + expressions_cost es)
 
--- a spawn after a delay takes more for each message that may be armed
+-- a spawn after a delay, a cancel and a move take more for each message that may be armed
 abbrev pub spawn_cost : Measure → Spawn → ℕ
 spawn_cost m (Soon task args at) = capped (SPAWN_COST + expressions_cost args)
 spawn_cost m (After word delay task args at) =
     capped (SPAWN_AFTER_COST + MESSAGE_COST * m.messages + expression_cost delay + expressions_cost args)
+spawn_cost m (Cancel word task handle at) =
+    capped (HANDLE_COST + HANDLE_MESSAGE_COST * m.messages + expression_cost handle)
+spawn_cost m (Move word delay task handle at) =
+    capped (HANDLE_COST + HANDLE_MESSAGE_COST * m.messages + expression_cost delay + expression_cost handle)
 
 -- of `let x =` and this value
 abbrev pub bind_cost : Measure → Value → ℕ

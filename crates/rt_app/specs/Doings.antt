@@ -32,6 +32,7 @@ module _ (app : App) where
   declared_doing None args rest = rest
   declared_doing (Some b) args rest = body_doing b args rest
 
+  -- `init`, whose end is its last action
   abbrev pub init_doing : Rest
   init_doing = declared_doing app.init [] (act (Ends body.Init) nothing)
 
@@ -39,6 +40,7 @@ module _ (app : App) where
   abbrev pub idle_doing : Rest
   idle_doing = declared_doing app.idle [] (act (Ends body.Idle) nothing)
 
+  -- the body of a task
   abbrev pub task_doing : ℕ → List ℕ → Rest → Rest
   task_doing n args rest = declared_doing (then_from (slice_get app.tasks n) (λ t. Some t.body)) args rest
 
@@ -69,11 +71,16 @@ module _ (app : App) where
       act_all (Fires a.message ∷ SetsAlarm ∷ Leaves section.Timer
       ∷ ready_actions app (task_priority app a.message.task) a.message ++ Returns ∷ []) nothing
 
-  abbrev pub timer_doing : Rest
-  timer_doing =
-      act (Enters section.Timer (timer_section_cost app))
+  -- with a section of this cost
+  abbrev pub timer_doing_in : ℕ → Rest
+  timer_doing_in cost =
+      act (Enters section.Timer cost)
       (λ vs. does Clocks vs (λ time vs. fire_doing (due time (delays (vs (Guarded section.Timer)))) vs))
 
+  abbrev pub timer_doing : Rest
+  timer_doing = timer_doing_in (timer_section_cost app)
+
+  -- what serves an interrupt
   abbrev pub handler_doing : Handler → Rest
   handler_doing (Runs n) = task_doing n [] (act Returns nothing)
   handler_doing (Dispatches p) = dispatcher_doing p

@@ -1,11 +1,11 @@
 -- The words of a body's frame: its variables, and what its statements keep beside them at the worst. They are this
 -- project's own; frames are even, as the exception frames of ARMv7-M are multiples of 8 bytes.
 use Rattle.std.specs.Prelude.{ℕ, ◌+◌, ◌%◌, max, Bool, true, false, ◌||◌, map, if◌then◌else◌}
-use Rattle.rt_app.specs.declared.costs.TheConstants.{SPAWN_WORDS, SPAWN_AFTER_WORDS}
-use Rattle.rt_app.specs.Tree.{Expression, Num, Read, Oper, Spawn, Soon, After, Value, Calc, Now, Call, Statement, Bind}
+use Rattle.rt_app.specs.declared.costs.TheConstants.{SPAWN_WORDS, TIMER_QUEUE_WORDS}
+use Rattle.rt_app.specs.Tree.{Expression, Num, Read, Oper, Spawn, Soon, After, Cancel, Move, Value, Calc, Now, Call, Statement, Bind}
 use Rattle.rt_app.specs.Tree.{Assign, Branch, Repeat, Locked, Emit, Pend, Spawns, Block, Empty, Then, Body}
 use Rattle.rt_app.specs.Variables.{variables}
-use Rattle.rt_app.specs.Spawned.{is_soon, spawns}
+use Rattle.rt_app.specs.Spawned.{uses_timer, spawns}
 use Rattle.rt_ids.specs.Lists.{greatest}
 
 -- a number or a name is 1 deep
@@ -14,10 +14,14 @@ depth (Num n) = 1
 depth (Read atom at) = 1
 depth (Oper o left right) = 1 + max (depth left) (depth right)
 
+-- the greatest depth of the expressions of a spawn
 abbrev pub spawn_depth : Spawn → ℕ
 spawn_depth (Soon task args at) = greatest (map depth args)
 spawn_depth (After word delay task args at) = max (depth delay) (greatest (map depth args))
+spawn_depth (Cancel word task handle at) = depth handle
+spawn_depth (Move word delay task handle at) = max (depth delay) (depth handle)
 
+-- and of the value of a `let`; `now` has none
 abbrev pub value_depth : Value → ℕ
 value_depth (Calc e) = depth e
 value_depth (Now at) = 0
@@ -71,13 +75,15 @@ abbrev mutual
   locks Empty = 0
   locks (Then s rest) = max (statement_locks s) (locks rest)
 
+-- what a spawn keeps while it runs
 abbrev pub spawn_words : Spawn → ℕ
-spawn_words s = if is_soon s then SPAWN_WORDS else SPAWN_AFTER_WORDS
+spawn_words s = if uses_timer s then TIMER_QUEUE_WORDS else SPAWN_WORDS
 
 -- where expressions are evaluated; a loop alone needs a word for its test
 abbrev pub expression_words : Block → ℕ
 expression_words b = max (block_depth b) (if has_loop b then 1 else 0)
 
+-- rounded up to an even number
 abbrev pub even : ℕ → ℕ
 even n = n + n % 2
 

@@ -3,13 +3,14 @@
 -- of its own. That the highest level takes the dispatcher that is named first is this project's own.
 use Rattle.std.specs.Prelude.{ℕ, ◌+◌, ◌==◌, Bool, not, nat_lt, List, [], ◌∷◌, ◌++◌, length, filter, map, flat_map}
 use Rattle.std.specs.Prelude.{slice_get, Option, Some, None, option_map, is_none}
-use Rattle.std.specs.List.{list_any, list_all}
+use Rattle.std.specs.List.{list_any}
 use Rattle.rt_app.specs.declared.app.Mono.{Mono}
 use Rattle.rt_app.specs.Tree.{Task, App}
 use Rattle.rt_app.specs.Bodies.{members}
-use Rattle.rt_app.specs.Level.{is_software, levels}
-use Rattle.rt_app.specs.Frame.{locks}
+use Rattle.rt_app.specs.Level.{levels, holds}
+use Rattle.rt_app.specs.Spawned.{goes_by_handle}
 
+-- what serves an interrupt
 pub data Handler : Type 0 where
   -- the body of a hardware task
   Runs : (task : ℕ) → Handler
@@ -28,6 +29,7 @@ pub record Service : Type 0 where
 abbrev pub dispatcher_of : App → ℕ → Option ℕ
 dispatcher_of app p = option_map (λ d. d.irq) (slice_get app.dispatchers (length (filter (nat_lt p) (levels app))))
 
+-- a task serves the interrupt that it binds
 abbrev pub bound_service : ℕ → Task → Option ℕ → List Service
 bound_service n t None = []
 bound_service n t (Some irq) = record { irq = irq; handler = Runs n; level = t.priority } ∷ []
@@ -37,10 +39,12 @@ abbrev pub task_services : ℕ → List Task → List Service
 task_services n [] = []
 task_services n (t ∷ ts) = bound_service n t t.binds ++ task_services (n + 1) ts
 
+-- a dispatcher serves the interrupt that is named for its level
 abbrev pub dispatcher_service : ℕ → Option ℕ → List Service
 dispatcher_service p None = []
 dispatcher_service p (Some irq) = record { irq = irq; handler = Dispatches p; level = p } ∷ []
 
+-- the timer handler serves that of the monotonic
 abbrev pub timer_service : Option Mono → List Service
 timer_service None = []
 timer_service (Some mono) = record { irq = mono.irq; handler = Times; level = mono.priority } ∷ []
@@ -58,12 +62,9 @@ service_of app irq = filter (λ s. s.irq == irq) (services app)
 abbrev pub irq_number : App → ℕ → Option ℕ
 irq_number app irq = option_map (λ d. d.number) (slice_get app.irqs irq)
 
--- forms of applications: no body locks, no task is a software task, there is no monotonic
-abbrev pub has_no_lock : App → Bool
-has_no_lock app = list_all (λ m. locks m.body.block == 0) (members app)
-
-abbrev pub has_no_software : App → Bool
-has_no_software app = not (list_any is_software app.tasks)
-
+-- forms of applications: there is no monotonic; no body takes a message back or puts it off
 abbrev pub has_no_monotonic : App → Bool
 has_no_monotonic app = is_none app.mono
+
+abbrev pub has_no_handles : App → Bool
+has_no_handles app = not (list_any (holds goes_by_handle) (members app))

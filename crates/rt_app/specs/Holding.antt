@@ -7,7 +7,7 @@ use Rattle.std.specs.Prelude.{length, map, slice_get, Some, option_map, Contains
 use Rattle.std.specs.List.{AllByRecursion, list_any, range_with_len}
 use Rattle.rt_ids.specs.Lists.{is_some_and, or_zero, then_from}
 use Rattle.rt_ids.specs.Holder.{Holder, Guarded, Own}
-use Rattle.rt_ids.specs.Content.{Content, Number, Messages, Message, Values}
+use Rattle.rt_ids.specs.Content.{Content, Number, Messages, Message}
 use Rattle.rt_ids.specs.Entry.{Entry}
 use Rattle.rt_ids.specs.Priority.{hardware}
 use Rattle.rt_ids.specs.Storage.{Storage, Runner, Starting, AtLevel}
@@ -27,6 +27,7 @@ use Rattle.rt_app.specs.Layout.{resource_at, local_at, free_at, inputs_at, ready
 abbrev pub message_word : Entry → ℕ
 message_word e = 16 * e.task + e.place
 
+-- how many arguments a task takes
 abbrev pub arguments_of : App → ℕ → ℕ
 arguments_of app n = or_zero (option_map (λ t. t.args) (slice_get app.tasks n))
 
@@ -94,6 +95,7 @@ module _ (app : App) where
   IsHeld (Guarded section.Timer) = IsSome app.mono
   IsHeld (Own n) = n < length app.locals
 
+  -- all of it
   unfoldable pub storage : Storage
   storage = record {
     home = home_of app;
@@ -104,7 +106,3 @@ module _ (app : App) where
     is_constant = is_constant;
     timer = then_from app.mono (λ mono. irq_number app mono.irq);
   }
-
-  -- what is not away is spelled
-  abbrev pub Holds : (Holder → Bool) → (ℕ → ℕ) → (Holder → List Entry) → Values → Type 0
-  Holds away cells queues values = (h : Holder) → IsHeld h → away h ≡ false → Spells app cells h (queues h) (values h)

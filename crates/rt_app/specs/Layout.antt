@@ -1,7 +1,7 @@
--- Where everything that code keeps lies in memory: one list of cells, so that no cell belongs to two things. First come
--- the shared resources, a cell each, then the local ones, then for each software task its free places and the arguments
--- of each of its places, then for each level of software tasks its ready queue. The order is this project's own. The
--- code keeps the numbers of first cells.
+-- Where resources, places, messages and ready queues lie in memory: one list of cells, so that no cell belongs to two
+-- things. First come the shared resources, a cell each, then the local ones, then for each software task its free places
+-- and the arguments of each of its places, then for each level of software tasks its ready queue. The order is this
+-- project's own, and the timer queue has no cells yet. The code keeps the numbers of first cells.
 use Rattle.std.specs.Prelude.{ℕ, ◌+◌, Bool, ◌&&◌, nat_lt, List, [], ◌∷◌, ◌++◌, codes, decimal, length, map, flat_map}
 use Rattle.std.specs.Prelude.{filter, sum_by, take, slice_index_or, if◌then◌else◌}
 use Rattle.std.specs.List.{range_with_len}
@@ -15,6 +15,7 @@ use Rattle.rt_app.specs.Tree.{Task, App}
 use Rattle.rt_app.specs.Level.{is_software, is_of_level, levels}
 use Rattle.rt_app.specs.Sending.{capacity_of}
 
+-- a cell of memory
 pub record Cell : Type 0 where
   -- a resource's own name, or one with a dot
   pub name : List ℕ
@@ -29,6 +30,7 @@ resource_cells r [] = []
 resource_cells r (s ∷ more) =
     record { name = s.name; first = s.first; home = At (Guarded (section.Res r)) } ∷ resource_cells (r + 1) more
 
+-- local resources, likewise
 abbrev pub local_cells : ℕ → List Local → List Cell
 local_cells n [] = []
 local_cells n (l ∷ more) =

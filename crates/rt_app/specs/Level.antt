@@ -1,13 +1,13 @@
 -- Software tasks, the levels that dispatchers serve, and the tasks whose messages can be armed (the RTIC 1 book,
 -- software tasks and the monotonic). The code keeps a table by priority for the levels, and one by task for the armed
 -- tasks.
-use Rattle.std.specs.Prelude.{ℕ, ◌+◌, ◌==◌, Bool, not, ◌&&◌, is_none, List, [], ◌∷◌, count_by, if◌then◌else◌}
+use Rattle.std.specs.Prelude.{ℕ, ◌+◌, ◌==◌, Bool, ◌&&◌, is_none, List, [], ◌∷◌, count_by, if◌then◌else◌}
 use Rattle.std.specs.List.{list_any}
 use Rattle.rt_ids.specs.Lists.{those_below}
 use Rattle.rt_app.specs.declared.costs.TheConstants.{PRIORITIES}
 use Rattle.rt_app.specs.Tree.{Task, App, Spawn}
 use Rattle.rt_app.specs.Bodies.{Member, members}
-use Rattle.rt_app.specs.Spawned.{spawns, is_soon, target}
+use Rattle.rt_app.specs.Spawned.{spawns, arms_message, target}
 
 -- one that binds no interrupt
 abbrev pub is_software : Task → Bool
@@ -25,9 +25,9 @@ levels app = those_below (λ p. list_any (is_of_level p) app.tasks) PRIORITIES
 abbrev pub tasks_of_level : App → ℕ → ℕ
 tasks_of_level app p = count_by (is_of_level p) app.tasks
 
--- whether a spawn is one of this task after a delay
+-- whether a spawn arms a message of this task
 abbrev pub arms : ℕ → Spawn → Bool
-arms n s = not (is_soon s) && (target s == n)
+arms n s = arms_message s && (target s == n)
 
 -- whether a body holds a spawn that passes
 abbrev pub holds : (Spawn → Bool) → Member → Bool

@@ -5,6 +5,7 @@ pub mod Spawned
 pub mod Ceiling
 pub mod Bodies
 pub mod Level
+pub mod Constants
 pub mod Cost
 pub mod BodyCost
 pub mod Steps

@@ -3,7 +3,7 @@ use Rattle.std.specs.Prelude.{ℕ, ◌+◌, ◌-◌, ◌^◌, ◌<◌, ◌≤◌
 use Rattle.std.specs.List.{AllByRecursion}
 use Rattle.rt_ids.specs.declared.limits.TheConstants.{TASKS, SHARED, LOCALS, IRQS, IRQ_NUMBERS, TURNS, LEAST_BITS}
 use Rattle.rt_ids.specs.declared.limits.TheConstants.{MOST_BITS, ARGUMENTS, CAPACITY, NESTING, STATEMENTS, DEPTH}
-use Rattle.rt_app.specs.Tree.{Expression, Num, Read, Oper, Spawn, Soon, After, Value, Calc, Now, Call, Statement, Bind}
+use Rattle.rt_app.specs.Tree.{Expression, Num, Read, Oper, Spawn, Soon, After, Cancel, Move, Value, Calc, Now, Call, Statement, Bind}
 use Rattle.rt_app.specs.Tree.{Assign, Branch, Repeat, Locked, Emit, Pend, Spawns, Block, Empty, Then, Body, Task, App}
 use Rattle.rt_app.specs.Frame.{block_depth}
 
@@ -45,10 +45,12 @@ ExpressionFits (Num n) = n < 2 ^ 32
 ExpressionFits (Read atom at) = Unit {0}
 ExpressionFits (Oper o left right) = ExpressionFits left × ExpressionFits right
 
--- of the arguments of a spawn, and of its delay
+-- of the arguments of a spawn, of its delay and of its handle
 abbrev pub SpawnFits : Spawn → Type 0
 SpawnFits (Soon task args at) = AllByRecursion ExpressionFits args
 SpawnFits (After word delay task args at) = ExpressionFits delay × AllByRecursion ExpressionFits args
+SpawnFits (Cancel word task handle at) = ExpressionFits handle
+SpawnFits (Move word delay task handle at) = ExpressionFits delay × ExpressionFits handle
 
 -- of the value of a `let`
 abbrev pub ValueFits : Value → Type 0

@@ -29,6 +29,7 @@ read vars vs (atom.Var x) = slice_index vars x
 read vars vs (atom.Shared r) = number (vs (Guarded (section.Res r)))
 read vars vs (atom.Local n) = number (vs (Own n))
 
+-- the value of an expression
 abbrev pub value_in : List ℕ → Values → Expression → ℕ
 value_in vars vs (Num n) = n
 value_in vars vs (Read x at) = read vars vs x
@@ -46,11 +47,12 @@ turns_from zero x i turn later vars vs = later (slice_set vars x i) vs
 turns_from (suc n) x i turn later vars vs = turn (turns_from n x (suc i) turn later) (slice_set vars x i) vs
 
 module _ (app : App) where
+  -- a variable is bound to a value
   abbrev pub bind : ℕ → Value → Later → Later
   bind x (Calc e) later vars vs = later (slice_set vars x (value_in vars vs e)) vs
   bind x (Now at) later vars vs = does Clocks vs (λ time. later (slice_set vars x time))
   bind x (Call s) later vars vs =
-      spawn_actions app (value_in vars vs) s (λ granted. later (slice_set vars x granted)) vs
+      spawn_actions app (value_in vars vs) s (λ answer. later (slice_set vars x answer)) vs
 
   abbrev mutual
     pub run : Statement → Later → Later
@@ -64,7 +66,7 @@ module _ (app : App) where
         (run_block inner (λ vars. act (Leaves (section.Res r)) (later vars)) vars) vs
     run (Emit e) later vars vs = act (Emits (value_in vars vs e)) (later vars) vs
     run (Pend i) later vars vs = act (Posts (or_zero (irq_number app i))) (later vars) vs
-    run (Spawns s) later vars vs = spawn_actions app (value_in vars vs) s (λ granted. later vars) vs
+    run (Spawns s) later vars vs = spawn_actions app (value_in vars vs) s (λ answer. later vars) vs
 
     pub run_block : Block → Later → Later
     run_block Empty later vars vs = later vars vs

@@ -1,18 +1,21 @@
 -- The actions by which messages go to software tasks (the RTIC 1 book, software tasks and the monotonic): a spawn takes
 -- a place of its task, where one is left, and puts the message into the ready queue of the task's level, or into the
--- timer queue. That they are these actions, in sections of these queues, is this project's own.
-use Rattle.std.specs.Prelude.{ℕ, ◌+◌, min, nat_lt, Bool, List, [], ◌∷◌, map, slice_get, option_map, if◌then◌else◌}
+-- timer queue. A message in the timer queue is taken back or put to another instant by its handle. That they are these
+-- actions, in sections of these queues, is this project's own.
+use Rattle.std.specs.Prelude.{ℕ, ◌+◌, min, nat_lt, Bool, List, [], ◌∷◌, map, slice_get, option_map, is_some}
+use Rattle.std.specs.Prelude.{if◌then◌else◌}
 use Rattle.rt_ids.specs.Lists.{or_zero, then_from}
 use Rattle.rt_ids.specs.Holder.{Guarded}
-use Rattle.rt_ids.specs.Content.{Message, Values, number}
-use Rattle.rt_ids.specs.Action.{Action, Enters, Leaves, Posts, Clocks, Takes, Refuses, Readies, Arms, SetsAlarm}
+use Rattle.rt_ids.specs.Content.{Message, Values, number, timed, delays, armed_as}
+use Rattle.rt_ids.specs.Action.{Action, Enters, Leaves, Posts, Clocks, Takes, Refuses, Readies, Frees, Arms, Cancels}
+use Rattle.rt_ids.specs.Action.{Moves, SetsAlarm}
 use Rattle.rt_ids.specs.Doing.{Doing, does}
 use Rattle.rt_ids.specs.declared.limits.TheConstants.{LONGEST_DELAY}
 use Rattle.rt_ids.specs.declared.ids.Section.TheVariants as section
 use Rattle.rt_app.specs.declared.costs.TheConstants.{FREE_COST, READY_COST}
-use Rattle.rt_app.specs.Tree.{Expression, Spawn, Soon, After, App}
+use Rattle.rt_app.specs.Tree.{Expression, Spawn, Soon, After, Cancel, Move, App}
 use Rattle.rt_app.specs.Bodies.{task_priority}
-use Rattle.rt_app.specs.BodyCost.{timer_section_cost}
+use Rattle.rt_app.specs.BodyCost.{timer_section_cost, handle_section_cost}
 use Rattle.rt_app.specs.Handlers.{dispatcher_of, irq_number}
 
 -- what is left to do, by the values then
@@ -52,18 +55,56 @@ module _ (app : App) where
   ready_actions p m =
       Enters (section.Ready p) READY_COST ∷ Readies p m ∷ Posts (dispatcher_number p) ∷ Leaves (section.Ready p) ∷ []
 
-  -- a message is armed for an instant so many ticks from now
-  abbrev pub arm_actions : ℕ → Message → Rest → Rest
-  arm_actions delay m rest =
-      act (Enters section.Timer (timer_section_cost app))
-      (λ vs. does Clocks vs
-      (λ time. act_all (Arms (time + min delay LONGEST_DELAY) m ∷ SetsAlarm ∷ Leaves section.Timer ∷ []) rest))
+  -- the instant so many ticks from a time
+  abbrev pub instant_after : ℕ → ℕ → ℕ
+  instant_after time delay = time + min delay LONGEST_DELAY
 
-  -- A spawn, where its expressions have these values. The rest goes by what it gives: 1 where it found a place, else 0.
+  -- the section of the timer queue closes, with the alarm set
+  abbrev pub leave_timer : Rest → Rest
+  leave_timer rest = act_all (SetsAlarm ∷ Leaves section.Timer ∷ []) rest
+
+  -- A message is armed for an instant so many ticks from now, in a section of this cost. The rest goes by its handle,
+  -- which is the number of messages armed by a spawn until then.
+  abbrev pub arm_actions : ℕ → ℕ → Message → (ℕ → Rest) → Rest
+  arm_actions cost delay m rest =
+      act (Enters section.Timer cost)
+      (λ vs. does Clocks vs
+      (λ time. act (Arms (instant_after time delay) m)
+      (λ vs. leave_timer (rest (timed (vs (Guarded section.Timer))).given) vs)))
+
+  -- some armed message of the task has this handle
+  abbrev pub is_armed_as : ℕ → ℕ → Values → Bool
+  is_armed_as n handle vs = is_some (armed_as n handle (delays (vs (Guarded section.Timer))))
+
+  -- In a section of this cost an armed message is taken back, and its place is free again; the rest is then the first.
+  -- Where no armed message of the task has the handle, it is the second.
+  abbrev pub cancel_actions : ℕ → ℕ → ℕ → Rest → Rest → Rest
+  cancel_actions cost n handle cancelled missing =
+      act (Enters section.Timer cost)
+      (λ vs. if is_armed_as n handle vs
+      then act (Cancels n handle) (leave_timer
+      (act_all (Enters (section.Free n) FREE_COST ∷ Frees n ∷ Leaves (section.Free n) ∷ []) cancelled)) vs
+      else act (Leaves section.Timer) missing vs)
+
+  -- likewise an armed message is put to an instant so many ticks from now
+  abbrev pub move_actions : ℕ → ℕ → ℕ → ℕ → Rest → Rest → Rest
+  move_actions cost delay n handle moved missing =
+      act (Enters section.Timer cost)
+      (λ vs. if is_armed_as n handle vs
+      then does Clocks vs (λ time. act (Moves n handle (instant_after time delay)) (leave_timer moved))
+      else act (Leaves section.Timer) missing vs)
+
+  -- A spawn, where its expressions have these values. The rest goes by what it gives: of a `spawn` 1 where it found a
+  -- place, of a `spawn_after` the handle then, and 0 where it found none; of a `cancel` and a `reschedule_after` 0 where
+  -- an armed message of the task has the handle, else 1.
   abbrev pub spawn_actions : (Expression → ℕ) → Spawn → (ℕ → Rest) → Rest
   spawn_actions value (Soon n args at) rest =
       let message : Message = record { task = n; args = map value args } in
       take_place n (act_all (ready_actions (task_priority app n) message) (rest 1)) (rest 0)
   spawn_actions value (After word delay n args at) rest =
       let message : Message = record { task = n; args = map value args } in
-      take_place n (arm_actions (value delay) message (rest 1)) (rest 0)
+      take_place n (arm_actions (timer_section_cost app) (value delay) message rest) (rest 0)
+  spawn_actions value (Cancel word n handle at) rest =
+      cancel_actions (handle_section_cost app) n (value handle) (rest 0) (rest 1)
+  spawn_actions value (Move word delay n handle at) rest =
+      move_actions (handle_section_cost app) (value delay) n (value handle) (rest 0) (rest 1)

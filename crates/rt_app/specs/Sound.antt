@@ -12,7 +12,7 @@ use Rattle.rt_ids.specs.declared.ids.Section.TheVariants as section
 use Rattle.rt_app.specs.declared.app.Mono.{Mono}
 use Rattle.rt_app.specs.declared.expr.Atom.{Atom}
 use Rattle.rt_app.specs.declared.expr.Atom.TheVariants as atom
-use Rattle.rt_app.specs.Tree.{Expression, Num, Read, Oper, Spawn, Soon, After, Value, Calc, Now, Call, Statement, Bind}
+use Rattle.rt_app.specs.Tree.{Expression, Num, Read, Oper, Spawn, Soon, After, Cancel, Move, Value, Calc, Now, Call, Statement, Bind}
 use Rattle.rt_app.specs.Tree.{Assign, Branch, Repeat, Locked, Emit, Pend, Spawns, Block, Empty, Then, Task, App}
 use Rattle.rt_app.specs.Variables.{variables, variables_in}
 use Rattle.rt_app.specs.Bodies.{Member}
@@ -48,7 +48,16 @@ module _ (app : App) (m : Member) where
     pub reached : AllByRecursion (AreReached locked) args
     pub within : m.priority ≤ ceiling app (section.Free n)
 
-  -- and then that of the ready queue of its level, or that of the timer queue
+  -- a message of a software task by its handle; the body enters the section of the timer queue
+  pub record AddressesMessage (locked : List ℕ) (n : ℕ) (handle : Expression) (t : Task) : Type 0 where
+    pub is_there : slice_get app.tasks n ≡ Some t
+    pub software : is_software t ≡ true
+    pub reached : AreReached locked handle
+    pub timed : (mono : Mono) × (app.mono ≡ Some mono)
+    pub within : m.priority ≤ ceiling app section.Timer
+
+  -- a spawn goes on in the section of the ready queue of its task's level, or in that of the timer queue; a cancel in
+  -- that of the task's free places
   abbrev pub IsSoundSpawn : List ℕ → Spawn → Type 0
   IsSoundSpawn locked (Soon n args at) =
       (t : Task) × SpawnsTask locked n args t × (m.priority ≤ ceiling app (section.Ready t.priority))
@@ -56,6 +65,10 @@ module _ (app : App) (m : Member) where
       (t : Task) × SpawnsTask locked n args t × AreReached locked delay × (is_armed app n ≡ true)
       × ((mono : Mono) × (app.mono ≡ Some mono))
       × (m.priority ≤ ceiling app section.Timer)
+  IsSoundSpawn locked (Cancel word n handle at) =
+      (t : Task) × AddressesMessage locked n handle t × (m.priority ≤ ceiling app (section.Free n))
+  IsSoundSpawn locked (Move word delay n handle at) =
+      (t : Task) × AddressesMessage locked n handle t × AreReached locked delay
 
   abbrev pub IsSoundValue : List ℕ → Value → Type 0
   IsSoundValue locked (Calc e) = AreReached locked e

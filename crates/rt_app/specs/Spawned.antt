@@ -1,6 +1,7 @@
--- The spawns that a body holds.
+-- The spawns that a body holds, and what each form of them asks of the queues (the RTIC 1 book, software tasks and the
+-- monotonic: `spawn`, `spawn_after`, and of a spawn's handle `cancel` and `reschedule_after`).
 use Rattle.std.specs.Prelude.{ℕ, Bool, true, false, List, [], ◌∷◌, ◌++◌}
-use Rattle.rt_app.specs.Tree.{Spawn, Soon, After, Value, Calc, Now, Call, Statement, Bind, Assign, Branch, Repeat}
+use Rattle.rt_app.specs.Tree.{Spawn, Soon, After, Cancel, Move, Value, Calc, Now, Call, Statement, Bind, Assign, Branch, Repeat}
 use Rattle.rt_app.specs.Tree.{Locked, Emit, Pend, Spawns, Block, Empty, Then}
 
 -- of the value of a `let`
@@ -25,12 +26,44 @@ abbrev mutual
   spawns Empty = []
   spawns (Then s rest) = statement_spawns s ++ spawns rest
 
--- whether the message is ready at once
-abbrev pub is_soon : Spawn → Bool
-is_soon (Soon task args at) = true
-is_soon (After word delay task args at) = false
+-- whether a message becomes ready at once
+abbrev pub makes_ready : Spawn → Bool
+makes_ready (Soon task args at) = true
+makes_ready (After word delay task args at) = false
+makes_ready (Cancel word task handle at) = false
+makes_ready (Move word delay task handle at) = false
 
--- the task that is spawned
+-- whether a message is armed
+abbrev pub arms_message : Spawn → Bool
+arms_message (Soon task args at) = false
+arms_message (After word delay task args at) = true
+arms_message (Cancel word task handle at) = false
+arms_message (Move word delay task handle at) = false
+
+-- whether a place of the task is taken or given back, in the section of its free places
+abbrev pub uses_places : Spawn → Bool
+uses_places (Soon task args at) = true
+uses_places (After word delay task args at) = true
+uses_places (Cancel word task handle at) = true
+uses_places (Move word delay task handle at) = false
+
+-- whether the section of the timer queue is entered
+abbrev pub uses_timer : Spawn → Bool
+uses_timer (Soon task args at) = false
+uses_timer (After word delay task args at) = true
+uses_timer (Cancel word task handle at) = true
+uses_timer (Move word delay task handle at) = true
+
+-- whether the message is told by its handle
+abbrev pub goes_by_handle : Spawn → Bool
+goes_by_handle (Soon task args at) = false
+goes_by_handle (After word delay task args at) = false
+goes_by_handle (Cancel word task handle at) = true
+goes_by_handle (Move word delay task handle at) = true
+
+-- the task whose message it is
 abbrev pub target : Spawn → ℕ
 target (Soon task args at) = task
 target (After word delay task args at) = task
+target (Cancel word task handle at) = task
+target (Move word delay task handle at) = task

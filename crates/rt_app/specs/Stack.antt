@@ -4,9 +4,10 @@
 use Rattle.std.specs.Prelude.{ℕ, zero, suc, ◌+◌, ◌*◌, ◌==◌, max, Bool, not, ◌&&◌, ◌||◌, List, map, filter, Option, Some}
 use Rattle.std.specs.Prelude.{None, if◌then◌else◌}
 use Rattle.std.specs.List.{list_any}
-use Rattle.rt_app.specs.declared.costs.TheConstants.{DISPATCHER_WORDS, TIMER_WORDS, ENTRY_BYTES, PRIORITIES}
+use Rattle.rt_app.specs.declared.costs.TheConstants.{DISPATCHER_WORDS, TIMER_WORDS, PRIORITIES}
 use Rattle.rt_app.specs.Tree.{Body, Task, App}
 use Rattle.rt_app.specs.Level.{is_software, is_of_level}
+use Rattle.rt_ids.specs.Exception.{entry_words}
 use Rattle.rt_ids.specs.Lists.{is_some_and, those_below, greatest}
 use Rattle.rt_app.specs.Frame.{frame_words}
 
@@ -41,7 +42,7 @@ need app p = max (greatest (frames_of (is_bound_at p) app)) (max (dispatcher_nee
 
 -- a level takes what exception entry pushes and the greatest need of its handlers
 abbrev pub level_bytes : App → ℕ → ℕ
-level_bytes app p = if has_handler app p then ENTRY_BYTES + 4 * need app p else 0
+level_bytes app p = if has_handler app p then 4 * (entry_words app.fpu + need app p) else 0
 
 -- of the levels below this one
 unfoldable pub bytes_below : App → ℕ → ℕ

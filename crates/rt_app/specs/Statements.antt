@@ -10,7 +10,7 @@ use Rattle.rt_app.specs.declared.expr.Atom.{Atom}
 use Rattle.rt_app.specs.declared.expr.Atom.TheVariants as atom
 use Rattle.rt_app.specs.declared.body.Listed.{Listed}
 use Rattle.rt_app.specs.declared.violation.Violation.{Violation}
-use Rattle.rt_app.specs.Tree.{Expression, Spawn, Soon, After, Task, App}
+use Rattle.rt_app.specs.Tree.{Expression, Spawn, Soon, After, Cancel, Move, Task, App}
 use Rattle.rt_app.specs.Bodies.{Member, members}
 use Rattle.rt_app.specs.Level.{is_software}
 use Rattle.rt_ids.specs.Lists.{is_some_and}
@@ -67,11 +67,19 @@ takes args t = is_software t && (length args == t.args)
 abbrev pub is_bad_spawn : App → ℕ → List Expression → Bool
 is_bad_spawn app n args = is_known n && not (is_some_and (takes args) (slice_get app.tasks n))
 
--- the rules that a spawn breaks: one after a delay wants a monotonic
+-- a message of a hardware task
+abbrev pub is_bad_message : App → ℕ → Bool
+is_bad_message app n = is_known n && not (is_some_and is_software (slice_get app.tasks n))
+
+-- the rules that a spawn breaks: all but one at once want a monotonic
 abbrev pub spawn_breaks : App → Spawn → List Violation
 spawn_breaks app (Soon task args at) = when (is_bad_spawn app task args) rule.NotSoftware at
 spawn_breaks app (After word delay task args at) =
     when (is_none app.mono) rule.NoMonotonic word ++ when (is_bad_spawn app task args) rule.NotSoftware at
+spawn_breaks app (Cancel word task handle at) =
+    when (is_none app.mono) rule.NoMonotonic word ++ when (is_bad_message app task) rule.NotSoftware at
+spawn_breaks app (Move word delay task handle at) =
+    when (is_none app.mono) rule.NoMonotonic word ++ when (is_bad_message app task) rule.NotSoftware at
 
 -- the rules that a use breaks, where these resources are locked
 abbrev pub use_breaks : App → Member → List ℕ → Use → List Violation

@@ -2,7 +2,8 @@
 -- parts are plain sums. The code counts up to a cap; the law below ties the two.
 use Rattle.std.specs.Prelude.{◌≡◌, ℕ, ◌+◌, ◌*◌, List, [], ◌∷◌}
 use Rattle.rt_app.specs.declared.costs.TheConstants.{SPAWN_COST, SPAWN_AFTER_COST, MESSAGE_COST, LOOP_COST, TURN_COST}
-use Rattle.rt_app.specs.Tree.{Expression, Num, Read, Oper, Spawn, Soon, After, Value, Calc, Now, Call, Statement, Bind}
+use Rattle.rt_app.specs.declared.costs.TheConstants.{HANDLE_COST, HANDLE_MESSAGE_COST}
+use Rattle.rt_app.specs.Tree.{Expression, Num, Read, Oper, Spawn, Soon, After, Cancel, Move, Value, Calc, Now, Call, Statement, Bind}
 use Rattle.rt_app.specs.Tree.{Assign, Branch, Repeat, Locked, Emit, Pend, Spawns, Block, Empty, Then}
 use Rattle.rt_app.specs.Cost.{Measure, capped, branch_cost, turns, expression_cost, spawn_cost, statement_cost}
 use Rattle.rt_app.specs.Cost.{block_cost}
@@ -18,11 +19,14 @@ abbrev pub expressions_steps : List Expression → ℕ
 expressions_steps [] = 0
 expressions_steps (e ∷ es) = expression_steps e + expressions_steps es
 
--- a spawn after a delay takes more for each message that may be armed
+-- a spawn after a delay, a cancel and a move take more for each message that may be armed
 abbrev pub spawn_steps : Measure → Spawn → ℕ
 spawn_steps m (Soon task args at) = SPAWN_COST + expressions_steps args
 spawn_steps m (After word delay task args at) =
     SPAWN_AFTER_COST + MESSAGE_COST * m.messages + expression_steps delay + expressions_steps args
+spawn_steps m (Cancel word task handle at) = HANDLE_COST + HANDLE_MESSAGE_COST * m.messages + expression_steps handle
+spawn_steps m (Move word delay task handle at) =
+    HANDLE_COST + HANDLE_MESSAGE_COST * m.messages + expression_steps delay + expression_steps handle
 
 -- of `let x =` and this value
 abbrev pub bind_steps : Measure → Value → ℕ

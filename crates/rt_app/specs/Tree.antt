@@ -18,11 +18,16 @@ pub data Expression : Type 0 where
   Read : Atom → ℕ → Expression
   Oper : Op → Expression → Expression → Expression
 
+-- what sends a message to a software task, or takes it back or puts it off by its handle
 pub data Spawn : Type 0 where
   -- the task, its arguments, and the offset of its name
   Soon : ℕ → List Expression → ℕ → Spawn
   -- the offset of the word, the delay, the task, its arguments, and the offset of its name
   After : ℕ → Expression → ℕ → List Expression → ℕ → Spawn
+  -- the offset of the word, the task, the handle of a message of it, and the offset of the task's name
+  Cancel : ℕ → ℕ → Expression → ℕ → Spawn
+  -- the offset of the word, the delay, the task, the handle of a message of it, and the offset of the task's name
+  Move : ℕ → Expression → ℕ → Expression → ℕ → Spawn
 
 pub data Value : Type 0 where
   Calc : Expression → Value
@@ -67,6 +72,8 @@ pub record Task : Type 0 where
 
 pub record App : Type 0 where
   pub bits : ℕ
+  -- whether the core has the floating-point extension
+  pub fpu : Bool
   pub irqs : List IrqDecl
   pub dispatchers : List Dispatcher
   pub mono : Option Mono

@@ -2,7 +2,7 @@
 -- round it.
 use Rattle.std.specs.Prelude.{ℕ, List, [], ◌∷◌, ◌++◌, flat_map}
 use Rattle.rt_app.specs.declared.expr.Atom.{Atom}
-use Rattle.rt_app.specs.Tree.{Expression, Num, Read, Oper, Spawn, Soon, After, Value, Calc, Now, Call, Statement, Bind}
+use Rattle.rt_app.specs.Tree.{Expression, Num, Read, Oper, Spawn, Soon, After, Cancel, Move, Value, Calc, Now, Call, Statement, Bind}
 use Rattle.rt_app.specs.Tree.{Assign, Branch, Repeat, Locked, Emit, Pend, Spawns, Block, Empty, Then}
 
 -- a name is read or assigned, a resource is locked, a task is spawned, the time is asked
@@ -30,11 +30,14 @@ module _ (locked : List ℕ) where
   reads (Read atom at) = placed (Reads atom at) ∷ []
   reads (Oper o left right) = reads left ++ reads right
 
-  -- a spawn reads its arguments, and its delay
+  -- a spawn reads its delay, and its arguments or its handle
   abbrev pub spawn_uses : Spawn → List Placed
   spawn_uses (Soon task args at) = placed (MakesSpawn (Soon task args at)) ∷ flat_map reads args
   spawn_uses (After word delay task args at) =
       placed (MakesSpawn (After word delay task args at)) ∷ (reads delay ++ flat_map reads args)
+  spawn_uses (Cancel word task handle at) = placed (MakesSpawn (Cancel word task handle at)) ∷ reads handle
+  spawn_uses (Move word delay task handle at) =
+      placed (MakesSpawn (Move word delay task handle at)) ∷ (reads delay ++ reads handle)
 
   -- of the value of a `let`
   abbrev pub value_uses : Value → List Placed

@@ -23,6 +23,9 @@ abbrev pub spawn_of : Spawn → tree.Spawn
 spawn_of (spawn.Soon task args at) = tree.Soon task (map expression_of args.items) at
 spawn_of (spawn.After word delay task args at) =
     tree.After word (expression_of delay) task (map expression_of args.items) at
+spawn_of (spawn.Cancel word task handle at) = tree.Cancel word task (expression_of handle) at
+spawn_of (spawn.Move word delay task handle at) =
+    tree.Move word (expression_of delay) task (expression_of handle) at
 
 -- the value of a `let`
 abbrev pub value_of : Value → tree.Value
@@ -73,6 +76,7 @@ task_of t = record {
 abbrev pub app_of : App → tree.App
 app_of a = record {
   bits = a.bits;
+  fpu = a.fpu;
   irqs = a.irqs.items;
   dispatchers = a.dispatchers.items;
   mono = a.mono;

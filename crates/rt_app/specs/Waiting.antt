@@ -11,13 +11,13 @@ use Rattle.rt_ids.specs.declared.ids.Section.{Section}
 use Rattle.rt_ids.specs.declared.ids.Section.TheVariants as section
 use Rattle.rt_app.specs.declared.app.Mono.{Mono}
 use Rattle.rt_app.specs.declared.costs.TheConstants.{FREE_COST, READY_COST}
-use Rattle.rt_app.specs.Tree.{Spawn, Soon, After, Value, Calc, Now, Call, Body, Task, App}
+use Rattle.rt_app.specs.Tree.{Spawn, Soon, After, Cancel, Move, Value, Calc, Now, Call, Body, Task, App}
 use Rattle.rt_app.specs.Tree.{Statement, Bind, Assign, Branch, Repeat, Locked, Emit, Pend, Spawns, Block, Empty, Then}
 use Rattle.rt_app.specs.Bodies.{task_priority}
 use Rattle.rt_app.specs.Level.{is_software, is_armed}
 use Rattle.rt_app.specs.Ceiling.{ceiling}
 use Rattle.rt_app.specs.Cost.{lock_cost, block_cost}
-use Rattle.rt_app.specs.BodyCost.{cost_measure, dispatcher_section_cost, timer_section_cost}
+use Rattle.rt_app.specs.BodyCost.{cost_measure, dispatcher_section_cost, timer_section_cost, handle_section_cost}
 
 -- a section of some body's code
 pub record Critical : Type 0 where
@@ -45,18 +45,21 @@ module _ (app : App) (level : ℕ) where
     abbrev pub ready_section : ℕ → ℕ → Critical
     ready_section p cost = critical (section.Ready p) cost
 
-    -- the armed messages
-    abbrev pub timer_section : Critical
-    timer_section = critical section.Timer (timer_section_cost app)
+    -- the armed messages, of a section of this cost
+    abbrev pub timer_section : ℕ → Critical
+    timer_section cost = critical section.Timer cost
 
     -- a lock round a block
     abbrev pub lock_section : ℕ → Block → Critical
     lock_section r inner = critical (section.Res r) (lock_cost (block_cost (cost_measure app) inner))
 
-    -- a spawn takes a place, and makes its message ready or arms it
+    -- a spawn takes a place, and makes its message ready or arms it; a cancel takes an armed message, and gives its
+    -- place back
     abbrev pub spawn_sections : Spawn → List Critical
     spawn_sections (Soon task args at) = free_section task ∷ ready_section (task_priority app task) READY_COST ∷ []
-    spawn_sections (After word delay task args at) = free_section task ∷ timer_section ∷ []
+    spawn_sections (After word delay task args at) = free_section task ∷ timer_section (timer_section_cost app) ∷ []
+    spawn_sections (Cancel word task handle at) = timer_section (handle_section_cost app) ∷ free_section task ∷ []
+    spawn_sections (Move word delay task handle at) = timer_section (handle_section_cost app) ∷ []
 
     -- of the value of a `let`
     abbrev pub value_sections : Value → List Critical
@@ -109,7 +112,8 @@ module _ (app : App) where
   -- of the timer handler, where there is a monotonic
   abbrev pub handler_sections : Option Mono → List Critical
   handler_sections None = []
-  handler_sections (Some mono) = timer_section app mono.priority 0 ∷ moved_sections mono.priority 0 app.tasks
+  handler_sections (Some mono) =
+      timer_section app mono.priority 0 (timer_section_cost app) ∷ moved_sections mono.priority 0 app.tasks
 
 -- every section of `idle`, the tasks, the dispatchers and the timer handler
 abbrev pub sections : App → List Critical

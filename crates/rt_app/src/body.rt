@@ -2,7 +2,7 @@ use crate::stmt::Stmt;
 use rt_ids::ResId;
 
 /// A shared resource that a body lists.
-#[derive(Clone, Copy, Debug)]
+#[derive(Clone, Copy)]
 pub struct Listed {
     pub resource: ResId,
     /// Whether it is listed as `&name`, to be read without a lock.
@@ -12,7 +12,7 @@ pub struct Listed {
 }
 
 /// A local resource that a body lists.
-#[derive(Clone, Copy, Debug)]
+#[derive(Clone, Copy)]
 pub struct Owned {
     /// The resource, by its place in the order of declaration.
     pub local: u8,
@@ -21,7 +21,7 @@ pub struct Owned {
 }
 
 /// The resources that a body lists, and its statements.
-#[derive(Debug, Drop)]
+#[derive(Drop)]
 pub struct Body {
     pub shared: Vec<Listed>,
     pub local: Vec<Owned>,

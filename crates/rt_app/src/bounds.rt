@@ -2,7 +2,7 @@ use rt_ids::BodyId;
 use std::marker::Model;
 
 /// What a body takes.
-#[derive(Clone, Copy, Debug, PartialEq, Eq)]
+#[derive(Clone, Copy, PartialEq, Eq)]
 pub struct BodyBound {
     pub body: BodyId,
     /// Words of its frame.
@@ -12,7 +12,7 @@ pub struct BodyBound {
 }
 
 /// How long a job of a level waits for lower ones.
-#[derive(Clone, Copy, Debug, PartialEq, Eq)]
+#[derive(Clone, Copy, PartialEq, Eq)]
 pub struct Wait {
     pub level: u8,
     /// Core steps, at most.
@@ -20,7 +20,7 @@ pub struct Wait {
 }
 
 /// The numbers that hold of every run of an application.
-#[derive(Debug, Drop)]
+#[derive(Drop)]
 pub struct Bounds {
     /// Of each declared body: `init`, `idle` and the tasks in order.
     pub bodies: Vec<BodyBound>,

@@ -1,7 +1,7 @@
 use std::marker::Model;
 
 /// The ceiling of a ready queue.
-#[derive(Clone, Copy, Debug, PartialEq, Eq)]
+#[derive(Clone, Copy, PartialEq, Eq)]
 pub struct ReadyCeiling {
     /// The level of the software tasks whose messages it holds.
     pub level: u8,
@@ -10,7 +10,7 @@ pub struct ReadyCeiling {
 
 /// The ceilings of all that critical sections guard: priorities, of which a section that guards it holds off all up
 /// to and with its ceiling.
-#[derive(Debug, Drop)]
+#[derive(Drop)]
 pub struct Ceilings {
     /// Of the shared resources, in order of declaration.
     pub shared: Vec<u8>,

@@ -9,6 +9,12 @@ pub const SPAWN_AFTER_COST: u32 = 192;
 /// Core steps for each message that may be armed, where the timer queue is touched.
 pub const MESSAGE_COST: u32 = 48;
 
+/// Core steps of a `cancel` or a `reschedule_after`, its expressions and the armed messages aside.
+pub const HANDLE_COST: u32 = 256;
+
+/// Core steps of these for each message that may be armed.
+pub const HANDLE_MESSAGE_COST: u32 = 96;
+
 /// Core steps of a section of a task's free places.
 pub const FREE_COST: u32 = 48;
 
@@ -20,6 +26,9 @@ pub const READY_TASK_COST: u32 = 8;
 
 /// Core steps of a section of the timer queue, the armed messages aside.
 pub const TIMER_SECTION_COST: u32 = 80;
+
+/// Core steps of such a section in a `cancel` or a `reschedule_after`, the armed messages aside.
+pub const HANDLE_SECTION_COST: u32 = 128;
 
 /// Core steps of a dispatcher, its tasks and their bodies aside.
 pub const DISPATCHER_COST: u32 = 128;
@@ -51,17 +60,14 @@ pub const THREAD_SIZE: u32 = 2;
 /// Words of the frame for a `spawn`.
 pub const SPAWN_WORDS: u32 = 16;
 
-/// Words of the frame for a `spawn_after`.
-pub const SPAWN_AFTER_WORDS: u32 = 24;
+/// Words of the frame for a `spawn_after`, a `cancel` or a `reschedule_after`.
+pub const TIMER_QUEUE_WORDS: u32 = 24;
 
 /// Words of a dispatcher's own frame.
 pub const DISPATCHER_WORDS: u32 = 16;
 
 /// Words of the timer handler's frame.
 pub const TIMER_WORDS: u32 = 24;
-
-/// Bytes that an exception entry pushes: the basic frame of ARMv7-M.
-pub const ENTRY_BYTES: u32 = 32;
 
 /// Priorities that a byte can tell.
 pub const PRIORITIES: u16 = 256;

@@ -1,7 +1,7 @@
 use rt_ids::{Op, ResId};
 
 /// What a name in an expression or an assignment stands for.
-#[derive(Clone, Copy, Debug, PartialEq, Eq)]
+#[derive(Clone, Copy, PartialEq, Eq)]
 pub enum Atom {
     /// A variable: its position among the arguments, `let` and `for` statements of its body in order of the text.
     Var(u16),
@@ -11,7 +11,7 @@ pub enum Atom {
 }
 
 /// An expression.
-#[derive(Debug, Drop)]
+#[derive(Drop)]
 pub enum Expr {
     Num(u32),
     /// The value of a variable or a resource, and the offset of its name.

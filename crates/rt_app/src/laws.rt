@@ -1,10 +1,16 @@
 ghost use Rattle.rt_app.specs.Acceptance.{AcceptedAreSound};
+ghost use Rattle.rt_app.specs.Constants.{TellCosts};
 ghost use Rattle.rt_app.specs.Steps.{CapSteps};
 
 /// Costs and sizes are plain sums over statements, up to the cap at which they stop.
 #[tactic(auto, using(crate::proofs::Capping::cap_steps))]
 pub fn costs_are_capped_sums()
     ensures { CapSteps }
+{}
+
+/// What code takes, in numbers, as the documents have them.
+pub fn costs_are_as_documented()
+    ensures { TellCosts }
 {}
 
 /// An application that is accepted can be run: its bodies use what they may, as they may; they are short; and nothing

@@ -2,7 +2,7 @@ use rt_ids::CellRow;
 use std::marker::Model;
 
 /// The cells of memory, and the numbers of the first cells that code for queues needs, 0 where there is none.
-#[derive(Debug, Drop)]
+#[derive(Drop)]
 pub struct Layout {
     /// By number: the cells of resources, of local resources, of the queues of software tasks, of ready queues.
     pub cells: Vec<CellRow>,

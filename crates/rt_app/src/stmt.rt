@@ -5,27 +5,33 @@ ghost use Rattle.rt_app.specs.View.{expression_of, statement_of, block_of};
 use crate::expr::{Atom, Expr};
 use rt_ids::{ResId, TaskId};
 
-/// A spawn of a software task.
-#[derive(Debug, Drop)]
+/// What sends a message to a software task, or takes it back or puts it off by its handle.
+#[derive(Drop)]
 pub enum Spawn {
     /// At once: the task, its arguments, and the offset of its name.
     Soon(TaskId, Vec<Expr>, u32),
     /// After a delay in ticks: the offset of the word, the delay, the task, its arguments, and the offset of its name.
     After(u32, Expr, TaskId, Vec<Expr>, u32),
+    /// A message is taken back: the offset of the word, the task, the handle, and the offset of the task's name.
+    Cancel(u32, TaskId, Expr, u32),
+    /// A message is put off by a delay in ticks: the offset of the word, the delay, the task, the handle, and the
+    /// offset of the task's name.
+    Move(u32, Expr, TaskId, Expr, u32),
 }
 
 /// What a variable is bound to.
-#[derive(Debug, Drop)]
+#[derive(Drop)]
 pub enum Value {
     Calc(Expr),
     /// The time in ticks, and the offset of the word.
     Now(u32),
-    /// 1 where the spawn found a place, else 0.
+    /// What the spawn gives: of one at once 1, and of one after a delay its handle, or 0 where it found no place; of a
+    /// cancel and a move 0 where an armed message of the task has the handle, else 1.
     Call(Spawn),
 }
 
 /// A statement, its names resolved.
-#[derive(Debug, Drop)]
+#[derive(Drop)]
 pub enum Stmt {
     /// A variable, and its value.
     Bind(u16, Value),

@@ -1,7 +1,7 @@
 use rt_ids::Rule;
 
 /// A rule that an application breaks, and where.
-#[derive(Clone, Copy, Debug, PartialEq, Eq)]
+#[derive(Clone, Copy, PartialEq, Eq)]
 pub struct Violation {
     /// The bytes of the text before the place.
     pub at: u32,

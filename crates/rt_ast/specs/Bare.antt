@@ -7,7 +7,7 @@ use Rattle.rt_ast.specs.declared.app.MonoTree.{MonoTree}
 use Rattle.rt_ast.specs.declared.app.SharedTree.{SharedTree}
 use Rattle.rt_ast.specs.declared.app.LocalTree.{LocalTree}
 use Rattle.rt_ast.specs.declared.app.ListedTree.{ListedTree}
-use Rattle.rt_ast.specs.Tree.{Expression, Num, Read, Oper, Spawn, Soon, After, Value, Calc, Now, Call, Statement, Bind}
+use Rattle.rt_ast.specs.Tree.{Expression, Num, Read, Oper, Spawn, Soon, After, Cancel, Move, Value, Calc, Now, Call, Statement, Bind}
 use Rattle.rt_ast.specs.Tree.{Assign, Branch, Repeat, Locked, Emit, Pend, Spawns, Block, Empty, Then, Body, Task, App}
 
 abbrev pub bare_name : Ident → Ident
@@ -24,6 +24,8 @@ bare_expression (Oper o left right) = Oper o (bare_expression left) (bare_expres
 abbrev pub bare_spawn : Spawn → Spawn
 bare_spawn (Soon task args) = Soon (bare_name task) (map bare_expression args)
 bare_spawn (After at delay task args) = After 0 (bare_expression delay) (bare_name task) (map bare_expression args)
+bare_spawn (Cancel at task handle) = Cancel 0 (bare_name task) (bare_expression handle)
+bare_spawn (Move at delay task handle) = Move 0 (bare_expression delay) (bare_name task) (bare_expression handle)
 
 abbrev pub bare_value : Value → Value
 bare_value (Calc e) = Calc (bare_expression e)
@@ -82,6 +84,7 @@ abbrev pub bare : App → App
 bare a = record {
   name = bare_name a.name;
   bits = a.bits;
+  fpu = a.fpu;
   dispatchers = map bare_name a.dispatchers;
   irqs = map bare_irq a.irqs;
   mono = option_map bare_mono a.mono;

@@ -20,9 +20,12 @@ abbrev pub dispatchers_text : List Ident → List ℕ
 dispatchers_text [] = []
 dispatchers_text (x ∷ xs) = codes ", dispatchers = " ++ bracketed name_text (x ∷ xs)
 
+abbrev pub fpu_text : Bool → List ℕ
+fpu_text fpu = if fpu then codes ", fpu = on" else []
+
 abbrev pub head_text : App → List ℕ
 head_text a = codes "app " ++ name_text a.name ++ codes "(bits = " ++ decimal a.bits ++ dispatchers_text a.dispatchers
-    ++ codes ");" ++ newline
+    ++ fpu_text a.fpu ++ codes ");" ++ newline
 
 abbrev pub irq_text : IrqTree → List ℕ
 irq_text irq = name_text irq.name ++ codes " = " ++ decimal irq.number.value

@@ -5,7 +5,7 @@ use Rattle.std.specs.List.{AllByRecursion}
 use Rattle.rt_ids.specs.declared.limits.TheConstants.{NAME_BYTES, DEPTH, TURNS}
 use Rattle.rt_ids.specs.Word.{is_word, is_identifier}
 use Rattle.rt_ast.specs.declared.ident.Ident.{Ident}
-use Rattle.rt_ast.specs.Tree.{Expression, Num, Read, Oper, Spawn, Soon, After, Value, Calc, Now, Call, Statement, Bind}
+use Rattle.rt_ast.specs.Tree.{Expression, Num, Read, Oper, Spawn, Soon, After, Cancel, Move, Value, Calc, Now, Call, Statement, Bind}
 use Rattle.rt_ast.specs.Tree.{Assign, Branch, Repeat, Locked, Emit, Pend, Spawns, Block, Empty, Then}
 
 -- a letter or `_`, then letters, digits and `_`, which is no word of the grammar
@@ -35,6 +35,9 @@ abbrev pub IsPrintableSpawn : Spawn → Type 0
 IsPrintableSpawn (Soon task args) = IsPrintableName task × AllByRecursion IsPrintableExpression args
 IsPrintableSpawn (After at delay task args) =
     IsPrintableExpression delay × IsPrintableName task × AllByRecursion IsPrintableExpression args
+IsPrintableSpawn (Cancel at task handle) = IsPrintableName task × IsPrintableExpression handle
+IsPrintableSpawn (Move at delay task handle) =
+    IsPrintableExpression delay × IsPrintableName task × IsPrintableExpression handle
 
 abbrev pub IsPrintableValue : Value → Type 0
 IsPrintableValue (Calc e) = IsPrintableExpression e

@@ -1,5 +1,5 @@
 -- The tree of an application text: what it says, and where its names stand. Offsets are the bytes of the text before.
-use Rattle.std.specs.Prelude.{ℕ, List, Option}
+use Rattle.std.specs.Prelude.{ℕ, Bool, List, Option}
 use Rattle.rt_ids.specs.declared.op.Op.{Op}
 use Rattle.rt_ast.specs.declared.ident.Ident.{Ident}
 use Rattle.rt_ast.specs.declared.ident.Number.{Number}
@@ -14,11 +14,16 @@ pub data Expression : Type 0 where
   Read : Ident → Expression
   Oper : Op → Expression → Expression → Expression
 
+-- what sends a message to a software task, or takes it back or puts it off by its handle
 pub data Spawn : Type 0 where
   -- the task, and its arguments
   Soon : Ident → List Expression → Spawn
   -- the offset of the word, the delay, the task, and its arguments
   After : ℕ → Expression → Ident → List Expression → Spawn
+  -- the offset of the word, the task, and the handle of a message of it
+  Cancel : ℕ → Ident → Expression → Spawn
+  -- the offset of the word, the delay, the task, and the handle of a message of it
+  Move : ℕ → Expression → Ident → Expression → Spawn
 
 pub data Value : Type 0 where
   Calc : Expression → Value
@@ -60,6 +65,8 @@ pub record Task : Type 0 where
 pub record App : Type 0 where
   pub name : Ident
   pub bits : ℕ
+  -- whether the core has the floating-point extension
+  pub fpu : Bool
   pub dispatchers : List Ident
   pub irqs : List IrqTree
   pub mono : Option MonoTree

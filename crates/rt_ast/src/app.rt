@@ -2,21 +2,21 @@ use crate::ident::{Ident, Number};
 use crate::stmt::Stmt;
 
 /// A declared interrupt and its number.
-#[derive(Debug, Drop)]
+#[derive(Drop)]
 pub struct IrqTree {
     pub name: Ident,
     pub number: Number,
 }
 
 /// The monotonic: its interrupt, and its priority.
-#[derive(Debug, Drop)]
+#[derive(Drop)]
 pub struct MonoTree {
     pub binds: Ident,
     pub priority: Number,
 }
 
 /// A shared resource and its first value.
-#[derive(Debug, Drop)]
+#[derive(Drop)]
 pub struct SharedTree {
     pub name: Ident,
     pub first: u32,
@@ -24,14 +24,14 @@ pub struct SharedTree {
 }
 
 /// A local resource and its first value.
-#[derive(Debug, Drop)]
+#[derive(Drop)]
 pub struct LocalTree {
     pub name: Ident,
     pub first: u32,
 }
 
 /// A shared resource that a body lists.
-#[derive(Debug, Drop)]
+#[derive(Drop)]
 pub struct ListedTree {
     pub name: Ident,
     /// Whether it is listed as `&name`.
@@ -41,7 +41,7 @@ pub struct ListedTree {
 }
 
 /// The resources that a body lists, and its statements.
-#[derive(Debug, Drop)]
+#[derive(Drop)]
 pub struct BodyTree {
     pub shared: Vec<ListedTree>,
     pub local: Vec<Ident>,
@@ -51,7 +51,6 @@ pub struct BodyTree {
 }
 
 /// A task. One with an interrupt that it binds is a hardware task, any other a software task.
-#[derive(Debug, Drop)]
 pub struct TaskTree {
     pub name: Ident,
     pub binds: Option<Ident>,
@@ -61,12 +60,26 @@ pub struct TaskTree {
     pub body: BodyTree,
 }
 
+impl Drop for TaskTree {
+    fn drop(self) {
+        let TaskTree {
+            name: _,
+            binds: _,
+            priority: _,
+            capacity: _,
+            args: _,
+            body: _,
+        } = self;
+    }
+}
+
 /// An application as it is written, before its names are resolved and its rules judged. An absent list and an empty one
 /// are the same.
-#[derive(Debug, Drop)]
 pub struct AppTree {
     pub name: Ident,
     pub bits: u32,
+    /// Whether the core has the floating-point extension.
+    pub fpu: bool,
     pub dispatchers: Vec<Ident>,
     pub irqs: Vec<IrqTree>,
     pub mono: Option<MonoTree>,
@@ -75,4 +88,22 @@ pub struct AppTree {
     pub init: Option<BodyTree>,
     pub idle: Option<BodyTree>,
     pub tasks: Vec<TaskTree>,
+}
+
+impl Drop for AppTree {
+    fn drop(self) {
+        let AppTree {
+            name: _,
+            bits: _,
+            fpu: _,
+            dispatchers: _,
+            irqs: _,
+            mono: _,
+            shared: _,
+            locals: _,
+            init: _,
+            idle: _,
+            tasks: _,
+        } = self;
+    }
 }

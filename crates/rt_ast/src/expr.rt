@@ -2,7 +2,7 @@ use crate::ident::Ident;
 use rt_ids::Op;
 
 /// An expression. Parentheses leave no trace in it.
-#[derive(Debug, Drop)]
+#[derive(Drop)]
 pub enum Expr {
     Num(u32),
     /// The value of a variable, an argument or a resource.

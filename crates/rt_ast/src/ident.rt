@@ -1,7 +1,7 @@
 use rt_ids::Name;
 
 /// A name, and where it stands.
-#[derive(Debug, Drop)]
+#[derive(Drop)]
 pub struct Ident {
     pub name: Name,
     /// The bytes of the text before it.
@@ -9,7 +9,7 @@ pub struct Ident {
 }
 
 /// A number, and where it stands.
-#[derive(Clone, Copy, Debug)]
+#[derive(Clone, Copy)]
 pub struct Number {
     pub value: u32,
     /// The bytes of the text before it.

@@ -5,27 +5,31 @@ ghost use Rattle.rt_ast.specs.View.{expression_of, statement_of, block_of};
 use crate::expr::Expr;
 use crate::ident::Ident;
 
-/// A spawn of a software task.
-#[derive(Debug, Drop)]
+/// What sends a message to a software task, or takes it back or puts it off by its handle.
+#[derive(Drop)]
 pub enum Spawn {
     /// At once: the task, and its arguments.
     Soon(Ident, Vec<Expr>),
     /// After a delay in ticks: the offset of the word, the delay, the task, and its arguments.
     After(u32, Expr, Ident, Vec<Expr>),
+    /// A message is taken back: the offset of the word, the task, and the handle.
+    Cancel(u32, Ident, Expr),
+    /// A message is put off by a delay in ticks: the offset of the word, the delay, the task, and the handle.
+    Move(u32, Expr, Ident, Expr),
 }
 
 /// What a variable is bound to.
-#[derive(Debug, Drop)]
+#[derive(Drop)]
 pub enum Value {
     Calc(Expr),
     /// The time in ticks, and the offset of the word.
     Now(u32),
-    /// 1 where the spawn found a place, else 0.
+    /// What the spawn gives.
     Call(Spawn),
 }
 
 /// A statement.
-#[derive(Debug, Drop)]
+#[derive(Drop)]
 pub enum Stmt {
     Bind(Ident, Value),
     Assign(Ident, Expr),

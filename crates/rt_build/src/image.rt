@@ -12,7 +12,7 @@ use crate::tables::{Tables, tables_of};
 use rt_app::{App, Layout, Plan};
 use rt_code::Image;
 use rt_ids::NoMemory;
-use rt_plan::plan;
+use rt_layout::plan;
 use std::alloc::Global;
 
 /// An image of these parts.

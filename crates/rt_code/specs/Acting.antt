@@ -5,7 +5,8 @@ use Rattle.std.specs.Prelude.{if◌then◌else◌}
 use Rattle.rt_ids.specs.Holder.{Holder, Guarded, is_same_holder}
 use Rattle.rt_ids.specs.Content.{Message, Values, delays, least_instant}
 use Rattle.rt_ids.specs.Entry.{Entry}
-use Rattle.rt_ids.specs.Action.{Action, Takes, Refuses, Readies, Starts, Frees, Arms, Fires, SetsAlarm, effect}
+use Rattle.rt_ids.specs.Action.{Action, Takes, Refuses, Readies, Starts, Frees, Arms, Fires, Cancels, Moves, SetsAlarm}
+use Rattle.rt_ids.specs.Action.{effect}
 use Rattle.rt_ids.specs.Doing.{Doing, does}
 use Rattle.rt_ids.specs.Storage.{Storage, Runner}
 use Rattle.rt_ids.specs.declared.ids.Section.{Section}
@@ -94,7 +95,7 @@ module _ (st : Storage) (bodies : List BodyRow) (who : Runner) where
     pub acts : Acts (Starts level message) 0
         (record s { places = entry ∷ s.places; queues = with_queue s.queues (section.Ready level) others }) later
 
-  -- an armed message, whose instant has come, comes into the hands; the others stay in order
+  -- an armed message comes into the hands; the others stay in order
   pub record FiresMessage (t : ℕ) (s : Spot) (later : Spot → Type 0) : Type 0 where
     pub message : Message
     pub entry : Entry
@@ -105,6 +106,34 @@ module _ (st : Storage) (bodies : List BodyRow) (who : Runner) where
     pub of_task : (entry.task ≡ t) × (message.task ≡ t)
     pub acts : Acts (Fires message) 0
         (record s { places = entry ∷ s.places; queues = with_queue s.queues section.Timer (before ++ behind) }) later
+
+  -- an armed message, whose handle is in a slot, comes into the hands; the others stay in order
+  pub record CancelsMessage (t slot : ℕ) (s : Spot) (later : Spot → Type 0) : Type 0 where
+    pub handle : ℕ
+    pub entry : Entry
+    pub before : List Entry
+    pub behind : List Entry
+    pub inside : is_open s.held section.Timer ≡ true
+    pub stands : s.queues (Guarded section.Timer) ≡ before ++ entry ∷ behind
+    pub of_task : entry.task ≡ t
+    pub shown : slice_get s.slots slot ≡ Some handle
+    pub acts : Acts (Cancels t handle) 0
+        (record s { places = entry ∷ s.places; queues = with_queue s.queues section.Timer (before ++ behind) }) later
+
+  -- an armed message, whose handle is in a slot, goes last, for the instant in another slot
+  pub record MovesMessage (t slot from : ℕ) (s : Spot) (later : Spot → Type 0) : Type 0 where
+    pub handle : ℕ
+    pub instant : ℕ
+    pub entry : Entry
+    pub before : List Entry
+    pub behind : List Entry
+    pub inside : is_open s.held section.Timer ≡ true
+    pub stands : s.queues (Guarded section.Timer) ≡ before ++ entry ∷ behind
+    pub of_task : entry.task ≡ t
+    pub shown : slice_get s.slots slot ≡ Some handle
+    pub put_off : slice_get s.slots from ≡ Some instant
+    pub acts : Acts (Moves t handle instant) 0
+        (record s { queues = with_queue s.queues section.Timer (before ++ (behind ++ entry ∷ [])) }) later
 
   -- the place in the hands is free again, and is taken next
   pub record GivesPlaceBack (t : ℕ) (s : Spot) (later : Spot → Type 0) : Type 0 where
@@ -128,6 +157,8 @@ module _ (st : Storage) (bodies : List BodyRow) (who : Runner) where
   Noted (note.Free t) s later = GivesPlaceBack t s later
   Noted (note.Arm t slot) s later = ArmsMessage t slot s later
   Noted (note.Fire t) s later = FiresMessage t s later
+  Noted (note.Cancel t slot) s later = CancelsMessage t slot s later
+  Noted (note.Move t slot from) s later = MovesMessage t slot from s later
   Noted (note.Enter x) s later = ⊥
   Noted (note.Leave x) s later = ⊥
   Noted (note.End b) s later = ⊥

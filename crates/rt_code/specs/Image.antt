@@ -1,10 +1,10 @@
 -- An image: code, and the tables that a core needs to run it. The tables stand for the vector table (ARMv7-M
 -- Architecture Reference Manual, section B1.5.3), the priority registers of the interrupt controller (section B3.4.9)
 -- and the initial contents of memory. The code keeps vectors.
-use Rattle.std.specs.Prelude.{ℕ, List, Option}
+use Rattle.std.specs.Prelude.{ℕ, Bool, List, Option}
+use Rattle.rt_ids.specs.Exception as exception
 use Rattle.rt_ids.specs.Names.{Names}
 use Rattle.rt_ids.specs.declared.cell.CellRow.{CellRow}
-use Rattle.rt_code.specs.declared.image.TheConstants.{ENTRY_WORDS}
 use Rattle.rt_code.specs.declared.image.IrqRow.{IrqRow}
 use Rattle.rt_code.specs.declared.image.BodyRow.{BodyRow}
 use Rattle.rt_code.specs.declared.instr.Instr.{Instr}
@@ -13,6 +13,8 @@ use Rattle.rt_code.specs.declared.instr.Note.{Note}
 pub record Image : Type 0 where
   -- implemented priority bits
   pub bits : ℕ
+  -- whether the core has the floating-point extension
+  pub fpu : Bool
   -- the size of the stack region, in bytes
   pub stack_bytes : ℕ
   -- the words of the thread's frame
@@ -27,7 +29,6 @@ pub record Image : Type 0 where
   pub code : List (Instr × Option Note)
   pub names : Names
 
--- How many words exception entry pushes: the eight of the basic frame (section B1.5.6), since no code of an image uses
--- floating-point registers.
+-- how many words exception entry pushes
 abbrev pub entry_words : Image → ℕ
-entry_words img = ENTRY_WORDS
+entry_words img = exception.entry_words img.fpu

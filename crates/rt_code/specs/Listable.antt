@@ -73,6 +73,8 @@ HasNote names (Some (note.Start t s)) = HasTask names t
 HasNote names (Some (note.Free t)) = HasTask names t
 HasNote names (Some (note.Arm t s)) = HasTask names t
 HasNote names (Some (note.Fire t)) = HasTask names t
+HasNote names (Some (note.Cancel t s)) = HasTask names t
+HasNote names (Some (note.Move t s a)) = HasTask names t
 HasNote names (Some (note.End b)) = HasBody names b
 HasNote names None = Unit {0}
 

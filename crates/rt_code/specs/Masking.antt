@@ -7,7 +7,7 @@ use Rattle.std.specs.Prelude.{slice_set, Contains}
 use Rattle.std.specs.List.{AllByRecursion}
 use Rattle.rt_ids.specs.Lists.{greatest}
 use Rattle.rt_ids.specs.Holder.{Holder, Guarded}
-use Rattle.rt_ids.specs.Content.{Values}
+use Rattle.rt_ids.specs.Content.{Values, MayArm}
 use Rattle.rt_ids.specs.Entry.{Entry}
 use Rattle.rt_ids.specs.Action.{Enters, Leaves}
 use Rattle.rt_ids.specs.Doing.{Doing, does}
@@ -78,6 +78,8 @@ module _ (st : Storage) (who : Runner) where
     pub same : LeavesMine st who s cells queues
     pub spelled : st.Spells (Guarded x) (slice_index cells) (queues (Guarded x)) (vs (Guarded x))
     pub once : (e : Entry) → mine (inside x Marked 0 0 s.rest cells queues s) e ≤ 1
+    -- where it is the timer queue, one more message may be armed: armings are numbered
+    pub few : MayArm (vs (Guarded x))
 
   pub record GoesIn (x : Section) (i : Instr) (s : Spot) (later : Spot → Type 0) : Type 0 where
     pub cost : ℕ

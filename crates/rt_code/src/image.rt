@@ -1,12 +1,10 @@
-ghost use Rattle.std.specs.Prelude.{◌≡◌};
+ghost use Rattle.std.specs.Prelude.{◌≡◌, ◌≤◌};
+ghost use Rattle.rt_ids.specs.declared.exception.TheConstants.{BASIC_FRAME_WORDS};
 ghost use Rattle.rt_code.specs.Image.{entry_words};
 
-use crate::instr::{Instr, Note};
-use rt_ids::{CellRow, Irq, Name, Names, TaskId};
+use crate::instr::Line;
+use rt_ids::{CellRow, Irq, Name, Names, TaskId, entry_words};
 use std::marker::Model;
-
-/// The words of the basic frame that exception entry pushes.
-pub const ENTRY_WORDS: u32 = 8;
 
 /// How an interrupt is served.
 #[derive(Clone, Copy, Debug, PartialEq, Eq)]
@@ -20,7 +18,7 @@ pub struct Handler {
 }
 
 /// A declared interrupt of an image.
-#[derive(Debug, Drop)]
+#[derive(Drop)]
 pub struct IrqRow {
     pub name: Name,
     pub number: Irq,
@@ -41,10 +39,11 @@ pub struct BodyRow {
 }
 
 /// Compiled code and the tables that a core needs to run it. Contracts see a record of lists.
-#[derive(Debug, Drop)]
 pub struct Image {
     /// Implemented priority bits.
     pub bits: u8,
+    /// Whether the core has the floating-point extension.
+    pub fpu: bool,
     /// The size of the stack region, in bytes.
     pub stack_bytes: u32,
     /// The words of the thread's frame.
@@ -56,7 +55,7 @@ pub struct Image {
     /// The bodies of software tasks, by the number that `call` takes.
     pub bodies: Vec<BodyRow>,
     /// The instructions by address, each with its note.
-    pub code: Vec<(Instr, Option<Note>)>,
+    pub code: Vec<Line>,
     /// The names that its text is written with.
     pub names: Names,
 }
@@ -68,6 +67,7 @@ impl Model for Image {
 
     ghost view = { λ image. record {
       bits = image.bits;
+      fpu = image.fpu;
       stack_bytes = image.stack_bytes;
       thread_words = image.thread_words;
       cells = image.cells.items;
@@ -78,12 +78,28 @@ impl Model for Image {
     } };
 }
 
+impl Drop for Image {
+    fn drop(self) {
+        let Image {
+            bits: _,
+            fpu: _,
+            stack_bytes: _,
+            thread_words: _,
+            cells: _,
+            irqs: _,
+            bodies: _,
+            code: _,
+            names: _,
+        } = self;
+    }
+}
+
 impl Image {
     /// The words that exception entry pushes.
     pub fn entry_words(&self) -> u32
-        ensures { result ≡ entry_words self.now }
+        ensures value { result ≡ entry_words self.now }
+        ensures basic { BASIC_FRAME_WORDS ≤ result }
     {
-        let _ = &self.bits;
-        ENTRY_WORDS
+        entry_words(self.fpu)
     }
 }

@@ -75,6 +75,13 @@ pub enum Note {
     Arm(TaskId, u32),
     /// `fire T`: a due message leaves the timer queue.
     Fire(TaskId),
+    /// `cancel T S`: the message whose handle is in slot S leaves the timer queue.
+    Cancel(TaskId, u32),
+    /// `move T S A`: the message whose handle is in slot S waits for the instant in slot A.
+    Move(TaskId, u32, u32),
     /// `end X`: a body ends.
     End(BodyId),
 }
+
+/// A line of code: an instruction, and the note on it, where there is one.
+pub type Line = (Instr, Option<Note>);

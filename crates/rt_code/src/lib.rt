@@ -8,7 +8,7 @@ mod laws;
 pub mod processor;
 
 pub use execution::execute;
-pub use image::{BodyRow, ENTRY_WORDS, Handler, Image, IrqRow};
-pub use instr::{Instr, Note};
+pub use image::{BodyRow, Handler, Image, IrqRow};
+pub use instr::{Instr, Line, Note};
 pub use laws::{effect_is_done, names_are_writable};
 pub use processor::{Registers, Request, Trap};

@@ -1,13 +1,14 @@
 -- The first declaration, and the whole application.
---   App = "app" Name "(" "bits" "=" Num [ "," "dispatchers" "=" "[" List(Name) "]" ] ")" ";"
+--   App = "app" Name "(" "bits" "=" Num [ "," "dispatchers" "=" "[" List(Name) "]" ] [ "," "fpu" "=" "on" ] ")" ";"
 --         Interrupts [ Monotonic ] [ Shared ] [ Local ] [ Init ] [ Idle ] { Task }
-use Rattle.std.specs.Prelude.{ℕ, codes, List, []}
+-- `fpu` and `on` are names, which stay free for anything else.
+use Rattle.std.specs.Prelude.{ℕ, Bool, true, false, codes, List, []}
 use Rattle.rt_ids.specs.declared.limit.Limit.TheVariants as limit
 use Rattle.rt_ids.specs.declared.limits.TheConstants.{LEAST_BITS, MOST_BITS}
 use Rattle.rt_ast.specs.declared.ident.Ident.{Ident}
 use Rattle.rt_ast.specs.Tree.{App}
 use Rattle.rt_grammar.specs.Language.{Language, gives, ◌>>=◌, ◌>>◌, or_else, repeat}
-use Rattle.rt_grammar.specs.Tokens.{word, sign, name, limited_number, adds, names}
+use Rattle.rt_grammar.specs.Tokens.{word, sign, name, this_name, limited_number, adds, names}
 use Rattle.rt_grammar.specs.Limits.{within}
 use Rattle.rt_grammar.specs.Resources.{interrupts, monotonic, shared, locals}
 use Rattle.rt_grammar.specs.Options.{OfInit, OfIdle}
@@ -20,11 +21,21 @@ dispatchers = or_else [] (do
   sign (codes "=")
   names)
 
+-- the floating-point extension of the core
+abbrev pub fpu : Language Bool
+fpu = or_else false (do
+  sign (codes ",")
+  this_name (codes "fpu")
+  sign (codes "=")
+  this_name (codes "on")
+  gives true)
+
 -- the first declaration
 pub record Head : Type 0 where
   pub name : Ident
   pub bits : ℕ
   pub dispatchers : List Ident
+  pub fpu : Bool
 
 abbrev pub head : Language Head
 head = do
@@ -35,9 +46,10 @@ head = do
   sign (codes "=")
   bits ← limited_number (within LEAST_BITS MOST_BITS limit.Bits)
   ds ← dispatchers
+  has_fpu ← fpu
   sign (codes ")")
   sign (codes ";")
-  gives (record { name = x; bits = bits.value; dispatchers = ds })
+  gives (record { name = x; bits = bits.value; dispatchers = ds; fpu = has_fpu })
 
 -- an application with at most so many parentheses and so many blocks inside each other
 abbrev pub application : ℕ → Language App
@@ -54,6 +66,7 @@ application most = do
     name = first.name;
     bits = first.bits;
     dispatchers = first.dispatchers;
+    fpu = first.fpu;
     irqs = irqs;
     mono = mono;
     shared = ss;

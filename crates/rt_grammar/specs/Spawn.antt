@@ -1,9 +1,10 @@
 -- Values and spawns.
 --   Value = Expr | "now" | Spawn
 --   Spawn = "spawn" Name "(" List(Expr) ")" | "spawn_after" "(" Expr ")" Name "(" List(Expr) ")"
+--       | "cancel" Name "(" Expr ")" | "reschedule_after" "(" Expr ")" Name "(" Expr ")"
 use Rattle.std.specs.Prelude.{ℕ, codes, List, [], Option}
 use Rattle.rt_ids.specs.declared.limit.Limit.{Limit}
-use Rattle.rt_ast.specs.Tree.{Value, Spawn, Expression, Calc, Now, Call, Soon, After}
+use Rattle.rt_ast.specs.Tree.{Value, Spawn, Expression, Calc, Now, Call, Soon, After, Cancel, Move}
 use Rattle.rt_grammar.specs.Language.{Language, gives, ◌>>=◌, ◌>>◌, ◌or◌}
 use Rattle.rt_grammar.specs.Tokens.{free, word, limited_word, sign, name, list, adds}
 use Rattle.rt_grammar.specs.Expression.{expression}
@@ -28,9 +29,34 @@ after most what = do
   args ← arguments most
   gives (After at delay task args)
 
+-- the handle of a message, in parentheses
+abbrev pub handle : ℕ → Language Expression
+handle most = do
+  sign (codes "(")
+  e ← expression most
+  sign (codes ")")
+  gives e
+
+abbrev pub cancel : ℕ → Option Limit → Language Spawn
+cancel most what = do
+  at ← limited_word (codes "cancel") what
+  task ← name
+  h ← handle most
+  gives (Cancel at task h)
+
+abbrev pub move : ℕ → Option Limit → Language Spawn
+move most what = do
+  at ← limited_word (codes "reschedule_after") what
+  sign (codes "(")
+  delay ← expression most
+  sign (codes ")")
+  task ← name
+  h ← handle most
+  gives (Move at delay task h)
+
 -- a spawn whose first word may pass a limit
 abbrev pub spawn : ℕ → Option Limit → Language Spawn
-spawn most what = soon most what or after most what
+spawn most what = soon most what or after most what or cancel most what or move most what
 
 abbrev pub value : ℕ → Language Value
 value most =

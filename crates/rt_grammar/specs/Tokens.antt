@@ -6,7 +6,7 @@ use Rattle.rt_ids.specs.declared.limit.Limit.TheVariants as limit
 use Rattle.rt_ids.specs.declared.limits.TheConstants.{NAME_BYTES}
 use Rattle.rt_lex.specs.declared.token.Kind.{Kind}
 use Rattle.rt_lex.specs.declared.token.Kind.TheVariants as kind
-use Rattle.rt_lex.specs.Token.{Token, is_this_word, is_this_sign}
+use Rattle.rt_lex.specs.Token.{Token, is_this_word, is_this_sign, is_this_name}
 use Rattle.rt_lex.specs.Number.{number_value}
 use Rattle.rt_ast.specs.declared.ident.Ident.{Ident}
 use Rattle.rt_ast.specs.declared.ident.Number.{Number}
@@ -32,6 +32,10 @@ word_of text t = if is_this_word text t then Some t.at else None
 abbrev pub sign_of : List ℕ → Token → Option ℕ
 sign_of text t = if is_this_sign text t then Some t.at else None
 
+-- a name that has a meaning where it stands, and is no word of the language elsewhere
+abbrev pub name_of : List ℕ → Token → Option ℕ
+name_of text t = if is_this_name text t then Some t.at else None
+
 abbrev pub ident_at : Kind → List ℕ → ℕ → Option Ident
 ident_at kind.Name text at = Some (record { name = text; at = at })
 ident_at other text at = None
@@ -51,6 +55,9 @@ limited_word text what = token (word_of text) (λ _. what)
 
 abbrev pub word : List ℕ → Language ℕ
 word text = limited_word text free
+
+abbrev pub this_name : List ℕ → Language ℕ
+this_name text = token (name_of text) (λ _. free)
 
 abbrev pub limited_sign : List ℕ → Option Limit → Language ℕ
 limited_sign text what = token (sign_of text) (λ _. what)

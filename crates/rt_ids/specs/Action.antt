@@ -6,8 +6,8 @@ use Rattle.rt_ids.specs.declared.ids.BodyId.{BodyId}
 use Rattle.rt_ids.specs.declared.ids.Section.{Section}
 use Rattle.rt_ids.specs.declared.ids.Section.TheVariants as section
 use Rattle.rt_ids.specs.Holder.{Guarded}
-use Rattle.rt_ids.specs.Content.{Message, Number, Messages, Delays, Values, number, messages, delays, put_at}
-use Rattle.rt_ids.specs.Content.{without_least}
+use Rattle.rt_ids.specs.Content.{Message, Number, Messages, Delays, Values, number, messages, timed, put_at}
+use Rattle.rt_ids.specs.Content.{with_armed, with_fired, with_cancelled, with_moved}
 
 pub data Action : Type 0 where
   -- it enters a section, which takes so many core steps at most, the entering and the leaving counted
@@ -30,6 +30,9 @@ pub data Action : Type 0 where
   -- it arms a message for an instant, or takes the least armed one
   Arms : (instant : ℕ) → (message : Message) → Action
   Fires : (message : Message) → Action
+  -- it takes back the armed message of a task that has a handle, or puts it to another instant
+  Cancels : (task : ℕ) → (handle : ℕ) → Action
+  Moves : (task : ℕ) → (handle : ℕ) → (instant : ℕ) → Action
   -- it sets the alarm to the least instant that is armed
   SetsAlarm : Action
   -- its body ends, and the code goes on
@@ -45,7 +48,10 @@ effect (Readies p m) vs =
     put_at vs (Guarded (section.Ready p)) (Messages (messages (vs (Guarded (section.Ready p))) ++ m ∷ []))
 effect (Starts p m) vs = put_at vs (Guarded (section.Ready p))
     (Messages (drop 1 (messages (vs (Guarded (section.Ready p))))))
-effect (Arms i m) vs = put_at vs (Guarded section.Timer)
-    (Delays (delays (vs (Guarded section.Timer)) ++ record { instant = i; message = m } ∷ []))
-effect (Fires m) vs = put_at vs (Guarded section.Timer) (Delays (without_least (delays (vs (Guarded section.Timer)))))
+effect (Arms i m) vs = put_at vs (Guarded section.Timer) (Delays (with_armed i m (timed (vs (Guarded section.Timer)))))
+effect (Fires m) vs = put_at vs (Guarded section.Timer) (Delays (with_fired (timed (vs (Guarded section.Timer)))))
+effect (Cancels n h) vs =
+    put_at vs (Guarded section.Timer) (Delays (with_cancelled n h (timed (vs (Guarded section.Timer)))))
+effect (Moves n h i) vs =
+    put_at vs (Guarded section.Timer) (Delays (with_moved n h i (timed (vs (Guarded section.Timer)))))
 effect a vs = vs

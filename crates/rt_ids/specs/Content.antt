@@ -1,7 +1,9 @@
 -- What resources and queues hold while code runs. A queue is no different from a resource: a section has a content. The
--- places of a software task that are out are a number, ready messages and armed messages are lists (the RTIC 1 book,
--- software tasks and the monotonic). The code keeps cells of memory, rings and a sorted list.
-use Rattle.std.specs.Prelude.{ℕ, Bool, false, ◌==◌, min, List, [], ◌∷◌, Option, Some, None, if◌then◌else◌, find, remove}
+-- places of a software task that are out are a number, ready messages are a list, and the timer queue is a list of armed
+-- messages with the counts that its handles and its order go by (the RTIC 1 book, software tasks and the monotonic; its
+-- handles of scheduled messages). The code keeps cells of memory and rings.
+use Rattle.std.specs.Prelude.{ℕ, ◌+◌, ◌^◌, ◌<◌, Bool, false, ◌==◌, ◌&&◌, min, List, [], ◌∷◌, ◌++◌, Option, Some, None}
+use Rattle.std.specs.Prelude.{if◌then◌else◌, find, remove}
 use Rattle.std.specs.List.{position_or_len}
 use Rattle.rt_ids.specs.Holder.{Holder, is_same_holder}
 
@@ -10,37 +12,60 @@ pub record Message : Type 0 where
   pub task : ℕ
   pub args : List ℕ
 
--- a message that waits for its instant, in ticks
+-- a message that waits for its instant, in ticks, and the handle that the `spawn_after` gave which armed it
 pub record Armed : Type 0 where
   pub instant : ℕ
   pub message : Message
+  pub handle : ℕ
+
+-- what the timer queue holds
+pub record Timed : Type 0 where
+  -- how many messages were armed by a `spawn_after` so far; the last of them has this handle
+  pub given : ℕ
+  -- how many times a message was put to another instant so far
+  pub moved : ℕ
+  -- the armed messages, in order of their last arming; to be put to another instant counts as an arming
+  pub armed : List Armed
 
 pub data Content : Type 0 where
   -- a resource has a value; of the places of a task so many are out
   Number : (n : ℕ) → Content
   -- ready messages, the oldest first
   Messages : (messages : List Message) → Content
-  -- armed messages, in order of arming
-  Delays : (armed : List Armed) → Content
+  Delays : (timed : Timed) → Content
 
 abbrev pub Values : Type 0
 Values = Holder → Content
 
--- the number, the messages, the armed messages of a content that has such
+-- the timer queue at reset
+abbrev pub nothing_armed : Timed
+nothing_armed = record { given = 0; moved = 0; armed = [] }
+
+-- the number, the messages, the timer queue of a content that has such
 abbrev pub number : Content → ℕ
 number (Number n) = n
 number (Messages messages) = 0
-number (Delays armed) = 0
+number (Delays timed) = 0
 
 abbrev pub messages : Content → List Message
 messages (Number n) = []
 messages (Messages ms) = ms
-messages (Delays armed) = []
+messages (Delays timed) = []
 
+abbrev pub timed : Content → Timed
+timed (Number n) = nothing_armed
+timed (Messages messages) = nothing_armed
+timed (Delays t) = t
+
+-- its armed messages
 abbrev pub delays : Content → List Armed
-delays (Number n) = []
-delays (Messages messages) = []
-delays (Delays armed) = armed
+delays content = (timed content).armed
+
+-- one more arming may come: the number of armings, first ones and later ones, stays a number of 31 bits
+abbrev pub MayArm : Content → Type 0
+MayArm (Number n) = Unit {0}
+MayArm (Messages messages) = Unit {0}
+MayArm (Delays t) = t.given + t.moved < 2 ^ 31
 
 -- the values with another content at one holder
 abbrev pub put_at : Values → Holder → Content → Values
@@ -65,3 +90,37 @@ least armed = find (has_instant (least_instant armed)) armed
 
 abbrev pub without_least : List Armed → List Armed
 without_least armed = remove armed (position_or_len (has_instant (least_instant armed)) armed)
+
+-- the armed message of a task that has a handle, and the armed messages without it
+abbrev pub has_handle : ℕ → ℕ → Armed → Bool
+has_handle task handle a = (a.message.task == task) && (a.handle == handle)
+
+abbrev pub armed_as : ℕ → ℕ → List Armed → Option Armed
+armed_as task handle armed = find (has_handle task handle) armed
+
+abbrev pub without_handle : ℕ → ℕ → List Armed → List Armed
+without_handle task handle armed = remove armed (position_or_len (has_handle task handle) armed)
+
+-- A message more is armed for an instant, with the next handle; the least armed message leaves; the message of a handle
+-- leaves, or goes last for another instant and keeps its handle.
+abbrev pub with_armed : ℕ → Message → Timed → Timed
+with_armed instant message t = record t {
+  given = t.given + 1;
+  armed = t.armed ++ record { instant = instant; message = message; handle = t.given + 1 } ∷ [];
+}
+
+abbrev pub with_fired : Timed → Timed
+with_fired t = record t { armed = without_least t.armed }
+
+abbrev pub with_cancelled : ℕ → ℕ → Timed → Timed
+with_cancelled task handle t = record t { armed = without_handle task handle t.armed }
+
+abbrev pub postponed : ℕ → Option Armed → List Armed
+postponed instant None = []
+postponed instant (Some a) = record a { instant = instant } ∷ []
+
+abbrev pub with_moved : ℕ → ℕ → ℕ → Timed → Timed
+with_moved task handle instant t = record t {
+  moved = t.moved + 1;
+  armed = without_handle task handle t.armed ++ postponed instant (armed_as task handle t.armed);
+}

@@ -5,6 +5,8 @@ pub mod Names
 pub mod Naming
 pub mod Status
 pub mod Event
+pub mod Exception
+pub mod Limits
 pub mod Operation
 pub mod Priority
 pub mod Choice

@@ -14,7 +14,7 @@ words =
     ∷ codes "with"
     ∷ codes "let" ∷ codes "if" ∷ codes "else" ∷ codes "for" ∷ codes "in" ∷ codes "lock" ∷ codes "emit" ∷ codes "pend"
     ∷ codes "spawn"
-    ∷ codes "spawn_after" ∷ codes "now" ∷ []
+    ∷ codes "spawn_after" ∷ codes "now" ∷ codes "cancel" ∷ codes "reschedule_after" ∷ []
 
 abbrev pub is_word : List ℕ → Bool
 is_word text = list_any (λ w. bytes_eq text w) words

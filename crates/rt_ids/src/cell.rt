@@ -1,7 +1,7 @@
 use crate::name::Name;
 
 /// A cell of the memory that code reads and writes by `load` and `store`: its name, and its value after reset.
-#[derive(Debug, Drop)]
+#[derive(Drop)]
 pub struct CellRow {
     pub name: Name,
     pub first: u32,

@@ -4,7 +4,7 @@ ghost use Rattle.rt_ids.specs.declared.limits.TheConstants.{IRQ_NUMBERS};
 use crate::limits::IRQ_NUMBERS;
 use std::marker::Model;
 
-/// The number of an external interrupt of the ARMv7-M interrupt controller, 0 to 239. Its exception number is
+/// The number of an external interrupt of the ARMv7-M interrupt controller, 0 to 495. Its exception number is
 /// 16 more. Contracts see the number.
 #[derive(Clone, Copy, Debug, PartialEq, Eq, PartialOrd, Ord, Hash)]
 pub struct Irq(u16);
@@ -35,7 +35,7 @@ impl Irq {
         }
     }
 
-    /// Its number, 0 to 239.
+    /// Its number, 0 to 495.
     pub fn get(self) -> u16
         ensures value { result ≡ self }
         ensures in_range { result < IRQ_NUMBERS }

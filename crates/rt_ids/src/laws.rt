@@ -1,3 +1,4 @@
+ghost use Rattle.rt_ids.specs.Limits.{TellLimits, TellFrames};
 ghost use Rattle.rt_ids.specs.Priority.{TellsPriorities};
 
 /// The priority values of the interrupt controller tell the logical priorities: they fall as the priorities rise, from
@@ -5,4 +6,10 @@ ghost use Rattle.rt_ids.specs.Priority.{TellsPriorities};
 #[tactic(auto, using(crate::proofs::Hardware::tells_priorities))]
 pub fn values_tell_priorities()
     ensures { TellsPriorities }
+{}
+
+/// The limits and the sizes of exception frames in numbers, as the documents have them.
+pub fn constants_are_as_documented()
+    ensures limits { TellLimits }
+    ensures frames { TellFrames }
 {}

@@ -2,6 +2,7 @@
 #![tactic(auto)]
 
 pub mod cell;
+pub mod exception;
 pub mod ids;
 pub mod irq;
 pub mod laws;
@@ -16,12 +17,14 @@ pub mod priority;
 pub mod refusal;
 pub mod rule;
 pub mod status;
+pub mod text;
 pub mod word;
 
 pub use cell::CellRow;
+pub use exception::{BASIC_FRAME_WORDS, EXTENDED_FRAME_WORDS, entry_words};
 pub use ids::{BodyId, ResId, Section, TaskId};
 pub use irq::Irq;
-pub use laws::values_tell_priorities;
+pub use laws::{constants_are_as_documented, values_tell_priorities};
 pub use limit::Limit;
 pub use memory::NoMemory;
 pub use name::Name;
@@ -32,4 +35,5 @@ pub use priority::Prio;
 pub use refusal::{Fault, Refusal, Refused};
 pub use rule::Rule;
 pub use status::Status;
+pub use text::{push_bytes, push_number};
 pub use word::{is_identifier, is_letter, is_name, is_name_byte, is_word};

@@ -9,7 +9,7 @@ pub enum Limit {
     Locals,
     /// 240 declared interrupts.
     Interrupts,
-    /// Interrupt numbers from 0 to 239.
+    /// Interrupt numbers from 0 to 495.
     Interrupt,
     /// From 3 to 7 priority bits.
     Bits,

@@ -15,8 +15,8 @@ pub const DEVICES: u8 = 16;
 /// Bytes of a trace text.
 pub const TRACE_BYTES: u32 = 268_435_456;
 
-/// Interrupt numbers that there are: 0 to 239.
-pub const IRQ_NUMBERS: u16 = 240;
+/// Interrupt numbers that there are: 0 to 495.
+pub const IRQ_NUMBERS: u16 = 496;
 
 /// The priority value of the thread: it is lower than the priority of every interrupt, and masks nothing.
 pub const THREAD_VALUE: u16 = 256;

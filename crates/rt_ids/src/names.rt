@@ -15,7 +15,6 @@ use std::marker::Model;
 
 /// The names that an application declares, in order of declaration. Contracts see a record of three lists: each is of
 /// names, none of them stands in it twice, and it is no longer than the limits allow.
-#[derive(Debug, Drop)]
 pub struct Names {
     irqs: IndexMap<Vec<u8>, Irq>,
     tasks: IndexSet<Vec<u8>>,
@@ -31,6 +30,16 @@ impl Model for Names {
     ghost view = { λ names. kept names.irqs.entries names.tasks.keys names.shared.keys };
 
     ghost invariant = { λ names. AreNames (kept names.irqs.entries names.tasks.keys names.shared.keys) };
+}
+
+impl Drop for Names {
+    fn drop(self) {
+        let Names {
+            irqs: _,
+            tasks: _,
+            shared: _,
+        } = self;
+    }
 }
 
 impl Names {

@@ -3,7 +3,7 @@ use crate::place::Place;
 use crate::rule::Rule;
 
 /// What is wrong with an application text.
-#[derive(Clone, Copy, Debug, PartialEq, Eq)]
+#[derive(Clone, Copy, PartialEq, Eq)]
 pub enum Refusal {
     /// The text has more than 262,144 bytes.
     TooLong,
@@ -17,14 +17,14 @@ pub enum Refusal {
 }
 
 /// A refusal of an application text, and where it stands.
-#[derive(Clone, Copy, Debug, PartialEq, Eq)]
+#[derive(Clone, Copy, PartialEq, Eq)]
 pub struct Fault {
     pub place: Place,
     pub refusal: Refusal,
 }
 
 /// Why an application was not taken.
-#[derive(Clone, Copy, Debug, PartialEq, Eq, Drop)]
+#[derive(Clone, Copy, PartialEq, Eq, Drop)]
 pub enum Refused {
     At(Fault),
     NoMemory,

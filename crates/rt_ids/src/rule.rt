@@ -1,5 +1,5 @@
 /// A rule of applications, in the order of the numbers of their refusals.
-#[derive(Clone, Copy, Debug, PartialEq, Eq)]
+#[derive(Clone, Copy, PartialEq, Eq)]
 pub enum Rule {
     /// A name is not declared, or a local resource is used by a body that does not list it.
     UnknownName,

@@ -37,7 +37,7 @@ pub fn is_word(text: &[u8]) -> bool
     match *first {
         b'a' => spells(text, b"app"),
         b'b' => spells(text, b"bits") || spells(text, b"binds"),
-        b'c' => spells(text, b"capacity"),
+        b'c' => spells(text, b"capacity") || spells(text, b"cancel"),
         b'd' => spells(text, b"dispatchers"),
         b'e' => spells(text, b"else") || spells(text, b"emit"),
         b'f' => spells(text, b"for"),
@@ -46,6 +46,7 @@ pub fn is_word(text: &[u8]) -> bool
         b'm' => spells(text, b"monotonic"),
         b'n' => spells(text, b"now"),
         b'p' => spells(text, b"priority") || spells(text, b"pend"),
+        b'r' => spells(text, b"reschedule_after"),
         b's' => spells(text, b"shared") || spells(text, b"spawn") || spells(text, b"spawn_after"),
         b't' => spells(text, b"task"),
         b'w' => spells(text, b"with"),

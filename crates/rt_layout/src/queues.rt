@@ -6,8 +6,7 @@ ghost use Rattle.rt_layout.specs.Inside.Rows as rows;
 
 use crate::row::{push_cell, push_numbered};
 use rt_app::Task;
-use rt_ids::{CellRow, NoMemory};
-use rt_text::{push_bytes, push_number};
+use rt_ids::{CellRow, NoMemory, push_bytes, push_number};
 use std::alloc::Global;
 
 /// Appends so many cells that hold 0, whose names end in numbers from 0 on.

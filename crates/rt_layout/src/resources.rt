@@ -3,8 +3,7 @@ ghost use Rattle.rt_layout.specs.Inside.Rows.{resource_row, local_row};
 
 use crate::row::push_cell;
 use rt_app::{Local, Shared};
-use rt_ids::{CellRow, NoMemory};
-use rt_text::push_bytes;
+use rt_ids::{CellRow, NoMemory, push_bytes};
 use std::alloc::Global;
 
 /// Appends the cells of resources.

@@ -1,8 +1,7 @@
 ghost use Rattle.std.specs.Prelude.{◌≡◌, ◌∷◌, ◌++◌, [], decimal, OnOk};
 ghost use Rattle.rt_layout.specs.Inside.Rows.{row};
 
-use rt_ids::{CellRow, Name, NoMemory};
-use rt_text::push_number;
+use rt_ids::{CellRow, Name, NoMemory, push_number};
 use std::alloc::Global;
 
 /// Appends a cell of this name.

@@ -18,6 +18,10 @@ abbrev pub if_word : Kind → Bool → Bool
 if_word kind.Word same = same
 if_word other same = false
 
+abbrev pub if_name : Kind → Bool → Bool
+if_name kind.Name same = same
+if_name other same = false
+
 abbrev pub if_sign : Kind → Bool → Bool
 if_sign kind.Sign same = same
 if_sign other same = false
@@ -25,6 +29,10 @@ if_sign other same = false
 -- whether a token is this word
 abbrev pub is_this_word : List ℕ → Token → Bool
 is_this_word word t = if_word t.kind (bytes_eq t.text word)
+
+-- whether a token is this name
+abbrev pub is_this_name : List ℕ → Token → Bool
+is_this_name name t = if_name t.kind (bytes_eq t.text name)
 
 -- whether a token is this sign
 abbrev pub is_this_sign : List ℕ → Token → Bool

@@ -34,6 +34,13 @@ impl<'a> Token<'a> {
         self.kind == Kind::Word && self.text == word
     }
 
+    /// Whether it is this name.
+    pub fn is_name(&self, name: &[u8]) -> bool
+        ensures { result ≡ is_this_name name.now (view self.now) }
+    {
+        self.kind == Kind::Name && self.text == name
+    }
+
     /// Whether it is this sign.
     pub fn is_sign(&self, sign: &[u8]) -> bool
         ensures { result ≡ is_this_sign sign.now (view self.now) }

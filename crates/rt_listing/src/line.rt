@@ -8,8 +8,7 @@ ghost use Rattle.rt_listing.specs.Numbers.{IsShort, AreShort, instr_numbers, sec
 use crate::names::{body_name, irq_name, resource_name, task_name};
 use itoa::Buffer;
 use rt_code::{Instr, Note};
-use rt_ids::{Irq, Names, NoMemory, Op, Section, TaskId};
-use rt_text::{push_bytes, push_number};
+use rt_ids::{Irq, Names, NoMemory, Op, Section, TaskId, push_bytes, push_number};
 
 /// Appends a space and a number.
 pub(crate) fn push_spaced(out: &mut Vec<u8>, number: u32) -> Result<(), NoMemory>

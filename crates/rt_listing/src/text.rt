@@ -7,8 +7,7 @@ ghost use Rattle.rt_listing.specs.Short.{IsShortCell, IsShortIrq, IsShortBody, H
 use crate::line::{push_count, push_instr, push_note, push_spaced};
 use crate::names::task_name;
 use rt_code::{BodyRow, Image, Instr, IrqRow, Note};
-use rt_ids::{CellRow, Names, NoMemory};
-use rt_text::push_bytes;
+use rt_ids::{CellRow, Names, NoMemory, push_bytes};
 use std::alloc::Global;
 
 /// The text of an image.

@@ -4,8 +4,7 @@ ghost use Rattle.rt_report.specs.Report.{body_name, body_lines, wait_line, stack
 
 use crate::line::{push_line, push_numbered};
 use rt_app::{App, BodyBound, Bounds, Task, Wait};
-use rt_ids::{BodyId, NoMemory};
-use rt_text::{push_bytes, push_number};
+use rt_ids::{BodyId, NoMemory, push_bytes, push_number};
 
 /// Appends the bounds.
 pub(crate) fn push_bounds(out: &mut Vec<u8>, app: &App, bounds: &Bounds) -> Result<(), NoMemory>

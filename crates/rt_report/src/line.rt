@@ -1,8 +1,7 @@
 ghost use Rattle.std.specs.Prelude.{◌≡◌, ◌++◌, decimal, OnOk};
 ghost use Rattle.rt_report.specs.Report.{line};
 
-use rt_ids::NoMemory;
-use rt_text::{push_bytes, push_number};
+use rt_ids::{NoMemory, push_bytes, push_number};
 
 /// Appends a line of a word, a name and a number.
 #[tactic(auto, unfolding(crate::specs::Report::line))]

@@ -13,9 +13,8 @@ ghost use Rattle.rt_sim.specs.Inside.Writing.{IsWritable, ShowsWords, Writes};
 
 use crate::numbers::numbers_fit;
 use rt_core::Core;
-use rt_ids::{Irq, Names, NoMemory};
+use rt_ids::{Irq, Names, NoMemory, push_bytes, push_number};
 use rt_script::{Line, Script};
-use rt_text::{push_bytes, push_number};
 use rt_trace::{Item, What, line};
 use std::alloc::Global;
 

@@ -1,8 +1,7 @@
 ghost use Rattle.std.specs.Prelude.{◌≡◌, ◌++◌, decimal, OnOk, IfOk};
 ghost use Rattle.rt_top.specs.Refusal.{limit_word, rule_words, refusal_words, refusal_line};
 
-use rt_ids::{Fault, Limit, NoMemory, Refusal, Rule};
-use rt_text::{push_bytes, push_number};
+use rt_ids::{Fault, Limit, NoMemory, Refusal, Rule, push_bytes, push_number};
 use std::alloc::Global;
 
 /// The line that refuses an application text.

@@ -7,10 +7,9 @@ ghost use Rattle.rt_ids.specs.declared.status.Status.TheVariants as status;
 
 use crate::refusal::refusal_line;
 use itoa::Buffer;
-use rt_ids::{Fault, NoMemory, Status};
+use rt_ids::{Fault, NoMemory, Status, push_bytes};
 use rt_outside::{Sink, put_all};
 use rt_script::ScriptRefused;
-use rt_text::push_bytes;
 use rt_trace::TraceRefused;
 use std::alloc::Global;
 

@@ -20,12 +20,11 @@ use crate::reply::{Reply, refuse_script};
 use rt_app::App;
 use rt_core::Core;
 use rt_ids::limits::SCRIPT_BYTES;
-use rt_ids::{NoMemory, Status};
+use rt_ids::{NoMemory, Status, push_bytes};
 use rt_listing::listing;
 use rt_outside::Source;
 use rt_script::{Script, ScriptRefused, read_script};
 use rt_sim::{prepare, trace_text};
-use rt_text::push_bytes;
 use std::alloc::Global;
 
 /// `run APP SCRIPT`: the listing of the application's image, and that image's trace under the script.

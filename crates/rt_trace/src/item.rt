@@ -40,6 +40,10 @@ pub enum What {
     Arm(TaskId, u32),
     /// A due message leaves the timer queue.
     Fire(TaskId),
+    /// The message of a handle leaves the timer queue.
+    Cancel(TaskId, u32),
+    /// The message of a handle waits for another instant.
+    Move(TaskId, u32, u32),
     /// A body ends, and the code goes on.
     End(BodyId),
     /// The core traps, for the reason of this number.

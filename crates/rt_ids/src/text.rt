@@ -1,10 +1,8 @@
 // Texts in the making: what is written is appended to a vector of bytes.
-#![tactic(auto)]
-
 ghost use Rattle.std.specs.Prelude.{◌≡◌, ◌++◌, decimal, OnOk};
 
+use crate::memory::NoMemory;
 use itoa::Buffer;
-use rt_ids::NoMemory;
 
 /// Appends bytes.
 pub fn push_bytes(out: &mut Vec<u8>, bytes: &[u8]) -> Result<(), NoMemory>

@@ -3,11 +3,11 @@ ghost use Rattle.rt_app.specs.Accepted.{IsAccepted};
 ghost use Rattle.rt_app.specs.Plan.{IsPlan};
 ghost use Rattle.rt_app.specs.View.{app_of};
 
+use crate::memory::layout;
 use rt_app::{App, Plan};
 use rt_ceil::ceilings;
 use rt_frames::body_frames;
 use rt_ids::NoMemory;
-use rt_layout::layout;
 use std::alloc::Global;
 
 /// The plan of an application: its ceilings, its cells in memory, and the frames of its bodies.
