@@ -4,7 +4,7 @@ if exists("b:current_syntax")
 endif
 syntax keyword rticDeclaration app bits dispatchers interrupts monotonic shared local lock_free init idle task with
 syntax keyword rticOption binds priority capacity
-syntax keyword rticStatement let if else for in lock emit pend spawn spawn_after now
+syntax keyword rticStatement let if else for in lock emit pend spawn spawn_after cancel reschedule_after now
 syntax match rticNumber "\<\(0x\x\+\|\d\+\)\>"
 syntax match rticOperator "<<\|>>\|==\|!=\|<=\|>=\|\.\.\|[-+*/%&|^<>=]"
 syntax match rticComment "//.*$"
