@@ -2,7 +2,7 @@
 use Rattle.std.proofs.Common.{◌≡◌, ℕ, ◌+◌, ◌*◌, ◌<◌, ◌≤◌, ◌⊎◌, zero, suc, max, Bool, true, false, List, [], ◌∷◌, if◌then◌else◌, sym, ap, zero-mul, ⊎_elim, inl, inr, ◌∙◌, arith}
 use Rattle.std.proofs.Math.Nat.{min-eq_left}
 use Rattle.std.proofs.lemmas.Bool.{cases_order}
-use Rattle.rt_app.specs.Tree.{Expression, Num, Read, Oper, Spawn, Soon, After, Value, Calc, Now, Call, Statement, Bind, Assign, Branch, Repeat, Locked, Emit, Pend, Spawns, Block, Empty, Then}
+use Rattle.rt_app.specs.Tree.{Expression, Num, Read, Oper, Spawn, Soon, After, Cancel, Move, Value, Calc, Now, Call, Statement, Bind, Assign, Branch, Repeat, Locked, Emit, Pend, Spawns, Block, Empty, Then}
 use Rattle.rt_app.specs.Cost.{Measure, capped, branch_cost, turns, expression_cost, expressions_cost, spawn_cost, bind_cost, statement_cost, block_cost}
 use Rattle.rt_app.specs.Steps.{expression_steps, expressions_steps, spawn_steps, bind_steps, statement_steps, block_steps, CapSteps}
 
@@ -42,6 +42,8 @@ module _ (m : Measure) where
   capped_spawn : (s : Spawn) → spawn_cost m s ≡ capped (spawn_steps m s)
   capped_spawn (Soon task args at) = omega (arith, capped_expressions args)
   capped_spawn (After word delay task args at) = omega (arith, capped_expression delay, capped_expressions args)
+  capped_spawn (Cancel word task handle at) = omega (arith, capped_expression handle)
+  capped_spawn (Move word delay task handle at) = omega (arith, capped_expression delay, capped_expression handle)
 
   capped_bind : (v : Value) → bind_cost m v ≡ capped (bind_steps m v)
   capped_bind (Calc e) = omega (arith, capped_expression e)

@@ -5,7 +5,7 @@ use Rattle.std.proofs.lemmas.Option.{same_Some, none-some, slice_get_within}
 use Rattle.rt_lemmas.proofs.Places.{read_at, there_is}
 use Rattle.rt_ids.specs.Lists.{or_zero}
 use Rattle.rt_ids.specs.Holder.{Holder, Guarded, Own}
-use Rattle.rt_ids.specs.Content.{Content, Number, Messages, Delays}
+use Rattle.rt_ids.specs.Content.{Content, Number, Messages, Delays, nothing_armed}
 use Rattle.rt_ids.specs.Entry.{Entry}
 use Rattle.rt_ids.specs.declared.ids.Section.TheVariants as section
 use Rattle.rt_app.specs.Tree.{Task, App}
@@ -35,7 +35,7 @@ abbrev pub first_contents : App → Holder → Content
 first_contents app (Guarded (section.Res r)) = Number (or_zero (option_map (λ s. s.first) (slice_get app.shared r)))
 first_contents app (Guarded (section.Free n)) = Number 0
 first_contents app (Guarded (section.Ready p)) = Messages []
-first_contents app (Guarded section.Timer) = Delays []
+first_contents app (Guarded section.Timer) = Delays nothing_armed
 first_contents app (Own n) = Number (or_zero (option_map (λ l. l.first) (slice_get app.locals n)))
 
 all_mapped : {X : Type 0} (P : X → Type 0) (f : ℕ → X) (first count : ℕ) → ((k : ℕ) → k < count → P (f (first + k))) → AllByRecursion P (map f (range_with_len first count))

@@ -24,5 +24,7 @@ pub mod Spelling
 mod RowParts
 mod RowsActions
 mod RowsMessages
+mod RowsHandles
+mod RowsNumbers
 mod RowsLayout
 pub mod LaidFirst

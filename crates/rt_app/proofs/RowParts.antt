@@ -2,7 +2,7 @@
 use Rattle.std.proofs.Common.{ℕ, true, false, List, [], ◌∷◌, map, Some, None, slice_get}
 use Rattle.rt_ids.specs.Lists.{or_zero}
 use Rattle.rt_ids.specs.Holder.{Guarded, Own}
-use Rattle.rt_ids.specs.Content.{Number, Messages, Delays, Message, Values}
+use Rattle.rt_ids.specs.Content.{Number, Messages, Delays, Message, Values, nothing_armed}
 use Rattle.rt_ids.specs.Action.{Action, Clocks, effect}
 use Rattle.rt_ids.specs.Doing.{Doing, over, does}
 use Rattle.rt_ids.specs.declared.ids.Section.TheVariants as section
@@ -32,7 +32,7 @@ abbrev pub at_reset : List ℕ → Values
 at_reset firsts (Guarded (section.Res r)) = Number (or_zero (slice_get firsts r))
 at_reset firsts (Guarded (section.Free n)) = Number 0
 at_reset firsts (Guarded (section.Ready p)) = Messages []
-at_reset firsts (Guarded section.Timer) = Delays []
+at_reset firsts (Guarded section.Timer) = Delays nothing_armed
 at_reset firsts (Own n) = Number 0
 
 -- a message with one argument
@@ -80,12 +80,15 @@ software name priority capacity args body = record {
   body = body;
 }
 
--- a statement that ends a block; the first variable, a shared resource; an assignment to that
+-- a statement that ends a block; a variable, the first of them, a shared resource; an assignment to that
 abbrev pub last : Statement → Block
 last s = Then s Empty
 
+abbrev pub variable : ℕ → Expression
+variable x = Read (atom.Var x) 0
+
 abbrev pub argument : Expression
-argument = Read (atom.Var 0) 0
+argument = variable 0
 
 abbrev pub resource : ℕ → Expression
 resource r = Read (atom.Shared r) 0

@@ -1,5 +1,5 @@
 -- Worked examples: what bodies come to is what a person worked out from the language's rules. Bodies with locks.
-use Rattle.std.proofs.Common.{◌≡◌, [], ◌∷◌, refl, codes, None}
+use Rattle.std.proofs.Common.{◌≡◌, false, [], ◌∷◌, refl, codes, None}
 use Rattle.rt_ids.specs.Holder.{Guarded}
 use Rattle.rt_ids.specs.Content.{Number}
 use Rattle.rt_ids.specs.Action.{Enters, Leaves, Emits, Posts, Returns}
@@ -15,6 +15,7 @@ use Rattle.rt_app.proofs.RowParts.{alone, left, at_reset, irq, shared, body_list
 own : App
 own = record {
   bits = 4;
+  fpu = false;
   irqs = irq (codes "A") 0 ∷ [];
   dispatchers = [];
   mono = None;
@@ -41,6 +42,7 @@ one_lock_adds = refl
 top : App
 top = record {
   bits = 3;
+  fpu = false;
   irqs = irq (codes "LO") 0 ∷ irq (codes "TOP") 1 ∷ [];
   dispatchers = [];
   mono = None;
@@ -74,6 +76,7 @@ reads_behind_the_lock = refl
 nest : App
 nest = record {
   bits = 4;
+  fpu = false;
   irqs = irq (codes "L") 0 ∷ irq (codes "M") 1 ∷ irq (codes "H") 2 ∷ [];
   dispatchers = [];
   mono = None;

@@ -1,5 +1,5 @@
 -- A worked example: where a person laid the memory of an application by the order of its regions.
-use Rattle.std.proofs.Common.{◌≡◌, ℕ, List, [], ◌∷◌, refl, codes, None}
+use Rattle.std.proofs.Common.{◌≡◌, false, ℕ, List, [], ◌∷◌, refl, codes, None}
 use Rattle.std.specs.Fmt.{digits}
 use Rattle.rt_ids.specs.Lists.{those_below}
 use Rattle.rt_ids.specs.Holder.{Guarded, Own}
@@ -16,6 +16,7 @@ use Rattle.rt_app.proofs.RowParts.{irq, dispatcher, shared, body_listing, hardwa
 laid : App
 laid = record {
   bits = 4;
+  fpu = false;
   irqs = irq (codes "A") 0 ∷ irq (codes "D") 1 ∷ irq (codes "E") 2 ∷ [];
   dispatchers = dispatcher 1 ∷ dispatcher 2 ∷ [];
   mono = None;

@@ -1,5 +1,5 @@
 -- Worked examples: what bodies and handlers come to is what a person worked out from the language's rules. Messages of software tasks.
-use Rattle.std.proofs.Common.{◌≡◌, [], ◌∷◌, refl, codes, Some, None}
+use Rattle.std.proofs.Common.{◌≡◌, false, [], ◌∷◌, refl, codes, Some, None}
 use Rattle.rt_ids.specs.Content.{Values}
 use Rattle.rt_ids.specs.Action.{Enters, Leaves, Emits, Posts, Clocks, Takes, Refuses, Readies, Starts, Frees, Arms, Fires, SetsAlarm, Ends, Returns}
 use Rattle.rt_ids.specs.Lists.{those_below}
@@ -17,6 +17,7 @@ use Rattle.rt_app.proofs.RowParts.{alone, left, at_reset, message, irq, dispatch
 cap : App
 cap = record {
   bits = 4;
+  fpu = false;
   irqs = irq (codes "A") 0 ∷ irq (codes "D") 1 ∷ [];
   dispatchers = dispatcher 1 ∷ [];
   mono = None;
@@ -92,6 +93,7 @@ no_message = refl
 timed : App
 timed = record {
   bits = 4;
+  fpu = false;
   irqs = irq (codes "A") 0 ∷ irq (codes "D") 1 ∷ irq (codes "T") 2 ∷ [];
   dispatchers = dispatcher 1 ∷ [];
   mono = Some (record { irq = 2; priority = 3; at = 0; priority_at = 0 });

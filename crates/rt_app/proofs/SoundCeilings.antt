@@ -18,8 +18,8 @@ use Rattle.rt_app.specs.Bodies.{Member, members, member_at}
 use Rattle.rt_app.specs.Bodies as bodies
 use Rattle.rt_app.specs.Level.{is_software, is_of_level, levels, holds}
 use Rattle.rt_app.specs.Stack.{has_handler, is_timed_at, handler_levels}
-use Rattle.rt_app.specs.Ceiling.{greatest_priority, arms_level, readies, mover_priority, ceiling}
-use Rattle.rt_app.specs.Spawned.{target, is_soon}
+use Rattle.rt_app.specs.Ceiling.{greatest_priority, uses_places_of, arms_level, readies, mover_priority, ceiling}
+use Rattle.rt_app.specs.Spawned.{uses_timer}
 use Rattle.rt_app.specs.Declarations.{is_priority, mono_priority, task_priority}
 use Rattle.rt_app.specs.Accepted.{IsAccepted}
 use Rattle.rt_app.specs.Acceptance.{IsSectionOf}
@@ -100,6 +100,6 @@ module _ (app : App) (accepted : IsAccepted app) (parts : Parts app) where
 
   pub ceiling_in_range : (s : Section) → IsSectionOf app s → ceiling app s ≤ most
   ceiling_in_range (section.Res r) is = greatest_in_range _
-  ceiling_in_range (section.Free n) is = omega (arith, task_in_range n, greatest_in_range (holds (λ s. target s == n)))
+  ceiling_in_range (section.Free n) is = omega (arith, task_in_range n, greatest_in_range (holds (uses_places_of n)))
   ceiling_in_range (section.Ready p) is = omega (arith, (all_has IsLevel (levels app) p levels_in_range is).1, greatest_in_range (holds (readies app p)), mover_in_range p app.mono refl)
-  ceiling_in_range section.Timer is = omega (arith, timer_in_range app.mono refl, greatest_in_range (holds (λ s. not (is_soon s))))
+  ceiling_in_range section.Timer is = omega (arith, timer_in_range app.mono refl, greatest_in_range (holds uses_timer))

@@ -1,6 +1,6 @@
 -- What the expressions of a body that breaks no rule reach.
 use Rattle.std.proofs.Common.{◌≡◌, ◌⊎◌, ℕ, ◌+◌, ◌<◌, ◌≤◌, ◌==◌, Bool, true, false, Contains, List, [], ◌∷◌, ◌++◌, length, map, flat_map, slice_get, refl, ap, ◌∙◌, inl, inr, arith, eq-eqb}
-use Rattle.std.specs.Prelude.{not, is_none, Option, Some}
+use Rattle.std.specs.Prelude.{is_none, Option, Some}
 use Rattle.std.specs.List.{AllByRecursion, list_any}
 use Rattle.std.proofs.lemmas.Bool.{eqb-true}
 use Rattle.rt_lemmas.proofs.Bools.{and_both, and_left, and_right, or_left, not_false}
@@ -10,17 +10,19 @@ use Rattle.rt_ids.specs.Lists.{is_some_and}
 use Rattle.rt_ids.specs.declared.rule.Rule.TheVariants as rule
 use Rattle.rt_app.specs.declared.expr.Atom.{Atom}
 use Rattle.rt_app.specs.declared.expr.Atom.TheVariants as atom
-use Rattle.rt_app.specs.Tree.{Expression, Num, Read, Oper, Spawn, Soon, After, Value, Calc, Now, Call, Task, App}
+use Rattle.rt_app.specs.declared.app.Mono.{Mono}
+use Rattle.rt_app.specs.Tree.{Expression, Num, Read, Oper, Spawn, Soon, After, Cancel, Move, Value, Calc, Now, Call}
+use Rattle.rt_app.specs.Tree.{Task, App}
 use Rattle.rt_app.specs.Variables.{variables}
 use Rattle.rt_app.specs.Bodies.{Member, members}
-use Rattle.rt_app.specs.Spawned.{is_soon, target, value_spawns}
+use Rattle.rt_app.specs.Spawned.{uses_timer, value_spawns}
 use Rattle.rt_app.specs.Level.{is_software, is_of_level, arms, holds}
-use Rattle.rt_app.specs.Ceiling.{greatest_priority, readies}
+use Rattle.rt_app.specs.Ceiling.{greatest_priority, uses_places_of, readies}
 use Rattle.rt_app.specs.Limits.{ExpressionFits, SpawnFits, ValueFits}
 use Rattle.rt_app.specs.Use.{reads, spawn_uses, value_uses}
-use Rattle.rt_app.specs.Statements.{is_init, is_lockable, is_free, is_outside, takes, is_bad_spawn, breaks}
+use Rattle.rt_app.specs.Statements.{is_init, is_lockable, is_free, is_outside, takes, is_bad_spawn, is_bad_message, breaks}
 use Rattle.rt_app.specs.Accepted.{IsMeant, AreMeant, IsSpawnPlaced, IsValuePlaced}
-use Rattle.rt_app.specs.Sound.{IsReached, AreReached, SpawnsTask, IsSoundSpawn, IsSoundValue}
+use Rattle.rt_app.specs.Sound.{IsReached, AreReached, SpawnsTask, AddressesMessage, IsSoundSpawn, IsSoundValue}
 use Rattle.rt_app.specs.Violation.{when}
 use Rattle.rt_app.proofs.Unbroken.{not_broken, known, of_known, is_there, is_one_that, not_outside}
 
@@ -74,11 +76,12 @@ module _ (app : App) (m : Member) (declared : IsDeclared app m) where
       counted : (test : Spawn → Bool) → test s ≡ true → m.priority ≤ greatest_priority (holds test) app
       counted test is = declared.counts (holds test) (held test is)
 
-      spawned : (n : ℕ) (args : List Expression) → target s ≡ n → n < length app.tasks → is_bad_spawn app n args ≡ false → AllByRecursion (AreReached app m locked) args
+      spawned : (n : ℕ) (args : List Expression) → uses_places_of n s ≡ true → n < length app.tasks
+          → is_bad_spawn app n args ≡ false → AllByRecursion (AreReached app m locked) args
           → (t : Task) × SpawnsTask app m locked n args t
       spawned n args aims within good reached =
           let task = is_one_that (takes args) (slice_get app.tasks n) (not_false _ (of_known _ _ (known n (length app.tasks) within declared.few_tasks) good)) in
-          let most = counted (λ s. target s == n) (eq-eqb (target s) n aims) in (
+          let most = counted (uses_places_of n) aims in (
             task.0,
             record {
               is_there = task.1;
@@ -89,13 +92,30 @@ module _ (app : App) (m : Member) (declared : IsDeclared app m) where
             },
           )
 
+      addressed : (n : ℕ) (handle : Expression) → uses_timer s ≡ true → n < length app.tasks
+          → is_bad_message app n ≡ false → AreReached app m locked handle → (mono : Mono) × (app.mono ≡ Some mono)
+          → (t : Task) × AddressesMessage app m locked n handle t
+      addressed n handle aims within good reached timed =
+          let is_known = known n (length app.tasks) within declared.few_tasks in
+          let task = is_one_that is_software (slice_get app.tasks n) (not_false _ (of_known _ _ is_known good)) in
+          let most = counted uses_timer aims in (
+            task.0,
+            record {
+              is_there = task.1;
+              software = task.2;
+              reached = reached;
+              timed = timed;
+              within = omega (arith, most);
+            },
+          )
+
     pub spawn_sound : (s : Spawn) → ((test : Spawn → Bool) → test s ≡ true → holds test m ≡ true) → IsSpawnPlaced app (locals_of m) visible s → SpawnFits s → flat_map (breaks app m) (spawn_uses locked s) ≡ []
         → IsSoundSpawn app m locked s
     spawn_sound (Soon n args at) held meant fits fine =
         let bad = when (is_bad_spawn app n args) rule.NotSoftware at in
         let behind = flat_map (breaks app m) (flat_map (reads locked) args) in
         let good = not_broken (is_bad_spawn app n args) rule.NotSoftware at (append_none_left bad behind fine) in
-        let task = spawned (Soon n args at) held n args refl meant.0 good (expressions_reached args meant.1 fits (append_none_right bad behind fine)) in
+        let task = spawned (Soon n args at) held n args (eq-eqb n n refl) meant.0 good (expressions_reached args meant.1 fits (append_none_right bad behind fine)) in
         let most = counted (Soon n args at) held (readies app task.0.priority) (of_its_level (slice_get app.tasks n) task.0 task.1.is_there task.1.software) in
         (task.0, task.1, omega (arith, most))
     spawn_sound (After word delay n args at) held meant fits fine =
@@ -106,8 +126,8 @@ module _ (app : App) (m : Member) (declared : IsDeclared app m) where
         let good = not_broken (is_bad_spawn app n args) rule.NotSoftware at (append_none_right timeless bad judged) in
         let inner = append_none_right (timeless ++ bad) behind fine in
         let reached = expressions_reached args meant.2 fits.1 (none_of_back (breaks app m) (reads locked delay) (flat_map (reads locked) args) inner) in
-        let task = spawned (After word delay n args at) held n args refl meant.1 good reached in
-        let most = counted (After word delay n args at) held (λ s. not (is_soon s)) refl in (
+        let task = spawned (After word delay n args at) held n args (eq-eqb n n refl) meant.1 good reached in
+        let most = counted (After word delay n args at) held uses_timer refl in (
           task.0,
           task.1,
           expression_reached delay meant.0 fits.0 (none_of_front (breaks app m) (reads locked delay) (flat_map (reads locked) args) inner),
@@ -115,6 +135,33 @@ module _ (app : App) (m : Member) (declared : IsDeclared app m) where
           is_there app.mono (not_broken (is_none app.mono) rule.NoMonotonic word (append_none_left timeless bad judged)),
           omega (arith, most),
         )
+    spawn_sound (Cancel word n handle at) held meant fits fine =
+        let timeless = when (is_none app.mono) rule.NoMonotonic word in
+        let bad = when (is_bad_message app n) rule.NotSoftware at in
+        let behind = flat_map (breaks app m) (reads locked handle) in
+        let judged = append_none_left (timeless ++ bad) behind fine in
+        let good = not_broken (is_bad_message app n) rule.NotSoftware at (append_none_right timeless bad judged) in
+        let unbroken = not_broken (is_none app.mono) rule.NoMonotonic word (append_none_left timeless bad judged) in
+        let reached = expression_reached handle meant.1 fits (append_none_right (timeless ++ bad) behind fine) in
+        let timed = is_there app.mono unbroken in
+        let task = addressed (Cancel word n handle at) held n handle refl meant.0 good reached timed in
+        let most = counted (Cancel word n handle at) held (uses_places_of n) (eq-eqb n n refl) in
+        (task.0, task.1, omega (arith, most))
+    spawn_sound (Move word delay n handle at) held meant fits fine =
+        let timeless = when (is_none app.mono) rule.NoMonotonic word in
+        let bad = when (is_bad_message app n) rule.NotSoftware at in
+        let first = reads locked delay in
+        let second = reads locked handle in
+        let behind = flat_map (breaks app m) (first ++ second) in
+        let judged = append_none_left (timeless ++ bad) behind fine in
+        let good = not_broken (is_bad_message app n) rule.NotSoftware at (append_none_right timeless bad judged) in
+        let unbroken = not_broken (is_none app.mono) rule.NoMonotonic word (append_none_left timeless bad judged) in
+        let inner = append_none_right (timeless ++ bad) behind fine in
+        let reached = expression_reached handle meant.2 fits.1 (none_of_back (breaks app m) first second inner) in
+        let timed = is_there app.mono unbroken in
+        let task = addressed (Move word delay n handle at) held n handle refl meant.1 good reached timed in
+        let delayed = expression_reached delay meant.0 fits.0 (none_of_front (breaks app m) first second inner) in
+        (task.0, task.1, delayed)
 
     pub value_sound : (v : Value) → ((test : Spawn → Bool) → list_any test (value_spawns v) ≡ true → holds test m ≡ true) → IsValuePlaced app (locals_of m) visible v → ValueFits v
         → flat_map (breaks app m) (value_uses locked v) ≡ [] → IsSoundValue app m locked v

@@ -3,9 +3,11 @@ use Rattle.std.proofs.Common.{◌≡◌, ℕ, zero, suc, ◌+◌, ◌*◌, ◌/�
 use Rattle.std.specs.List.{AllByRecursion, list_any}
 use Rattle.std.proofs.Math.Nat.{pow-le-pow_right}
 use Rattle.rt_lemmas.proofs.Membership.{all_weaker}
+use Rattle.rt_ids.specs.Exception.{entry_words}
 use Rattle.rt_ids.specs.Lists.{greatest}
 use Rattle.rt_app.specs.declared.costs.TheConstants.{PRIORITIES}
-use Rattle.rt_app.specs.Tree.{Spawn, Soon, After, Statement, Bind, Assign, Branch, Repeat, Locked, Emit, Pend, Spawns, Block, Empty, Then, Body, Task, App}
+use Rattle.rt_app.specs.Tree.{Spawn, Soon, After, Cancel, Move, Statement, Bind, Assign, Branch, Repeat, Locked, Emit}
+use Rattle.rt_app.specs.Tree.{Pend, Spawns, Block, Empty, Then, Body, Task, App}
 use Rattle.rt_app.specs.Variables.{variables, variables_in}
 use Rattle.rt_app.specs.Spawned.{spawns}
 use Rattle.rt_app.specs.Level.{is_of_level}
@@ -51,6 +53,8 @@ few_spawn_words : (ss : List Spawn) → greatest (map spawn_words ss) ≤ 24
 few_spawn_words [] = omega arith
 few_spawn_words (Soon task args at ∷ ss) = omega (arith, few_spawn_words ss)
 few_spawn_words (After word delay task args at ∷ ss) = omega (arith, few_spawn_words ss)
+few_spawn_words (Cancel word task handle at ∷ ss) = omega (arith, few_spawn_words ss)
+few_spawn_words (Move word delay task handle at ∷ ss) = omega (arith, few_spawn_words ss)
 
 few_expression_words : (b : Block) → expression_words b ≤ max (block_depth b) 1
 few_expression_words b = go (has_loop b)
@@ -77,6 +81,14 @@ IsEven n = (k : ℕ) × (n ≡ 2 * k)
 
 even_is : (n : ℕ) → IsEven (even n)
 even_is n = (n / 2 + n % 2, omega arith)
+
+entry_even : (fpu : Bool) → IsEven (entry_words fpu)
+entry_even true = (13, omega arith)
+entry_even false = (4, omega arith)
+
+entry_small : (fpu : Bool) → entry_words fpu ≤ 26
+entry_small true = omega arith
+entry_small false = omega arith
 
 max_even : (a b : ℕ) → IsEven a → IsEven b → IsEven (max a b)
 max_even a b (i, e) (j, f) = (max i j, omega arith)
@@ -119,11 +131,12 @@ module _ (app : App) where
   IsPairs n = (k : ℕ) × (n ≡ 8 * k)
 
   level_pairs : (p : ℕ) → IsPairs (level_bytes app p)
-  level_pairs p = go (has_handler app p) (need_even p)
+  level_pairs p = go (has_handler app p) (entry_even app.fpu) (need_even p)
     where
-      go : (b : Bool) → IsEven (need app p) → IsPairs (if b then 32 + 4 * need app p else 0)
-      go true (k, e) = (4 + k, omega arith)
-      go false h = (0, omega arith)
+      go : (b : Bool) → IsEven (entry_words app.fpu) → IsEven (need app p)
+          → IsPairs (if b then 4 * (entry_words app.fpu + need app p) else 0)
+      go true (j, f) (k, e) = (j + k, omega arith)
+      go false f e = (0, omega arith)
 
   below_pairs : (p : ℕ) → IsPairs (bytes_below app p)
   unfolding bytes_below
@@ -165,8 +178,8 @@ module _ (app : App) (accepted : IsAccepted app) (parts : Parts app) where
   need_small p = omega (arith, frames_small (is_bound_at p), dispatcher_small p, timer_small p)
 
   -- no level above the greatest priority has a handler
-  level_small : (p : ℕ) → level_bytes app p + 4340 * min p 129 ≤ 4340 * min (suc p) 129
-  level_small p = go (has_handler app p) refl (need_small p)
+  level_small : (p : ℕ) → level_bytes app p + 4412 * min p 129 ≤ 4412 * min (suc p) 129
+  level_small p = go (has_handler app p) refl (entry_small app.fpu) (need_small p)
     where
       low : has_handler app p ≡ true → p ≤ 128
       low has =
@@ -175,11 +188,12 @@ module _ (app : App) (accepted : IsAccepted app) (parts : Parts app) where
           let most : 2 ^ app.bits ≤ 2 ^ 7 = pow-le-pow_right (omega arith) bits in
           omega arith
 
-      go : (b : Bool) → has_handler app p ≡ b → need app p ≤ 1077 → (if b then 32 + 4 * need app p else 0) + 4340 * min p 129 ≤ 4340 * min (suc p) 129
-      go true has small = let few = low has in omega arith
-      go false has small = omega arith
+      go : (b : Bool) → has_handler app p ≡ b → entry_words app.fpu ≤ 26 → need app p ≤ 1077
+          → (if b then 4 * (entry_words app.fpu + need app p) else 0) + 4412 * min p 129 ≤ 4412 * min (suc p) 129
+      go true has pushed small = let few = low has in omega arith
+      go false has pushed small = omega arith
 
-  below_small : (p : ℕ) → bytes_below app p ≤ 4340 * min p 129
+  below_small : (p : ℕ) → bytes_below app p ≤ 4412 * min p 129
   unfolding bytes_below
   below_small zero = omega arith
   below_small (suc p) = omega (arith, below_small p, level_small p)

@@ -7,8 +7,9 @@ use Rattle.rt_ids.specs.Lists.{AreDifferent}
 use Rattle.rt_app.specs.declared.app.Mono.{Mono}
 use Rattle.rt_app.specs.declared.expr.Atom.{Atom}
 use Rattle.rt_app.specs.declared.expr.Atom.TheVariants.{Var, Shared, Local}
-use Rattle.rt_app.specs.Tree.{Expression, Num, Read, Oper, Spawn, Soon, After, Cancel, Move, Value, Calc, Now, Call, Statement, Bind}
-use Rattle.rt_app.specs.Tree.{Assign, Branch, Repeat, Locked, Emit, Pend, Spawns, Block, Empty, Then, Body, Task, App}
+use Rattle.rt_app.specs.Tree.{Expression, Num, Read, Oper, Spawn, Soon, After, Cancel, Move, Value, Calc, Now, Call}
+use Rattle.rt_app.specs.Tree.{Statement, Bind, Assign, Branch, Repeat, Locked, Emit, Pend, Spawns, Block, Empty, Then}
+use Rattle.rt_app.specs.Tree.{Body, Task, App}
 use Rattle.rt_app.specs.Variables.{variables, variables_in}
 use Rattle.rt_app.specs.Limits.{KeepsLimits}
 use Rattle.rt_app.specs.Names.{HasNames}

@@ -4,13 +4,13 @@
 use Rattle.std.specs.Prelude.{ℕ, nat_le, List, [], ◌∷◌, ◌++◌, replicate, slice_get, Option, Some, None, if◌then◌else◌}
 use Rattle.rt_ids.specs.Lists.{is_empty, then_from}
 use Rattle.rt_ids.specs.Holder.{Guarded}
-use Rattle.rt_ids.specs.Content.{Message, Armed, Values, messages, delays, least}
-use Rattle.rt_ids.specs.Action.{Action, Enters, Leaves, Posts, Clocks, Starts, Frees, Fires, SetsAlarm, Ends, Returns}
-use Rattle.rt_ids.specs.Doing.{Doing, over, does}
+use Rattle.rt_ids.specs.Content.{Message, Armed, messages, delays, least}
+use Rattle.rt_ids.specs.Action.{Enters, Leaves, Posts, Clocks, Starts, Frees, Fires, SetsAlarm, Ends, Returns}
+use Rattle.rt_ids.specs.Doing.{over, does}
 use Rattle.rt_ids.specs.declared.ids.BodyId.TheVariants as body
 use Rattle.rt_ids.specs.declared.ids.Section.TheVariants as section
 use Rattle.rt_app.specs.declared.costs.TheConstants.{FREE_COST}
-use Rattle.rt_app.specs.Tree.{Body, Task, App}
+use Rattle.rt_app.specs.Tree.{Body, App}
 use Rattle.rt_app.specs.Variables.{variables}
 use Rattle.rt_app.specs.Bodies.{task_priority}
 use Rattle.rt_app.specs.BodyCost.{dispatcher_section_cost, timer_section_cost}

@@ -2,8 +2,9 @@
 -- project's own; frames are even, as the exception frames of ARMv7-M are multiples of 8 bytes.
 use Rattle.std.specs.Prelude.{ℕ, ◌+◌, ◌%◌, max, Bool, true, false, ◌||◌, map, if◌then◌else◌}
 use Rattle.rt_app.specs.declared.costs.TheConstants.{SPAWN_WORDS, TIMER_QUEUE_WORDS}
-use Rattle.rt_app.specs.Tree.{Expression, Num, Read, Oper, Spawn, Soon, After, Cancel, Move, Value, Calc, Now, Call, Statement, Bind}
-use Rattle.rt_app.specs.Tree.{Assign, Branch, Repeat, Locked, Emit, Pend, Spawns, Block, Empty, Then, Body}
+use Rattle.rt_app.specs.Tree.{Expression, Num, Read, Oper, Spawn, Soon, After, Cancel, Move, Value, Calc, Now, Call}
+use Rattle.rt_app.specs.Tree.{Statement, Bind, Assign, Branch, Repeat, Locked, Emit, Pend, Spawns, Block, Empty, Then}
+use Rattle.rt_app.specs.Tree.{Body}
 use Rattle.rt_app.specs.Variables.{variables}
 use Rattle.rt_app.specs.Spawned.{uses_timer, spawns}
 use Rattle.rt_ids.specs.Lists.{greatest}

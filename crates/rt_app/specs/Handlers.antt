@@ -1,7 +1,7 @@
 -- Which interrupt serves what (the RTIC 1 book, hardware tasks, software tasks and the monotonic): a hardware task runs
 -- in the interrupt that it binds, the software tasks of a level share a dispatcher, and the monotonic has an interrupt
 -- of its own. That the highest level takes the dispatcher that is named first is this project's own.
-use Rattle.std.specs.Prelude.{ℕ, ◌+◌, ◌==◌, Bool, not, nat_lt, List, [], ◌∷◌, ◌++◌, length, filter, map, flat_map}
+use Rattle.std.specs.Prelude.{ℕ, ◌+◌, ◌==◌, Bool, not, nat_lt, List, [], ◌∷◌, ◌++◌, length, filter, flat_map}
 use Rattle.std.specs.Prelude.{slice_get, Option, Some, None, option_map, is_none}
 use Rattle.std.specs.List.{list_any}
 use Rattle.rt_app.specs.declared.app.Mono.{Mono}

@@ -1,7 +1,7 @@
 -- Where resources, places, messages and ready queues lie in memory: one list of cells, so that no cell belongs to two
--- things. First come the shared resources, a cell each, then the local ones, then for each software task its free places
--- and the arguments of each of its places, then for each level of software tasks its ready queue. The order is this
--- project's own, and the timer queue has no cells yet. The code keeps the numbers of first cells.
+-- things. First come the shared resources, a cell each, then the local ones, then for each software task its free
+-- places and the arguments of each of its places, then for each level of software tasks its ready queue. The order is
+-- this project's own, and the timer queue has no cells yet. The code keeps the numbers of first cells.
 use Rattle.std.specs.Prelude.{ℕ, ◌+◌, Bool, ◌&&◌, nat_lt, List, [], ◌∷◌, ◌++◌, codes, decimal, length, map, flat_map}
 use Rattle.std.specs.Prelude.{filter, sum_by, take, slice_index_or, if◌then◌else◌}
 use Rattle.std.specs.List.{range_with_len}

@@ -2,13 +2,13 @@
 -- and queues then have (the RTIC 1 book, resources and software tasks). Statements are run on the tree, at once up to
 -- the next action, and what follows an action goes by the values behind it, whatever others did to them. The code runs
 -- instructions, and can be interrupted between any two.
-use Rattle.std.specs.Prelude.{ℕ, zero, suc, ◌-◌, ◌==◌, if◌then◌else◌, List, [], ◌∷◌, slice_index, slice_set}
+use Rattle.std.specs.Prelude.{ℕ, zero, suc, ◌-◌, ◌==◌, if◌then◌else◌, List, slice_index, slice_set}
 use Rattle.rt_ids.specs.Lists.{or_zero}
 use Rattle.rt_ids.specs.Operation.{operate}
-use Rattle.rt_ids.specs.Holder.{Holder, Guarded, Own}
+use Rattle.rt_ids.specs.Holder.{Guarded, Own}
 use Rattle.rt_ids.specs.Content.{Values, Number, number, put_at}
-use Rattle.rt_ids.specs.Action.{Action, Enters, Leaves, Emits, Posts, Clocks}
-use Rattle.rt_ids.specs.Doing.{Doing, does}
+use Rattle.rt_ids.specs.Action.{Enters, Leaves, Emits, Posts, Clocks}
+use Rattle.rt_ids.specs.Doing.{does}
 use Rattle.rt_ids.specs.declared.ids.Section.TheVariants as section
 use Rattle.rt_app.specs.declared.expr.Atom.{Atom}
 use Rattle.rt_app.specs.declared.expr.Atom.TheVariants as atom

@@ -95,8 +95,8 @@ module _ (app : App) where
       else act (Leaves section.Timer) missing vs)
 
   -- A spawn, where its expressions have these values. The rest goes by what it gives: of a `spawn` 1 where it found a
-  -- place, of a `spawn_after` the handle then, and 0 where it found none; of a `cancel` and a `reschedule_after` 0 where
-  -- an armed message of the task has the handle, else 1.
+  -- place, of a `spawn_after` the handle then, and 0 where it found none; of a `cancel` and a `reschedule_after` 0
+  -- where an armed message of the task has the handle, else 1.
   abbrev pub spawn_actions : (Expression → ℕ) → Spawn → (ℕ → Rest) → Rest
   spawn_actions value (Soon n args at) rest =
       let message : Message = record { task = n; args = map value args } in

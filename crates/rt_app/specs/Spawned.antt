@@ -1,8 +1,8 @@
 -- The spawns that a body holds, and what each form of them asks of the queues (the RTIC 1 book, software tasks and the
 -- monotonic: `spawn`, `spawn_after`, and of a spawn's handle `cancel` and `reschedule_after`).
 use Rattle.std.specs.Prelude.{ℕ, Bool, true, false, List, [], ◌∷◌, ◌++◌}
-use Rattle.rt_app.specs.Tree.{Spawn, Soon, After, Cancel, Move, Value, Calc, Now, Call, Statement, Bind, Assign, Branch, Repeat}
-use Rattle.rt_app.specs.Tree.{Locked, Emit, Pend, Spawns, Block, Empty, Then}
+use Rattle.rt_app.specs.Tree.{Spawn, Soon, After, Cancel, Move, Value, Calc, Now, Call, Statement, Bind, Assign, Branch}
+use Rattle.rt_app.specs.Tree.{Repeat, Locked, Emit, Pend, Spawns, Block, Empty, Then}
 
 -- of the value of a `let`
 abbrev pub value_spawns : Value → List Spawn

@@ -19,9 +19,7 @@ pub use body::{Body, Listed, Owned};
 pub use bounds::{BodyBound, Bounds, Wait};
 pub use ceilings::{Ceilings, ReadyCeiling};
 pub use expr::{Atom, Expr};
-pub use laws::{
-    accepted_applications_are_sound, costs_are_as_documented, costs_are_capped_sums,
-};
+pub use laws::{accepted_applications_are_sound, costs_are_as_documented, costs_are_capped_sums};
 pub use layout::Layout;
 pub use plan::Plan;
 pub use stmt::{Spawn, Stmt, Value};
