@@ -2,7 +2,8 @@
 -- spaces further in than the block.
 use Rattle.std.specs.Prelude.{ℕ, codes, decimal, List, [], ◌++◌}
 use Rattle.rt_ast.specs.declared.ident.Ident.{Ident}
-use Rattle.rt_ast.specs.Tree.{Expression, Spawn, Soon, After, Cancel, Move, Value, Calc, Now, Call, Statement, Bind, Assign, Branch}
+use Rattle.rt_ast.specs.Tree.{Expression, Spawn, Soon, After, Cancel, Move, Value, Calc, Now, Call, Statement, Bind}
+use Rattle.rt_ast.specs.Tree.{Assign, Branch}
 use Rattle.rt_ast.specs.Tree.{Repeat, Locked, Emit, Pend, Spawns, Block, Empty, Then}
 use Rattle.rt_ast.specs.CanonicalExpression.{newline, separated, name_text, expression_text}
 
@@ -14,7 +15,8 @@ abbrev pub spawn_text : Spawn → List ℕ
 spawn_text (Soon task args) = codes "spawn " ++ call_text task args
 spawn_text (After at delay task args) =
     codes "spawn_after(" ++ expression_text delay ++ codes ") " ++ call_text task args
-spawn_text (Cancel at task handle) = codes "cancel " ++ name_text task ++ codes "(" ++ expression_text handle ++ codes ")"
+spawn_text (Cancel at task handle) =
+    codes "cancel " ++ name_text task ++ codes "(" ++ expression_text handle ++ codes ")"
 spawn_text (Move at delay task handle) =
     codes "reschedule_after(" ++ expression_text delay ++ codes ") " ++ name_text task ++ codes "("
     ++ expression_text handle ++ codes ")"
