@@ -4,7 +4,7 @@ use Rattle.std.specs.Prelude.{◌⊎◌, fold}
 use Rattle.std.specs.List.{take_while, prefix_len, starts_with}
 use Rattle.std.proofs.Math.Seq.{take-append_seam}
 use Rattle.std.proofs.lemmas.Bool.{eqb-true}
-use Rattle.std.proofs.lemmas.List.{length-take-le, length-drop, drop-drop, take-append-drop}
+use Rattle.std.proofs.lemmas.List.{length-take-le, length-drop, take-append-drop}
 use Rattle.std.proofs.lemmas.List.Sums.{fold-append}
 use Rattle.std.proofs.lemmas.List.Folds.{length-prefix_len}
 use Rattle.rt_lemmas.proofs.Lists.{drop_drop}

@@ -1,13 +1,9 @@
 -- The tokens of a text, one front at a time.
-use Rattle.std.proofs.Common.{◌≡◌, ℕ, zero, suc, ◌+◌, ◌<◌, ◌≤◌, Bool, true, false, cond, ◌||◌, ◌&&◌, eqb, not, List, [], ◌∷◌, length, get_or, take, drop, refl, sym, ap, subst, ◌∙◌, lit<, arith, inl, inr}
-use Rattle.std.specs.Prelude.{◌⊎◌, bytes_eq, pred}
-use Rattle.std.specs.List.{list_any, take_while, prefix_len, starts_with, AllByRecursion}
+use Rattle.std.proofs.Common.{◌≡◌, ℕ, zero, suc, ◌+◌, ◌<◌, ◌≤◌, Bool, true, false, cond, eqb, not, List, [], ◌∷◌, length, get_or, take, drop, refl, sym, ap, subst, ◌∙◌, lit<, arith}
+use Rattle.std.specs.Prelude.{pred}
+use Rattle.std.specs.List.{take_while, starts_with}
 use Rattle.std.proofs.lemmas.Bool.{eqb-true, eqb-false}
-use Rattle.std.proofs.lemmas.Bool.Decides.{same_from_decides}
 use Rattle.std.proofs.lemmas.List.{length-take, length-drop}
-use Rattle.std.proofs.lemmas.List.Sums.{prefix_len-le-length}
-use Rattle.std.proofs.lemmas.List.Folds.{length-prefix_len}
-use Rattle.std.proofs.lemmas.Slice.Eq.{bytes_eq-Decides}
 use Rattle.rt_lemmas.proofs.Bools.{or_left, and_left}
 use Rattle.rt_lemmas.proofs.Runs.{run_some, run_within}
 use Rattle.rt_lemmas.proofs.Texts.{any_text_is}

@@ -1,8 +1,7 @@
 -- A front is a text of its kind.
 use Rattle.std.proofs.Common.{◌≡◌, ℕ, suc, ◌+◌, Bool, true, false, cond, eqb, not, List, [], ◌∷◌, length, take, drop, Some, refl, sym, ap, subst, ◌∙◌, arith, inl, inr}
-use Rattle.std.specs.List.{list_all, take_while, prefix_len, starts_with}
+use Rattle.std.specs.List.{list_all, take_while, starts_with}
 use Rattle.std.proofs.lemmas.Bool.{eqb-false}
-use Rattle.std.proofs.lemmas.List.Folds.{length-prefix_len}
 use Rattle.rt_lemmas.proofs.Runs.{run_whole, run_passes, run_from}
 use Rattle.rt_lemmas.proofs.Bools.{or_left, or_right, or_cases, and_left, and_right, and_both, true_and_false}
 use Rattle.rt_lex.specs.declared.token.Kind.{Kind}

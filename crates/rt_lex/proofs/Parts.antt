@@ -1,8 +1,8 @@
 -- The tokens of a text lie in it one behind the other, and each is the longest that fits.
-use Rattle.std.proofs.Common.{◌≡◌, ℕ, zero, suc, ◌+◌, ◌<◌, ◌≤◌, List, [], ◌∷◌, length, take, drop, Option, Some, None, refl, sym, ap, ◌∙◌, arith}
+use Rattle.std.proofs.Common.{◌≡◌, ℕ, zero, suc, ◌+◌, ◌<◌, ◌≤◌, List, [], ◌∷◌, length, take, drop, Option, Some, None, refl, ap, arith}
 use Rattle.std.specs.Prelude.{pred}
 use Rattle.std.specs.List.{AllByRecursion}
-use Rattle.std.proofs.lemmas.List.{length-take-le, length-drop, drop-drop}
+use Rattle.std.proofs.lemmas.List.{length-take-le}
 use Rattle.rt_lemmas.proofs.Lists.{drop_next, slice_within}
 use Rattle.rt_lex.specs.declared.token.Kind.{Kind}
 use Rattle.rt_lex.specs.Token.{Token}

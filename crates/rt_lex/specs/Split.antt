@@ -6,7 +6,7 @@ use Rattle.std.specs.List.{list_all, starts_with}
 use Rattle.rt_lex.specs.declared.token.Kind.{Kind}
 use Rattle.rt_lex.specs.declared.token.Kind.TheVariants as kind
 use Rattle.rt_lex.specs.Bytes.{is_blank, is_hex_digit}
-use Rattle.rt_ids.specs.Byte.{is_digit, is_letter, is_name_byte}
+use Rattle.rt_ids.specs.Byte.{is_digit}
 use Rattle.rt_lex.specs.Spelling.{is_long_sign, is_short_sign}
 use Rattle.rt_ids.specs.Word.{is_word, is_identifier}
 use Rattle.rt_lex.specs.Token.{Token}

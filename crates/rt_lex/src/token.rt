@@ -1,7 +1,7 @@
 ghost use Rattle.std.specs.Prelude.{◌≡◌, ◌<◌, drop};
 ghost use Rattle.rt_lex.specs.Bytes.{digit_value};
 ghost use Rattle.rt_lex.specs.Number.{value_of, number_value, in_32_bits};
-ghost use Rattle.rt_lex.specs.Token.{view, is_this_word, is_this_sign};
+ghost use Rattle.rt_lex.specs.Token.{view, is_this_word, is_this_name, is_this_sign};
 
 /// What a token is.
 #[derive(Clone, Copy, Debug, PartialEq, Eq)]
@@ -17,7 +17,7 @@ pub enum Kind {
 }
 
 /// A token of an application text.
-#[derive(Clone, Copy, Debug)]
+#[derive(Clone, Copy)]
 pub struct Token<'a> {
     /// All its bytes, `0x` included.
     pub text: &'a [u8],

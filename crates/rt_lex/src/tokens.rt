@@ -10,7 +10,7 @@ use crate::token::Token;
 use std::marker::Model;
 
 /// The tokens of a text that are left, in order. They lend from the text. Contracts see their list.
-#[derive(Drop, Debug)]
+#[derive(Drop)]
 pub struct Tokens<'a> {
     /// The token that comes next.
     ahead: Option<Token<'a>>,
