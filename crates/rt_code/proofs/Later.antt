@@ -103,6 +103,30 @@ module _ (st : Storage) (bodies : List BodyRow) (who : Runner) (R : List ℕ →
     of_task = a.of_task;
     acts = acts_later _ 0 _ lefts r a.acts;
   }
+  noted_later (note.Cancel t slot) s lefts r a = record {
+    handle = a.handle;
+    entry = a.entry;
+    before = a.before;
+    behind = a.behind;
+    inside = a.inside;
+    stands = a.stands;
+    of_task = a.of_task;
+    shown = a.shown;
+    acts = acts_later _ 0 _ lefts r a.acts;
+  }
+  noted_later (note.Move t slot from) s lefts r a = record {
+    handle = a.handle;
+    instant = a.instant;
+    entry = a.entry;
+    before = a.before;
+    behind = a.behind;
+    inside = a.inside;
+    stands = a.stands;
+    of_task = a.of_task;
+    shown = a.shown;
+    put_off = a.put_off;
+    acts = acts_later _ 0 _ lefts r a.acts;
+  }
   noted_later told s lefts r a = absurd a
 
   pub enters_later : (x : Section) (i : Instr) (s : Spot) (lefts : List ℕ) → R s.lefts lefts → GoesIn st who x i s later → GoesIn st who x i (record s { lefts = lefts }) other
@@ -124,6 +148,7 @@ module _ (st : Storage) (bodies : List BodyRow) (who : Runner) (R : List ℕ →
           same = record { long = over.same.long; touched = over.same.touched; queued = over.same.queued };
           spelled = over.spelled;
           once = over.once;
+          few = over.few;
         }));
   }
 

@@ -105,3 +105,16 @@ taken_out e entry places before behind queue is some =
     let three : count e (before ++ behind) ≡ count e before + count e behind = sum_by-append _ before behind in
     let four : count e (before ++ entry ∷ behind) ≡ count e before + count e (entry ∷ behind) = sum_by-append _ before (entry ∷ behind) in
     let same = ap (count e) is in omega arith
+
+-- or goes from the middle to the end
+pub put_behind : (e entry : Entry) (places before behind queue : List Entry) → queue ≡ before ++ entry ∷ behind
+    → 0 < count e places + count e (before ++ (behind ++ entry ∷ [])) → 0 < count e places + count e queue
+put_behind e entry places before behind queue is some =
+    let one = count_more e entry behind in
+    let two : count e (behind ++ entry ∷ []) ≡ count e behind + count e (entry ∷ []) =
+    sum_by-append _ behind (entry ∷ []) in
+    let three : count e (before ++ (behind ++ entry ∷ [])) ≡ count e before + count e (behind ++ entry ∷ []) =
+    sum_by-append _ before (behind ++ entry ∷ []) in
+    let four : count e (before ++ entry ∷ behind) ≡ count e before + count e (entry ∷ behind) =
+    sum_by-append _ before (entry ∷ behind) in
+    let same = ap (count e) is in omega arith

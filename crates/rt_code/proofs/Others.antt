@@ -24,7 +24,8 @@ use Rattle.rt_code.specs.declared.instr.Note.TheVariants as note
 use Rattle.rt_code.specs.declared.processor.Request.{Request}
 use Rattle.rt_code.specs.declared.processor.Request.TheVariants as request
 use Rattle.rt_code.proofs.Mine.{same_section, queue_counts, owns_open, owns_kept}
-use Rattle.rt_code.proofs.Left.{queue_left, leaves_moved, leaves_twice, leaves_outer, spells_left, taken, put_last, put_first, taken_out}
+use Rattle.rt_code.proofs.Left.{queue_left, leaves_moved, leaves_twice, leaves_outer, spells_left}
+use Rattle.rt_code.proofs.Left.{taken, put_last, put_first, taken_out, put_behind}
 use Rattle.rt_code.proofs.LeftDone.{SameDone, same_done, access_left}
 use Rattle.rt_code.proofs.Standing.{stands_step, stands_left, stands_fits, stands_none}
 use Rattle.rt_code.proofs.Touching.{with_memory, access_same}
@@ -129,6 +130,34 @@ module _ (st : Storage) (by_own : SpellsByItsOwn st) (bodies : List BodyRow) (wh
     acts = acts_moved _ s cells queues section.Timer (a.entry ∷ s.places) (λ q. a.before ++ a.behind) a.inside
         (λ e some. taken_out e a.entry s.places a.before a.behind (s.queues (Guarded section.Timer)) a.stands some) over a.acts;
   }
+  noted_others (note.Cancel t slot) s cells queues over a = record {
+    handle = a.handle;
+    entry = a.entry;
+    before = a.before;
+    behind = a.behind;
+    inside = a.inside;
+    stands = queue_left st who s cells queues section.Timer over a.inside ∙ a.stands;
+    of_task = a.of_task;
+    shown = a.shown;
+    acts = acts_moved _ s cells queues section.Timer (a.entry ∷ s.places) (λ q. a.before ++ a.behind) a.inside
+        (λ e some. taken_out e a.entry s.places a.before a.behind (s.queues (Guarded section.Timer)) a.stands some)
+        over a.acts;
+  }
+  noted_others (note.Move t slot from) s cells queues over a = record {
+    handle = a.handle;
+    instant = a.instant;
+    entry = a.entry;
+    before = a.before;
+    behind = a.behind;
+    inside = a.inside;
+    stands = queue_left st who s cells queues section.Timer over a.inside ∙ a.stands;
+    of_task = a.of_task;
+    shown = a.shown;
+    put_off = a.put_off;
+    acts = acts_moved _ s cells queues section.Timer s.places (λ q. a.before ++ (a.behind ++ a.entry ∷ [])) a.inside
+        (λ e some. put_behind e a.entry s.places a.before a.behind (s.queues (Guarded section.Timer)) a.stands some)
+        over a.acts;
+  }
   noted_others told s cells queues over a = absurd a
 
   pub enters_others : (x : Section) (i : Instr) (s : Spot) (cells : List ℕ) (queues : Holder → List Entry) → LeavesMine st who s cells queues
@@ -150,6 +179,7 @@ module _ (st : Storage) (by_own : SpellsByItsOwn st) (bodies : List BodyRow) (wh
       same = leaves_twice st who s cells other queues others over again.same;
       spelled = again.spelled;
       once = again.once;
+      few = again.few;
     });
   }
 

@@ -1,13 +1,12 @@
 -- A name is one word without a dot, and no word of the language.
-use Rattle.std.proofs.Common.{◌≡◌, ◌≢◌, ℕ, zero, suc, ◌<◌, Bool, true, false, ◌&&◌, List, [], ◌∷◌, length, codes, refl, sym, ap, subst, ◌∙◌, arith}
+use Rattle.std.proofs.Common.{◌≡◌, ◌≢◌, ℕ, zero, suc, true, List, [], ◌∷◌, codes, refl, sym, subst, arith}
 use Rattle.std.specs.List.{AllByRecursion, Contains, list_all}
 use Rattle.std.proofs.lemmas.Bool.{false≢true}
 use Rattle.rt_lemmas.proofs.Bools.{and_parts}
 use Rattle.rt_lemmas.proofs.Membership.{all_has, all_weaker}
 use Rattle.rt_ids.specs.Byte.{is_letter, is_name_byte}
-use Rattle.rt_ids.specs.Names.{Names, AreNames}
 use Rattle.rt_ids.specs.Word.{IsName, is_identifier}
-use Rattle.rt_code.specs.Listable.{blanks, IsWord, IsPlain, AreWritable, NamesAreWritable}
+use Rattle.rt_code.specs.Listable.{blanks, IsPlain, NamesAreWritable}
 
 -- neither a blank nor a dot
 abbrev IsInside : ℕ → Type 0

@@ -14,6 +14,7 @@ pub mod Lines
 pub mod Owning
 pub mod Acting
 pub mod Masking
+pub mod Ending
 pub mod Standing
 pub mod Leading
 pub mod StandingSteps

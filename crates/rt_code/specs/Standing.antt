@@ -8,21 +8,18 @@ use Rattle.std.specs.List.{AllByRecursion}
 use Rattle.rt_ids.specs.Holder.{Holder}
 use Rattle.rt_ids.specs.Content.{Values}
 use Rattle.rt_ids.specs.Entry.{Entry}
-use Rattle.rt_ids.specs.Action.{Action, Emits, Posts, Clocks, Ends, Returns}
-use Rattle.rt_ids.specs.Doing.{Doing, does}
-use Rattle.rt_ids.specs.Storage.{Storage, Runner, Starting, AtLevel}
-use Rattle.rt_ids.specs.declared.ids.BodyId.{BodyId}
-use Rattle.rt_ids.specs.declared.ids.BodyId.TheVariants as body
+use Rattle.rt_ids.specs.Action.{Emits, Posts, Clocks, Returns}
+use Rattle.rt_ids.specs.Doing.{Doing}
+use Rattle.rt_ids.specs.Storage.{Storage, Runner}
 use Rattle.rt_code.specs.Access.{access_of}
 use Rattle.rt_code.specs.Acting.{Acts, SetsTheAlarm, Noted}
 use Rattle.rt_code.specs.Effect as instruction
+pub use Rattle.rt_code.specs.Ending.{Finishes, Calls, ComesBack, EndsBody}
 use Rattle.rt_code.specs.Masking.{GoesIn, ComesOut}
 use Rattle.rt_code.specs.Owning.{Held, Spot, saved_slots, MayAccess}
 use Rattle.rt_code.specs.Processor.{Processor, Effect, Traps, Leads}
-use Rattle.rt_code.specs.Stack as stack
 use Rattle.rt_code.specs.declared.image.BodyRow.{BodyRow}
 use Rattle.rt_code.specs.declared.instr.Instr.{Instr}
-use Rattle.rt_code.specs.declared.instr.Instr.TheVariants as instr
 use Rattle.rt_code.specs.declared.instr.Note.{Note}
 use Rattle.rt_code.specs.declared.instr.Note.TheVariants as note
 use Rattle.rt_code.specs.declared.processor.Request.{Request}
@@ -50,43 +47,6 @@ passed s = record s { lefts = map (λ n. n - 1) s.lefts }
 -- code for a runner, beside the rows of the bodies that it may call, where the thread goes on at an address once `init`
 -- or `idle` ends
 module _ (st : Storage) (code : List (Instr × Option Note)) (bodies : List BodyRow) (thread : ℕ) (who : Runner) where
-  -- A job's last action, or that of a body of the thread: it has no section open and nothing in its hands, and gives
-  -- back what its runner keeps.
-  pub record Finishes (action : Action) (s : Spot) : Type 0 where
-    pub values : Values
-    pub follows : ℕ → Values → Doing Values
-    pub is : s.rest ≡ does action values follows
-    pub closed : s.held ≡ []
-    pub empty : s.places ≡ []
-    pub own_frame : s.caller ≡ None
-    pub spelled : (h : Holder) → st.is_kept who h ≡ true → st.Spells h (slice_index s.cells) (s.queues h) (values h)
-
-  -- a body that a handler calls runs in a frame of its own, with no section open; the handler's frame keeps the address
-  -- behind the call
-  pub record Calls (row from : ℕ) (s : Spot) (later : Spot → Type 0) : Type 0 where
-    pub called : BodyRow
-    pub is_there : slice_get bodies row ≡ Some called
-    pub closed : s.held ≡ []
-    pub may_call : (s.caller ≡ None) × (0 < length s.slots)
-    pub fits : stack.arguments_fit s.slots called from ≡ true
-    pub on : let frame : List ℕ = stack.caller_frame s.slots (suc s.address) in
-        later (record s { address = called.entry; slots = stack.body_frame frame called from; caller = Some frame })
-
-  -- and its end leads back there
-  pub record ComesBack (t : ℕ) (s : Spot) (later : Spot → Type 0) : Type 0 where
-    pub frame : List ℕ
-    pub caller : s.caller ≡ Some frame
-    pub closed : s.held ≡ []
-    pub acts : Acts st bodies who (Ends (body.Task t)) 0
-        (record s { address = stack.return_address frame; slots = frame; caller = None }) later
-
-  -- `init` ends by serving interrupts, and the thread goes on at its address; `idle` by going to the same again
-  abbrev pub EndsBody : BodyId → Instr → Spot → (Spot → Type 0) → Type 0
-  EndsBody body.Init i s later =
-      (i ≡ instr.Serve) × (who ≡ Starting) × (suc s.address ≡ thread) × Finishes (Ends body.Init) s
-  EndsBody body.Idle i s later = (i ≡ instr.Jump thread) × (who ≡ AtLevel 0) × Finishes (Ends body.Idle) s
-  EndsBody (body.Task t) i s later = (i ≡ instr.Back) × ComesBack t s later
-
   -- what an instruction asks of the core; one that asks nothing is silent, or does what its note says
   abbrev pub Asks : Request → Option Note → Spot → (Spot → Type 0) → Type 0
   Asks request.Nothing None s later = later s
@@ -97,8 +57,8 @@ module _ (st : Storage) (code : List (Instr × Option Note)) (bodies : List Body
   Asks (request.Alarm instant irq) None s later =
       (st.timer ≡ Some irq) × SetsTheAlarm st bodies who (Some instant) s later
   Asks request.NoAlarm None s later = SetsTheAlarm st bodies who None s later
-  Asks (request.Call row from) None s later = Calls row from s later
-  Asks request.Return None s later = Finishes Returns s
+  Asks (request.Call row from) None s later = Calls st code bodies thread who row from s later
+  Asks request.Return None s later = Finishes st code bodies thread who Returns s
   Asks request.Back None s later = ⊥
   Asks asked (Some told) s later = ⊥
 
@@ -119,7 +79,7 @@ module _ (st : Storage) (code : List (Instr × Option Note)) (bodies : List Body
   abbrev pub Fits : Instr → Option Note → Spot → (Spot → Type 0) → Type 0
   Fits i (Some (note.Enter x)) s later = GoesIn st who x i s later
   Fits i (Some (note.Leave x)) s later = ComesOut st who x i s later
-  Fits i (Some (note.End b)) s later = EndsBody b i s later
+  Fits i (Some (note.End b)) s later = EndsBody st code bodies thread who b i s later
   Fits i told s later = Does i told s later
 
   abbrev pub LineFits : Option (Instr × Option Note) → Spot → (Spot → Type 0) → Type 0

@@ -4,7 +4,7 @@ ghost use Rattle.rt_code.specs.Trap.{trap_number};
 use rt_ids::Irq;
 
 /// The registers of the processor that instructions name.
-#[derive(Clone, Copy, Debug, PartialEq, Eq)]
+#[derive(Clone, Copy, PartialEq, Eq)]
 pub struct Registers {
     /// The code address.
     pub address: u32,

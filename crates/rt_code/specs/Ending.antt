@@ -1,0 +1,57 @@
+-- How a job ends, and how a handler calls a body that runs in a frame of its own (the RTIC 1 book, software tasks: a
+-- dispatcher runs their bodies one after another). Calls are this project's own.
+use Rattle.std.specs.Prelude.{◌≡◌, ℕ, suc, ◌<◌, true, List, [], length, slice_get, slice_index, Option, Some, None}
+use Rattle.rt_ids.specs.Holder.{Holder}
+use Rattle.rt_ids.specs.Content.{Values}
+use Rattle.rt_ids.specs.Action.{Action, Ends}
+use Rattle.rt_ids.specs.Doing.{Doing, does}
+use Rattle.rt_ids.specs.Storage.{Storage, Runner, Starting, AtLevel}
+use Rattle.rt_ids.specs.declared.ids.BodyId.{BodyId}
+use Rattle.rt_ids.specs.declared.ids.BodyId.TheVariants as body
+use Rattle.rt_code.specs.Acting.{Acts}
+use Rattle.rt_code.specs.Owning.{Spot}
+use Rattle.rt_code.specs.Stack as stack
+use Rattle.rt_code.specs.declared.image.BodyRow.{BodyRow}
+use Rattle.rt_code.specs.declared.instr.Instr.{Instr}
+use Rattle.rt_code.specs.declared.instr.Instr.TheVariants as instr
+use Rattle.rt_code.specs.declared.instr.Note.{Note}
+
+-- of code for a runner, beside the rows of the bodies that it may call, where the thread goes on at an address once
+-- `init` or `idle` ends
+module _ (st : Storage) (code : List (Instr × Option Note)) (bodies : List BodyRow) (thread : ℕ) (who : Runner) where
+  -- A job's last action, or that of a body of the thread: it has no section open and nothing in its hands, and gives
+  -- back what its runner keeps.
+  pub record Finishes (action : Action) (s : Spot) : Type 0 where
+    pub values : Values
+    pub follows : ℕ → Values → Doing Values
+    pub is : s.rest ≡ does action values follows
+    pub closed : s.held ≡ []
+    pub empty : s.places ≡ []
+    pub own_frame : s.caller ≡ None
+    pub spelled : (h : Holder) → st.is_kept who h ≡ true → st.Spells h (slice_index s.cells) (s.queues h) (values h)
+
+  -- a body that a handler calls runs in a frame of its own, with no section open; the handler's frame keeps the address
+  -- behind the call
+  pub record Calls (row from : ℕ) (s : Spot) (later : Spot → Type 0) : Type 0 where
+    pub called : BodyRow
+    pub is_there : slice_get bodies row ≡ Some called
+    pub closed : s.held ≡ []
+    pub may_call : (s.caller ≡ None) × (0 < length s.slots)
+    pub fits : stack.arguments_fit s.slots called from ≡ true
+    pub on : let frame : List ℕ = stack.caller_frame s.slots (suc s.address) in
+        later (record s { address = called.entry; slots = stack.body_frame frame called from; caller = Some frame })
+
+  -- and its end leads back there
+  pub record ComesBack (t : ℕ) (s : Spot) (later : Spot → Type 0) : Type 0 where
+    pub frame : List ℕ
+    pub caller : s.caller ≡ Some frame
+    pub closed : s.held ≡ []
+    pub acts : Acts st bodies who (Ends (body.Task t)) 0
+        (record s { address = stack.return_address frame; slots = frame; caller = None }) later
+
+  -- `init` ends by serving interrupts, and the thread goes on at its address; `idle` by going to the same again
+  abbrev pub EndsBody : BodyId → Instr → Spot → (Spot → Type 0) → Type 0
+  EndsBody body.Init i s later =
+      (i ≡ instr.Serve) × (who ≡ Starting) × (suc s.address ≡ thread) × Finishes (Ends body.Init) s
+  EndsBody body.Idle i s later = (i ≡ instr.Jump thread) × (who ≡ AtLevel 0) × Finishes (Ends body.Idle) s
+  EndsBody (body.Task t) i s later = (i ≡ instr.Back) × ComesBack t s later
