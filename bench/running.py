@@ -16,6 +16,8 @@ from reading import peak, run
 
 TURNS = 5
 EVENTS = 1_000_000
+# The greatest number of an interrupt.
+LAST = 495
 
 BODIES = """\
 idle(shared = [low], local = [turns]) { lock low { turns = turns + low; } }
@@ -48,18 +50,23 @@ task high(priority = 2, capacity = 4) with a, b, c, d { emit a + b + c + d; }
 """
 
 
-def application(irqs, name):
+def interrupts(names, irqs, last):
+    """So many declared interrupts up to the last number, these among them: they take the first numbers or the last."""
+    first = last + 1 - irqs
+    served = range(first, first + len(names)) if first == 0 else range(last + 1 - len(names), last + 1)
+    rows = [f"{name} = {number}" for name, number in zip(names, served)]
+    rows += [f"X{n} = {n}" for n in range(first, last + 1) if n not in served]
+    return f"interrupts {{ {', '.join(rows)} }}\n"
+
+
+def application(irqs, last, name):
     """So many declared interrupts, of which a few are served; with `waiting` the thread waits."""
     if name == "messages":
-        more = "".join(f", X{n} = {n}" for n in range(4, irqs))
-        head = "app bench(bits = 4, dispatchers = [HIGH, LOW]);\ninterrupts { SLOW = 0, FAST = 1, HIGH = 2, LOW = 3"
-        return f"{head}{more} }}\n{MESSAGES}"
-    more = "".join(f", X{n} = {n}" for n in range(2, irqs))
+        declared = interrupts(["SLOW", "FAST", "HIGH", "LOW"], irqs, last)
+        return f"app bench(bits = 4, dispatchers = [HIGH, LOW]);\n{declared}{MESSAGES}"
     bodies = BODIES[BODIES.index("task") :] if name == "waiting" else BODIES
-    return (
-        f"app bench(bits = 4);\ninterrupts {{ SLOW = 0, FAST = 1{more} }}\n"
-        f"shared {{ low = 1, high = 2 }}\nlocal {{ turns = 0 }}\n{bodies}"
-    )
+    declared = interrupts(["SLOW", "FAST"], irqs, last)
+    return f"app bench(bits = 4);\n{declared}shared {{ low = 1, high = 2 }}\nlocal {{ turns = 0 }}\n{bodies}"
 
 
 def write(folder, name, text):
@@ -81,18 +88,24 @@ def turns(*programs):
     return [min(column) for column in zip(*times)]
 
 
-def measure_run(program, simulator, folder, irqs, name, script):
-    app = write(folder, "app", application(irqs, name))
+def takes(program, folder, last):
+    """Whether the program takes an interrupt of this number: an older one may not."""
+    app = write(folder, "app", f"app bench(bits = 4);\ninterrupts {{ A = {last} }}\n")
+    return subprocess.run([program, "check", app], capture_output=True, check=False).returncode == 0
+
+
+def measure_run(program, simulator, folder, irqs, last, name, script):
+    app = write(folder, "app", application(irqs, last, name))
     events = write(folder, "script", script)
     listing = output([program, "build", app], os.path.join(folder, "listing"))
     ours = output([program, "run", app, events], os.path.join(folder, "ours"))
     plain = output([simulator, listing, events], os.path.join(folder, "plain"))
     if open(ours, "rb").read() != open(plain, "rb").read():
-        sys.exit(f"running.py: the simulator writes another trace, {name}, {irqs} interrupts")
+        sys.exit(f"running.py: the simulator writes another trace, {name}, {irqs} interrupts up to {last}")
     words = [program, "run", app, events]
     seconds, other = turns(words, [simulator, listing, events])
     print(
-        f"run, {name}, {irqs} interrupts, {EVENTS} events: {seconds * 1000:.0f} ms, {seconds / other:.2f} times a "
+        f"run, {name}, {irqs} interrupts up to {last}, {EVENTS} events: {seconds * 1000:.0f} ms, {seconds / other:.2f} times a "
         f"plain simulator ({other * 1000:.0f} ms); {peak(words, folder)} KiB for {os.path.getsize(ours) // 1024} KiB "
         "of output"
     )
@@ -113,7 +126,7 @@ def trace_of(program, folder, app, items):
 
 
 def measure_audit(program, reader, folder, items):
-    app = write(folder, "app", application(2, "waiting"))
+    app = write(folder, "app", application(2, 1, "waiting"))
     trace = trace_of(program, folder, app, items)
     told = subprocess.run([program, "audit", app, trace], capture_output=True, check=False).stdout
     if told != f"yes {items}\n".encode("ascii"):
@@ -132,12 +145,14 @@ def measure_audit(program, reader, folder, items):
 def main(program, simulator, reader, folder):
     busy = "pend SLOW\nstep 9\npend FAST\nstep 29\n" * (EVENTS // 40)
     messages = "pend FAST\nstep 499\n" * (EVENTS // 500)
-    for irqs in 2, 240:
-        measure_run(program, simulator, folder, irqs, "waiting", f"step {EVENTS}\n")
-        measure_run(program, simulator, folder, irqs, "spinning", f"step {EVENTS}\n")
-        measure_run(program, simulator, folder, irqs, "busy", busy)
-    for irqs in 4, 240:
-        measure_run(program, simulator, folder, irqs, "messages", messages)
+    for irqs, last in (2, 1), (240, 239), (240, LAST):
+        if takes(program, folder, last):
+            measure_run(program, simulator, folder, irqs, last, "waiting", f"step {EVENTS}\n")
+            measure_run(program, simulator, folder, irqs, last, "spinning", f"step {EVENTS}\n")
+            measure_run(program, simulator, folder, irqs, last, "busy", busy)
+    for irqs, last in (4, 3), (240, 239), (240, LAST):
+        if takes(program, folder, last):
+            measure_run(program, simulator, folder, irqs, last, "messages", messages)
     for items in 500_000, 1_000_000:
         measure_audit(program, reader, folder, items)
 

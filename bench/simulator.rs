@@ -59,6 +59,9 @@ const CELL: u8 = 1;
 const STACK: u8 = 2;
 const JUMP: u8 = 3;
 
+const BASIC_FRAME_WORDS: usize = 8;
+const EXTENDED_FRAME_WORDS: usize = 26;
+
 struct Irq {
     name: String,
     number: u16,
@@ -81,6 +84,8 @@ struct Image {
     code: Vec<(Instr, Option<Note>)>,
     names: Vec<String>,
     stack_words: usize,
+    // what exception entry pushes
+    entry_words: usize,
 }
 
 fn operation(word: &str) -> Option<fn(u32, u32) -> u32> {
@@ -168,6 +173,7 @@ fn read_image(text: &str) -> Result<Image, Box<dyn Error>> {
         code: Vec::new(),
         names: Vec::new(),
         stack_words: 0,
+        entry_words: 0,
     };
     let mut numbers = HashMap::new();
     let mut cells = HashMap::new();
@@ -180,6 +186,7 @@ fn read_image(text: &str) -> Result<Image, Box<dyn Error>> {
         let words: Vec<&str> = line.split(' ').collect();
         match words[0] {
             "image" => {
+                image.entry_words = if words[1] == "2" { EXTENDED_FRAME_WORDS } else { BASIC_FRAME_WORDS };
                 image.stack_words = words[3].parse::<usize>()? / 4;
                 image.thread_words = words[4].parse()?;
             }
@@ -293,13 +300,13 @@ impl<'a> Core<'a> {
 
     fn enter(&mut self, irq: usize) -> Result<Option<What>, u8> {
         let (value, entry, frame) = self.image.irqs[irq].handler.ok_or(JUMP)?;
-        if self.stack.len() + 8 + frame > self.image.stack_words {
+        if self.stack.len() + self.image.entry_words + frame > self.image.stack_words {
             return Err(STACK);
         }
         self.ready.remove(&(value, self.image.irqs[irq].number, irq));
         let caller = self.caller.take();
         self.contexts.push(Context { address: self.address, frame: self.frame, irq: self.running, caller });
-        self.stack.resize(self.stack.len() + 8 + frame, 0);
+        self.stack.resize(self.stack.len() + self.image.entry_words + frame, 0);
         (self.address, self.frame, self.running) = (entry, frame, Some(irq));
         Ok(Some(What::Take(irq, self.stack.len() * 4)))
     }
@@ -310,7 +317,7 @@ impl<'a> Core<'a> {
         }
         let irq = self.running.ok_or(STACK)?;
         let context = self.contexts.pop().ok_or(STACK)?;
-        self.stack.truncate(self.stack.len() - self.frame - 8);
+        self.stack.truncate(self.stack.len() - self.frame - self.image.entry_words);
         (self.address, self.frame, self.running) = (context.address, context.frame, context.irq);
         self.caller = context.caller;
         Ok(What::Ret(irq))
