@@ -1,28 +1,28 @@
-ghost use Rattle.std.specs.Prelude.{◌≡◌, ◌++◌, map, flat_map, OnOk};
-ghost use Rattle.rt_app.specs.View.{app_of, task_of};
+ghost use Rattle.std.specs.Prelude.{◌≡◌, ◌++◌, flat_map, OnOk};
+ghost use Rattle.rt_app.specs.View.{app_of};
 ghost use Rattle.rt_report.specs.Report.{body_name, body_lines, wait_line, stack_line, bound_lines};
 
 use crate::line::{push_line, push_numbered};
-use rt_app::{App, BodyBound, Bounds, Task, Wait};
+use rt_app::{App, BodyBound, Bounds, Wait};
 use rt_ids::{BodyId, NoMemory, push_bytes, push_number};
 
 /// Appends the bounds.
 pub(crate) fn push_bounds(out: &mut Vec<u8>, app: &App, bounds: &Bounds) -> Result<(), NoMemory>
     ensures { OnOk result (out.new.items ≡ out.old.items ++ bound_lines (app_of app.now) bounds.now) }
 {
-    push_bodies(out, &app.tasks, &bounds.bodies)?;
+    push_bodies(out, app, &bounds.bodies)?;
     push_waits(out, &bounds.waits)?;
     push_stack(out, bounds.stack_bytes)
 }
 
 /// The name of a body.
-fn body_name<'a>(tasks: &'a [Task], body: BodyId) -> &'a [u8]
-    ensures { result.now ≡ body_name (map task_of tasks.now) body }
+fn body_name<'a>(app: &'a App, body: BodyId) -> &'a [u8]
+    ensures { result.now ≡ body_name (app_of app.now).tasks body }
 {
     match body {
         BodyId::Init => b"init",
         BodyId::Idle => b"idle",
-        BodyId::Task(number) => match tasks.get(usize::from(number.0)) {
+        BodyId::Task(number) => match app.task(number) {
             Some(task) => task.name.bytes(),
             None => b"",
         },
@@ -30,11 +30,11 @@ fn body_name<'a>(tasks: &'a [Task], body: BodyId) -> &'a [u8]
 }
 
 /// Appends the frames and costs of bodies.
-fn push_bodies(out: &mut Vec<u8>, tasks: &[Task], bodies: &[BodyBound]) -> Result<(), NoMemory>
-    ensures { OnOk result (out.new.items ≡ out.old.items ++ flat_map (body_lines (map task_of tasks.now)) bodies.now) }
+fn push_bodies(out: &mut Vec<u8>, app: &App, bodies: &[BodyBound]) -> Result<(), NoMemory>
+    ensures { OnOk result (out.new.items ≡ out.old.items ++ flat_map (body_lines (app_of app.now).tasks) bodies.now) }
 {
     for bound in bodies {
-        let name = body_name(tasks, bound.body);
+        let name = body_name(app, bound.body);
         push_line(out, b"frame", name, bound.frame)?;
         push_line(out, b"cost", name, bound.cost)?;
     }
