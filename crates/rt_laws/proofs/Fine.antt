@@ -1,14 +1,15 @@
 -- What is left to do is well formed, whatever the values are on the way: sections nest and are entered within their
 -- ceilings, an entry that may hold a priority off costs no more than the waiting bound, and each end is its job's own.
-use Rattle.std.proofs.Common.{◌≡◌, ℕ, zero, suc, ◌≤◌, ◌<◌, ◌^◌, ◌==◌, Bool, true, false, if◌then◌else◌, List, [], ◌∷◌, ◌++◌, drop, take, slice_get, IfSome, ◌+◌, ◌-◌, refl, sym, ap, subst, ◌∙◌, arith}
+use Rattle.std.proofs.Common.{◌≡◌, ℕ, suc, ◌≤◌, ◌<◌, ◌^◌, ◌==◌, Bool, true, false, if◌then◌else◌, List, [], ◌∷◌, ◌++◌, drop, take, slice_get, IfSome, ◌+◌, ◌-◌, Option, Some, None, refl, sym, ap, subst, ◌∙◌, arith}
 use Rattle.std.specs.List.{AllByRecursion, position_or_len}
 use Rattle.std.proofs.lemmas.Bool.{eqb-true}
 use Rattle.rt_lemmas.proofs.Membership.{all_append}
+use Rattle.rt_lemmas.proofs.Lists.{find_has}
 use Rattle.rt_ids.specs.Lists.{is_some_and}
 use Rattle.rt_ids.specs.Choice.{IsIn}
 use Rattle.rt_ids.specs.Holder.{Guarded, is_same_section}
-use Rattle.rt_ids.specs.Content.{Message, Armed, Content, Values, Number, Messages, number, messages, delays, put_at, has_instant, least_instant, least}
-use Rattle.rt_ids.specs.Action.{Action, Enters, Leaves, Takes, Refuses, Frees, Readies, Starts, Arms, Fires, Ends, Returns, effect}
+use Rattle.rt_ids.specs.Content.{Message, Armed, Content, Values, Number, Messages, Delays, number, messages, timed, delays, put_at, has_instant, least_instant, least, has_handle, armed_as, without_handle, postponed, with_armed, with_fired, with_cancelled, with_moved}
+use Rattle.rt_ids.specs.Action.{Action, Enters, Leaves, Takes, Refuses, Frees, Readies, Starts, Arms, Fires, Cancels, Moves, Ends, Returns, effect}
 use Rattle.rt_ids.specs.Doing.{Doing, over, does}
 use Rattle.rt_ids.specs.declared.ids.BodyId.TheVariants as body
 use Rattle.rt_ids.specs.declared.ids.Section.{Section}
@@ -18,9 +19,10 @@ use Rattle.rt_app.specs.Level.{is_software, is_of_level, is_armed}
 use Rattle.rt_app.specs.Ceiling.{ceiling}
 use Rattle.rt_app.specs.Waiting.{waiting_bound}
 use Rattle.rt_app.specs.Sending.{Rest, act, act_all, capacity_of}
-use Rattle.rt_laws.specs.State.{Role, Init, Idle, Serving, reached}
+use Rattle.rt_laws.specs.State.{Role, Init, Idle, Serving, first_values, reached}
 use Rattle.rt_laws.specs.Queues.{queue_of, InQueue, KeepsOrder}
 use Rattle.rt_laws.specs.Level.{greatest_ceiling}
+use Rattle.rt_laws.proofs.Handled.{Handled, all_drop, all_remove, handled_armed, handled_less, handled_moved}
 
 -- a message to a task of a level; a message to a task that may be armed
 abbrev pub OfLevel : App → ℕ → Message → Type 0
@@ -37,7 +39,17 @@ IsTimedOne app a = IsTimed app a.message
 pub record Queued (app : App) (vs : Values) : Type 0 where
   pub ready : (p : ℕ) → AllByRecursion (OfLevel app p) (messages (vs (Guarded (section.Ready p))))
   pub timer : AllByRecursion (IsTimedOne app) (delays (vs (Guarded section.Timer)))
+  pub handles : Handled (timed (vs (Guarded section.Timer)))
   pub out : (n : ℕ) → number (vs (Guarded (section.Free n))) ≤ capacity_of app n
+
+-- so it is at reset
+pub first_queued : (app : App) → Queued app (first_values app)
+first_queued app = record {
+  ready = λ p. tt;
+  timer = tt;
+  handles = record { given = tt; apart = tt };
+  out = λ n. omega arith;
+}
 
 -- a section of a queue
 abbrev pub IsQueue : Section → Type 0
@@ -47,6 +59,10 @@ IsQueue x = Unit {0}
 -- queues hold the same
 abbrev pub SameQueues : Values → Values → Type 0
 SameQueues vs ws = (x : Section) → IsQueue x → vs (Guarded x) ≡ ws (Guarded x)
+
+-- so do the queues of these sections
+abbrev pub SameOpen : List Section → Values → Values → Type 0
+SameOpen held vs ws = (x : Section) → IsQueue x → IsIn held x → vs (Guarded x) ≡ ws (Guarded x)
 
 -- a section that a job of a priority may enter: `init` runs with interrupts masked, and may enter any
 abbrev pub Within : Role → ℕ → ℕ → Type 0
@@ -78,13 +94,15 @@ module _ (app : App) (role : Role) (q : ℕ) where
   ActsFine held Returns = (irq : ℕ) × (role ≡ Serving irq)
   ActsFine held action = Unit {0}
 
-  -- behind an action with this answer and these values
+  -- Behind an action with this answer and these values. The queues whose sections were open as it was done hold what it
+  -- made of them.
   abbrev pub IsFine : ℕ → List Section → Values → Doing Values → Type 0
   IsFine answered held base over = Unit {0}
   IsFine answered held base (does action made next) =
       Queued app made × ActsFine held action × InQueue held action × SameQueues made base
       × KeepsOrder app answered made action
-      × ((n : ℕ) (vs : Values) → Queued app vs → IsFine n (held_after held action) vs (next n vs))
+      × ((n : ℕ) (vs : Values) → Queued app vs → SameOpen held vs (effect action made)
+      → IsFine n (held_after held action) vs (next n vs))
 
   abbrev pub FineRest : List Section → Rest → Type 0
   FineRest held rest = (n : ℕ) (vs : Values) → Queued app vs → IsFine n held vs (rest vs)
@@ -97,7 +115,7 @@ module _ (app : App) (role : Role) (q : ℕ) where
       → FineRest (held_after held action) rest → (n : ℕ) (vs : Values) → Queued app vs → KeepsOrder app n vs action
       → IsFine n held vs (act action rest vs)
   first_fine held action rest fine inside later n vs queued order =
-      (queued, fine, inside, (λ x queue. refl), order, λ k ws good. later k ws good)
+      (queued, fine, inside, (λ x queue. refl), order, λ k ws good same. later k ws good)
 
   pub act_fine : (held : List Section) (action : Action) (rest : Rest) → ActsFine held action → IsPlain held action
       → FineRest (held_after held action) rest → FineRest held (act action rest)
@@ -138,16 +156,6 @@ module _ (app : App) (role : Role) (q : ℕ) where
   reached_queued n held over vs base fine queued = queued
   reached_queued n held (does action made next) vs base fine queued = fine.0
 
-pub all_take : {X : Type 0} (P : X → Type 0) (n : ℕ) (xs : List X) → AllByRecursion P xs → AllByRecursion P (take n xs)
-all_take P zero xs all = tt
-all_take P (suc n) [] all = tt
-all_take P (suc n) (x ∷ xs) all = (all.0, all_take P n xs all.1)
-
-pub all_drop : {X : Type 0} (P : X → Type 0) (n : ℕ) (xs : List X) → AllByRecursion P xs → AllByRecursion P (drop n xs)
-all_drop P zero xs all = all
-all_drop P (suc n) [] all = tt
-all_drop P (suc n) (x ∷ xs) all = all_drop P n xs all.1
-
 module _ (app : App) (vs : Values) (queued : Queued app vs) where
   ready_put : (p r : ℕ) (ms : List Message) → AllByRecursion (OfLevel app p) ms
       → AllByRecursion (OfLevel app r) (messages (if p == r then Messages ms else vs (Guarded (section.Ready r))))
@@ -167,17 +175,28 @@ module _ (app : App) (vs : Values) (queued : Queued app vs) where
       go true same = subst (λ k. out ≤ capacity_of app k) (eqb-true n r same) few
       go false other = queued.out r
 
+  without_one : (n : ℕ) → AllByRecursion (IsTimedOne app)
+      (take n (delays (vs (Guarded section.Timer))) ++ drop (suc n) (delays (vs (Guarded section.Timer))))
+  without_one n = all_remove (IsTimedOne app) n (delays (vs (Guarded section.Timer))) queued.timer
+
+  put_off : (i : ℕ) (o : Option Armed) → ((a : Armed) → o ≡ Some a → IsTimedOne app a)
+      → AllByRecursion (IsTimedOne app) (postponed i o)
+  put_off i None each = tt
+  put_off i (Some a) each = (each a refl, tt)
+
   -- what an action changes keeps them so
   pub queued_effect : (role : Role) (q : ℕ) (held : List Section) (action : Action) → ActsFine app role q held action
       → (time : ℕ) → KeepsOrder app time vs action → Queued app (effect action vs)
   queued_effect role q held (Takes n) fine time order = record {
     ready = queued.ready;
     timer = queued.timer;
+    handles = queued.handles;
     out = λ r. out_put n r (number (vs (Guarded (section.Free n))) + 1) (omega arith);
   }
   queued_effect role q held (Frees n) fine time order = record {
     ready = queued.ready;
     timer = queued.timer;
+    handles = queued.handles;
     out = λ r. out_put n r (number (vs (Guarded (section.Free n))) - 1)
         (less (number (vs (Guarded (section.Free n)))) (capacity_of app n) (queued.out n));
   }
@@ -188,32 +207,55 @@ module _ (app : App) (vs : Values) (queued : Queued app vs) where
     ready = λ r. ready_put p r (messages (vs (Guarded (section.Ready p))) ++ m ∷ [])
         (all_append (OfLevel app p) (messages (vs (Guarded (section.Ready p)))) (m ∷ []) (queued.ready p) (fine, tt));
     timer = queued.timer;
+    handles = queued.handles;
     out = queued.out;
   }
   queued_effect role q held (Starts p m) fine time order = record {
     ready = λ r. ready_put p r (drop 1 (messages (vs (Guarded (section.Ready p)))))
         (all_drop (OfLevel app p) 1 (messages (vs (Guarded (section.Ready p)))) (queued.ready p));
     timer = queued.timer;
+    handles = queued.handles;
     out = queued.out;
   }
   queued_effect role q held (Arms i m) fine time order = record {
     ready = queued.ready;
     timer = all_append (IsTimedOne app) (delays (vs (Guarded section.Timer)))
-        (record { instant = i; message = m } ∷ []) queued.timer (fine, tt);
+        (record { instant = i; message = m; handle = (timed (vs (Guarded section.Timer))).given + 1 } ∷ [])
+        queued.timer (fine, tt);
+    handles = handled_armed i m (timed (vs (Guarded section.Timer))) queued.handles;
     out = queued.out;
   }
   queued_effect role q held (Fires m) fine time order =
       let armed : List Armed = delays (vs (Guarded section.Timer)) in
-      let n : ℕ = position_or_len (has_instant (least_instant armed)) armed in
       record {
         ready = queued.ready;
-        timer = all_append (IsTimedOne app) (take n armed) (drop (suc n) armed)
-            (all_take (IsTimedOne app) n armed queued.timer)
-            (all_drop (IsTimedOne app) (suc n) armed queued.timer);
+        timer = without_one (position_or_len (has_instant (least_instant armed)) armed);
+        handles = handled_less (position_or_len (has_instant (least_instant armed)) armed)
+            (timed (vs (Guarded section.Timer))) queued.handles;
+        out = queued.out;
+      }
+  queued_effect role q held (Cancels n h) fine time order =
+      let armed : List Armed = delays (vs (Guarded section.Timer)) in
+      record {
+        ready = queued.ready;
+        timer = without_one (position_or_len (has_handle n h) armed);
+        handles = handled_less (position_or_len (has_handle n h) armed) (timed (vs (Guarded section.Timer)))
+            queued.handles;
+        out = queued.out;
+      }
+  queued_effect role q held (Moves n h i) fine time order =
+      let armed : List Armed = delays (vs (Guarded section.Timer)) in
+      record {
+        ready = queued.ready;
+        timer = all_append (IsTimedOne app) (without_handle n h armed) (postponed i (armed_as n h armed))
+            (without_one (position_or_len (has_handle n h) armed))
+            (put_off i (armed_as n h armed)
+            (λ a is. find_has (IsTimedOne app) (has_handle n h) armed a queued.timer is));
+        handles = handled_moved n h i (timed (vs (Guarded section.Timer))) queued.handles;
         out = queued.out;
       }
   queued_effect role q held action fine time order =
-      record { ready = queued.ready; timer = queued.timer; out = queued.out }
+      record { ready = queued.ready; timer = queued.timer; handles = queued.handles; out = queued.out }
 
 -- what is put at one section is elsewhere not seen
 pub same_section : (x y : Section) → is_same_section x y ≡ true → x ≡ y
@@ -247,7 +289,46 @@ effect_beside (Arms i m) vs held y inside out =
     put_beside section.Timer y _ vs (λ same. out (subst (IsIn held) same inside))
 effect_beside (Fires m) vs held y inside out =
     put_beside section.Timer y _ vs (λ same. out (subst (IsIn held) same inside))
+effect_beside (Cancels n h) vs held y inside out =
+    put_beside section.Timer y _ vs (λ same. out (subst (IsIn held) same inside))
+effect_beside (Moves n h i) vs held y inside out =
+    put_beside section.Timer y _ vs (λ same. out (subst (IsIn held) same inside))
 effect_beside action vs held y inside out = refl
+
+-- it makes the same of what is the same where its section is open
+put_same : (x y : Section) (change : Content → Content) (vs ws : Values) → vs (Guarded x) ≡ ws (Guarded x)
+    → vs (Guarded y) ≡ ws (Guarded y)
+    → put_at vs (Guarded x) (change (vs (Guarded x))) (Guarded y)
+    ≡ put_at ws (Guarded x) (change (ws (Guarded x))) (Guarded y)
+put_same x y change vs ws here there =
+    ap (λ c. if is_same_section x y then change c else vs (Guarded y)) here
+    ∙ ap (λ c. if is_same_section x y then change (ws (Guarded x)) else c) there
+
+pub effect_same : (action : Action) (held : List Section) (vs ws : Values) → InQueue held action → SameOpen held vs ws
+    → SameOpen held (effect action vs) (effect action ws)
+effect_same (Takes n) held vs ws inside same y queue is =
+    put_same (section.Free n) y (λ c. Number (number c + 1)) vs ws (same (section.Free n) tt inside) (same y queue is)
+effect_same (Frees n) held vs ws inside same y queue is =
+    put_same (section.Free n) y (λ c. Number (number c - 1)) vs ws (same (section.Free n) tt inside) (same y queue is)
+effect_same (Readies p m) held vs ws inside same y queue is =
+    put_same (section.Ready p) y (λ c. Messages (messages c ++ m ∷ [])) vs ws (same (section.Ready p) tt inside)
+    (same y queue is)
+effect_same (Starts p m) held vs ws inside same y queue is =
+    put_same (section.Ready p) y (λ c. Messages (drop 1 (messages c))) vs ws (same (section.Ready p) tt inside)
+    (same y queue is)
+effect_same (Arms i m) held vs ws inside same y queue is =
+    put_same section.Timer y (λ c. Delays (with_armed i m (timed c))) vs ws (same section.Timer tt inside)
+    (same y queue is)
+effect_same (Fires m) held vs ws inside same y queue is =
+    put_same section.Timer y (λ c. Delays (with_fired (timed c))) vs ws (same section.Timer tt inside)
+    (same y queue is)
+effect_same (Cancels n h) held vs ws inside same y queue is =
+    put_same section.Timer y (λ c. Delays (with_cancelled n h (timed c))) vs ws (same section.Timer tt inside)
+    (same y queue is)
+effect_same (Moves n h i) held vs ws inside same y queue is =
+    put_same section.Timer y (λ c. Delays (with_moved n h i (timed c))) vs ws (same section.Timer tt inside)
+    (same y queue is)
+effect_same action held vs ws inside same y queue is = same y queue is
 
 -- what is asked goes by the one queue, and by the time
 pub order_kept : (app : App) (time later : ℕ) (vs ws : Values) (action : Action) → time ≤ later
@@ -258,4 +339,8 @@ order_kept app time later vs ws (Refuses n) le same order = ap number same ∙ o
 order_kept app time later vs ws (Starts p m) le same order = (order.0, ap messages same ∙ order.1)
 order_kept app time later vs ws (Fires m) le same order =
     let due = order.3 in (order.0, ap (λ c. least (delays c)) same ∙ order.1, order.2, omega arith)
+order_kept app time later vs ws (Cancels n h) le same order =
+    (order.0, ap (λ c. armed_as n h (delays c)) same ∙ order.1)
+order_kept app time later vs ws (Moves n h i) le same order =
+    (order.0, ap (λ c. armed_as n h (delays c)) same ∙ order.1)
 order_kept app time later vs ws action le same order = tt

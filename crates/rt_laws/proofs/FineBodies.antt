@@ -1,5 +1,5 @@
 -- The bodies of a sound application are well formed in what they do.
-use Rattle.std.proofs.Common.{Bool, option_map, min, ◌≡◌, ℕ, zero, suc, ◌+◌, ◌≤◌, ◌==◌, max, true, false, if◌then◌else◌, Contains, List, [], ◌∷◌, map, slice_get, slice_set, Some, refl, sym, ap, subst, ◌∙◌, arith, eq-eqb}
+use Rattle.std.proofs.Common.{Bool, option_map, ◌≡◌, ℕ, zero, suc, ◌+◌, ◌≤◌, ◌==◌, max, true, false, if◌then◌else◌, Contains, List, [], ◌∷◌, map, slice_get, slice_set, Option, Some, None, is_some, refl, sym, ap, subst, ◌∙◌, arith, eq-eqb}
 use Rattle.std.specs.List.{AllByRecursion}
 use Rattle.std.proofs.lemmas.Bool.{ltb-true, ltb-false}
 use Rattle.std.proofs.lemmas.Option.{same_Some, none-some}
@@ -9,24 +9,24 @@ use Rattle.rt_lemmas.proofs.Lists.{all_front, all_behind}
 use Rattle.rt_ids.specs.Lists.{is_some_and, or_zero}
 use Rattle.rt_ids.specs.Choice.{IsIn}
 use Rattle.rt_ids.specs.Holder.{Guarded, Own}
-use Rattle.rt_ids.specs.Content.{Content, Values, number, Message, Number, put_at}
-use Rattle.rt_ids.specs.Action.{Enters, Leaves, Emits, Posts, Takes, Refuses, Arms, SetsAlarm}
+use Rattle.rt_ids.specs.Content.{Content, Values, number, timed, delays, armed_as, Message, Number, put_at}
+use Rattle.rt_ids.specs.Action.{Enters, Leaves, Emits, Posts, Clocks, Takes, Refuses, Frees, Arms, Cancels, Moves, SetsAlarm}
+use Rattle.rt_ids.specs.Doing.{does}
 use Rattle.rt_ids.specs.declared.ids.Section.{Section}
 use Rattle.rt_ids.specs.declared.ids.Section.TheVariants as section
-use Rattle.rt_ids.specs.declared.limits.TheConstants.{LONGEST_DELAY}
 use Rattle.rt_app.specs.declared.costs.TheConstants.{FREE_COST, READY_COST}
 use Rattle.rt_app.specs.declared.expr.Atom.{Atom}
 use Rattle.rt_app.specs.declared.expr.Atom.TheVariants as atom
-use Rattle.rt_app.specs.Tree.{Expression, Spawn, Soon, After, Calc, Now, Call, Statement, Bind, Assign, Branch, Repeat, Locked, Emit, Pend, Spawns, Block, Empty, Then, Task, App}
+use Rattle.rt_app.specs.Tree.{Expression, Spawn, Soon, After, Cancel, Move, Calc, Now, Call, Statement, Bind, Assign, Branch, Repeat, Locked, Emit, Pend, Spawns, Block, Empty, Then, Task, App}
 use Rattle.rt_app.specs.Variables.{variables, variables_in}
 use Rattle.rt_app.specs.Bodies.{Member, task_priority}
 use Rattle.rt_app.specs.Level.{is_software, is_of_level}
 use Rattle.rt_app.specs.Ceiling.{ceiling}
 use Rattle.rt_app.specs.Handlers.{irq_number}
 use Rattle.rt_app.specs.Cost.{lock_cost, block_cost}
-use Rattle.rt_app.specs.BodyCost.{cost_measure, timer_section_cost}
+use Rattle.rt_app.specs.BodyCost.{cost_measure, timer_section_cost, handle_section_cost}
 use Rattle.rt_app.specs.Waiting.{Critical, statement_sections, block_sections, spawn_sections}
-use Rattle.rt_app.specs.Sending.{act, capacity_of, Rest, act_all, has_place, take_place, ready_actions, arm_actions, spawn_actions}
+use Rattle.rt_app.specs.Sending.{act, capacity_of, Rest, act_all, has_place, take_place, ready_actions, instant_after, leave_timer, arm_actions, is_armed_as, cancel_actions, move_actions, spawn_actions}
 use Rattle.rt_app.specs.Meaning.{Later, value_in, assign, turns_from, run, run_block}
 use Rattle.rt_app.specs.Sound.{IsSoundSpawn, IsSoundStatement, IsSoundBlock}
 use Rattle.rt_laws.specs.State.{Role}
@@ -111,28 +111,108 @@ module _ (app : App) (role : Role) (q : ℕ) (m : Member) (P : Critical → Type
     (level, ((0, refl), λ k vs. tt), (tt, (tt, λ k vs. tt), ((held, refl), (tt, λ k vs. tt), tt))),
   )
 
-  arm_fine : (held : List Section) (delay : ℕ) (message : Message) (rest : Rest)
-      → EntersFine app role q held section.Timer (timer_section_cost app)
-      → IsTimed app message → FineHere held rest → FineHere held (arm_actions app delay message rest)
-  arm_fine held delay message rest enters timed later = λ n vs queued. (
+  leave_fine : (held : List Section) (rest : Rest) → FineHere held rest
+      → FineHere (section.Timer ∷ held) (leave_timer app rest)
+  leave_fine held rest later =
+      acts_fine app role q (section.Timer ∷ held) (SetsAlarm ∷ Leaves section.Timer ∷ []) rest
+      (tt, (tt, λ k vs. tt), ((held, refl), (tt, λ k vs. tt), tt)) later
+
+  arm_fine : (held : List Section) (cost delay : ℕ) (message : Message) (rest : ℕ → Rest)
+      → EntersFine app role q held section.Timer cost
+      → IsTimed app message → ((n : ℕ) → FineHere held (rest n))
+      → FineHere held (arm_actions app cost delay message rest)
+  arm_fine held cost delay message rest enters armed later = λ n vs queued. (
     queued,
     enters,
     tt,
     (λ x queue. refl),
     tt,
-    λ k ws good. (
+    λ k ws good same. (
       good,
       tt,
       tt,
       (λ x queue. refl),
       tt,
-      λ time xs r.
-          acts_fine app role q (section.Timer ∷ held)
-          (Arms (time + min delay LONGEST_DELAY) message ∷ SetsAlarm ∷ Leaves section.Timer ∷ []) rest
-          (timed, ((0, refl), λ k vs. tt), (tt, (tt, λ k vs. tt), ((held, refl), (tt, λ k vs. tt), tt)))
-          later time xs r,
+      λ time xs r alike.
+          act_fine app role q (section.Timer ∷ held) (Arms (instant_after app time delay) message)
+          (λ vs. leave_timer app (rest (timed (vs (Guarded section.Timer))).given) vs) armed
+          ((0, refl), λ k vs. tt)
+          (λ k vs queued. leave_fine held (rest (timed (vs (Guarded section.Timer))).given)
+          (later (timed (vs (Guarded section.Timer))).given) k vs queued)
+          time xs r,
     ),
   )
+
+  -- the message of a handle is armed, where the section opens
+  found : {X : Type 0} (o : Option X) → is_some o ≡ true → (x : X) × (o ≡ Some x)
+  found None test = cc
+  found (Some x) test = (x, refl)
+
+  cancel_fine : (held : List Section) (cost n handle : ℕ) (cancelled missing : Rest)
+      → EntersFine app role q held section.Timer cost → EntersFine app role q held (section.Free n) FREE_COST
+      → FineHere held cancelled → FineHere held missing
+      → FineHere held (cancel_actions app cost n handle cancelled missing)
+  cancel_fine held cost n handle cancelled missing enters frees first second =
+      act_fine app role q held (Enters section.Timer cost) chosen enters (tt, λ k vs. tt)
+      (λ k vs queued. go k vs queued (is_armed_as app n handle vs) refl)
+    where
+      back : Rest
+      back = act_all (Enters (section.Free n) FREE_COST ∷ Frees n ∷ Leaves (section.Free n) ∷ []) cancelled
+
+      chosen : Rest
+      chosen vs =
+          if is_armed_as app n handle vs then act (Cancels n handle) (leave_timer app back) vs
+          else act (Leaves section.Timer) missing vs
+
+      back_fine : FineHere held back
+      back_fine =
+          acts_fine app role q held (Enters (section.Free n) FREE_COST ∷ Frees n ∷ Leaves (section.Free n) ∷ [])
+          cancelled
+          (frees, (tt, λ k vs. tt), (tt, ((0, refl), λ k vs. tt), ((held, refl), (tt, λ k vs. tt), tt))) first
+
+      go : (k : ℕ) (vs : Values) → Queued app vs → (b : Bool) → is_armed_as app n handle vs ≡ b
+          → IsFine app role q k (section.Timer ∷ held) vs
+          (if b then act (Cancels n handle) (leave_timer app back) vs else act (Leaves section.Timer) missing vs)
+      go k vs queued true test =
+          first_fine app role q (section.Timer ∷ held) (Cancels n handle) (leave_timer app back) tt (0, refl)
+          (leave_fine held back back_fine) k vs queued
+          (found (armed_as n handle (delays (vs (Guarded section.Timer)))) test)
+      go k vs queued false test =
+          act_fine app role q (section.Timer ∷ held) (Leaves section.Timer) missing (held, refl) (tt, λ k vs. tt)
+          second k vs queued
+
+  move_fine : (held : List Section) (cost delay n handle : ℕ) (moved missing : Rest)
+      → EntersFine app role q held section.Timer cost → FineHere held moved → FineHere held missing
+      → FineHere held (move_actions app cost delay n handle moved missing)
+  move_fine held cost delay n handle moved missing enters first second =
+      act_fine app role q held (Enters section.Timer cost) chosen enters (tt, λ k vs. tt)
+      (λ k vs queued. go k vs queued (is_armed_as app n handle vs) refl)
+    where
+      put_off : ℕ → Rest
+      put_off time = act (Moves n handle (instant_after app time delay)) (leave_timer app moved)
+
+      chosen : Rest
+      chosen vs =
+          if is_armed_as app n handle vs then does Clocks vs put_off else act (Leaves section.Timer) missing vs
+
+      go : (k : ℕ) (vs : Values) → Queued app vs → (b : Bool) → is_armed_as app n handle vs ≡ b
+          → IsFine app role q k (section.Timer ∷ held) vs
+          (if b then does Clocks vs put_off else act (Leaves section.Timer) missing vs)
+      go k vs queued true test =
+          let here = found (armed_as n handle (delays (vs (Guarded section.Timer)))) test in (
+            queued,
+            tt,
+            tt,
+            (λ x queue. refl),
+            tt,
+            λ time ws good same.
+                first_fine app role q (section.Timer ∷ held) (Moves n handle (instant_after app time delay))
+                (leave_timer app moved) tt (0, refl) (leave_fine held moved first) time ws good
+                (here.0, ap (λ c. armed_as n handle (delays c)) (same section.Timer tt (0, refl)) ∙ here.1),
+          )
+      go k vs queued false test =
+          act_fine app role q (section.Timer ∷ held) (Leaves section.Timer) missing (held, refl) (tt, λ k vs. tt)
+          second k vs queued
 
   spawn_fine : (locked : List ℕ) (outer : ℕ) (value : Expression → ℕ) (s : Spawn) (rest : ℕ → Rest)
       → IsSoundSpawn app m locked s
@@ -167,14 +247,26 @@ module _ (app : App) (role : Role) (q : ℕ) (m : Member) (P : Critical → Type
   spawn_fine locked outer value (After word delay n args at) rest sound counted same later =
       let held : List Section = held_of locked in
       let message : Message = record { task = n; args = map value args } in
-      take_fine held n (arm_actions app (value delay) message (rest 1)) (rest 0)
+      take_fine held n (arm_actions app (timer_section_cost app) (value delay) message rest) (rest 0)
       (entered held outer (section.Free n) FREE_COST same sound.1.within
       (no_queue locked (section.Free n) tt) counted.0)
-      (arm_fine held (value delay) message (rest 1)
+      (arm_fine held (timer_section_cost app) (value delay) message rest
       (entered held outer section.Timer (timer_section_cost app) same sound.5
       (no_queue locked section.Timer tt) counted.1.0)
-      (sound.3, ap (is_some_and is_software) sound.1.is_there ∙ sound.1.software) (later 1))
+      (sound.3, ap (is_some_and is_software) sound.1.is_there ∙ sound.1.software) later)
       (later 0)
+  spawn_fine locked outer value (Cancel word n handle at) rest sound counted same later =
+      cancel_fine (held_of locked) (handle_section_cost app) n (value handle) (rest 0) (rest 1)
+      (entered (held_of locked) outer section.Timer (handle_section_cost app) same sound.1.within
+      (no_queue locked section.Timer tt) counted.0)
+      (entered (held_of locked) outer (section.Free n) FREE_COST same sound.2
+      (no_queue locked (section.Free n) tt) counted.1.0)
+      (later 0) (later 1)
+  spawn_fine locked outer value (Move word delay n handle at) rest sound counted same later =
+      move_fine (held_of locked) (handle_section_cost app) (value delay) n (value handle) (rest 0) (rest 1)
+      (entered (held_of locked) outer section.Timer (handle_section_cost app) same sound.1.within
+      (no_queue locked section.Timer tt) counted.0)
+      (later 0) (later 1)
 
   turns_fine : (held : List Section) (n x i : ℕ) (turn : Later → Later) (later : Later)
       → ((next : Later) → FineLater held next → FineLater held (turn next))
@@ -189,7 +281,7 @@ module _ (app : App) (role : Role) (q : ℕ) (m : Member) (P : Critical → Type
   assign_fine held (atom.Shared r) n later fine = λ vars k vs queued.
       rebase app role q k held (put_at vs (Guarded (section.Res r)) (Number n)) vs _
       (fine vars k (put_at vs (Guarded (section.Res r)) (Number n))
-      (record { ready = queued.ready; timer = queued.timer; out = queued.out }))
+      (record { ready = queued.ready; timer = queued.timer; handles = queued.handles; out = queued.out }))
       (beside r vs (Number n))
     where
       beside : (r : ℕ) (vs : Values) (content : Content) → SameQueues (put_at vs (Guarded (section.Res r)) content) vs
@@ -200,7 +292,7 @@ module _ (app : App) (role : Role) (q : ℕ) (m : Member) (P : Critical → Type
   assign_fine held (atom.Local l) n later fine = λ vars k vs queued.
       rebase app role q k held (put_at vs (Own l) (Number n)) vs _
       (fine vars k (put_at vs (Own l) (Number n))
-      (record { ready = queued.ready; timer = queued.timer; out = queued.out }))
+      (record { ready = queued.ready; timer = queued.timer; handles = queued.handles; out = queued.out }))
       (λ x queue. refl)
 
   mutual
@@ -212,7 +304,7 @@ module _ (app : App) (role : Role) (q : ℕ) (m : Member) (P : Critical → Type
     statement_fine (Bind x (Calc e)) n locked fixed outer later sound counted same fine = λ vars k vs queued.
         fine (slice_set vars x (value_in vars vs e)) k vs queued
     statement_fine (Bind x (Now at)) n locked fixed outer later sound counted same fine = λ vars k vs queued.
-        (queued, tt, tt, (λ y queue. refl), tt, λ time ws good. fine (slice_set vars x time) time ws good)
+        (queued, tt, tt, (λ y queue. refl), tt, λ time ws good alike. fine (slice_set vars x time) time ws good)
     statement_fine (Bind x (Call s)) n locked fixed outer later sound counted same fine = λ vars k vs queued.
         spawn_fine locked outer (value_in vars vs) s (λ granted. later (slice_set vars x granted)) sound.1 counted same
         (λ granted. fine (slice_set vars x granted)) k vs queued

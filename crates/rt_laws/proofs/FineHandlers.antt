@@ -1,5 +1,5 @@
 -- `init`, `idle` and every handler of an accepted application are well formed in what they do.
-use Rattle.std.proofs.Common.{◌≡◌, ℕ, zero, suc, ◌+◌, ◌≤◌, ◌<◌, ◌^◌, ◌==◌, nat_lt, nat_le, Bool, true, false, not, ◌&&◌, if◌then◌else◌, List, [], ◌∷◌, ◌++◌, replicate, slice_get, Option, Some, None, option_map, IfSome, refl, sym, ap, subst, ◌∙◌, arith, eq-eqb}
+use Rattle.std.proofs.Common.{◌≡◌, ℕ, zero, suc, ◌+◌, ◌≤◌, ◌<◌, ◌^◌, ◌==◌, nat_lt, nat_le, Bool, true, false, ◌&&◌, if◌then◌else◌, List, [], ◌∷◌, ◌++◌, replicate, slice_get, Option, Some, None, option_map, IfSome, refl, sym, ap, subst, ◌∙◌, arith, eq-eqb}
 use Rattle.std.specs.List.{AllByRecursion, list_any}
 use Rattle.std.proofs.lemmas.Bool.{eqb-true, leb-true, lt-ltb, le-leb}
 use Rattle.std.proofs.lemmas.Option.{same_Some, none-some}
@@ -20,7 +20,7 @@ use Rattle.rt_app.specs.declared.app.Mono.{Mono}
 use Rattle.rt_app.specs.Tree.{Spawn, Body, Task, App}
 use Rattle.rt_app.specs.Variables.{variables}
 use Rattle.rt_app.specs.Bodies.{Member, members, task_priority}
-use Rattle.rt_app.specs.Spawned.{spawns, is_soon, target}
+use Rattle.rt_app.specs.Spawned.{spawns, arms_message, target}
 use Rattle.rt_app.specs.Level.{is_software, is_of_level, is_armed, arms, holds, levels}
 use Rattle.rt_app.specs.Ceiling.{ceiling, arms_level, mover_priority}
 use Rattle.rt_app.specs.BodyCost.{dispatcher_section_cost, timer_section_cost}
@@ -362,8 +362,8 @@ module _ (app : App) (accepted : IsAccepted app) where
         moves_level : (n p : ℕ) → is_some_and (is_of_level p) (slice_get app.tasks n) ≡ true → (s : Spawn)
             → arms n s ≡ true → arms_level app p s ≡ true
         moves_level n p level s is =
-            let parts = and_parts (not (is_soon s)) (target s == n) is in
-            and_both (not (is_soon s)) _ parts.0
+            let parts = and_parts (arms_message s) (target s == n) is in
+            and_both (arms_message s) _ parts.0
             (subst (λ k. is_some_and (is_of_level p) (slice_get app.tasks k) ≡ true)
             (sym (eqb-true (target s) n parts.1)) level)
 
@@ -381,13 +381,13 @@ module _ (app : App) (accepted : IsAccepted app) where
           tt,
           (λ x queue. refl),
           tt,
-          λ k ws good. (
+          λ k ws good same. (
             good,
             tt,
             tt,
             (λ x queue. refl),
             tt,
-            λ time xs r. fire_fine mono is (due app time (delays (xs (Guarded section.Timer))))
+            λ time xs r alike. fire_fine mono is (due app time (delays (xs (Guarded section.Timer))))
                 (due_timed time (delays (xs (Guarded section.Timer))) r.timer) time xs r refl,
           ),
         )

@@ -21,11 +21,10 @@ use Rattle.rt_laws.specs.Giving.{item_given, gives}
 use Rattle.rt_laws.specs.Allowed.{MayStep, Turn, May, started, after}
 use Rattle.rt_laws.specs.Sight.{Seen, Sight, outside, first_sight, sees}
 use Rattle.rt_laws.specs.Waiting.{stepper, is_take, is_return}
-use Rattle.rt_laws.specs.Queues.{AllKeepOrder}
 use Rattle.rt_laws.proofs.Order.{next_order, all_kept}
-use Rattle.rt_laws.proofs.Fine.{reached_queued, reached_same, Queued, IsFine}
+use Rattle.rt_laws.proofs.Fine.{first_queued, reached_queued, reached_same, Queued, IsFine}
 use Rattle.rt_laws.proofs.FineHandlers.{init_fine, services_fine}
-use Rattle.rt_laws.proofs.Well.{JobWell, IsAbove, StackWell, StateWell, begun_well}
+use Rattle.rt_laws.proofs.Well.{AllKept, JobWell, IsAbove, StackWell, StateWell, begun_well}
 use Rattle.rt_laws.proofs.Pending.{priority_is, starts_above}
 use Rattle.rt_laws.proofs.Steps.{Led, acts_well, silent_well}
 
@@ -69,7 +68,7 @@ module _ (app : App) (accepted : IsAccepted app) where
     );
     pending = refl;
     queued = reached_queued app Init (2 ^ app.bits) 0 [] (init_doing app (first_values app)) (first_values app)
-        (first_values app) begins reset_queued;
+        (first_values app) begins (first_queued app);
     order = (
       next_order app Init (2 ^ app.bits) 0 0 [] (init_doing app (first_values app)) (first_values app)
           (first_values app) (omega arith) begins,
@@ -77,16 +76,13 @@ module _ (app : App) (accepted : IsAccepted app) where
     );
   }
     where
-      reset_queued : Queued app (first_values app)
-      reset_queued = record { ready = λ p. tt; timer = tt; out = λ n. omega arith }
-
       begins : IsFine app Init (2 ^ app.bits) 0 [] (first_values app) (init_doing app (first_values app))
-      begins = init_fine app accepted 0 (first_values app) reset_queued
+      begins = init_fine app accepted 0 (first_values app) (first_queued app)
 
   -- the stack has a running job that may step, where a turn is there
   turn_silent : (s : State) (v : Sight) (js : List Job) (vs : List Seen) → s.jobs ≡ js → v.jobs ≡ vs
       → StackWell app js vs → v.pending ≡ s.pending → Queued app s.values
-      → AllKeepOrder app s.time s.values js → MayStep js → candidate app s ≡ None
+      → AllKept app s.time s.values js → MayStep js → candidate app s ≡ None
       → Step app (record s { jobs = js }) (record v { jobs = vs }) None
       (after app (record s { jobs = js }) (Stepped None)) (sees app (record v { jobs = vs }) (Stepped None))
   turn_silent s v [] vs jobs views stack pending queued order may none = absurd may
@@ -110,7 +106,7 @@ module _ (app : App) (accepted : IsAccepted app) where
 
   turn_given : (s : State) (v : Sight) (js : List Job) (vs : List Seen) (w : What) → s.jobs ≡ js → v.jobs ≡ vs
       → StackWell app js vs → v.pending ≡ s.pending → Queued app s.values
-      → AllKeepOrder app s.time s.values js → MayStep js → candidate app s ≡ None
+      → AllKept app s.time s.values js → MayStep js → candidate app s ≡ None
       → item_given (record s { jobs = js }) js ≡ Some w
       → Step app (record s { jobs = js }) (record v { jobs = vs }) (Some w)
       (after app (record s { jobs = js }) (Stepped (Some w))) (sees app (record v { jobs = vs }) (Stepped (Some w)))

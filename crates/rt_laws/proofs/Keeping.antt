@@ -1,6 +1,9 @@
 -- Every run of an accepted application keeps the three properties.
 use Rattle.std.proofs.Common.{◌≡◌, ℕ, ◌<◌, List, [], ◌∷◌, sym, subst, arith}
 use Rattle.std.specs.List.{AllByRecursion}
+use Rattle.rt_ids.specs.Holder.{Guarded}
+use Rattle.rt_ids.specs.Content.{timed}
+use Rattle.rt_ids.specs.declared.ids.Section.TheVariants as section
 use Rattle.rt_trace.specs.Label.{Label}
 use Rattle.rt_app.specs.Tree.{App}
 use Rattle.rt_app.specs.Accepted.{IsAccepted}
@@ -13,9 +16,12 @@ use Rattle.rt_laws.specs.Waiting.{WaitsWell, ServesWell}
 use Rattle.rt_laws.specs.Properties.{AtEach, AreExclusive, FindsFree, LeavesInnermost}
 use Rattle.rt_laws.specs.ByItems.{after_all}
 use Rattle.rt_laws.specs.Queues.{KeepsQueues}
-use Rattle.rt_laws.specs.Laws.{RunsKeepQueues, RunsKeepLaws, RunsNestSections, JudgedTracesKeepLaws, IsHighestFirst, TheHighestRuns}
+use Rattle.rt_laws.specs.Handles.{KeepsHandles}
+use Rattle.rt_laws.specs.Laws.{RunsKeepQueues, RunsKeepHandles, RunsKeepLaws, RunsNestSections, JudgedTracesKeepLaws, IsHighestFirst, TheHighestRuns}
 use Rattle.rt_laws.proofs.Well.{IsAbove, StackWell, StateWell}
 use Rattle.rt_laws.proofs.Happens.{first_well, happens, after_well}
+use Rattle.rt_laws.proofs.Handled.{are_handled}
+use Rattle.rt_laws.proofs.Order.{all_in_order}
 use Rattle.rt_laws.proofs.Free.{exclusive, finds_free, leaves_innermost}
 use Rattle.rt_laws.proofs.Waiting.{waits_well}
 use Rattle.rt_laws.proofs.Serving.{serves_well}
@@ -101,10 +107,21 @@ the_highest_runs app accepted labels runs =
 
 order_after : (app : App) → IsAccepted app → (labels : List Label) (s : State) (v : Sight) → StateWell app s v
     → RunsOn app s labels → KeepsQueues app (after_all app s labels)
-order_after app accepted [] s v well runs = well.order
+order_after app accepted [] s v well runs = all_in_order app s.time s.values s.jobs well.order
 order_after app accepted (label ∷ labels) s v well runs =
     order_after app accepted labels (after app s label) (sees app v label)
     (next_well app accepted s v label well runs.0) runs.1
+
+handles_after : (app : App) → IsAccepted app → (labels : List Label) (s : State) (v : Sight) → StateWell app s v
+    → RunsOn app s labels → KeepsHandles (after_all app s labels)
+handles_after app accepted [] s v well runs = are_handled (timed (s.values (Guarded section.Timer))) well.queued.handles
+handles_after app accepted (label ∷ labels) s v well runs =
+    handles_after app accepted labels (after app s label) (sees app v label)
+    (next_well app accepted s v label well runs.0) runs.1
+
+pub runs_keep_handles : RunsKeepHandles
+runs_keep_handles app accepted labels runs =
+    handles_after app accepted labels (first app) (first_sight app) (first_well app accepted) runs
 
 pub runs_keep_queues : RunsKeepQueues
 runs_keep_queues app accepted labels runs =

@@ -4,7 +4,9 @@ pub mod RowsLocks
 pub mod RowsRuns
 pub mod RowsQueues
 pub mod RowsServed
+pub mod RowsHandles
 pub mod Outermost
+pub mod Handled
 pub mod Fine
 pub mod FineBodies
 pub mod FineHandlers

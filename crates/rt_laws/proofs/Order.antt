@@ -1,9 +1,9 @@
 -- What is asked of the actions of queues stays as others run, since each queue is changed inside its section alone.
-use Rattle.std.proofs.Common.{◌≡◌, ℕ, ◌≤◌, List, [], ◌∷◌, Option, Some, None, IfSome, refl, subst, le_refl, inl, inr, arith}
+use Rattle.std.proofs.Common.{◌≡◌, ℕ, ◌≤◌, List, [], ◌∷◌, Option, Some, None, IfSome, refl, ◌∙◌, subst, le_refl, inl, inr, arith}
 use Rattle.rt_ids.specs.Choice.{IsIn}
 use Rattle.rt_ids.specs.Holder.{Guarded}
 use Rattle.rt_ids.specs.Content.{Values}
-use Rattle.rt_ids.specs.Action.{Action, Takes, Refuses, Readies, Starts, Frees, Arms, Fires, Clocks}
+use Rattle.rt_ids.specs.Action.{Action, Takes, Refuses, Readies, Starts, Frees, Arms, Fires, Cancels, Moves, Clocks}
 use Rattle.rt_ids.specs.Doing.{Doing, over, does}
 use Rattle.rt_ids.specs.declared.ids.Section.{Section}
 use Rattle.rt_app.specs.Tree.{App}
@@ -14,7 +14,7 @@ use Rattle.rt_laws.specs.Acting.{answer}
 use Rattle.rt_laws.specs.Queues.{queue_of, NextKeepsOrder, AllKeepOrder}
 use Rattle.rt_laws.specs.Served.{IsOpen}
 use Rattle.rt_laws.proofs.Fine.{IsQueue, Within, IsFine, order_kept}
-use Rattle.rt_laws.proofs.Well.{IsAbove}
+use Rattle.rt_laws.proofs.Well.{IsAbove, NextKept, AllKept}
 use Rattle.rt_laws.proofs.Free.{within_greatest}
 
 both_some : {X : Type 0} (P Q R : X → Type 0) → ((x : X) → P x → Q x → R x) → (o : Option X) → IfSome o P → IfSome o Q
@@ -34,6 +34,8 @@ queues_only (Readies p m) = tt
 queues_only (Starts p m) = tt
 queues_only (Arms i m) = tt
 queues_only (Fires m) = tt
+queues_only (Cancels n h) = tt
+queues_only (Moves n h i) = tt
 queues_only action = tt
 
 -- an answer is no later than the time
@@ -45,33 +47,46 @@ module _ (app : App) where
   -- what is left to do keeps the order as it comes to its action
   pub next_order : (role : Role) (q n time : ℕ) (held : List Section) (rest : Doing Values) (vs base : Values)
       → n ≤ time → IsFine app role q n held base rest
-      → NextKeepsOrder app time (reached rest vs) held rest
+      → NextKept app time (reached rest vs) held rest
   next_order role q n time held over vs base le fine = tt
   next_order role q n time held (does action made next) vs base le fine = (
     fine.2,
     order_kept app n time made made action le
         (same_some (λ x. made (Guarded x) ≡ made (Guarded x)) (λ x. refl) (queue_of action)) fine.4,
+    λ x queue is. refl,
   )
 
   next_kept : (time later : ℕ) (sections : List Section) (rest : Doing Values) (vs ws : Values) → time ≤ later
       → ((x : Section) → IsQueue x → IsIn sections x → ws (Guarded x) ≡ vs (Guarded x))
-      → NextKeepsOrder app time vs sections rest → NextKeepsOrder app later ws sections rest
+      → NextKept app time vs sections rest → NextKept app later ws sections rest
   next_kept time later sections over vs ws le same order = tt
   next_kept time later sections (does action made next) vs ws le same order = (
     order.0,
     order_kept app time later vs ws action le
         (both_some IsQueue (IsIn sections) (λ x. ws (Guarded x) ≡ vs (Guarded x)) same (queue_of action)
         (queues_only action) order.0) order.1,
+    λ x queue is. same x queue is ∙ order.2 x queue is,
   )
 
   pub all_kept : (time later : ℕ) (js : List Job) (vs ws : Values) → time ≤ later
       → ((x : Section) → IsQueue x → IsOpen js x → ws (Guarded x) ≡ vs (Guarded x))
-      → AllKeepOrder app time vs js → AllKeepOrder app later ws js
+      → AllKept app time vs js → AllKept app later ws js
   all_kept time later [] vs ws le same order = tt
   all_kept time later (job ∷ others) vs ws le same order = (
     next_kept time later job.sections job.rest vs ws le (λ x queue is. same x queue (inl is)) order.0,
     all_kept time later others vs ws le (λ x queue is. same x queue (inr is)) order.1,
   )
+
+  -- the law
+  pub all_in_order : (time : ℕ) (vs : Values) (js : List Job) → AllKept app time vs js → AllKeepOrder app time vs js
+  all_in_order time vs [] kept = tt
+  all_in_order time vs (job ∷ others) kept =
+      (next_in_order job.sections job.rest kept.0, all_in_order time vs others kept.1)
+    where
+      next_in_order : (sections : List Section) (rest : Doing Values) → NextKept app time vs sections rest
+          → NextKeepsOrder app time vs sections rest
+      next_in_order sections over kept = tt
+      next_in_order sections (does action made next) kept = (kept.0, kept.1)
 
   pub some_level : (js : List Job) (x : Section) → IsOpen js x → ceiling app x ≤ level app js
   some_level [] x is = absurd is

@@ -12,6 +12,7 @@ use Rattle.rt_ids.specs.declared.ids.Section.TheVariants as section
 use Rattle.rt_trace.specs.Label.{Label, Arrived, Ticked, Rang, Stepped}
 use Rattle.rt_trace.specs.declared.item.What.{What}
 use Rattle.rt_trace.specs.declared.item.What.TheVariants as what
+use Rattle.rt_app.specs.BodyCost.{dispatcher_section_cost}
 use Rattle.rt_app.specs.Tree.{App}
 use Rattle.rt_app.specs.Ceiling.{ceiling}
 use Rattle.rt_app.specs.Level.{levels}
@@ -28,14 +29,13 @@ use Rattle.rt_laws.specs.Allowed.{MayStep, May, started, stepped, given, after}
 use Rattle.rt_laws.specs.Run.{RunsOn}
 use Rattle.rt_laws.specs.ByItems.{after_all}
 use Rattle.rt_laws.specs.Sight.{Seen, Sight, first_sight, sees}
-use Rattle.rt_laws.specs.Queues.{AllKeepOrder}
 use Rattle.rt_laws.specs.Served.{IsOpen, BeginsWith}
 use Rattle.rt_laws.specs.Laws.{RunsServeReady}
 use Rattle.rt_laws.proofs.Order.{some_level}
 use Rattle.rt_laws.proofs.Pending.{priority_is, starts_above, still_beside}
-use Rattle.rt_laws.proofs.Fine.{IsFine, Queued, reached_same}
+use Rattle.rt_laws.proofs.Fine.{first_queued, IsFine, Queued, reached_same}
 use Rattle.rt_laws.proofs.FineHandlers.{init_fine, services_fine}
-use Rattle.rt_laws.proofs.Well.{StackWell, StateWell}
+use Rattle.rt_laws.proofs.Well.{AllKept, StackWell, StateWell}
 use Rattle.rt_laws.proofs.Happens.{first_well}
 use Rattle.rt_laws.proofs.Keeping.{next_well}
 use Rattle.rt_laws.proofs.Dispatchers.{dispatcher_serves, dispatcher_small}
@@ -59,7 +59,7 @@ module _ (app : App) (accepted : IsAccepted app) (p : ℕ) (of_level : Contains 
     );
     served = Nothing (ap messages (reached_same app Init (2 ^ app.bits) 0 [] (init_doing app (first_values app))
         (first_values app) (init_fine app accepted 0 (first_values app)
-        (record { ready = λ p. tt; timer = tt; out = λ n. omega arith })) queue tt));
+        (first_queued app)) queue tt));
   }
 
   -- the handling of an interrupt has started
@@ -124,7 +124,8 @@ module _ (app : App) (accepted : IsAccepted app) (p : ℕ) (of_level : Contains 
               let equal = eqb-true irq dispatcher test in
               Stands (inl (
                 ap Serving equal,
-                subst (λ h. BeginsWith queue (handler_doing app h s.values)) (sym (is_its equal).0) refl,
+                subst (λ h. BeginsWith queue (dispatcher_section_cost app p) (handler_doing app h s.values))
+                    (sym (is_its equal).0) (refl, refl),
               ))
           by false test = Posted (still_beside s.pending irq dispatcher false (differ irq dispatcher test) yet)
 
@@ -151,7 +152,7 @@ module _ (app : App) (accepted : IsAccepted app) (p : ℕ) (of_level : Contains 
 
   -- a step that gives an item
   given_kept : (s : State) (js : List Job) (vs : List Seen) → StackWell app js vs → Queued app s.values
-      → AllKeepOrder app s.time s.values js → MayStep js → (w : What) → item_given s js ≡ Some w
+      → AllKept app s.time s.values js → MayStep js → (w : What) → item_given s js ≡ Some w
       → Keeps app p s.pending s.values js → KeepsState app p (given app s js)
   given_kept s [] vs stack queued order may w is keeps = absurd may
   given_kept s (job ∷ others) [] stack queued order may w is keeps = absurd stack

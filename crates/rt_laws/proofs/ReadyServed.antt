@@ -8,6 +8,7 @@ use Rattle.rt_ids.specs.Action.{Readies, Starts, effect}
 use Rattle.rt_ids.specs.declared.ids.Section.{Section}
 use Rattle.rt_ids.specs.declared.ids.Section.TheVariants as section
 use Rattle.rt_ids.specs.declared.limits.TheConstants.{IRQ_NUMBERS}
+use Rattle.rt_app.specs.BodyCost.{dispatcher_section_cost}
 use Rattle.rt_app.specs.Tree.{App}
 use Rattle.rt_app.specs.Sending.{dispatcher_number}
 use Rattle.rt_laws.specs.State.{Job, State}
@@ -61,7 +62,7 @@ module _ (app : App) (p : ℕ) where
     Open : IsOpen js queue → LevelServed pending vs js
     Nothing : ready vs ≡ [] → LevelServed pending vs js
     Posted : IsPosted pending → LevelServed pending vs js
-    Stands : StandsBefore js (dispatcher_number app p) queue → LevelServed pending vs js
+    Stands : StandsBefore js (dispatcher_number app p) queue (dispatcher_section_cost app p) → LevelServed pending vs js
 
   pub record Keeps (pending : List Bool) (vs : Values) (js : List Job) : Type 0 where
     pub long : length pending ≡ IRQ_NUMBERS
@@ -76,6 +77,7 @@ module _ (app : App) (p : ℕ) where
   keeps_level s keeps some closed = go keeps.served
     where
       go : LevelServed s.pending s.values s.jobs → IsServed s (dispatcher_number app p) queue
+          (dispatcher_section_cost app p)
       go (Open is) = absurd (closed is)
       go (Nothing none) = absurd (some none)
       go (Posted is) = inl is
@@ -119,7 +121,7 @@ module _ (app : App) (p : ℕ) where
   -- a job that is outside goes on outside
   pub goes_outside : (pending : List Bool) → length pending ≡ IRQ_NUMBERS → (vs ws : Values)
       (job after : Job) (others : List Job)
-      → ¬ IsIn job.sections queue → ¬ BeginsWith queue job.rest
+      → ¬ IsIn job.sections queue → ¬ BeginsWith queue (dispatcher_section_cost app p) job.rest
       → ¬ IsIn after.sections queue → Serves app p Away after.rest → ready ws ≡ ready vs
       → AllServe pending vs others → LevelServed pending vs (job ∷ others)
       → Keeps pending ws (after ∷ others)

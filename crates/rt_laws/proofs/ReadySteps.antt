@@ -13,6 +13,7 @@ use Rattle.rt_ids.specs.declared.ids.Section.{Section}
 use Rattle.rt_ids.specs.declared.ids.Section.TheVariants as section
 use Rattle.rt_ids.specs.declared.limits.TheConstants.{IRQ_NUMBERS}
 use Rattle.rt_trace.specs.declared.item.What.{What}
+use Rattle.rt_app.specs.BodyCost.{dispatcher_section_cost}
 use Rattle.rt_app.specs.Tree.{App, Body}
 use Rattle.rt_app.specs.Ceiling.{ceiling}
 use Rattle.rt_app.specs.Accepted.{IsAccepted}
@@ -22,13 +23,12 @@ use Rattle.rt_laws.specs.State.{Role, Idle, Job, State, reached}
 use Rattle.rt_laws.specs.Giving.{next_instant, is_due, next_item}
 use Rattle.rt_laws.specs.Acting.{spent, pended, idling, answer, alarm_set, acted}
 use Rattle.rt_laws.specs.Sight.{Seen}
-use Rattle.rt_laws.specs.Queues.{NextKeepsOrder}
 use Rattle.rt_laws.specs.Served.{IsOpen, BeginsWith}
 use Rattle.rt_laws.proofs.Order.{apart_below}
 use Rattle.rt_laws.proofs.Pending.{still_set}
-use Rattle.rt_laws.proofs.Fine.{Within, reached_same, effect_beside, Queued, IsFine, held_after, queued_effect}
+use Rattle.rt_laws.proofs.Fine.{Within, reached_same, effect_beside, effect_same, Queued, IsFine, held_after, queued_effect}
 use Rattle.rt_laws.proofs.FineHandlers.{idle_fine}
-use Rattle.rt_laws.proofs.Well.{IsAbove, JobWell}
+use Rattle.rt_laws.proofs.Well.{NextKept, IsAbove, JobWell}
 use Rattle.rt_laws.proofs.Readying.{Away, Inside, Serves, idle_serves}
 use Rattle.rt_laws.proofs.ReadyServed.{no_drop, no_more, readied, taken, IsPosted, AllServe, LevelServed, Open, Nothing, Posted, Stands, Keeps, KeepsState, posts_kept, goes_outside, goes_inside, goes_out}
 
@@ -57,7 +57,7 @@ module _ (app : App) (accepted : IsAccepted app) (p : ℕ) (s : State) (long : l
   ready vs = messages (vs (Guarded queue))
 
   abbrev Asked : Doing Values → Type 0
-  Asked rest = NextKeepsOrder app s.time s.values sections rest
+  Asked rest = NextKept app s.time s.values sections rest
 
   -- the state behind what is to be done first
   abbrev Kept : Doing Values → Type 0
@@ -74,6 +74,7 @@ module _ (app : App) (accepted : IsAccepted app) (p : ℕ) (s : State) (long : l
     rest_fine : IsFine app role q (answer s action) (held_after sections action) vs rest
     rest_fine = well.fine.5 (answer s action) vs
         (queued_effect app s.values queued role q sections action well.fine.1 s.time asked.1)
+        (effect_same action sections s.values made asked.0 asked.2)
 
     reached_is : ready (reached rest vs) ≡ ready vs
     reached_is = ap messages
@@ -86,8 +87,8 @@ module _ (app : App) (accepted : IsAccepted app) (p : ℕ) (s : State) (long : l
     below there = untouched (λ own. apart_below app role q others queue above
         (all_at (λ x. Within role q (ceiling app x)) sections own.0 queue well.within own.1) there)
 
-    away : ¬ IsIn sections queue → ¬ BeginsWith queue (does action made next) → (after : Job)
-        → ¬ IsIn after.sections queue → Serves app p Away after.rest
+    away : ¬ IsIn sections queue → ¬ BeginsWith queue (dispatcher_section_cost app p) (does action made next)
+        → (after : Job) → ¬ IsIn after.sections queue → Serves app p Away after.rest
         → LevelServed app p s.pending s.values (running (does action made next) ∷ others)
         → Keeps app p s.pending (reached rest vs) (after ∷ others)
     away out before after still good served =
@@ -118,7 +119,8 @@ module _ (app : App) (accepted : IsAccepted app) (p : ℕ) (s : State) (long : l
       ]
 
   -- the thread begins `idle`, or waits
-  restarts : (o : Option Body) (left_to_do : Doing Values) → ¬ IsIn sections queue → ¬ BeginsWith queue left_to_do
+  restarts : (o : Option Body) (left_to_do : Doing Values) → ¬ IsIn sections queue
+      → ¬ BeginsWith queue (dispatcher_section_cost app p) left_to_do
       → LevelServed app p s.pending s.values (running left_to_do ∷ others)
       → Keeps app p s.pending (reached (idling app s.values o).rest s.values) (idling app s.values o ∷ others)
   restarts None left_to_do out before served =
@@ -155,19 +157,19 @@ module _ (app : App) (accepted : IsAccepted app) (p : ℕ) (s : State) (long : l
       go false test =
           let differs : ¬ (r ≡ p) = differ r p test in
           let apart : ¬ (section.Ready r ≡ section.Ready p) = apart_too r p differs in
-          away (Enters (section.Ready r) cost) made next well asked out apart after
+          away (Enters (section.Ready r) cost) made next well asked out (λ here. apart here.0) after
           (no_more (section.Ready r) queue sections apart out) ((good 0 s.values).1 differs) served
   outside (does (Enters (section.Res r) cost) made next) well asked out good served w is =
       let apart : ¬ (section.Res r ≡ section.Ready p) = λ same. cc in
-      away (Enters (section.Res r) cost) made next well asked out apart _
+      away (Enters (section.Res r) cost) made next well asked out (λ here. apart here.0) _
       (no_more (section.Res r) queue sections apart out) (good 0 s.values) served
   outside (does (Enters (section.Free r) cost) made next) well asked out good served w is =
       let apart : ¬ (section.Free r ≡ section.Ready p) = λ same. cc in
-      away (Enters (section.Free r) cost) made next well asked out apart _
+      away (Enters (section.Free r) cost) made next well asked out (λ here. apart here.0) _
       (no_more (section.Free r) queue sections apart out) (good 0 s.values) served
   outside (does (Enters section.Timer cost) made next) well asked out good served w is =
       let apart : ¬ (section.Timer ≡ section.Ready p) = λ same. cc in
-      away (Enters section.Timer cost) made next well asked out apart _
+      away (Enters section.Timer cost) made next well asked out (λ here. apart here.0) _
       (no_more section.Timer queue sections apart out) (good 0 s.values) served
   outside (does (Leaves x) made next) well asked out good served w is =
       away (Leaves x) made next well asked out (λ no_entry. no_entry) _ (no_drop sections queue out) (good 0 s.values)

@@ -3,18 +3,20 @@
 use Rattle.std.proofs.Common.{◌≡◌, ℕ, zero, suc, ◌⊎◌, ◌==◌, Bool, true, false, if◌then◌else◌, List, [], ◌∷◌, ◌++◌, drop, replicate, slice_get, slice_set, map, Option, Some, None, refl, sym, ap, subst, inl, inr}
 use Rattle.rt_ids.specs.Lists.{then_from}
 use Rattle.rt_ids.specs.Holder.{Guarded, Own}
-use Rattle.rt_ids.specs.Content.{Message, Armed, Values, Number, messages, delays, put_at}
-use Rattle.rt_ids.specs.Action.{Enters, Leaves, Posts, Takes, Refuses, Readies, Starts, Ends, Returns}
+use Rattle.rt_ids.specs.Content.{Message, Armed, Values, Number, messages, timed, delays, put_at}
+use Rattle.rt_ids.specs.Action.{Enters, Leaves, Posts, Clocks, Takes, Refuses, Readies, Starts, Frees, Cancels, Moves, Ends, Returns}
 use Rattle.rt_ids.specs.Doing.{Doing, over, does}
 use Rattle.rt_ids.specs.declared.ids.BodyId.TheVariants as body
 use Rattle.rt_ids.specs.declared.ids.Section.TheVariants as section
 use Rattle.rt_app.specs.declared.expr.Atom.{Atom}
 use Rattle.rt_app.specs.declared.expr.Atom.TheVariants as atom
-use Rattle.rt_app.specs.Tree.{Expression, Spawn, Soon, After, Calc, Now, Call, Statement, Bind, Assign, Branch, Repeat, Locked, Emit, Pend, Spawns, Block, Empty, Then, Body, App}
+use Rattle.rt_app.specs.Tree.{Expression, Spawn, Soon, After, Cancel, Move, Calc, Now, Call, Statement, Bind, Assign, Branch, Repeat, Locked, Emit, Pend, Spawns, Block, Empty, Then, Body, App}
 use Rattle.rt_app.specs.Variables.{variables}
 use Rattle.rt_app.specs.Bodies.{task_priority}
 use Rattle.rt_app.specs.Handlers.{Handler, Runs, Dispatches, Times}
-use Rattle.rt_app.specs.Sending.{Rest, act, act_all, has_place, take_place, ready_actions, arm_actions, spawn_actions, dispatcher_number}
+use Rattle.rt_app.specs.Sending.{Rest, act, act_all, has_place, take_place, ready_actions, instant_after, leave_timer, arm_actions, is_armed_as, spawn_actions, dispatcher_number}
+use Rattle.rt_app.specs.BodyCost.{timer_section_cost}
+use Rattle.rt_app.specs.declared.costs.TheConstants.{FREE_COST}
 use Rattle.rt_app.specs.Meaning.{Later, value_in, assign, turns_from, run, run_block}
 use Rattle.rt_app.specs.Doings.{nothing, declared_doing, init_doing, idle_doing, task_doing, start_doing, dispatcher_doing, due, fire_doing, timer_doing, handler_doing}
 
@@ -74,8 +76,28 @@ module _ (app : App) (p : ℕ) where
       (rest 1)) (rest 0)
       (ready_serves (task_priority app n) (record { task = n; args = map value args }) (rest 1) (later 1)) (later 0)
   spawn_serves value (After word delay n args at) rest later =
-      take_serves n (arm_actions app (value delay) (record { task = n; args = map value args }) (rest 1)) (rest 0)
-      (λ vs k ws time xs l ys i zs j us. later 1 us) (later 0)
+      take_serves n
+      (arm_actions app (timer_section_cost app) (value delay) (record { task = n; args = map value args }) rest)
+      (rest 0)
+      (λ vs k ws time xs l ys i zs j us. later (timed (ys (Guarded section.Timer))).given us) (later 0)
+  spawn_serves value (Cancel word n handle at) rest later = λ vs k ws. go (is_armed_as app n (value handle) ws) ws
+    where
+      back : Rest
+      back = act_all (Enters (section.Free n) FREE_COST ∷ Frees n ∷ Leaves (section.Free n) ∷ []) (rest 0)
+
+      go : (b : Bool) (ws : Values) → Serves Away
+          (if b then act (Cancels n (value handle)) (leave_timer app back) ws
+          else act (Leaves section.Timer) (rest 1) ws)
+      go true ws = λ k xs l ys i zs j us g ts f rs. later 0 rs
+      go false ws = λ k xs. later 1 xs
+  spawn_serves value (Move word delay n handle at) rest later = λ vs k ws. go (is_armed_as app n (value handle) ws) ws
+    where
+      go : (b : Bool) (ws : Values) → Serves Away
+          (if b then does Clocks ws (λ time. act (Moves n (value handle) (instant_after app time (value delay)))
+          (leave_timer app (rest 0)))
+          else act (Leaves section.Timer) (rest 1) ws)
+      go true ws = λ time xs l ys i zs j us. later 0 us
+      go false ws = λ k xs. later 1 xs
 
   turns_serve : (n x i : ℕ) (turn : Later → Later) (later : Later)
       → ((next : Later) → LaterServes next → LaterServes (turn next))

@@ -1,5 +1,5 @@
 -- Worked examples: what Baker's machine gives and allows is what a person worked out from Baker's rules.
-use Rattle.std.proofs.Common.{◌≡◌, ℕ, List, [], ◌∷◌, ◌++◌, codes, Some, None, refl}
+use Rattle.std.proofs.Common.{◌≡◌, ℕ, false, List, [], ◌∷◌, ◌++◌, codes, Some, None, refl}
 use Rattle.rt_ids.specs.declared.op.Op.TheVariants as op
 use Rattle.rt_ids.specs.declared.ids.BodyId.TheVariants as body
 use Rattle.rt_ids.specs.declared.ids.Section.TheVariants as section
@@ -21,6 +21,7 @@ use Rattle.rt_laws.proofs.RowParts.{irq, shared, listing, hardware, last, Moment
 unfoldable pub locks : App
 locks = record {
   bits = 3;
+  fpu = false;
   irqs = irq (codes "LO") 0 ∷ irq (codes "MID") 1 ∷ irq (codes "HI") 2 ∷ [];
   dispatchers = [];
   mono = None;

@@ -20,6 +20,7 @@ use Rattle.rt_laws.proofs.RowParts.{irq, listing, hardware, software, last, play
 unfoldable pub one : App
 one = record {
   bits = 4;
+  fpu = false;
   irqs = irq (codes "A") 0 ∷ irq (codes "D") 1 ∷ [];
   dispatchers = record { irq = 1; at = 0 } ∷ [];
   mono = None;
@@ -53,6 +54,7 @@ one_place = refl
 unfoldable pub timed : App
 timed = record {
   bits = 4;
+  fpu = false;
   irqs = irq (codes "A") 0 ∷ irq (codes "D") 1 ∷ irq (codes "T") 2 ∷ [];
   dispatchers = record { irq = 1; at = 0 } ∷ [];
   mono = Some (record { irq = 2; priority = 3; at = 0; priority_at = 0 });

@@ -40,9 +40,9 @@ it_is_taken : slice_index_or dispatching.pending 1 false ≡ false
 unfolding one spawned dispatching those_below
 it_is_taken = refl
 
-it_stands : StandsBefore dispatching.jobs 1 (section.Ready 1)
+it_stands : StandsBefore dispatching.jobs 1 (section.Ready 1) 56
 unfolding one spawned dispatching those_below
-it_stands = inl (refl, refl)
+it_stands = inl (refl, (refl, refl))
 
 -- the alarm has come
 rung : State
@@ -56,6 +56,6 @@ timer_is_posted : slice_index_or rung.pending 2 false ≡ true
 unfolding timed arming armed rung
 timer_is_posted = refl
 
-timer_stands : StandsBefore (after timed rung (shows (what.Take 2 0))).jobs 2 section.Timer
+timer_stands : StandsBefore (after timed rung (shows (what.Take 2 0))).jobs 2 section.Timer 128
 unfolding timed arming armed rung those_below
-timer_stands = inl (refl, refl)
+timer_stands = inl (refl, (refl, refl))

@@ -13,7 +13,7 @@ use Rattle.rt_laws.specs.Allowed.{May, after}
 use Rattle.rt_laws.specs.Run.{RunsOn}
 use Rattle.rt_laws.specs.Sight.{Seen, Sight, sees}
 use Rattle.rt_laws.specs.Waiting.{stepper, steppers, lower, is_return, ServesWell}
-use Rattle.rt_laws.proofs.Well.{alone_at_bottom, IsAbove, StackWell, StateWell, IsThread, Moves, GoesOn, Restarts, ComesBack}
+use Rattle.rt_laws.proofs.Well.{alone_at_bottom, IsAbove, StackWell, StateWell, IsThread, Changes, GoesOn, Restarts, ComesBack}
 use Rattle.rt_laws.proofs.Pending.{starts_above}
 use Rattle.rt_laws.proofs.Happens.{Happens, Quietly, ByTake, ByStep, happens, after_well}
 use Rattle.rt_laws.proofs.Waiting.{steppers_on, steppers_ended, not_lower, first_of}
@@ -53,7 +53,7 @@ module _ (app : App) (accepted : IsAccepted app) (irq : ℕ) where
   up_after : (label : Label) (job : Job) (others : List Job) (seen : Seen) (seens : List Seen) (shown : Option What)
       (jobs : List Job) (views : List Seen) → IsAbove app job.role job.priority others
       → Up irq p (job ∷ others) → ((j : ℕ) → shown ≡ Some (what.Ret j) → label ≡ Stepped (Some (what.Ret j)))
-      → is_return irq label ≡ false → Moves app job seen others seens shown jobs views → Up irq p jobs
+      → is_return irq label ≡ false → Changes app job seen others seens shown jobs views → Up irq p jobs
   up_after label job others seen seens shown jobs views above (inl is) item goes_on
       (GoesOn new view js vs role_is priority_is nearer) = subst (Up irq p) (sym js) (inl (role_is ∙ is))
   up_after label job others seen seens shown jobs views above (inr deeper) item goes_on

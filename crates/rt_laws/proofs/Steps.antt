@@ -5,7 +5,7 @@ use Rattle.rt_lemmas.proofs.Membership.{all_at}
 use Rattle.rt_ids.specs.Choice.{IsIn}
 use Rattle.rt_ids.specs.Holder.{Guarded}
 use Rattle.rt_ids.specs.Content.{Values}
-use Rattle.rt_ids.specs.Action.{Action, Enters, Leaves, Emits, Posts, Clocks, Takes, Refuses, Readies, Starts, Frees, Arms, Fires, SetsAlarm, Ends, Returns, effect}
+use Rattle.rt_ids.specs.Action.{Action, Enters, Leaves, Emits, Posts, Clocks, Takes, Refuses, Readies, Starts, Frees, Arms, Fires, Cancels, Moves, SetsAlarm, Ends, Returns, effect}
 use Rattle.rt_ids.specs.Doing.{Doing, over, does}
 use Rattle.rt_ids.specs.declared.ids.BodyId.TheVariants as body
 use Rattle.rt_ids.specs.declared.ids.Section.{Section}
@@ -21,24 +21,23 @@ use Rattle.rt_laws.specs.Giving.{next_instant, is_due, return_item, next_item}
 use Rattle.rt_laws.specs.Acting.{spent, pended, idling, answer}
 use Rattle.rt_laws.specs.Allowed.{after}
 use Rattle.rt_laws.specs.Sight.{Seen, Sight, sees, entering, leaving}
-use Rattle.rt_laws.specs.Queues.{NextKeepsOrder, AllKeepOrder}
 use Rattle.rt_laws.proofs.Order.{answer_now, next_order, all_kept, apart_below}
-use Rattle.rt_laws.proofs.Fine.{IsQueue, Within, reached_queued, reached_same, effect_beside, Queued, IsFine, held_after, queued_effect}
+use Rattle.rt_laws.proofs.Fine.{IsQueue, Within, reached_queued, reached_same, effect_beside, effect_same, Queued, IsFine, held_after, queued_effect}
 use Rattle.rt_laws.proofs.FineHandlers.{idle_fine}
-use Rattle.rt_laws.proofs.Well.{alone_at_bottom, WithinAll, JobWell, IsAbove, StackWell, StateWell, IsThread, Moves, GoesOn, Restarts, ComesBack, Nearer, spends_well, spends_nearer, enters_well, enters_nearer, leaves_well, leaves_nearer}
+use Rattle.rt_laws.proofs.Well.{NextKept, AllKept, alone_at_bottom, WithinAll, JobWell, IsAbove, StackWell, StateWell, IsThread, Changes, GoesOn, Restarts, ComesBack, Nearer, spends_well, spends_nearer, enters_well, enters_nearer, leaves_well, leaves_nearer}
 
 -- what a step leads to, and how it changes the stack
 pub record Led (app : App) (job : Job) (seen : Seen) (others : List Job) (seens : List Seen) (shown : Option What)
     (s : State) (v : Sight) : Type 0 where
   pub well : StateWell app s v
-  pub moves : Moves app job seen others seens shown s.jobs v.jobs
+  pub moves : Changes app job seen others seens shown s.jobs v.jobs
 
 module _ (app : App) (accepted : IsAccepted app) (s : State) (v : Sight) (pending : v.pending ≡ s.pending)
     (queued : Queued app s.values)
     (role : Role) (q left : ℕ) (sections : List Section) (lefts : List ℕ) (others : List Job) (seen : Seen)
     (seens : List Seen)
     (above : IsAbove app role q others) (below : StackWell app others seens)
-    (order : AllKeepOrder app s.time s.values others) where
+    (order : AllKept app s.time s.values others) where
   abbrev running : Doing Values → Job
   running rest = record { role = role; priority = q; rest = rest; left = left; sections = sections; lefts = lefts }
 
@@ -54,12 +53,12 @@ module _ (app : App) (accepted : IsAccepted app) (s : State) (v : Sight) (pendin
       (sees app sight (Stepped (Some w)))
 
   abbrev Asked : Doing Values → Type 0
-  Asked rest = NextKeepsOrder app s.time s.values sections rest
+  Asked rest = NextKept app s.time s.values sections rest
 
   -- values that are as before in what is not open here leave the others as they are
   others_kept : (ws : Values) → WithinAll app role q sections
       → ((x : Section) → IsQueue x → ¬ IsIn sections x → ws (Guarded x) ≡ s.values (Guarded x))
-      → AllKeepOrder app s.time ws others
+      → AllKept app s.time ws others
   others_kept ws within same =
       all_kept app s.time s.time others s.values ws (le_refl s.time)
       (λ x queue there. same x queue (λ own. apart_below app role q others x above
@@ -81,12 +80,13 @@ module _ (app : App) (accepted : IsAccepted app) (s : State) (v : Sight) (pendin
 
     rest_fine : IsFine app role q (answer s action) (held_after sections action) vs rest
     rest_fine = well.fine.5 (answer s action) vs vs_queued
+        (effect_same action sections s.values made asked.0 asked.2)
 
     values_queued : Queued app (reached rest vs)
     values_queued = reached_queued app role q (answer s action)
         (held_after sections action) rest vs vs rest_fine vs_queued
 
-    order_after : AllKeepOrder app s.time (reached rest vs) others
+    order_after : AllKept app s.time (reached rest vs) others
     order_after =
         others_kept (reached rest vs) well.within
         (λ x queue out. reached_same app role q (answer s action) (held_after sections action) rest vs rest_fine x queue
@@ -110,11 +110,11 @@ module _ (app : App) (accepted : IsAccepted app) (s : State) (v : Sight) (pendin
             ));
         pending = sym same;
         queued = subst (Queued app) (sym values) values_queued;
-        order = subst (λ js. AllKeepOrder app t.time t.values js) (sym jobs)
-            (subst (λ w. AllKeepOrder app t.time w (job ∷ others)) (sym values)
-            (subst (λ time. AllKeepOrder app time (reached rest vs) (job ∷ others)) (sym time) (
-              subst (λ r. NextKeepsOrder app s.time (reached rest vs) job.sections r) (sym rest_is)
-                  (subst (λ xs. NextKeepsOrder app s.time (reached rest vs) xs rest) (sym sections_are)
+        order = subst (λ js. AllKept app t.time t.values js) (sym jobs)
+            (subst (λ w. AllKept app t.time w (job ∷ others)) (sym values)
+            (subst (λ time. AllKept app time (reached rest vs) (job ∷ others)) (sym time) (
+              subst (λ r. NextKept app s.time (reached rest vs) job.sections r) (sym rest_is)
+                  (subst (λ xs. NextKept app s.time (reached rest vs) xs rest) (sym sections_are)
                   (next_order app role q (answer s action) s.time (held_after sections action) rest vs vs
                   (answer_now s action) rest_fine)),
               order_after,
@@ -202,12 +202,12 @@ module _ (app : App) (accepted : IsAccepted app) (s : State) (v : Sight) (pendin
           (idle_fine app accepted 0 s.values queued) queued
 
       order_anew : (o : Option Body)
-          → AllKeepOrder app s.time (reached (idling app s.values o).rest s.values) (idling app s.values o ∷ others)
+          → AllKept app s.time (reached (idling app s.values o).rest s.values) (idling app s.values o ∷ others)
       order_anew None = (tt, order)
       order_anew (Some b) = (
         next_order app Idle 0 0 s.time [] (idling app s.values (Some b)).rest s.values s.values (omega arith)
             (idle_fine app accepted 0 s.values queued),
-        subst (λ js. AllKeepOrder app s.time (reached (idling app s.values (Some b)).rest s.values) js)
+        subst (λ js. AllKept app s.time (reached (idling app s.values (Some b)).rest s.values) js)
             (sym (alone_at_bottom app role q others thread above)) tt,
       )
 
@@ -290,6 +290,12 @@ module _ (app : App) (accepted : IsAccepted app) (s : State) (v : Sight) (pendin
   acts_well (does (Fires m) made next) well asked w is =
       subst (goal (Fires m) made next) (same_Some (what.Fire m.task) w is)
       (plain (Fires m) made next well asked (Some (what.Fire m.task)) _ _ refl refl refl (sym pending) refl refl)
+  acts_well (does (Cancels n h) made next) well asked w is =
+      subst (goal (Cancels n h) made next) (same_Some (what.Cancel n h) w is)
+      (plain (Cancels n h) made next well asked (Some (what.Cancel n h)) _ _ refl refl refl (sym pending) refl refl)
+  acts_well (does (Moves n h i) made next) well asked w is =
+      subst (goal (Moves n h i) made next) (same_Some (what.Move n h i) w is)
+      (plain (Moves n h i) made next well asked (Some (what.Move n h i)) _ _ refl refl refl (sym pending) refl refl)
   acts_well (does SetsAlarm made next) well asked w is =
       alarms made next well asked w (is_due s.time (next_instant s)) refl
       (same_Some (if is_due s.time (next_instant s) then what.Alarm else what.AlarmSet) w is)

@@ -13,6 +13,7 @@ use Rattle.rt_trace.specs.Label.{Label, Arrived, Ticked, Rang, Stepped}
 use Rattle.rt_trace.specs.declared.item.What.{What}
 use Rattle.rt_trace.specs.declared.item.What.TheVariants as what
 use Rattle.rt_app.specs.declared.app.Mono.{Mono}
+use Rattle.rt_app.specs.BodyCost.{timer_section_cost}
 use Rattle.rt_app.specs.Tree.{App}
 use Rattle.rt_app.specs.Ceiling.{ceiling}
 use Rattle.rt_app.specs.Handlers.{Times, Service, services}
@@ -27,14 +28,13 @@ use Rattle.rt_laws.specs.Allowed.{MayStep, May, started, stepped, given, after}
 use Rattle.rt_laws.specs.Run.{RunsOn}
 use Rattle.rt_laws.specs.ByItems.{after_all}
 use Rattle.rt_laws.specs.Sight.{Seen, Sight, first_sight, sees}
-use Rattle.rt_laws.specs.Queues.{AllKeepOrder}
 use Rattle.rt_laws.specs.Served.{IsOpen, BeginsWith}
 use Rattle.rt_laws.specs.Laws.{RunsServeDue}
 use Rattle.rt_laws.proofs.Order.{some_level}
 use Rattle.rt_laws.proofs.Pending.{priority_is, starts_above, still_beside}
-use Rattle.rt_laws.proofs.Fine.{IsFine, Queued, reached_same}
+use Rattle.rt_laws.proofs.Fine.{first_queued, IsFine, Queued, reached_same}
 use Rattle.rt_laws.proofs.FineHandlers.{init_fine, services_fine}
-use Rattle.rt_laws.proofs.Well.{StackWell, StateWell}
+use Rattle.rt_laws.proofs.Well.{AllKept, StackWell, StateWell}
 use Rattle.rt_laws.proofs.Happens.{first_well}
 use Rattle.rt_laws.proofs.Keeping.{next_well}
 use Rattle.rt_laws.proofs.Dispatchers.{timer_serves, timer_small}
@@ -64,7 +64,7 @@ module _ (app : App) (accepted : IsAccepted app) (mono : Mono) (timed : app.mono
       served = Ready (inl (sym (ap (λ c. least_instant (delays c))
           (reached_same app Init (2 ^ app.bits) 0 [] (init_doing app (first_values app))
           (first_values app) (init_fine app accepted 0 (first_values app)
-          (record { ready = λ p. tt; timer = tt; out = λ n. omega arith })) queue tt))));
+          (first_queued app)) queue tt))));
     };
   }
 
@@ -82,7 +82,8 @@ module _ (app : App) (accepted : IsAccepted app) (mono : Mono) (timed : app.mono
   takes s queued kept irq is x at = record {
     long = length-set s.pending irq false ∙ kept.long;
     all = (
-      IsOutside (λ is. none-some queue is.1) (handler_serves app x.handler s.values),
+      IsOutside (λ is. none-some queue is.1)
+          (handler_serves app x.handler (irq == timer) (λ own. (is_its (eqb-true irq timer own)).0) s.values),
       all_kept app s.pending later s.alarm s.alarm s.values ws s.jobs
           (λ there. set_kept app s.pending later s.alarm s.values ws
           (λ yet. still_beside s.pending irq timer false (beside there) yet) same) kept.all,
@@ -133,7 +134,8 @@ module _ (app : App) (accepted : IsAccepted app) (mono : Mono) (timed : app.mono
               let equal = eqb-true irq timer test in
               Stands (inl (
                 ap Serving equal,
-                subst (λ h. BeginsWith queue (handler_doing app h s.values)) (sym (is_its equal).0) refl,
+                subst (λ h. BeginsWith queue (timer_section_cost app) (handler_doing app h s.values))
+                    (sym (is_its equal).0) (refl, refl),
               ))
           by false test =
               Ready (inr (still_beside s.pending irq timer false (differ irq timer test) yet))
@@ -157,7 +159,8 @@ module _ (app : App) (accepted : IsAccepted app) (mono : Mono) (timed : app.mono
     keeps = record { long = kept.long; all = (on kept.all.0, kept.all.1); served = go kept.served };
   }
     where
-      on : JobServes app s.pending s.alarm s.values job → JobServes app s.pending s.alarm s.values (spent job)
+      on : JobServes app s.pending s.alarm s.values job others
+          → JobServes app s.pending s.alarm s.values (spent job) others
       on (IsOutside out good) = IsOutside out good
       on (IsInside set outer is out known good) = IsInside set outer is out known good
 
@@ -169,14 +172,14 @@ module _ (app : App) (accepted : IsAccepted app) (mono : Mono) (timed : app.mono
 
   -- a step that gives an item
   given_kept : (s : State) (js : List Job) (vs : List Seen) → StackWell app js vs → Queued app s.values
-      → AllKeepOrder app s.time s.values js → s.owing ≡ false → MayStep js → (w : What)
+      → AllKept app s.time s.values js → s.owing ≡ false → MayStep js → (w : What)
       → item_given s js ≡ Some w → Keeps app s.pending s.alarm s.values js → s.owing ≡ is_due s.time s.alarm
       → KeepsState app (given app s js)
   given_kept s [] vs stack queued order not_owing may w is kept owed = absurd may
   given_kept s (job ∷ others) [] stack queued order not_owing may w is kept owed = absurd stack
   given_kept s (job ∷ others) (seen ∷ seens) stack queued order not_owing may w is kept owed = go kept.all.0
     where
-      go : JobServes app s.pending s.alarm s.values job → KeepsState app (given app s (job ∷ others))
+      go : JobServes app s.pending s.alarm s.values job others → KeepsState app (given app s (job ∷ others))
       go (IsOutside out good) =
           outside app accepted s kept.long (timer_small app accepted mono timed) not_owing owed queued job.role
           job.priority job.left job.sections job.lefts others seen stack.1 kept.all.1 job.rest stack.0 order.0 out good

@@ -1,14 +1,15 @@
 -- That the messages that are due are served, as jobs come and go.
-use Rattle.std.proofs.Common.{length-set, ◌≡◌, ℕ, ◌⊎◌, Bool, true, false, List, [], ◌∷◌, length, slice_set, slice_index_or, Option, refl, sym, ap, subst, ◌∙◌, inl, inr}
+use Rattle.std.proofs.Common.{length-set, ◌≡◌, ℕ, ◌⊎◌, ◌==◌, Bool, true, false, List, [], ◌∷◌, length, slice_set, slice_index_or, Option, refl, sym, ap, subst, ◌∙◌, inl, inr}
 use Rattle.rt_ids.specs.Choice.{IsIn}
 use Rattle.rt_ids.specs.Holder.{Guarded}
 use Rattle.rt_ids.specs.Content.{Values, delays, least_instant}
 use Rattle.rt_ids.specs.declared.ids.Section.{Section}
 use Rattle.rt_ids.specs.declared.ids.Section.TheVariants as section
 use Rattle.rt_ids.specs.declared.limits.TheConstants.{IRQ_NUMBERS}
+use Rattle.rt_app.specs.BodyCost.{timer_section_cost}
 use Rattle.rt_app.specs.Tree.{App}
 use Rattle.rt_laws.specs.Services.{timer_number}
-use Rattle.rt_laws.specs.State.{Job, State}
+use Rattle.rt_laws.specs.State.{Role, Serving, Job, State}
 use Rattle.rt_laws.specs.Giving.{is_due}
 use Rattle.rt_laws.specs.Served.{IsOpen, BeginsWith, StandsBefore, IsServed, ServesDue}
 use Rattle.rt_laws.proofs.Pending.{still_set}
@@ -26,21 +27,34 @@ module _ (app : App) where
   abbrev pub IsSet : List Bool → Option ℕ → Values → Type 0
   IsSet pending alarm vs = (alarm ≡ armed vs) ⊎ IsPosted pending
 
-  -- a job outside the section, or inside it; what it has left to do serves the queue
-  pub data JobServes (pending : List Bool) (alarm : Option ℕ) (vs : Values) (job : Job) : Type 0 where
-    IsOutside : ¬ IsIn job.sections section.Timer → Serves Away job.rest → JobServes pending alarm vs job
+  -- the alarm is set or has come, or a job of these stands before the section to set it
+  abbrev pub IsSetOr : List Job → List Bool → Option ℕ → Values → Type 0
+  IsSetOr js pending alarm vs =
+      IsSet pending alarm vs ⊎ StandsBefore js (timer_number app) section.Timer (timer_section_cost app)
+
+  -- whether a job is the timer handler's
+  abbrev pub is_timer : Role → Bool
+  is_timer (Serving irq) = irq == timer_number app
+  is_timer role = false
+
+  -- a job outside the section, or inside it, with these below it; what it has left to do serves the queue
+  pub data JobServes (pending : List Bool) (alarm : Option ℕ) (vs : Values) (job : Job) (others : List Job)
+      : Type 0 where
+    IsOutside : ¬ IsIn job.sections section.Timer → Serves (is_timer job.role) Away job.rest
+        → JobServes pending alarm vs job others
     IsInside : (set : Bool) → (outer : List Section) → job.sections ≡ section.Timer ∷ outer
-        → ¬ IsIn outer section.Timer → (set ≡ true → IsSet pending alarm vs) → Serves (Inside set) job.rest
-        → JobServes pending alarm vs job
+        → ¬ IsIn outer section.Timer → (set ≡ true → IsSetOr others pending alarm vs)
+        → Serves (is_timer job.role) (Inside set) job.rest
+        → JobServes pending alarm vs job others
 
   abbrev pub AllServe : List Bool → Option ℕ → Values → List Job → Type 0
   AllServe pending alarm vs [] = Unit {0}
-  AllServe pending alarm vs (job ∷ others) = JobServes pending alarm vs job × AllServe pending alarm vs others
+  AllServe pending alarm vs (job ∷ others) = JobServes pending alarm vs job others × AllServe pending alarm vs others
 
   pub data QueueServed (pending : List Bool) (alarm : Option ℕ) (vs : Values) (js : List Job) : Type 0 where
     Open : IsOpen js section.Timer → QueueServed pending alarm vs js
     Ready : IsSet pending alarm vs → QueueServed pending alarm vs js
-    Stands : StandsBefore js (timer_number app) section.Timer → QueueServed pending alarm vs js
+    Stands : StandsBefore js (timer_number app) section.Timer (timer_section_cost app) → QueueServed pending alarm vs js
 
   pub record Keeps (pending : List Bool) (alarm : Option ℕ) (vs : Values) (js : List Job) : Type 0 where
     pub long : length pending ≡ IRQ_NUMBERS
@@ -57,6 +71,7 @@ module _ (app : App) where
   keeps_due s kept mono is not_owing due closed = go kept.keeps.served
     where
       go : QueueServed s.pending s.alarm s.values s.jobs → IsServed s (timer_number app) section.Timer
+          (timer_section_cost app)
       go (Open there) = absurd (closed there)
       go (Ready (inl same)) = let late : is_due s.time s.alarm ≡ true = ap (is_due s.time) same ∙ due in
           absurd (both (sym not_owing ∙ kept.owed ∙ late))
@@ -67,20 +82,26 @@ module _ (app : App) where
       go (Stands there) = inr there
 
   -- others change nothing of a job that is inside
-  job_kept : (pending later : List Bool) (alarm new : Option ℕ) (vs ws : Values) (job : Job)
+  pub set_or_kept : (js : List Job) (pending later : List Bool) (alarm new : Option ℕ) (vs ws : Values)
+      → (IsSet pending alarm vs → IsSet later new ws) → IsSetOr js pending alarm vs → IsSetOr js later new ws
+  set_or_kept js pending later alarm new vs ws keeps (inl set) = inl (keeps set)
+  set_or_kept js pending later alarm new vs ws keeps (inr there) = inr there
+
+  job_kept : (pending later : List Bool) (alarm new : Option ℕ) (vs ws : Values) (job : Job) (others : List Job)
       → (IsIn job.sections section.Timer → IsSet pending alarm vs → IsSet later new ws)
-      → JobServes pending alarm vs job → JobServes later new ws job
-  job_kept pending later alarm new vs ws job keeps (IsOutside out good) = IsOutside out good
-  job_kept pending later alarm new vs ws job keeps (IsInside set outer is out known good) =
+      → JobServes pending alarm vs job others → JobServes later new ws job others
+  job_kept pending later alarm new vs ws job others keeps (IsOutside out good) = IsOutside out good
+  job_kept pending later alarm new vs ws job others keeps (IsInside set outer is out known good) =
       IsInside set outer is out
-      (λ yet. keeps (subst (λ xs. IsIn xs section.Timer) (sym is) (0, refl)) (known yet)) good
+      (λ yet. set_or_kept others pending later alarm new vs ws
+      (keeps (subst (λ xs. IsIn xs section.Timer) (sym is) (0, refl))) (known yet)) good
 
   pub all_kept : (pending later : List Bool) (alarm new : Option ℕ) (vs ws : Values) (js : List Job)
       → (IsOpen js section.Timer → IsSet pending alarm vs → IsSet later new ws)
       → AllServe pending alarm vs js → AllServe later new ws js
   all_kept pending later alarm new vs ws [] keeps all = tt
   all_kept pending later alarm new vs ws (job ∷ others) keeps all = (
-    job_kept pending later alarm new vs ws job (λ is. keeps (inl is)) all.0,
+    job_kept pending later alarm new vs ws job others (λ is. keeps (inl is)) all.0,
     all_kept pending later alarm new vs ws others (λ is. keeps (inr is)) all.1,
   )
 
@@ -119,8 +140,8 @@ module _ (app : App) where
   -- a job that is outside goes on outside
   pub goes_outside : (pending : List Bool) → length pending ≡ IRQ_NUMBERS → (alarm : Option ℕ) (vs ws : Values)
       (job after : Job) (others : List Job)
-      → ¬ IsIn job.sections section.Timer → ¬ BeginsWith section.Timer job.rest
-      → ¬ IsIn after.sections section.Timer → Serves Away after.rest → armed ws ≡ armed vs
+      → ¬ IsIn job.sections section.Timer → ¬ BeginsWith section.Timer (timer_section_cost app) job.rest
+      → ¬ IsIn after.sections section.Timer → Serves (is_timer after.role) Away after.rest → armed ws ≡ armed vs
       → AllServe pending alarm vs others → QueueServed pending alarm vs (job ∷ others)
       → Keeps pending alarm ws (after ∷ others)
   goes_outside pending long alarm vs ws job after others out before still good same all served = record {
@@ -142,8 +163,8 @@ module _ (app : App) where
   -- it is inside now
   pub goes_inside : (pending later : List Bool) → length later ≡ IRQ_NUMBERS → (alarm new : Option ℕ) (vs ws : Values)
       (after : Job) (others : List Job) (set : Bool) (outer : List Section)
-      → after.sections ≡ section.Timer ∷ outer → ¬ IsIn outer section.Timer → (set ≡ true → IsSet later new ws)
-      → Serves (Inside set) after.rest
+      → after.sections ≡ section.Timer ∷ outer → ¬ IsIn outer section.Timer
+      → (set ≡ true → IsSetOr others later new ws) → Serves (is_timer after.role) (Inside set) after.rest
       → (IsOpen others section.Timer → ⊥)
       → AllServe pending alarm vs others → Keeps later new ws (after ∷ others)
   goes_inside pending later long alarm new vs ws after others set outer is out known good alone all = record {
@@ -155,11 +176,11 @@ module _ (app : App) where
     served = Open (inl (subst (λ xs. IsIn xs section.Timer) (sym is) (0, refl)));
   }
 
-  -- it leaves, where the alarm is set
+  -- it leaves, where the alarm is set, or a job below stands before the section
   pub goes_out : (pending : List Bool) → length pending ≡ IRQ_NUMBERS → (alarm : Option ℕ) (vs ws : Values)
       (after : Job) (others : List Job)
-      → ¬ IsIn after.sections section.Timer → Serves Away after.rest → armed ws ≡ armed vs
-      → IsSet pending alarm vs → AllServe pending alarm vs others → Keeps pending alarm ws (after ∷ others)
+      → ¬ IsIn after.sections section.Timer → Serves (is_timer after.role) Away after.rest → armed ws ≡ armed vs
+      → IsSetOr others pending alarm vs → AllServe pending alarm vs others → Keeps pending alarm ws (after ∷ others)
   goes_out pending long alarm vs ws after others still good same set all = record {
     long = long;
     all = (
@@ -167,5 +188,9 @@ module _ (app : App) where
       all_kept pending pending alarm alarm vs ws others
           (λ is. set_kept pending pending alarm vs ws (λ yet. yet) same) all,
     );
-    served = Ready (set_kept pending pending alarm vs ws (λ yet. yet) same set);
+    served = go set;
   }
+    where
+      go : IsSetOr others pending alarm vs → QueueServed pending alarm ws (after ∷ others)
+      go (inl is) = Ready (set_kept pending pending alarm vs ws (λ yet. yet) same is)
+      go (inr there) = Stands (inr there)

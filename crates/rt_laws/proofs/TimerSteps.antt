@@ -1,34 +1,34 @@
 -- A step of the running job keeps the messages that are due served, whichever its action is.
-use Rattle.std.proofs.Common.{◌≡◌, ℕ, ◌<◌, arith, length-set, Bool, true, false, if◌then◌else◌, List, [], ◌∷◌, drop, length, slice_set, Option, Some, None, refl, sym, ap, subst, ◌∙◌, inl, inr}
+use Rattle.std.proofs.Common.{◌≡◌, ℕ, ◌<◌, arith, length-set, eq-eqb, Bool, true, false, not, if◌then◌else◌, List, [], ◌∷◌, drop, length, slice_set, Option, Some, None, refl, sym, ap, subst, ◌∙◌, inl, inr}
 use Rattle.std.specs.List.{AllByRecursion}
 use Rattle.std.proofs.lemmas.Option.{none-some}
 use Rattle.rt_ids.specs.Choice.{IsIn}
 use Rattle.rt_ids.specs.Content.{Values, delays, least_instant}
-use Rattle.rt_ids.specs.Action.{Action, Enters, Leaves, Posts, Clocks, Arms, Fires, SetsAlarm, Ends, Returns, effect}
+use Rattle.rt_ids.specs.Action.{Action, Enters, Leaves, Posts, Clocks, Arms, Fires, Cancels, Moves, SetsAlarm, Ends, Returns, effect}
 use Rattle.rt_ids.specs.Doing.{Doing, over, does}
 use Rattle.rt_ids.specs.declared.ids.BodyId.TheVariants as body
 use Rattle.rt_ids.specs.declared.ids.Section.{Section}
 use Rattle.rt_ids.specs.declared.ids.Section.TheVariants as section
 use Rattle.rt_ids.specs.declared.limits.TheConstants.{IRQ_NUMBERS}
 use Rattle.rt_trace.specs.declared.item.What.{What}
+use Rattle.rt_app.specs.BodyCost.{timer_section_cost}
 use Rattle.rt_app.specs.Tree.{App, Body}
 use Rattle.rt_app.specs.Ceiling.{ceiling}
 use Rattle.rt_app.specs.Accepted.{IsAccepted}
 use Rattle.rt_laws.specs.Services.{timer_number}
-use Rattle.rt_laws.specs.State.{Role, Idle, Job, State, reached}
+use Rattle.rt_laws.specs.State.{Role, Idle, Serving, Job, State, reached}
 use Rattle.rt_laws.specs.Giving.{next_instant, is_due, next_item}
 use Rattle.rt_laws.specs.Acting.{spent, pended, idling, answer, acted}
 use Rattle.rt_laws.specs.Sight.{Seen}
-use Rattle.rt_laws.specs.Queues.{NextKeepsOrder}
 use Rattle.rt_laws.specs.Served.{IsOpen, BeginsWith}
 use Rattle.rt_laws.proofs.Order.{apart_below}
-use Rattle.rt_laws.proofs.Fine.{Within, reached_same, effect_beside, Queued, IsFine, held_after, queued_effect}
+use Rattle.rt_laws.proofs.Fine.{Within, reached_same, effect_beside, effect_same, Queued, IsFine, held_after, queued_effect}
 use Rattle.rt_laws.proofs.FineHandlers.{idle_fine}
-use Rattle.rt_laws.proofs.Well.{IsAbove, JobWell}
+use Rattle.rt_laws.proofs.Well.{NextKept, IsAbove, JobWell}
 use Rattle.rt_laws.proofs.Timing.{Away, Inside, Serves, idle_serves}
 use Rattle.rt_laws.proofs.ReadyServed.{no_drop, no_more}
 use Rattle.rt_laws.proofs.ReadySteps.{now_set}
-use Rattle.rt_laws.proofs.TimerServed.{armed, IsSet, set_kept, AllServe, QueueServed, Open, Ready, Stands, Keeps, KeepsState, posts_kept, goes_outside, goes_inside, goes_out}
+use Rattle.rt_laws.proofs.TimerServed.{armed, IsSetOr, is_timer, set_kept, set_or_kept, AllServe, QueueServed, Open, Ready, Stands, Keeps, KeepsState, posts_kept, goes_outside, goes_inside, goes_out}
 
 never : false ≡ true → ⊥
 never same = cc
@@ -45,7 +45,7 @@ module _ (app : App) (accepted : IsAccepted app) (s : State) (long : length s.pe
   queue = section.Timer
 
   abbrev Asked : Doing Values → Type 0
-  Asked rest = NextKeepsOrder app s.time s.values sections rest
+  Asked rest = NextKept app s.time s.values sections rest
 
   -- the state behind what is to be done first
   abbrev Kept : Doing Values → Type 0
@@ -62,6 +62,7 @@ module _ (app : App) (accepted : IsAccepted app) (s : State) (long : length s.pe
     rest_fine : IsFine app role q (answer s action) (held_after sections action) vs rest
     rest_fine = well.fine.5 (answer s action) vs
         (queued_effect app s.values queued role q sections action well.fine.1 s.time asked.1)
+        (effect_same action sections s.values made asked.0 asked.2)
 
     reached_is : armed (reached rest vs) ≡ armed vs
     reached_is = ap (λ c. least_instant (delays c))
@@ -71,8 +72,8 @@ module _ (app : App) (accepted : IsAccepted app) (s : State) (long : length s.pe
     untouched out = reached_is
         ∙ ap (λ c. least_instant (delays c)) (effect_beside action s.values sections queue asked.0 out)
 
-    away : ¬ IsIn sections queue → ¬ BeginsWith queue (does action made next) → (after : Job)
-        → ¬ IsIn after.sections queue → Serves Away after.rest
+    away : ¬ IsIn sections queue → ¬ BeginsWith queue (timer_section_cost app) (does action made next) → (after : Job)
+        → ¬ IsIn after.sections queue → Serves (is_timer app after.role) Away after.rest
         → QueueServed app s.pending s.alarm s.values (running (does action made next) ∷ others)
         → Keeps app s.pending s.alarm (reached rest vs) (after ∷ others)
     away out before after still good served =
@@ -86,14 +87,17 @@ module _ (app : App) (accepted : IsAccepted app) (s : State) (long : length s.pe
 
     inside : (later : List Bool) → length later ≡ IRQ_NUMBERS → (new : Option ℕ) (after : Job) (set : Bool)
         (outer : List Section) → sections ≡ queue ∷ outer
-        → after.sections ≡ queue ∷ outer → ¬ IsIn outer queue → (set ≡ true → IsSet app later new (reached rest vs))
-        → Serves (Inside set) after.rest → Keeps app later new (reached rest vs) (after ∷ others)
+        → after.sections ≡ queue ∷ outer → ¬ IsIn outer queue
+        → (set ≡ true → IsSetOr app others later new (reached rest vs))
+        → Serves (is_timer app after.role) (Inside set) after.rest
+        → Keeps app later new (reached rest vs) (after ∷ others)
     inside later still new after set outer was is out known good =
         goes_inside app s.pending later still s.alarm new s.values (reached rest vs) after others set outer is out
         known good (alone outer was) all
 
   -- the thread begins `idle`, or waits
-  restarts : (o : Option Body) (left_to_do : Doing Values) → ¬ IsIn sections queue → ¬ BeginsWith queue left_to_do
+  restarts : (o : Option Body) (left_to_do : Doing Values) → ¬ IsIn sections queue
+      → ¬ BeginsWith queue (timer_section_cost app) left_to_do
       → QueueServed app s.pending s.alarm s.values (running left_to_do ∷ others)
       → Keeps app s.pending s.alarm (reached (idling app s.values o).rest s.values) (idling app s.values o ∷ others)
   restarts None left_to_do out before served =
@@ -108,31 +112,47 @@ module _ (app : App) (accepted : IsAccepted app) (s : State) (long : length s.pe
 
   -- a job that is outside
   pub outside : (rest : Doing Values) → JobWell app (running rest) seen → Asked rest → ¬ IsIn sections queue
-      → Serves Away rest → QueueServed app s.pending s.alarm s.values (running rest ∷ others)
+      → Serves (is_timer app role) Away rest → QueueServed app s.pending s.alarm s.values (running rest ∷ others)
       → (w : What) → next_item s role rest ≡ Some w → Kept rest
   outside over well asked out good served w is = absurd (none-some w is)
   outside (does (Enters section.Timer cost) made next) well asked out good served w is = record {
     owed = owed;
     keeps = goes_inside app s.pending s.pending long s.alarm s.alarm s.values (reached (next 0 s.values) s.values) _
-        others false sections refl out (λ yet. absurd (never yet)) (good 0 s.values)
+        others (not (is_timer app role)) sections refl out (λ other. known other served) (good 0 s.values)
         (apart_below app role q others queue above well.fine.1.within) all;
   }
+    where
+      its_own : role ≡ Serving (timer_number app) → is_timer app role ≡ true
+      its_own is = ap (is_timer app) is ∙ eq-eqb (timer_number app) (timer_number app) refl
+
+      -- who is not the timer handler finds the alarm set, or the timer handler below
+      known : not (is_timer app role) ≡ true
+          → QueueServed app s.pending s.alarm s.values (running (does (Enters section.Timer cost) made next) ∷ others)
+          → IsSetOr app others s.pending s.alarm (reached (next 0 s.values) s.values)
+      known other (Open (inl is)) = absurd (out is)
+      known other (Open (inr there)) =
+          absurd (apart_below app role q others queue above well.fine.1.within there)
+      known other (Ready set) =
+          inl (set_kept app s.pending s.pending s.alarm s.values (reached (next 0 s.values) s.values) (λ yet. yet)
+          (reached_is (Enters section.Timer cost) made next well asked) set)
+      known other (Stands (inl is)) = absurd (never (sym (ap not (its_own is.0)) ∙ other))
+      known other (Stands (inr there)) = inr there
   outside (does (Enters (section.Res r) cost) made next) well asked out good served w is =
       let apart : ¬ (section.Res r ≡ section.Timer) = λ same. cc in record {
         owed = owed;
-        keeps = away (Enters (section.Res r) cost) made next well asked out apart _
+        keeps = away (Enters (section.Res r) cost) made next well asked out (λ here. apart here.0) _
             (no_more (section.Res r) queue sections apart out) (good 0 s.values) served;
       }
   outside (does (Enters (section.Free r) cost) made next) well asked out good served w is =
       let apart : ¬ (section.Free r ≡ section.Timer) = λ same. cc in record {
         owed = owed;
-        keeps = away (Enters (section.Free r) cost) made next well asked out apart _
+        keeps = away (Enters (section.Free r) cost) made next well asked out (λ here. apart here.0) _
             (no_more (section.Free r) queue sections apart out) (good 0 s.values) served;
       }
   outside (does (Enters (section.Ready r) cost) made next) well asked out good served w is =
       let apart : ¬ (section.Ready r ≡ section.Timer) = λ same. cc in record {
         owed = owed;
-        keeps = away (Enters (section.Ready r) cost) made next well asked out apart _
+        keeps = away (Enters (section.Ready r) cost) made next well asked out (λ here. apart here.0) _
             (no_more (section.Ready r) queue sections apart out) (good 0 s.values) served;
       }
   outside (does (Leaves x) made next) well asked out good served w is = record {
@@ -178,7 +198,7 @@ module _ (app : App) (accepted : IsAccepted app) (s : State) (long : length s.pe
   -- a job that is inside
   pub inside_too : (rest : Doing Values) → JobWell app (running rest) seen → Asked rest → (set : Bool)
       → (outer : List Section) → sections ≡ queue ∷ outer → ¬ IsIn outer queue
-      → (set ≡ true → IsSet app s.pending s.alarm s.values) → Serves (Inside set) rest
+      → (set ≡ true → IsSetOr app others s.pending s.alarm s.values) → Serves (is_timer app role) (Inside set) rest
       → (w : What) → next_item s role rest ≡ Some w → Kept rest
   inside_too over well asked set outer in_it out known good w is = absurd (none-some w is)
   inside_too (does (Arms i m) made next) well asked set outer in_it out known good w is = record {
@@ -191,11 +211,23 @@ module _ (app : App) (accepted : IsAccepted app) (s : State) (long : length s.pe
     keeps = inside (Fires m) made next well asked s.pending long s.alarm _ false outer in_it in_it out
         (λ yet. absurd (never yet)) (good 0 (effect (Fires m) s.values));
   }
+  inside_too (does (Cancels n h) made next) well asked set outer in_it out known good w is = record {
+    owed = owed;
+    keeps = inside (Cancels n h) made next well asked s.pending long s.alarm _ false outer in_it in_it out
+        (λ yet. absurd (never yet)) (good 0 (effect (Cancels n h) s.values));
+  }
+  inside_too (does (Moves n h i) made next) well asked set outer in_it out known good w is = record {
+    owed = owed;
+    keeps = inside (Moves n h i) made next well asked s.pending long s.alarm _ false outer in_it in_it out
+        (λ yet. absurd (never yet)) (good 0 (effect (Moves n h i) s.values));
+  }
   inside_too (does Clocks made next) well asked set outer in_it out known good w is = record {
     owed = owed;
     keeps = inside Clocks made next well asked s.pending long s.alarm _ set outer in_it in_it out
-        (λ yet. set_kept app s.pending s.pending s.alarm s.values (reached (next s.time s.values) s.values) (λ yet. yet)
-        (reached_is Clocks made next well asked) (known yet)) (good s.time s.values);
+        (λ yet. set_or_kept app others s.pending s.pending s.alarm s.alarm s.values
+        (reached (next s.time s.values) s.values) (set_kept app s.pending s.pending s.alarm s.values
+        (reached (next s.time s.values) s.values) (λ yet. yet) (reached_is Clocks made next well asked)) (known yet))
+        (good s.time s.values);
   }
   inside_too (does SetsAlarm made next) well asked set outer in_it out known good w is =
       go (is_due s.time (next_instant s)) refl
@@ -215,12 +247,12 @@ module _ (app : App) (accepted : IsAccepted app) (s : State) (long : length s.pe
         owed = not_owing;
         keeps = inside SetsAlarm made next well asked (slice_set s.pending (timer_number app) true)
             (length-set s.pending (timer_number app) true ∙ long) None _ true outer in_it in_it out
-            (λ yet. inr (now_set s.pending (timer_number app) within)) (good 0 s.values);
+            (λ yet. inl (inr (now_set s.pending (timer_number app) within))) (good 0 s.values);
       }
       go false test = record {
         owed = not_owing ∙ sym test;
         keeps = inside SetsAlarm made next well asked s.pending long (next_instant s) _ true outer in_it in_it out
-            (λ yet. inl (sym (reached_is SetsAlarm made next well asked))) (good 0 s.values);
+            (λ yet. inl (inl (sym (reached_is SetsAlarm made next well asked)))) (good 0 s.values);
       }
   inside_too (does (Leaves x) made next) well asked set outer in_it out known good w is = record {
     owed = owed;

@@ -21,7 +21,7 @@ use Rattle.rt_laws.specs.Run.{RunsOn}
 use Rattle.rt_laws.specs.Sight.{Seen, Sight, sees}
 use Rattle.rt_laws.specs.Waiting.{stepper, steppers, lower, is_take, outermost, LieInOneSection, is_pending}
 use Rattle.rt_laws.proofs.Outermost.{none_outermost, below_outermost, both_outermost, outermost_all, Behind}
-use Rattle.rt_laws.proofs.Well.{alone_at_bottom, JobWell, IsAbove, StackWell, StateWell, IsThread, Moves, GoesOn, Restarts, ComesBack}
+use Rattle.rt_laws.proofs.Well.{alone_at_bottom, JobWell, IsAbove, StackWell, StateWell, IsThread, Changes, GoesOn, Restarts, ComesBack}
 use Rattle.rt_laws.proofs.Pending.{still_set, still_beside, held_off, goes_first}
 use Rattle.rt_laws.proofs.Happens.{Happens, Quietly, ByTake, ByStep, happens, after_well}
 
@@ -154,7 +154,7 @@ module _ (app : App) (p : ℕ) (positive : 0 < p) where
     )
 
     higher_after : p ≤ job.priority → (given : Option What) (jobs : List Job) (views : List Seen)
-        → Moves app job seen others seens given jobs views → Low app p entered left jobs views
+        → Changes app job seen others seens given jobs views → Low app p entered left jobs views
     higher_after over given jobs views (GoesOn new shown js vs role_is priority_is nearer) =
         subst (λ xs. Low app p entered left xs views) (sym js)
         (subst (λ xs. Low app p entered left (new ∷ others) xs) (sym vs) (
@@ -171,7 +171,7 @@ module _ (app : App) (p : ℕ) (positive : 0 < p) where
     lower_after : job.priority < p → (n : ℕ) → outermost app p job.sections job.lefts ≡ Some n
         → outermost app p seen.inside seen.since ≡ Some entered → n ≤ left
         → (given : Option What) (jobs : List Job) (views : List Seen)
-        → Moves app job seen others seens given jobs views → Low app p entered (left - 1) jobs views
+        → Changes app job seen others seens given jobs views → Low app p entered (left - 1) jobs views
     lower_after under n is since few given jobs views (GoesOn new shown js vs role_is priority_is nearer) =
         subst (λ xs. Low app p entered (left - 1) xs views) (sym js)
         (subst (λ xs. Low app p entered (left - 1) (new ∷ others) xs) (sym vs) (
@@ -190,7 +190,8 @@ module _ (app : App) (p : ℕ) (positive : 0 < p) where
 
     -- a lower job that may step while this priority is held off is in the section
     took : p ≤ level app (job ∷ others) → AllByRecursion (λ n. 0 < n) job.lefts
-        → (given : Option What) (jobs : List Job) (views : List Seen) → Moves app job seen others seens given jobs views
+        → (given : Option What) (jobs : List Job) (views : List Seen)
+        → Changes app job seen others seens given jobs views
         → Took entered left seen jobs views
     took held may given jobs views moves = by (nat_lt job.priority p) refl
       where

@@ -5,7 +5,7 @@ use Rattle.std.specs.List.{AllByRecursion}
 use Rattle.std.proofs.lemmas.List.{length-map}
 use Rattle.rt_lemmas.proofs.Options.{if_some_weaker, if_some-map}
 use Rattle.rt_ids.specs.Content.{Values}
-use Rattle.rt_ids.specs.Doing.{Doing}
+use Rattle.rt_ids.specs.Doing.{Doing, over, does}
 use Rattle.rt_ids.specs.declared.ids.Section.{Section}
 use Rattle.rt_trace.specs.declared.item.What.{What}
 use Rattle.rt_trace.specs.declared.item.What.TheVariants as what
@@ -18,8 +18,9 @@ use Rattle.rt_laws.specs.Level.{level}
 use Rattle.rt_laws.specs.Acting.{spent}
 use Rattle.rt_laws.specs.Sight.{Seen, Sight, outside, entering, leaving}
 use Rattle.rt_laws.specs.Waiting.{outermost}
-use Rattle.rt_laws.specs.Queues.{KeepsQueues}
-use Rattle.rt_laws.proofs.Fine.{Queued, Within, EntersFine, IsFine, all_drop}
+use Rattle.rt_laws.specs.Queues.{InQueue, KeepsOrder}
+use Rattle.rt_laws.proofs.Handled.{all_drop}
+use Rattle.rt_laws.proofs.Fine.{SameOpen, Queued, Within, EntersFine, IsFine}
 use Rattle.rt_laws.proofs.Outermost.{outermost_map, outermost_drop, outermost_more, outermost_kept, outermost_grown, Behind, behind_is}
 
 abbrev pub WithinAll : App → Role → ℕ → List Section → Type 0
@@ -55,11 +56,22 @@ StackWell app (job ∷ others) [] = ⊥
 StackWell app (job ∷ others) (seen ∷ seens) =
     JobWell app job seen × IsAbove app job.role job.priority others × StackWell app others seens
 
+-- A job's next action keeps the order of its queue, and the queues whose sections it has open hold what they held as it
+-- came to that action.
+abbrev pub NextKept : App → ℕ → Values → List Section → Doing Values → Type 0
+NextKept app time vs sections over = Unit {0}
+NextKept app time vs sections (does action made next) =
+    InQueue sections action × KeepsOrder app time vs action × SameOpen sections vs made
+
+abbrev pub AllKept : App → ℕ → Values → List Job → Type 0
+AllKept app time vs [] = Unit {0}
+AllKept app time vs (job ∷ others) = NextKept app time vs job.sections job.rest × AllKept app time vs others
+
 pub record StateWell (app : App) (s : State) (v : Sight) : Type 0 where
   pub stack : StackWell app s.jobs v.jobs
   pub pending : v.pending ≡ s.pending
   pub queued : Queued app s.values
-  pub order : KeepsQueues app s
+  pub order : AllKept app s.time s.values s.jobs
 
 abbrev pub IsThread : Role → Type 0
 IsThread (Serving irq) = ⊥
@@ -83,16 +95,17 @@ Nearer app job seen after shown =
 -- how a step of the running job changes the stack, where it gives this item or none
 module _ (app : App) (job : Job) (seen : Seen) (others : List Job) (seens : List Seen) (given : Option What)
     (jobs : List Job) (views : List Seen) where
-  pub data Moves : Type 0 where
+  pub data Changes : Type 0 where
     -- it goes on
     GoesOn : (after : Job) → (shown : Seen) → jobs ≡ after ∷ others → views ≡ shown ∷ seens → after.role ≡ job.role
         → after.priority ≡ job.priority
-        → Nearer app job seen after shown → Moves
+        → Nearer app job seen after shown → Changes
     -- the thread begins anew, outside all sections
     Restarts : (after : Job) → (shown : Seen) → jobs ≡ after ∷ others → views ≡ shown ∷ seens → IsThread job.role
-        → after.sections ≡ [] → Moves
+        → after.sections ≡ [] → Changes
     -- the handling of an interrupt returns
-    ComesBack : (irq : ℕ) → jobs ≡ others → views ≡ seens → job.role ≡ Serving irq → given ≡ Some (what.Ret irq) → Moves
+    ComesBack : (irq : ℕ) → jobs ≡ others → views ≡ seens → job.role ≡ Serving irq → given ≡ Some (what.Ret irq)
+        → Changes
 
 module _ (app : App) where
   -- a job as it begins

@@ -1,14 +1,14 @@
 -- The item that the running job's next action gives: one column of the table of Baker's machine, a line an action.
 -- The item follows from the state, so the only choice of a run is how many silent steps come before an item. Whether
--- a place is left, which message is the oldest and which is due was looked up as the section of the queue was entered
--- (`Sending`, `Doings`); that it is so still is a law (`Queues`). The code runs instructions with notes. The actions
--- of queues, dispatchers and the timer are this project's own.
+-- a place is left, which message is the oldest, which is due and which has a handle was looked up before, in the same
+-- section (`Sending`, `Doings`); that it is so still is a law (`Queues`). The code runs instructions with notes. The
+-- actions of queues, dispatchers and the timer are this project's own.
 use Rattle.std.specs.Prelude.{ℕ, Bool, nat_le, if◌then◌else◌, List, [], ◌∷◌, Option, Some, None}
 use Rattle.rt_ids.specs.Lists.{is_some_and}
 use Rattle.rt_ids.specs.Holder.{Guarded}
 use Rattle.rt_ids.specs.Content.{Values, number, delays, least_instant}
 use Rattle.rt_ids.specs.Action.{Action, Enters, Leaves, Emits, Posts, Clocks, Takes, Refuses, Readies, Starts, Frees}
-use Rattle.rt_ids.specs.Action.{Arms, Fires, SetsAlarm, Ends, Returns}
+use Rattle.rt_ids.specs.Action.{Arms, Fires, Cancels, Moves, SetsAlarm, Ends, Returns}
 use Rattle.rt_ids.specs.Doing.{Doing, over, does}
 use Rattle.rt_ids.specs.declared.ids.Section.{Section}
 use Rattle.rt_ids.specs.declared.ids.Section.TheVariants as section
@@ -48,6 +48,8 @@ module _ (s : State) (role : Role) where
   item_of (Frees n) = Some (what.Free n)
   item_of (Arms i m) = Some (what.Arm m.task i)
   item_of (Fires m) = Some (what.Fire m.task)
+  item_of (Cancels n h) = Some (what.Cancel n h)
+  item_of (Moves n h i) = Some (what.Move n h i)
   -- the alarm comes at once where the instant is due, and is set else
   item_of SetsAlarm = Some (if is_due s.time (next_instant s) then what.Alarm else what.AlarmSet)
   item_of (Ends b) = Some (what.End b)

@@ -9,6 +9,7 @@ use Rattle.rt_laws.specs.State.{Job, first}
 use Rattle.rt_laws.specs.Run.{RunsOn, Judged}
 use Rattle.rt_laws.specs.ByItems.{after_all}
 use Rattle.rt_laws.specs.Queues.{KeepsQueues}
+use Rattle.rt_laws.specs.Handles.{KeepsHandles}
 use Rattle.rt_laws.specs.Served.{ServesReady, ServesDue}
 use Rattle.rt_laws.specs.Properties.{SectionsNest, KeepsLaws}
 
@@ -43,6 +44,12 @@ abbrev pub RunsKeepQueues : Type 0
 RunsKeepQueues =
     (app : App) → IsAccepted app → (labels : List Label) → RunsOn app (first app) labels
     → KeepsQueues app (after_all app (first app) labels)
+
+-- handles are those of one armed message each: see `Handles`
+abbrev pub RunsKeepHandles : Type 0
+RunsKeepHandles =
+    (app : App) → IsAccepted app → (labels : List Label) → RunsOn app (first app) labels
+    → KeepsHandles (after_all app (first app) labels)
 
 -- messages that are ready are served: see `Served`
 abbrev pub RunsServeReady : Type 0

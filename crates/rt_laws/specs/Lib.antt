@@ -11,5 +11,6 @@ pub mod Waiting
 pub mod Properties
 pub mod Silent
 pub mod Queues
+pub mod Handles
 pub mod Served
 pub mod Laws

@@ -1,12 +1,13 @@
 -- What holds of the actions of queues beside their being next, in every run: a place is taken where one is left, and
 -- refused where none is; messages start in the order in which they became ready; of armed messages the one of the
--- least instant fires, of equal ones the first armed, and not before its instant. The actions were chosen as the
--- section of the queue was entered; this says that nothing has changed since.
+-- least instant fires, of equal ones the first armed, and not before its instant; a message that is taken back or put
+-- to another instant is armed, and has the handle. The actions were chosen before, in the same section; this says that
+-- nothing has changed since.
 use Rattle.std.specs.Prelude.{◌≡◌, ℕ, ◌<◌, ◌≤◌, List, [], ◌∷◌, Option, Some, None, IfSome}
 use Rattle.rt_ids.specs.Choice.{IsIn}
 use Rattle.rt_ids.specs.Holder.{Guarded}
-use Rattle.rt_ids.specs.Content.{Message, Armed, Values, number, messages, delays, least}
-use Rattle.rt_ids.specs.Action.{Action, Takes, Refuses, Readies, Starts, Frees, Arms, Fires}
+use Rattle.rt_ids.specs.Content.{Message, Armed, Values, number, messages, delays, least, armed_as}
+use Rattle.rt_ids.specs.Action.{Action, Takes, Refuses, Readies, Starts, Frees, Arms, Fires, Cancels, Moves}
 use Rattle.rt_ids.specs.Doing.{Doing, over, does}
 use Rattle.rt_ids.specs.declared.ids.Section.{Section}
 use Rattle.rt_ids.specs.declared.ids.Section.TheVariants as section
@@ -23,11 +24,17 @@ queue_of (Readies p m) = Some (section.Ready p)
 queue_of (Starts p m) = Some (section.Ready p)
 queue_of (Arms i m) = Some section.Timer
 queue_of (Fires m) = Some section.Timer
+queue_of (Cancels n h) = Some section.Timer
+queue_of (Moves n h i) = Some section.Timer
 queue_of action = None
 
 -- it is done inside that section
 abbrev pub InQueue : List Section → Action → Type 0
 InQueue sections action = IfSome (queue_of action) (λ x. IsIn sections x)
+
+-- some armed message of the task has the handle
+abbrev pub HasHandle : ℕ → ℕ → Values → Type 0
+HasHandle n h vs = (a : Armed) × (armed_as n h (delays (vs (Guarded section.Timer))) ≡ Some a)
 
 -- at a time, with these contents
 abbrev pub KeepsOrder : App → ℕ → Values → Action → Type 0
@@ -36,6 +43,8 @@ KeepsOrder app time vs (Refuses n) = number (vs (Guarded (section.Free n))) ≡ 
 KeepsOrder app time vs (Starts p m) = (more : List Message) × (messages (vs (Guarded (section.Ready p))) ≡ m ∷ more)
 KeepsOrder app time vs (Fires m) =
     (a : Armed) × (least (delays (vs (Guarded section.Timer))) ≡ Some a) × (a.message ≡ m) × (a.instant ≤ time)
+KeepsOrder app time vs (Cancels n h) = HasHandle n h vs
+KeepsOrder app time vs (Moves n h i) = HasHandle n h vs
 KeepsOrder app time vs action = Unit {0}
 
 abbrev pub NextKeepsOrder : App → ℕ → Values → List Section → Doing Values → Type 0

@@ -1,8 +1,9 @@
 -- That messages are served, in every run (Baker, Stack-Based Scheduling of Realtime Processes, 1991; the RTIC 1 book,
 -- software tasks and the monotonic). Where a message is ready and no job has the section of its ready queue open, the
 -- dispatcher of the level is about to enter that section: its interrupt is pending, or it has started and stands before
--- the section. So is the timer handler, where a message is due and no job has the section of the timer queue open. The
--- code posts the interrupt, or sets the alarm, inside the section.
+-- its own section of it, which its cost tells from those of the bodies that it runs. So is the timer handler, where a
+-- message is due and no job has the section of the timer queue open. The code posts the interrupt, or sets the alarm,
+-- inside the section.
 use Rattle.std.specs.Prelude.{◌≡◌, ℕ, ◌⊎◌, true, false, Contains, List, [], ◌∷◌, slice_index_or, Some}
 use Rattle.rt_ids.specs.Choice.{IsIn}
 use Rattle.rt_ids.specs.Holder.{Guarded}
@@ -14,6 +15,7 @@ use Rattle.rt_ids.specs.declared.ids.Section.TheVariants as section
 use Rattle.rt_app.specs.declared.app.Mono.{Mono}
 use Rattle.rt_app.specs.Tree.{App}
 use Rattle.rt_app.specs.Level.{levels}
+use Rattle.rt_app.specs.BodyCost.{dispatcher_section_cost, timer_section_cost}
 use Rattle.rt_app.specs.Sending.{dispatcher_number}
 use Rattle.rt_laws.specs.Services.{timer_number}
 use Rattle.rt_laws.specs.State.{Serving, Job, State}
@@ -24,27 +26,27 @@ abbrev pub IsOpen : List Job → Section → Type 0
 IsOpen [] x = ⊥
 IsOpen (job ∷ others) x = IsIn job.sections x ⊎ IsOpen others x
 
--- what is left to do begins with entering the section
-abbrev pub BeginsWith : Section → Doing Values → Type 0
-BeginsWith x over = ⊥
-BeginsWith x (does (Enters y cost) made next) = y ≡ x
-BeginsWith x (does action made next) = ⊥
+-- what is left to do begins with entering the section, at this cost
+abbrev pub BeginsWith : Section → ℕ → Doing Values → Type 0
+BeginsWith x cost over = ⊥
+BeginsWith x cost (does (Enters y most) made next) = (y ≡ x) × (most ≡ cost)
+BeginsWith x cost (does action made next) = ⊥
 
--- some started job serves the interrupt, and stands before the section
-abbrev pub StandsBefore : List Job → ℕ → Section → Type 0
-StandsBefore [] irq x = ⊥
-StandsBefore (job ∷ others) irq x =
-    ((job.role ≡ Serving irq) × BeginsWith x job.rest) ⊎ StandsBefore others irq x
+-- some started job serves the interrupt, and stands before the section at this cost
+abbrev pub StandsBefore : List Job → ℕ → Section → ℕ → Type 0
+StandsBefore [] irq x cost = ⊥
+StandsBefore (job ∷ others) irq x cost =
+    ((job.role ≡ Serving irq) × BeginsWith x cost job.rest) ⊎ StandsBefore others irq x cost
 
 -- the interrupt is pending, or a job that serves it stands before the section
-abbrev pub IsServed : State → ℕ → Section → Type 0
-IsServed s irq x = (slice_index_or s.pending irq false ≡ true) ⊎ StandsBefore s.jobs irq x
+abbrev pub IsServed : State → ℕ → Section → ℕ → Type 0
+IsServed s irq x cost = (slice_index_or s.pending irq false ≡ true) ⊎ StandsBefore s.jobs irq x cost
 
 -- a level of software tasks serves its ready messages
 abbrev pub ServesLevel : App → State → ℕ → Type 0
 ServesLevel app s p =
     ¬ (messages (s.values (Guarded (section.Ready p))) ≡ []) → ¬ IsOpen s.jobs (section.Ready p)
-    → IsServed s (dispatcher_number app p) (section.Ready p)
+    → IsServed s (dispatcher_number app p) (section.Ready p) (dispatcher_section_cost app p)
 
 -- so does each level of software tasks
 abbrev pub ServesReady : App → State → Type 0
@@ -54,4 +56,4 @@ ServesReady app s = (p : ℕ) → Contains (levels app) p → ServesLevel app s 
 abbrev pub ServesDue : App → State → Type 0
 ServesDue app s =
     (mono : Mono) → app.mono ≡ Some mono → s.owing ≡ false → is_due s.time (next_instant s) ≡ true
-    → ¬ IsOpen s.jobs section.Timer → IsServed s (timer_number app) section.Timer
+    → ¬ IsOpen s.jobs section.Timer → IsServed s (timer_number app) section.Timer (timer_section_cost app)

@@ -5,7 +5,7 @@
 use Rattle.std.specs.Prelude.{ℕ, ◌^◌, Bool, false, List, [], ◌∷◌, replicate, slice_get, Option, None, option_map}
 use Rattle.rt_ids.specs.Lists.{or_zero}
 use Rattle.rt_ids.specs.Holder.{Guarded, Own}
-use Rattle.rt_ids.specs.Content.{Values, Number, Messages, Delays}
+use Rattle.rt_ids.specs.Content.{Values, Number, Messages, Delays, nothing_armed}
 use Rattle.rt_ids.specs.Doing.{Doing, over, does}
 use Rattle.rt_ids.specs.declared.ids.Section.{Section}
 use Rattle.rt_ids.specs.declared.ids.Section.TheVariants as section
@@ -61,7 +61,7 @@ abbrev pub first_values : App → Values
 first_values app (Guarded (section.Res r)) = Number (or_zero (option_map (λ s. s.first) (slice_get app.shared r)))
 first_values app (Guarded (section.Free n)) = Number 0
 first_values app (Guarded (section.Ready p)) = Messages []
-first_values app (Guarded section.Timer) = Delays []
+first_values app (Guarded section.Timer) = Delays nothing_armed
 first_values app (Own n) = Number (or_zero (option_map (λ l. l.first) (slice_get app.locals n)))
 
 -- `init` runs with all interrupts masked, so it has the greatest priority

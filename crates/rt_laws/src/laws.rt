@@ -1,6 +1,7 @@
 ghost use Rattle.rt_laws.specs.ByItems.{FrontsAreRuns, RunsAreByItems};
 ghost use Rattle.rt_laws.specs.Laws.{
   JudgedTracesKeepLaws,
+  RunsKeepHandles,
   RunsKeepLaws,
   RunsKeepQueues,
   RunsNestSections,
@@ -50,6 +51,11 @@ pub fn runs_nest_sections()
 /// became ready, and of armed messages the least fires, not before its instant.
 pub fn runs_keep_queues()
     ensures { RunsKeepQueues }
+{}
+
+/// In every run each armed message has a handle that was given, and no other armed message has it.
+pub fn runs_keep_handles()
+    ensures { RunsKeepHandles }
 {}
 
 /// In every run messages that are ready are served: where no job has the section of their queue open, the dispatcher of
