@@ -1,5 +1,5 @@
 -- What is read off the filled tables are the ceilings.
-use Rattle.std.proofs.Common.{◌≡◌, ℕ, zero, suc, ◌+◌, ◌<◌, ◌==◌, max, Bool, true, false, ◌||◌, if◌then◌else◌, List, [], ◌∷◌, ◌++◌, map, length, get_or, slice_get, replicate, Option, Some, None, option_map, refl, sym, ap, ◌∙◌, arith}
+use Rattle.std.proofs.Common.{◌≡◌, ℕ, zero, suc, ◌+◌, ◌<◌, max, Bool, true, false, ◌||◌, if◌then◌else◌, List, [], ◌∷◌, ◌++◌, map, length, get_or, slice_get, replicate, Option, Some, None, option_map, refl, sym, ap, ◌∙◌, arith}
 use Rattle.std.specs.List.{list_any, range_with_len}
 use Rattle.std.proofs.lemmas.List.{length-map, length-replicate, get_or-replicate, map-append}
 use Rattle.std.proofs.lemmas.List.FromFn.{get_or-map-range_with_len, length-map-range_with_len}
@@ -14,10 +14,9 @@ use Rattle.rt_app.specs.declared.ceilings.ReadyCeiling.{ReadyCeiling}
 use Rattle.rt_app.specs.declared.costs.TheConstants.{PRIORITIES}
 use Rattle.rt_app.specs.Tree.{App, Task}
 use Rattle.rt_app.specs.Bodies.{members}
-use Rattle.rt_app.specs.Spawned.{target}
 use Rattle.rt_app.specs.Level.{is_software, is_of_level, levels, holds}
 use Rattle.rt_ids.specs.Lists.{those_below, or_zero}
-use Rattle.rt_app.specs.Ceiling.{greatest_priority, resource_ceiling, free_ceiling, free_ceilings, readies, arms_level, mover_priority, ready_ceiling, timer_ceiling, Ceilings, ceilings}
+use Rattle.rt_app.specs.Ceiling.{greatest_priority, uses_places_of, resource_ceiling, free_ceiling, free_ceilings, readies, arms_level, mover_priority, ready_ceiling, timer_ceiling, Ceilings, ceilings}
 use Rattle.rt_ceil.specs.Inside.Tables.{Tables, level_of, mover, filled}
 use Rattle.rt_ceil.specs.Inside.Rows.{free_row, free_rows, marked, served_levels, ready_row, ready_rows, timer_row}
 use Rattle.rt_ceil.proofs.Greatest.{folded_marks}
@@ -32,9 +31,9 @@ shared_is app =
     same_number_lists (filled app).shared rows (sized ∙ sym (length-map-range_with_len (resource_ceiling app) 0 n))
     (λ r h. let b : r < n = omega arith in filled_shared app r b ∙ sym (get_or-map-range_with_len (resource_ceiling app) 0 n r r 0 b (omega arith)))
 
-row_of : (app : App) (n m : ℕ) (t : Task) → slice_get app.tasks n ≡ Some t → m ≡ greatest_priority (holds (λ s. target s == n)) app → free_row t m ≡ (if is_software t then Some (free_ceiling app n) else None)
+row_of : (app : App) (n m : ℕ) (t : Task) → slice_get app.tasks n ≡ Some t → m ≡ greatest_priority (holds (uses_places_of n)) app → free_row t m ≡ (if is_software t then Some (free_ceiling app n) else None)
 row_of app n m t at is =
-    ap (free_row t) is ∙ ap (λ (o : Option Task). if is_software t then Some (max (or_zero (option_map (λ u. u.priority) o)) (greatest_priority (holds (λ s. target s == n)) app)) else None) (sym at)
+    ap (free_row t) is ∙ ap (λ (o : Option Task). if is_software t then Some (max (or_zero (option_map (λ u. u.priority) o)) (greatest_priority (holds (uses_places_of n)) app)) else None) (sym at)
 
 -- of the tasks from a number on
 free_from : (app : App) (n : ℕ) (ts : List Task) → AreFrom app.tasks n ts → free_rows (filled app).free n ts ≡ free_ceilings app n ts

@@ -1,5 +1,5 @@
 -- The filled tables, seen at one place: the greatest priority of the bodies that use it.
-use Rattle.std.proofs.Common.{◌≡◌, ℕ, ◌+◌, ◌<◌, ◌==◌, max, not, if◌then◌else◌, List, [], ◌∷◌, ◌++◌, map, length, get_or, Option, Some, None, refl, sym, ap, ◌∙◌, arith}
+use Rattle.std.proofs.Common.{◌≡◌, ℕ, ◌+◌, ◌<◌, max, if◌then◌else◌, List, [], ◌∷◌, ◌++◌, map, length, get_or, Option, Some, None, refl, sym, ap, ◌∙◌, arith}
 use Rattle.std.specs.List.{fold, list_any}
 use Rattle.std.proofs.lemmas.List.{length-replicate, get_or-replicate}
 use Rattle.std.proofs.lemmas.List.Sums.{fold-append}
@@ -9,9 +9,9 @@ use Rattle.rt_ids.specs.declared.ids.BodyId.TheVariants as body
 use Rattle.rt_app.specs.declared.costs.TheConstants.{PRIORITIES}
 use Rattle.rt_app.specs.Tree.{App, Body, Task}
 use Rattle.rt_app.specs.Bodies.{Member, members, thread_members, task_members}
-use Rattle.rt_app.specs.Spawned.{is_soon, target}
+use Rattle.rt_app.specs.Spawned.{uses_timer}
 use Rattle.rt_app.specs.Level.{holds}
-use Rattle.rt_app.specs.Ceiling.{greatest_priority, lists, readies, arms_level}
+use Rattle.rt_app.specs.Ceiling.{greatest_priority, lists, uses_places_of, readies, arms_level}
 use Rattle.rt_ids.specs.Lists.{greatest}
 use Rattle.rt_ceil.specs.Inside.Tables.{Tables, untouched, mover, used, used_by_thread, used_by_task, filled}
 use Rattle.rt_ceil.proofs.Greatest.{folded_raises, greatest_any, greatest_both, greatest_filtered}
@@ -63,9 +63,9 @@ filled_shared app r b =
     ∙ from_zero (get_or (untouched app).shared r 0) (greatest (map (λ m. if lists r m then m.priority else 0) (members app))) (get_or-replicate (length app.shared) r 0 0 b)
     ∙ greatest_filtered (lists r) (λ m. m.priority) (members app)
 
-pub filled_free : (app : App) (n : ℕ) → n < length app.tasks → get_or (filled app).free n 0 ≡ greatest_priority (holds (λ s. target s == n)) app
+pub filled_free : (app : App) (n : ℕ) → n < length app.tasks → get_or (filled app).free n 0 ≡ greatest_priority (holds (uses_places_of n)) app
 filled_free app n b =
-    let test = holds (λ s. target s == n) in
+    let test = holds (uses_places_of n) in
     ap (λ (t : Tables). get_or t.free n 0) (filled_is app)
     ∙ folded_raises (used_by app) (IsSizedFor app) (keeps app) (λ t. get_or t.free n 0) (λ m. if test m then m.priority else 0)
     (λ t m h. used_free app m.priority n (length app.shared) (length app.tasks) PRIORITIES b m.body.shared m.body.block t h) (untouched app) (members app) (untouched_sized app)
@@ -84,9 +84,9 @@ filled_ready app p b =
     ∙ greatest_both soon after (members app) ∙ ap (λ x. max x (greatest (map after (members app)))) (greatest_filtered (holds (readies app p)) (λ m. m.priority) (members app))
     ∙ ap (max (greatest_priority (holds (readies app p)) app)) (greatest_any (holds (arms_level app p)) (mover app.mono) (members app))
 
-pub filled_timer : (app : App) → (filled app).timer ≡ greatest_priority (holds (λ s. not (is_soon s))) app
+pub filled_timer : (app : App) → (filled app).timer ≡ greatest_priority (holds uses_timer) app
 filled_timer app =
-    let test = holds (λ s. not (is_soon s)) in
+    let test = holds uses_timer in
     ap (λ (t : Tables). t.timer) (filled_is app)
     ∙ folded_raises (used_by app) (IsSizedFor app) (keeps app) (λ t. t.timer) (λ m. if test m then m.priority else 0)
     (λ t m h. used_timer app m.priority (length app.shared) (length app.tasks) PRIORITIES m.body.shared m.body.block t h) (untouched app) (members app) (untouched_sized app)

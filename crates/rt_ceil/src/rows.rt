@@ -9,13 +9,14 @@ use rt_app::{Mono, ReadyCeiling, Task};
 use rt_ids::NoMemory;
 use std::alloc::Global;
 
-/// The ceiling of a task's free places, where bodies up to this priority spawn it.
+/// The ceiling of a task's free places, where bodies up to this priority spawn it or cancel messages of it.
 fn free_row(task: &Task, priority: u8) -> Option<u8>
     ensures { result ≡ rows.free_row (task_of task.now) priority }
 {
-    match task.binds {
-        Some(_irq) => None,
-        None => Some(task.priority.max(priority)),
+    if task.is_software() {
+        Some(task.priority.max(priority))
+    } else {
+        None
     }
 }
 
@@ -79,7 +80,7 @@ pub(crate) fn ready_rows(
     Ok(ready)
 }
 
-/// The ceiling of the timer queue, where there is a monotonic and bodies up to this priority spawn after a delay.
+/// The ceiling of the timer queue, where there is a monotonic and bodies up to this priority enter that queue.
 pub(crate) fn timer_row(mono: Option<Mono>, priority: u8) -> Option<u8>
     ensures { result ≡ rows.timer_row mono priority }
 {

@@ -1,4 +1,4 @@
-ghost use Rattle.std.specs.Prelude.{◌≡◌, map, slice_get};
+ghost use Rattle.std.specs.Prelude.{◌≡◌, slice_get};
 ghost use Rattle.std.specs.List.{fold};
 ghost use Rattle.rt_app.specs.Spawned.{statement_spawns, spawns, value_spawns};
 ghost use Rattle.rt_app.specs.View.{spawn_of, value_of, statement_of, block_of, task_of, app_of};
@@ -12,17 +12,14 @@ use rt_ids::TaskId;
 pub(crate) fn level(task: &Task) -> Option<u8>
     ensures { result ≡ level_of (task_of task.now) }
 {
-    match task.binds {
-        Some(_irq) => None,
-        None => Some(task.priority),
-    }
+    task.is_software().then_some(task.priority)
 }
 
 /// The level of this task, where it is a software task.
-fn level_at(tasks: &[Task], task: TaskId) -> Option<u8>
-    ensures { result ≡ level_in (slice_get (map task_of tasks.now) task) }
+fn level_at(app: &App, task: TaskId) -> Option<u8>
+    ensures { result ≡ level_in (slice_get (app_of app.now).tasks task) }
 {
-    match tasks.get(task.0 as usize) {
+    match app.task(task) {
         Some(task) => level(task),
         None => None,
     }
@@ -45,12 +42,19 @@ fn count_spawn(tables: &mut Tables, app: &App, priority: u8, spawn: &Spawn)
     match spawn {
         Spawn::Soon(task, _args, _at) => {
             raise(&mut tables.free, task.0, priority);
-            raise_level(&mut tables.ready, level_at(&app.tasks, *task), priority);
+            raise_level(&mut tables.ready, level_at(app, *task), priority);
         }
         Spawn::After(_word, _delay, task, _args, _at) => {
             raise(&mut tables.free, task.0, priority);
-            let level = level_at(&app.tasks, *task);
+            let level = level_at(app, *task);
             raise_level(&mut tables.ready, level, mover_priority(app.mono));
+            tables.timer = tables.timer.max(priority);
+        }
+        Spawn::Cancel(_word, task, _handle, _at) => {
+            raise(&mut tables.free, task.0, priority);
+            tables.timer = tables.timer.max(priority);
+        }
+        Spawn::Move(_word, _delay, _task, _handle, _at) => {
             tables.timer = tables.timer.max(priority);
         }
     }

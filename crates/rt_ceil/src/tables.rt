@@ -9,7 +9,7 @@ use std::alloc::Global;
 use std::marker::Model;
 
 /// For each thing that a section guards, the greatest priority of the bodies so far that use it, and 0 where none does.
-#[derive(Debug, Drop)]
+#[derive(Drop)]
 pub(crate) struct Tables {
     /// By resource.
     pub shared: Vec<u8>,

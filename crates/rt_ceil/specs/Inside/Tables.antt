@@ -6,7 +6,7 @@ use Rattle.std.specs.List.{fold}
 use Rattle.rt_app.specs.declared.app.Mono.{Mono}
 use Rattle.rt_app.specs.declared.body.Listed.{Listed}
 use Rattle.rt_app.specs.declared.costs.TheConstants.{PRIORITIES}
-use Rattle.rt_app.specs.Tree.{Block, Body, Task, App, Spawn, Soon, After}
+use Rattle.rt_app.specs.Tree.{Block, Body, Task, App, Spawn, Soon, After, Cancel, Move}
 use Rattle.rt_app.specs.Spawned.{spawns}
 use Rattle.rt_app.specs.Level.{is_software}
 
@@ -64,6 +64,18 @@ spawned app priority t (After word delay task args at) = record {
   shared = t.shared;
   free = raised t.free task priority;
   ready = raised_level t.ready (level_in (slice_get app.tasks task)) (mover app.mono);
+  timer = max t.timer priority;
+}
+spawned app priority t (Cancel word task handle at) = record {
+  shared = t.shared;
+  free = raised t.free task priority;
+  ready = t.ready;
+  timer = max t.timer priority;
+}
+spawned app priority t (Move word delay task handle at) = record {
+  shared = t.shared;
+  free = t.free;
+  ready = t.ready;
   timer = max t.timer priority;
 }
 
