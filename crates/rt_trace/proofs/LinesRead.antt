@@ -47,6 +47,8 @@ verb_read verb.Post = refl
 verb_read verb.Clock = refl
 verb_read verb.Arm = refl
 verb_read verb.Fire = refl
+verb_read verb.Cancel = refl
+verb_read verb.Move = refl
 verb_read verb.End = refl
 verb_read verb.Trap = refl
 
@@ -127,6 +129,8 @@ what_read names (what.Post i) are h = ap (λ (r : Result ℕ Wrong). and_make r 
 what_read names (what.Clock v) are h = ap (λ (r : Result ℕ Wrong). and_make r what.Clock) (word_read v h)
 what_read names (what.Arm t v) are h = rw (word_read v h.1, task_read names t are h.0) refl
 what_read names (what.Fire t) are h = ap (λ (r : Result ℕ Wrong). and_make r what.Fire) (task_read names t are h)
+what_read names (what.Cancel t k) are h = rw (word_read k h.1, task_read names t are h.0) refl
+what_read names (what.Move t k v) are h = rw (word_read k h.1, word_read v h.2, task_read names t are h.0) refl
 what_read names (what.End b) are h = ap (λ (r : Result BodyId Wrong). and_make r what.End) (body_read names b are h)
 what_read names (what.Trap k) are h = ap (λ (r : Result ℕ Wrong). and_make r what.Trap) (byte_read k h)
 
@@ -184,6 +188,9 @@ operands_unspaced names (what.Post i) are h = (irq_unspaced names i are h, tt)
 operands_unspaced names (what.Clock v) are h = (word_unspaced v h, tt)
 operands_unspaced names (what.Arm t v) are h = (task_unspaced names t are h.0, (word_unspaced v h.1, tt))
 operands_unspaced names (what.Fire t) are h = (task_unspaced names t are h, tt)
+operands_unspaced names (what.Cancel t k) are h = (task_unspaced names t are h.0, (word_unspaced k h.1, tt))
+operands_unspaced names (what.Move t k v) are h =
+    (task_unspaced names t are h.0, (word_unspaced k h.1, (word_unspaced v h.2, tt)))
 operands_unspaced names (what.End b) are h = (body_unspaced names b are h, tt)
 operands_unspaced names (what.Trap k) are h = (decimal_unspaced k (omega arith), tt)
 

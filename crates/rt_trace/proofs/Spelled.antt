@@ -15,9 +15,10 @@ use Rattle.rt_ids.specs.Naming.{irq_name, task_name, resource_name, section_name
 use Rattle.rt_ids.specs.Word.{is_identifier}
 use Rattle.rt_lines.specs.Answers.{and_then, and_make}
 use Rattle.rt_lines.specs.Parts.{words}
-use Rattle.rt_trace.specs.Lined.{HasLine, HasOperands, HasValue, IsBody, IsSection, IsWord}
+use Rattle.rt_trace.specs.Lined.{HasLine, HasOperands, HasValue, IsBody, IsSection, IsTask, IsWord}
 use Rattle.rt_trace.specs.Operand.{only, pair, bare, irq_at, task_at, resource_at, section_at, queue_at, ready_at, body_at, number_at, values_at}
-use Rattle.rt_trace.specs.Row.{row_at, item_at, item_row, what_at, take_of, arm_of, start_of, leave_of}
+use Rattle.rt_trace.specs.Row.{row_at, item_at, item_row, what_at, take_of, arm_of, cancel_of, move_of, start_of}
+use Rattle.rt_trace.specs.Row.{leave_of}
 use Rattle.rt_trace.specs.Text.{operands, spaced}
 use Rattle.rt_trace.specs.Verb.{spelling, verbs, verb_named, verb_of}
 use Rattle.rt_trace.specs.Laws.{ReadLinesAreLines}
@@ -165,17 +166,59 @@ take_spells names ws w differ e =
       known = (name.1, number.1);
     })
 
+-- a task and a number behind the verb
+numbered_spells : (names : Names) (v : Verb) (ws : List (List ℕ)) (w : What) (make : ℕ → ℕ → What)
+    → and_then (pair ws) (λ p. and_then (number_at (2 ^ 32) p.1) (λ n. and_make (task_at names p.0) (λ t. make t n)))
+    ≡ Ok w
+    → ((t n : ℕ) → IsTask names t → IsWord n → Spell names v (task_name names t ∷ decimal n ∷ []) (make t n))
+    → Spell names v ws w
+numbered_spells names v ws w make e each =
+    let two = then_ok (pair ws)
+    (λ p. and_then (number_at (2 ^ 32) p.1) (λ n. and_make (task_at names p.0) (λ t. make t n))) w e in
+    let value = then_ok (number_at (2 ^ 32) two.0.1) (λ n. and_make (task_at names two.0.0) (λ t. make t n)) w two.2 in
+    let task = make_ok (task_at names two.0.0) (λ t. make t value.0) w value.2 in
+    let number = word_spelling two.0.1 value.0 value.1 in
+    let name = task_spelling names two.0.0 task.0 task.1 in
+    let behind : ws ≡ task_name names task.0 ∷ decimal value.0 ∷ [] =
+    pair_is ws two.0 two.1
+    ∙ (ap (λ (x : List ℕ). x ∷ two.0.1 ∷ []) name.0 ∙ ap (λ (x : List ℕ). task_name names task.0 ∷ x ∷ []) number.0) in
+    subst (λ (u : What). Spell names v ws u) task.2
+    (subst (λ (us : List (List ℕ)). Spell names v us (make task.0 value.0)) (sym behind)
+    (each task.0 value.0 name.1 number.1))
+
 arm_spells : (names : Names) (ws : List (List ℕ)) (w : What) → arm_of names ws ≡ Ok w → Spell names verb.Arm ws w
 arm_spells names ws w e =
-    let two = then_ok (pair ws) (λ p. and_then (number_at (2 ^ 32) p.1) (λ instant. and_make (task_at names p.0) (λ task. what.Arm task instant))) w e in
-    let instant = then_ok (number_at (2 ^ 32) two.0.1) (λ instant. and_make (task_at names two.0.0) (λ task. what.Arm task instant)) w two.2 in
-    let task = make_ok (task_at names two.0.0) (λ task. what.Arm task instant.0) w instant.2 in
-    let number = word_spelling two.0.1 instant.0 instant.1 in
-    let name = task_spelling names two.0.0 task.0 task.1 in
-    subst (λ (u : What). Spell names verb.Arm ws u) task.2 (record {
+    numbered_spells names verb.Arm ws w what.Arm e
+    (λ t n known word. record { first = refl; behind = refl; known = (known, word) })
+
+cancel_spells : (names : Names) (ws : List (List ℕ)) (w : What)
+    → cancel_of names ws ≡ Ok w → Spell names verb.Cancel ws w
+cancel_spells names ws w e =
+    numbered_spells names verb.Cancel ws w what.Cancel e
+    (λ t n known word. record { first = refl; behind = refl; known = (known, word) })
+
+move_spells : (names : Names) (ws : List (List ℕ)) (w : What) → move_of names ws ≡ Ok w → Spell names verb.Move ws w
+move_spells names [] w e = absurd (cc)
+move_spells names (t ∷ ws) w e =
+    let two = then_ok (pair ws)
+    (λ p. and_then (number_at (2 ^ 32) p.0)
+    (λ h. and_then (number_at (2 ^ 32) p.1) (λ v. and_make (task_at names t) (λ k. what.Move k h v)))) w e in
+    let handle = then_ok (number_at (2 ^ 32) two.0.0)
+    (λ h. and_then (number_at (2 ^ 32) two.0.1) (λ v. and_make (task_at names t) (λ k. what.Move k h v))) w two.2 in
+    let instant = then_ok (number_at (2 ^ 32) two.0.1)
+    (λ v. and_make (task_at names t) (λ k. what.Move k handle.0 v)) w handle.2 in
+    let task = make_ok (task_at names t) (λ k. what.Move k handle.0 instant.0) w instant.2 in
+    let first = word_spelling two.0.0 handle.0 handle.1 in
+    let second = word_spelling two.0.1 instant.0 instant.1 in
+    let name = task_spelling names t task.0 task.1 in
+    subst (λ (u : What). Spell names verb.Move (t ∷ ws) u) task.2 (record {
       first = refl;
-      behind = pair_is ws two.0 two.1 ∙ (ap (λ (x : List ℕ). x ∷ two.0.1 ∷ []) name.0 ∙ ap (λ (x : List ℕ). task_name names task.0 ∷ x ∷ []) number.0);
-      known = (name.1, number.1);
+      behind =
+          ap (λ (x : List ℕ). x ∷ ws) name.0
+          ∙ (ap (λ (xs : List (List ℕ)). task_name names task.0 ∷ xs) (pair_is ws two.0 two.1)
+          ∙ (ap (λ (x : List ℕ). task_name names task.0 ∷ x ∷ two.0.1 ∷ []) first.0
+          ∙ ap (λ (x : List ℕ). task_name names task.0 ∷ decimal handle.0 ∷ x ∷ []) second.0));
+      known = (name.1, first.1, second.1);
     })
 
 start_spells : (names : Names) (ws : List (List ℕ)) (w : What) → start_of names ws ≡ Ok w → Spell names verb.Start ws w
@@ -228,6 +271,8 @@ what_spells names verb.Post ws w differ e = one_spells names verb.Post ws w (irq
 what_spells names verb.Clock ws w differ e = one_spells names verb.Clock ws w (number_at (2 ^ 32)) what.Clock e (λ word n is. let number = word_spelling word n is in single names verb.Clock word (decimal n) (what.Clock n) refl number.0 refl number.1)
 what_spells names verb.Arm ws w differ e = arm_spells names ws w e
 what_spells names verb.Fire ws w differ e = one_spells names verb.Fire ws w (task_at names) what.Fire e (λ word t is. let name = task_spelling names word t is in single names verb.Fire word (task_name names t) (what.Fire t) refl name.0 refl name.1)
+what_spells names verb.Cancel ws w differ e = cancel_spells names ws w e
+what_spells names verb.Move ws w differ e = move_spells names ws w e
 what_spells names verb.End ws w differ e = one_spells names verb.End ws w (body_at names) what.End e (λ word b is. let name = body_spelling names word b is in single names verb.End word (body_name names b) (what.End b) refl name.0 refl name.1)
 what_spells names verb.Trap ws w differ e = one_spells names verb.Trap ws w (number_at (2 ^ 8)) what.Trap e (λ word k is. let number = byte_spelling word k is in single names verb.Trap word (decimal k) (what.Trap k) refl number.0 refl number.1)
 

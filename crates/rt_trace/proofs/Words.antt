@@ -78,6 +78,8 @@ spelling_test verb.Post = refl
 spelling_test verb.Clock = refl
 spelling_test verb.Arm = refl
 spelling_test verb.Fire = refl
+spelling_test verb.Cancel = refl
+spelling_test verb.Move = refl
 spelling_test verb.End = refl
 spelling_test verb.Trap = refl
 

@@ -56,6 +56,8 @@ HasOperands names (what.Post i) = IsDeclared names i
 HasOperands names (what.Clock v) = IsWord v
 HasOperands names (what.Arm t v) = IsTask names t × IsWord v
 HasOperands names (what.Fire t) = IsTask names t
+HasOperands names (what.Cancel t h) = IsTask names t × IsWord h
+HasOperands names (what.Move t h v) = IsTask names t × IsWord h × IsWord v
 HasOperands names (what.End b) = IsBody names b
 HasOperands names (what.Trap k) = k < 2 ^ 8
 

@@ -28,6 +28,18 @@ arm_of names words =
     and_then (pair words) (λ p. and_then (number_at (2 ^ 32) p.1)
     (λ instant. and_make (task_at names p.0) (λ task. what.Arm task instant)))
 
+abbrev pub cancel_of : Names → List (List ℕ) → Result What Wrong
+cancel_of names words =
+    and_then (pair words) (λ p. and_then (number_at (2 ^ 32) p.1)
+    (λ handle. and_make (task_at names p.0) (λ task. what.Cancel task handle)))
+
+-- a task, and its handle and instant
+abbrev pub move_of : Names → List (List ℕ) → Result What Wrong
+move_of names (t ∷ numbers) =
+    and_then (pair numbers) (λ p. and_then (number_at (2 ^ 32) p.0) (λ handle. and_then (number_at (2 ^ 32) p.1)
+    (λ instant. and_make (task_at names t) (λ task. what.Move task handle instant))))
+move_of names [] = Err wrong.Form
+
 abbrev pub start_of : Names → List (List ℕ) → Result What Wrong
 start_of names (t ∷ values) =
     and_then (values_at 4 values) (λ vs. and_make (task_at names t) (λ task. what.Start task vs))
@@ -59,6 +71,8 @@ what_at names verb.Post words = and_make (and_then (only words) (irq_at names)) 
 what_at names verb.Clock words = and_make (and_then (only words) (number_at (2 ^ 32))) what.Clock
 what_at names verb.Arm words = arm_of names words
 what_at names verb.Fire words = and_make (and_then (only words) (task_at names)) what.Fire
+what_at names verb.Cancel words = cancel_of names words
+what_at names verb.Move words = move_of names words
 what_at names verb.End words = and_make (and_then (only words) (body_at names)) what.End
 what_at names verb.Trap words = and_make (and_then (only words) (number_at (2 ^ 8))) what.Trap
 

@@ -29,6 +29,8 @@ operands names (what.Post i) = irq_name names i ∷ []
 operands names (what.Clock v) = decimal v ∷ []
 operands names (what.Arm t v) = task_name names t ∷ decimal v ∷ []
 operands names (what.Fire t) = task_name names t ∷ []
+operands names (what.Cancel t h) = task_name names t ∷ decimal h ∷ []
+operands names (what.Move t h v) = task_name names t ∷ decimal h ∷ decimal v ∷ []
 operands names (what.End b) = body_name names b ∷ []
 operands names (what.Trap k) = decimal k ∷ []
 

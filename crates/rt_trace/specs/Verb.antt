@@ -24,6 +24,8 @@ spelling verb.Post = codes "post"
 spelling verb.Clock = codes "clock"
 spelling verb.Arm = codes "arm"
 spelling verb.Fire = codes "fire"
+spelling verb.Cancel = codes "cancel"
+spelling verb.Move = codes "move"
 spelling verb.End = codes "end"
 spelling verb.Trap = codes "trap"
 
@@ -31,7 +33,8 @@ abbrev pub verbs : List Verb
 verbs =
     verb.Pend ∷ verb.Tick ∷ verb.Alarm ∷ verb.AlarmSet ∷ verb.Take ∷ verb.Ret ∷ verb.Enter ∷ verb.Leave ∷ verb.Emit
     ∷ verb.Placed
-    ∷ verb.Full ∷ verb.Ready ∷ verb.Start ∷ verb.Free ∷ verb.Post ∷ verb.Clock ∷ verb.Arm ∷ verb.Fire ∷ verb.End
+    ∷ verb.Full ∷ verb.Ready ∷ verb.Start ∷ verb.Free ∷ verb.Post ∷ verb.Clock ∷ verb.Arm ∷ verb.Fire ∷ verb.Cancel
+    ∷ verb.Move ∷ verb.End
     ∷ verb.Trap ∷ []
 
 -- the one of this spelling
@@ -57,5 +60,7 @@ verb_of (what.Post i) = verb.Post
 verb_of (what.Clock v) = verb.Clock
 verb_of (what.Arm t v) = verb.Arm
 verb_of (what.Fire t) = verb.Fire
+verb_of (what.Cancel t h) = verb.Cancel
+verb_of (what.Move t h v) = verb.Move
 verb_of (what.End b) = verb.End
 verb_of (what.Trap k) = verb.Trap

@@ -2,7 +2,7 @@ use crate::args::Args;
 use rt_ids::{BodyId, Irq, Section, TaskId};
 
 /// What an item of a trace shows.
-#[derive(Clone, Copy, Debug, PartialEq, Eq)]
+#[derive(Clone, Copy, PartialEq, Eq)]
 pub enum What {
     /// An interrupt request arrives from outside.
     Pend(Irq),
@@ -51,7 +51,7 @@ pub enum What {
 }
 
 /// An item of a trace: the number of core steps before it, and what it shows.
-#[derive(Clone, Copy, Debug, PartialEq, Eq)]
+#[derive(Clone, Copy, PartialEq, Eq)]
 pub struct Item {
     pub step: u64,
     pub what: What,

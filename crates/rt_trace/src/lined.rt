@@ -27,6 +27,10 @@ fn has_operands(what: &What, names: &Names) -> bool
         What::Free(task) | What::Fire(task) => is_task(*task, names),
         What::Start(task, args) => is_task(*task, names) && args.len() <= args.values().len(),
         What::Arm(task, instant) => is_task(*task, names) && is_word(*instant),
+        What::Cancel(task, handle) => is_task(*task, names) && is_word(*handle),
+        What::Move(task, handle, instant) => {
+            is_task(*task, names) && is_word(*handle) && is_word(*instant)
+        }
         What::End(body) => is_body(*body, names),
     }
 }

@@ -7,7 +7,7 @@ use rt_ids::{BodyId, Irq, Names, Prio, ResId, Section, TaskId, is_identifier};
 use rt_lines::{next_word, number_below};
 
 /// What is wrong with a line of a trace.
-#[derive(Clone, Copy, Debug, PartialEq, Eq)]
+#[derive(Clone, Copy, PartialEq, Eq)]
 pub enum Wrong {
     /// It is of no form.
     Form,

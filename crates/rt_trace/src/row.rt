@@ -16,7 +16,7 @@ use rt_ids::{BodyId, Irq, Names, Section, TaskId};
 use rt_lines::{next_word, number_below};
 
 /// What a line of a trace says.
-#[derive(Clone, Copy, Debug, PartialEq, Eq)]
+#[derive(Clone, Copy, PartialEq, Eq)]
 pub enum Row {
     /// An item.
     Shown(Item),
@@ -74,6 +74,8 @@ fn read_what(names: &Names, verb: Verb, words: Option<&[u8]>) -> Result<What, Wr
         Verb::Clock => read_only_number(words).map(What::Clock),
         Verb::Arm => read_arm(names, words),
         Verb::Fire => read_only_task(names, words).map(What::Fire),
+        Verb::Cancel => read_cancel(names, words),
+        Verb::Move => read_move(names, words),
         Verb::End => read_only_body(names, words).map(What::End),
         Verb::Trap => read_only_byte(words).map(What::Trap),
     }
@@ -150,6 +152,26 @@ fn read_arm(names: &Names, words: Option<&[u8]>) -> Result<What, Wrong>
     let (task, instant) = pair(words)?;
     let instant = read_number(instant)?;
     Ok(What::Arm(read_task(names, task)?, instant))
+}
+
+/// That an armed message is taken back.
+fn read_cancel(names: &Names, words: Option<&[u8]>) -> Result<What, Wrong>
+    ensures { result ≡ spec.cancel_of names.now (words_of words.entry) }
+{
+    let (task, handle) = pair(words)?;
+    let handle = read_number(handle)?;
+    Ok(What::Cancel(read_task(names, task)?, handle))
+}
+
+/// That an armed message is put to another instant.
+fn read_move(names: &Names, words: Option<&[u8]>) -> Result<What, Wrong>
+    ensures { result ≡ spec.move_of names.now (words_of words.entry) }
+{
+    let (task, rest) = next_word(words).ok_or(Wrong::Form)?;
+    let (handle, instant) = pair(rest)?;
+    let handle = read_number(handle)?;
+    let instant = read_number(instant)?;
+    Ok(What::Move(read_task(names, task)?, handle, instant))
 }
 
 /// That a section is left: a queue alone, or a resource with its value.

@@ -159,8 +159,13 @@ fn put_operands(out: &mut ArrayVec<u8, 160>, what: &What, names: &Names)
             put_task(out, *task, names);
             put_values(out, args.values());
         }
-        What::Arm(task, instant) => {
+        What::Arm(task, value) | What::Cancel(task, value) => {
             put_task(out, *task, names);
+            put_value(out, *value);
+        }
+        What::Move(task, handle, instant) => {
+            put_task(out, *task, names);
+            put_value(out, *handle);
             put_value(out, *instant);
         }
         What::End(body) => put_body(out, *body, names),

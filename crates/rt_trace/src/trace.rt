@@ -6,7 +6,7 @@ use std::marker::Model;
 
 /// A trace: items, and how many core steps there are in all, where that is told. Contracts see a record of the list
 /// and the number.
-#[derive(Debug, Drop)]
+#[derive(Drop)]
 pub struct Trace {
     items: Vec<Item>,
     total: Option<u64>,

@@ -4,7 +4,7 @@ ghost use Rattle.rt_trace.specs.Verb as spec;
 use crate::item::What;
 
 /// The word that a line of a trace says first behind its step number.
-#[derive(Clone, Copy, Debug, PartialEq, Eq)]
+#[derive(Clone, Copy, PartialEq, Eq)]
 pub enum Verb {
     Pend,
     Tick,
@@ -24,12 +24,14 @@ pub enum Verb {
     Clock,
     Arm,
     Fire,
+    Cancel,
+    Move,
     End,
     Trap,
 }
 
 /// Each of them.
-const VERBS: [Verb; 20] = [
+const VERBS: [Verb; 22] = [
     Verb::Pend,
     Verb::Tick,
     Verb::Alarm,
@@ -48,15 +50,17 @@ const VERBS: [Verb; 20] = [
     Verb::Clock,
     Verb::Arm,
     Verb::Fire,
+    Verb::Cancel,
+    Verb::Move,
     Verb::End,
     Verb::Trap,
 ];
 
 impl Verb {
-    /// How it is spelled, in at most five bytes.
+    /// How it is spelled, in at most six bytes.
     pub fn word(self) -> &'static [u8]
         ensures spelling { result.now ≡ spec.spelling self }
-        ensures short { length result.now ≤ 5 }
+        ensures short { length result.now ≤ 6 }
     {
         match self {
             Verb::Pend => b"pend",
@@ -77,6 +81,8 @@ impl Verb {
             Verb::Clock => b"clock",
             Verb::Arm => b"arm",
             Verb::Fire => b"fire",
+            Verb::Cancel => b"cancel",
+            Verb::Move => b"move",
             Verb::End => b"end",
             Verb::Trap => b"trap",
         }
@@ -112,6 +118,8 @@ impl Verb {
             What::Clock(_) => Verb::Clock,
             What::Arm(_, _) => Verb::Arm,
             What::Fire(_) => Verb::Fire,
+            What::Cancel(_, _) => Verb::Cancel,
+            What::Move(_, _, _) => Verb::Move,
             What::End(_) => Verb::End,
             What::Trap(_) => Verb::Trap,
         }
