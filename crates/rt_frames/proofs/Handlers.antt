@@ -8,6 +8,7 @@ use Rattle.rt_app.specs.declared.app.Mono.{Mono}
 use Rattle.rt_app.specs.declared.app.Task as code
 use Rattle.rt_app.specs.Tree.{Task, App}
 use Rattle.rt_app.specs.View.{task_of}
+use Rattle.rt_ids.specs.Exception.{entry_words}
 use Rattle.rt_ids.specs.Lists.{greatest, is_some_and}
 use Rattle.rt_app.specs.Level.{is_software, is_of_level}
 use Rattle.rt_app.specs.Frame.{frame_words}
@@ -92,5 +93,7 @@ pub bytes_more : (app : App) (p : ℕ) → bytes_below app (p + 1) ≡ bytes_bel
 unfolding bytes_below
 bytes_more app p = rw add-one refl
 
-pub level_is : (app : App) (flags : List Bool) → HasFlags flags (has_handler app) → (p k : ℕ) → k ≡ p → cond (get_or flags k false) (32 + 4 * need app p) 0 ≡ level_bytes app p
-level_is app flags has p k e = ap (λ b. cond b (32 + 4 * need app p) 0) (ap (λ j. get_or flags j false) e ∙ has.flag p)
+pub level_is : (app : App) (flags : List Bool) → HasFlags flags (has_handler app) → (p k : ℕ) → k ≡ p
+    → cond (get_or flags k false) (4 * (entry_words app.fpu + need app p)) 0 ≡ level_bytes app p
+level_is app flags has p k e =
+    ap (λ b. cond b (4 * (entry_words app.fpu + need app p)) 0) (ap (λ j. get_or flags j false) e ∙ has.flag p)

@@ -12,13 +12,14 @@ use Rattle.rt_ids.specs.declared.ids.Section.TheVariants as section
 use Rattle.rt_app.specs.declared.app.Mono.{Mono}
 use Rattle.rt_app.specs.declared.bounds.Wait.{Wait}
 use Rattle.rt_app.specs.declared.costs.TheConstants.{FREE_COST, READY_COST, PRIORITIES}
-use Rattle.rt_app.specs.Tree.{Spawn, Soon, After, Value, Calc, Now, Call, Statement, Bind, Assign, Branch, Repeat, Locked, Emit, Pend, Spawns, Block, Empty, Then, Body, Task, App}
+use Rattle.rt_app.specs.Tree.{Spawn, Soon, After, Cancel, Move, Value, Calc, Now, Call, Statement, Bind, Assign, Branch}
+use Rattle.rt_app.specs.Tree.{Repeat, Locked, Emit, Pend, Spawns, Block, Empty, Then, Body, Task, App}
 use Rattle.rt_app.specs.Bodies.{Member, task_priority}
 use Rattle.rt_app.specs.Level.{is_software, is_of_level, is_armed}
 use Rattle.rt_app.specs.Stack.{has_handler, is_timed_at}
 use Rattle.rt_app.specs.Ceiling.{Ceilings, ceilings, ceiling}
 use Rattle.rt_app.specs.Cost.{Measure, lock_cost, block_cost}
-use Rattle.rt_app.specs.BodyCost.{cost_measure, dispatcher_section_cost, timer_section_cost}
+use Rattle.rt_app.specs.BodyCost.{cost_measure, dispatcher_section_cost, timer_section_cost, handle_section_cost}
 use Rattle.rt_app.specs.Sound.{IsSoundSpawn, IsSoundValue, IsSoundStatement, IsSoundBlock}
 use Rattle.rt_app.specs.Acceptance.{IsSound}
 use Rattle.rt_app.specs.Waiting.{Critical, spawn_sections, value_sections, statement_sections, block_sections, idle_sections, dispatcher_sections, tasks_sections, moved_sections, handler_sections, sections, holds_off, waiting_bound, free_section, ready_section}
@@ -69,6 +70,14 @@ can p level outer = nat_lt level p && nat_lt outer p
 -- one section, whose ceiling a table has
 one_at : (p level outer c k d : ℕ) → d ≡ c → amount p (record { level = level; outer = outer; ceiling = c; cost = k }) ≡ counted (can p level outer) (if_reaches p d k)
 one_at p level outer c k d e = counted_and (can p level outer) (nat_le p c) k ∙ ap (λ x. counted (can p level outer) (if_reaches p x k)) (sym e)
+
+with_none : (n : ℕ) → max n 0 ≡ n
+with_none n = omega arith
+
+alone_at : (p level outer c k d : ℕ) → d ≡ c
+    → most p (record { level = level; outer = outer; ceiling = c; cost = k } ∷ []) ≡ counted (can p level outer) (if_reaches p d k)
+alone_at p level outer c k d e =
+    with_none (amount p (record { level = level; outer = outer; ceiling = c; cost = k })) ∙ one_at p level outer c k d e
 
 alone : (m n : ℕ) → max m (max n 0) ≡ max m n
 alone m n = omega arith
@@ -130,6 +139,13 @@ module _ (app : App) (few : (q : ℕ) → list_any (is_of_level q) app.tasks ≡
     spawn_most outer locked (After word delay n args at) h =
         two_at p level outer (ceiling app (section.Free n)) FREE_COST (ceiling app section.Timer) (timer_section_cost app) (free_at (ceilings app) n) (or_zero (ceilings app).timer)
         (free_at_is app n h.0 h.1.is_there h.1.software) (timer_at_is app h.4.0 h.4.1)
+    spawn_most outer locked (Cancel word n handle at) h =
+        two_at p level outer (ceiling app section.Timer) (handle_section_cost app) (ceiling app (section.Free n)) FREE_COST
+        (or_zero (ceilings app).timer) (free_at (ceilings app) n) (timer_at_is app h.1.timed.0 h.1.timed.1)
+        (free_at_is app n h.0 h.1.is_there h.1.software)
+    spawn_most outer locked (Move word delay n handle at) h =
+        alone_at p level outer (ceiling app section.Timer) (handle_section_cost app) (or_zero (ceilings app).timer)
+        (timer_at_is app h.1.timed.0 h.1.timed.1)
 
     value_most : (outer : ℕ) (locked : List ℕ) (v : Value) → IsSoundValue app m locked v → most p (value_sections app level outer v) ≡ counted (can p level outer) (value_wait app (cost_measure app) (ceilings app) p v)
     value_most outer locked (Calc e) h = counted_none (can p level outer)
@@ -195,8 +211,8 @@ module _ (app : App) (few : (q : ℕ) → list_any (is_of_level q) app.tasks ≡
         → most p (if b && armed then ready_section app level 0 t.priority READY_COST ∷ [] else [])
         ≡ counted (can p level 0) (if b then (if armed then if_reaches p (ready_at (ceilings app) t.priority) READY_COST else 0) else 0)
     moved_most level n t true true at soft =
-        let e : max (amount p (ready_section app level 0 t.priority READY_COST)) 0 ≡ amount p (ready_section app level 0 t.priority READY_COST) = omega arith in
-        e ∙ one_at p level 0 (ceiling app (section.Ready t.priority)) READY_COST (ready_at (ceilings app) t.priority) (level_at n t.priority t at soft refl)
+        alone_at p level 0 (ceiling app (section.Ready t.priority)) READY_COST (ready_at (ceilings app) t.priority)
+        (level_at n t.priority t at soft refl)
     moved_most level n t true false at soft = counted_none (can p level 0)
     moved_most level n t false armed at soft = counted_none (can p level 0)
 

@@ -1,5 +1,5 @@
 -- The tasks that bodies arm, as the flags of all their spawns, and what is summed over them.
-use Rattle.std.proofs.Common.{◌≡◌, ℕ, ◌+◌, ◌<◌, ◌≤◌, ◌==◌, Bool, true, false, not, ◌&&◌, ◌||◌, List, [], ◌∷◌, ◌++◌, length, get_or, drop, min, ⊎_elim, map, filter, flat_map, Option, Some, None, refl, sym, ap, ◌∙◌, cond, if◌then◌else◌, leb, arith}
+use Rattle.std.proofs.Common.{◌≡◌, ℕ, ◌+◌, ◌<◌, ◌≤◌, ◌==◌, Bool, true, false, ◌&&◌, ◌||◌, List, [], ◌∷◌, ◌++◌, length, get_or, drop, min, ⊎_elim, map, filter, flat_map, Option, Some, None, refl, sym, ap, ◌∙◌, cond, if◌then◌else◌, leb, arith}
 use Rattle.std.specs.List.{list_any}
 use Rattle.std.specs.Int.{from_bool}
 use Rattle.std.proofs.lemmas.List.{get_or_past, drop_all}
@@ -10,7 +10,7 @@ use Rattle.rt_lemmas.proofs.Lists.{drop_some}
 use Rattle.rt_ids.specs.declared.ids.BodyId.{BodyId}
 use Rattle.rt_ids.specs.declared.ids.BodyId.TheVariants as body
 use Rattle.rt_app.specs.Tree.{Spawn, Body, Task, App}
-use Rattle.rt_app.specs.Spawned.{spawns, is_soon, target}
+use Rattle.rt_app.specs.Spawned.{spawns, arms_message, target}
 use Rattle.rt_app.specs.Bodies.{members, thread_members, task_members}
 use Rattle.rt_app.specs.Level.{arms, holds, is_armed, armed_capacities, armed_count, is_software, is_of_level}
 use Rattle.rt_app.specs.View.{task_of}
@@ -18,9 +18,10 @@ use Rattle.rt_app.specs.declared.app.Task as code
 use Rattle.rt_frames.specs.Inside.Flags.{flagged, HasFlags, armed_by, level_numbers, thread_spawns, task_spawns}
 use Rattle.rt_frames.proofs.Flagging.{flagged_at, armed_both}
 
-any_armed_step : (soon : Bool) (n k : ℕ) (ns : List ℕ) (rest : Bool) → list_any (λ m. m == k) ns ≡ rest → list_any (λ m. m == k) (cond (not soon) (n ∷ ns) ns) ≡ ((not soon && (n == k)) || rest)
-any_armed_step true n k ns rest e = e
-any_armed_step false n k ns rest e = ap (λ b. (n == k) || b) e
+any_step : (passes : Bool) (n k : ℕ) (ns : List ℕ) (rest : Bool) → list_any (λ m. m == k) ns ≡ rest
+    → list_any (λ m. m == k) (cond passes (n ∷ ns) ns) ≡ ((passes && (n == k)) || rest)
+any_step false n k ns rest e = e
+any_step true n k ns rest e = ap (λ b. (n == k) || b) e
 
 map_if : (b : Bool) (s : Spawn) (ss : List Spawn) → map target (cond b (s ∷ ss) ss) ≡ cond b (target s ∷ map target ss) (map target ss)
 map_if true s ss = refl
@@ -29,8 +30,8 @@ map_if false s ss = refl
 any_armed : (k : ℕ) (ss : List Spawn) → list_any (λ m. m == k) (armed_by ss) ≡ list_any (arms k) ss
 any_armed k [] = refl
 any_armed k (s ∷ ss) =
-    ap (list_any (λ m. m == k)) (map_if (not (is_soon s)) s (filter (λ t. not (is_soon t)) ss))
-    ∙ any_armed_step (is_soon s) (target s) k (armed_by ss) (list_any (arms k) ss) (any_armed k ss)
+    ap (list_any (λ m. m == k)) (map_if (arms_message s) s (filter arms_message ss))
+    ∙ any_step (arms_message s) (target s) k (armed_by ss) (list_any (arms k) ss) (any_armed k ss)
 
 any_thread : (test : Spawn → Bool) (id : BodyId) (b : Option Body) → list_any (holds test) (thread_members id b) ≡ list_any test (thread_spawns b)
 any_thread test id None = refl
@@ -68,10 +69,6 @@ armed_are app f0 f1 f2 f3 none e1 e2 e3 long = record {
 }
 
 -- of software tasks
-any_level_step : (software : Bool) (n k : ℕ) (ns : List ℕ) (rest : Bool) → list_any (λ m. m == k) ns ≡ rest → list_any (λ m. m == k) (cond software (n ∷ ns) ns) ≡ ((software && (n == k)) || rest)
-any_level_step false n k ns rest e = e
-any_level_step true n k ns rest e = ap (λ b. (n == k) || b) e
-
 level_if : (b : Bool) (t : Task) (ts : List Task) → map (λ u. u.priority) (cond b (t ∷ ts) ts) ≡ cond b (t.priority ∷ map (λ u. u.priority) ts) (map (λ u. u.priority) ts)
 level_if true t ts = refl
 level_if false t ts = refl
@@ -80,7 +77,7 @@ any_level : (k : ℕ) (ts : List Task) → list_any (λ m. m == k) (level_number
 any_level k [] = refl
 any_level k (t ∷ ts) =
     ap (list_any (λ m. m == k)) (level_if (is_software t) t (filter is_software ts))
-    ∙ any_level_step (is_software t) t.priority k (level_numbers ts) (list_any (is_of_level k) ts) (any_level k ts)
+    ∙ any_step (is_software t) t.priority k (level_numbers ts) (list_any (is_of_level k) ts) (any_level k ts)
 
 pub levels_are : (ts : List Task) (f0 f1 : List Bool) → HasFlags f0 (λ n. false) → f1 ≡ flagged (level_numbers ts) f0 → length f1 ≡ 256 → HasFlags f1 (λ p. list_any (is_of_level p) ts)
 levels_are ts f0 f1 none e long = record {

@@ -5,7 +5,8 @@ use Rattle.std.proofs.lemmas.List.{map-append}
 use Rattle.rt_ids.specs.declared.ids.BodyId.{BodyId}
 use Rattle.rt_ids.specs.declared.ids.BodyId.TheVariants as body
 use Rattle.rt_app.specs.declared.bounds.BodyBound.{BodyBound}
-use Rattle.rt_app.specs.Tree.{Spawn, Soon, After, Statement, Bind, Assign, Branch, Repeat, Locked, Emit, Pend, Spawns, Block, Empty, Then, Body, Task, App}
+use Rattle.rt_app.specs.Tree.{Spawn, Soon, After, Cancel, Move, Statement, Bind, Assign, Branch, Repeat, Locked, Emit}
+use Rattle.rt_app.specs.Tree.{Pend, Spawns, Block, Empty, Then, Body, Task, App}
 use Rattle.rt_app.specs.Spawned.{spawns}
 use Rattle.rt_app.specs.Bodies.{Member, members, thread_members, task_members}
 use Rattle.rt_app.specs.declared.bounds.Wait.{Wait}
@@ -13,6 +14,7 @@ use Rattle.rt_app.specs.Cost.{Measure}
 use Rattle.rt_app.specs.BodyCost.{cost_measure}
 use Rattle.rt_app.specs.Bounds.{Bounds, body_bound, bounds}
 use Rattle.rt_app.specs.Waiting.{waiting_bound}
+use Rattle.rt_ids.specs.Exception.{entry_words}
 use Rattle.rt_ids.specs.Lists.{greatest}
 use Rattle.rt_app.specs.Level.{is_of_level}
 use Rattle.rt_app.specs.Frame.{block_depth, has_loop, statement_locks, locks, spawn_words, frame_words, expression_words, first_expression_slot, first_lock_slot, first_spawn_slot}
@@ -43,6 +45,8 @@ mutual
 word_few : (s : Spawn) → spawn_words s ≤ 24
 word_few (Soon task args at) = omega arith
 word_few (After word delay task args at) = omega arith
+word_few (Cancel word task handle at) = omega arith
+word_few (Move word delay task handle at) = omega arith
 
 words_few : (ss : List Spawn) → greatest (map spawn_words ss) ≤ 24
 words_few [] = omega arith
@@ -102,17 +106,23 @@ needed false false bound soft h g = omega arith
 need_few : (app : App) → KeepsLimits app → (p : ℕ) → need app p ≤ 1116
 need_few app h p = needed (list_any (is_of_level p) app.tasks) (is_timed_at p app) (greatest (frames_of (is_bound_at p) app)) (greatest (frames_of (is_of_level p) app)) (frames_few (is_bound_at p) app.tasks h.tasks) (frames_few (is_of_level p) app.tasks h.tasks)
 
-if_few : (b : Bool) (n : ℕ) → n ≤ 1116 → cond b (32 + 4 * n) 0 ≤ 4496
-if_few true n h = omega arith
-if_few false n h = omega arith
+entry_few : (fpu : Bool) → entry_words fpu ≤ 26
+entry_few true = omega arith
+entry_few false = omega arith
 
-more : (a b n : ℕ) → a ≤ 4496 * n → b ≤ 4496 → a + b ≤ 4496 * suc n
+if_few : (b : Bool) (e n : ℕ) → e ≤ 26 → n ≤ 1116 → cond b (4 * (e + n)) 0 ≤ 4568
+if_few true e n few h = omega arith
+if_few false e n few h = omega arith
+
+more : (a b n : ℕ) → a ≤ 4568 * n → b ≤ 4568 → a + b ≤ 4568 * suc n
 more a b n h g = omega arith
 
-bytes_few : (app : App) → KeepsLimits app → (n : ℕ) → bytes_below app n ≤ 4496 * n
+bytes_few : (app : App) → KeepsLimits app → (n : ℕ) → bytes_below app n ≤ 4568 * n
 unfolding bytes_below
 bytes_few app h zero = omega arith
-bytes_few app h (suc n) = more (bytes_below app n) (level_bytes app n) n (bytes_few app h n) (if_few (has_handler app n) (need app n) (need_few app h n))
+bytes_few app h (suc n) =
+    let own = if_few (has_handler app n) (entry_words app.fpu) (need app n) (entry_few app.fpu) (need_few app h n) in
+    more (bytes_below app n) (level_bytes app n) n (bytes_few app h n) own
 
 stack_few : (app : App) → KeepsLimits app → stack_bytes app ≤ 2000000
 stack_few app h = omega (arith, thread_words_few app h, bytes_few app h 256)

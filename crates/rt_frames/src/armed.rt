@@ -17,6 +17,8 @@ fn flag_spawn(armed: &mut Flags, spawn: &Spawn)
     match spawn {
         Spawn::Soon(_task, _args, _at) => {}
         Spawn::After(_word, _delay, task, _args, _at) => flags::flag(armed, task.0),
+        Spawn::Cancel(_word, _task, _handle, _at) => {}
+        Spawn::Move(_word, _delay, _task, _handle, _at) => {}
     }
 }
 

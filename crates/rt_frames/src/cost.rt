@@ -32,7 +32,7 @@ fn cost_at(measure: &Measure, app: &App, body: BodyId) -> u32
     match body {
         BodyId::Init => thread_cost(measure, &app.init),
         BodyId::Idle => thread_cost(measure, &app.idle),
-        BodyId::Task(task) => match app.tasks.get(usize::from(task.0)) {
+        BodyId::Task(task) => match app.task(task) {
             None => 1,
             Some(task) => measure.body(&task.body),
         },

@@ -9,11 +9,11 @@ ghost use Rattle.rt_frames.specs.Inside.Saturated.{saturated};
 ghost use Rattle.rt_frames.specs.Inside.FrameParts.{both, expression_parts, spawn_parts, value_parts, statement_parts};
 ghost use Rattle.rt_frames.specs.Inside.FrameParts.{block_parts};
 
-use rt_app::costs::{SPAWN_AFTER_WORDS, SPAWN_WORDS};
+use rt_app::costs::{SPAWN_WORDS, TIMER_QUEUE_WORDS};
 use rt_app::{App, Body, Expr, Spawn, Stmt, Value};
 
 /// What statements need of a frame, in words. A sum stops at the greatest number of 32 bits.
-#[derive(Clone, Copy, Debug)]
+#[derive(Clone, Copy)]
 pub(crate) struct Parts {
     /// The variables that they bring in.
     pub(crate) variables: u32,
@@ -93,7 +93,17 @@ fn spawn(spawn: &Spawn) -> Parts
         },
         Spawn::After(_word, delay, _task, args, _at) => Parts {
             depth: depth(delay).max(greatest_depth(args)),
-            spawns: SPAWN_AFTER_WORDS,
+            spawns: TIMER_QUEUE_WORDS,
+            ..NOTHING
+        },
+        Spawn::Cancel(_word, _task, handle, _at) => Parts {
+            depth: depth(handle),
+            spawns: TIMER_QUEUE_WORDS,
+            ..NOTHING
+        },
+        Spawn::Move(_word, delay, _task, handle, _at) => Parts {
+            depth: depth(delay).max(depth(handle)),
+            spawns: TIMER_QUEUE_WORDS,
             ..NOTHING
         },
     }
@@ -179,7 +189,7 @@ fn expression_words(parts: &Parts) -> u32
 }
 
 /// Where the parts of a body's frame begin: in front stand its variables, the arguments first.
-#[derive(Clone, Copy, Debug, PartialEq, Eq)]
+#[derive(Clone, Copy)]
 pub struct Slots {
     /// The first slot where expressions are evaluated.
     pub expressions: u32,

@@ -7,27 +7,13 @@ ghost use Rattle.rt_frames.specs.Inside.Flags.{flagged, HasFlags, level_numbers}
 use crate::flags::{self, Flags, NUMBERS};
 use rt_app::{App, Task};
 
-/// Whether a task binds no interrupt.
-pub(crate) fn is_software(task: &Task) -> bool
-    ensures { result ≡ level.is_software (task_of task.now) }
-{
-    task.binds.is_none()
-}
-
-/// Whether a task is a software task of this priority.
-pub fn is_of_level(task: &Task, priority: u8) -> bool
-    ensures { result ≡ level.is_of_level priority (task_of task.now) }
-{
-    is_software(task) && task.priority == priority
-}
-
 /// How many software tasks have this priority.
 pub fn tasks_of_level(tasks: &[Task], priority: u8) -> usize
     ensures { result ≡ count_by (level.is_of_level priority) (map task_of tasks.now) }
 {
     let mut count: usize = 0;
     for task in tasks {
-        count += usize::from(is_of_level(task, priority));
+        count += usize::from(task.is_of_level(priority));
     }
     count
 }
@@ -38,7 +24,7 @@ pub(crate) fn software_count(tasks: &[Task]) -> usize
 {
     let mut count: usize = 0;
     for task in tasks {
-        count += usize::from(is_software(task));
+        count += usize::from(task.is_software());
     }
     count
 }
@@ -47,7 +33,7 @@ pub(crate) fn software_count(tasks: &[Task]) -> usize
 fn flag_level(flags: &mut Flags, task: &Task)
     ensures { flags.new ≡ flagged (level_numbers (task_of task.now ∷ [])) flags.old }
 {
-    if is_software(task) {
+    if task.is_software() {
         flags::flag(flags, task.priority);
     }
 }

@@ -15,6 +15,6 @@ pub mod words;
 pub use bound::bounds;
 pub use cost::{body_cost, body_size, shared_size, timer_cost};
 pub use frame::Slots;
-pub use level::{is_of_level, level_count, tasks_of_level};
+pub use level::{level_count, tasks_of_level};
 pub use measure::Measure;
 pub use words::body_frames;

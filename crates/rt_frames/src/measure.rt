@@ -3,19 +3,21 @@ ghost use Rattle.rt_app.specs.View.{expression_of, spawn_of, value_of, statement
 ghost use Rattle.rt_app.specs.Level.{is_armed};
 ghost use Rattle.rt_app.specs.Cost as cost;
 ghost use Rattle.rt_app.specs.BodyCost as whole;
+ghost use Rattle.rt_app.specs.declared.costs.TheConstants.{HANDLE_COST, HANDLE_MESSAGE_COST};
 ghost use Rattle.rt_frames.specs.Inside.Flags.{HasFlags};
 
 use crate::armed::{MOST_ARMED, armed_flags, armed_messages};
 use crate::flags::Flags;
 use rt_app::costs::{
-    LOOP_COST, MESSAGE_COST, SIZED_MESSAGES, SPAWN_AFTER_COST, SPAWN_COST, TURN_COST,
+    HANDLE_COST, HANDLE_MESSAGE_COST, LOOP_COST, MESSAGE_COST, SIZED_MESSAGES, SPAWN_AFTER_COST,
+    SPAWN_COST, TURN_COST,
 };
 use rt_app::{App, Body, Expr, Spawn, Stmt, Value};
 use rt_ids::limits::BODY_COST;
 use std::marker::Model;
 
 /// What a sum over a body counts: core steps, or instructions.
-#[derive(Clone, Copy, Debug)]
+#[derive(Clone, Copy)]
 pub struct Measure {
     /// The messages that may be armed at once.
     messages: u32,
@@ -113,6 +115,13 @@ impl Measure {
         self.messages
     }
 
+    /// Of a `cancel` or a `reschedule_after`, its expressions aside.
+    fn by_handle(&self) -> u32
+        ensures { result ≡ HANDLE_COST + HANDLE_MESSAGE_COST * self.now.messages }
+    {
+        HANDLE_COST + HANDLE_MESSAGE_COST * self.messages
+    }
+
     /// Of a spawn.
     fn spawn(&self, spawn: &Spawn) -> u32
         ensures { result ≡ cost.spawn_cost self.now (spawn_of spawn.now) }
@@ -126,6 +135,13 @@ impl Measure {
                 let own = SPAWN_AFTER_COST.saturating_add(queue);
                 let delayed = own.saturating_add(expression_cost(delay));
                 capped(delayed.saturating_add(expressions_cost(args)))
+            }
+            Spawn::Cancel(_word, _task, handle, _at) => {
+                capped(self.by_handle().saturating_add(expression_cost(handle)))
+            }
+            Spawn::Move(_word, delay, _task, handle, _at) => {
+                let delayed = self.by_handle().saturating_add(expression_cost(delay));
+                capped(delayed.saturating_add(expression_cost(handle)))
             }
         }
     }

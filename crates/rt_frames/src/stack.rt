@@ -1,5 +1,6 @@
 ghost use Rattle.std.specs.Prelude.{◌≡◌, ◌+◌, ◌*◌, ◌==◌, map, false, if◌then◌else◌};
 ghost use Rattle.rt_app.specs.View.{task_of, app_of};
+ghost use Rattle.rt_ids.specs.Exception.{entry_words};
 ghost use Rattle.rt_ids.specs.Lists.{greatest, is_some_and};
 ghost use Rattle.rt_app.specs.Stack as stack;
 ghost use Rattle.rt_frames.specs.Inside.Flags.{flagged, HasFlags, timer_numbers};
@@ -8,9 +9,9 @@ ghost use Rattle.rt_frames.specs.Inside.Needs.{task_need, need_at};
 
 use crate::flags::{self, Flags};
 use crate::frame::{frame_words, thread_words};
-use crate::level::is_software;
-use rt_app::costs::{DISPATCHER_WORDS, ENTRY_BYTES, PRIORITIES, TIMER_WORDS};
+use rt_app::costs::{DISPATCHER_WORDS, PRIORITIES, TIMER_WORDS};
 use rt_app::{App, Mono, Task};
+use rt_ids::entry_words;
 
 /// Flags the priorities of tasks.
 fn flag_priorities(flags: &mut Flags, tasks: &[Task])
@@ -46,7 +47,7 @@ fn task_need(task: &Task) -> u32
     ensures { result ≡ saturated (task_need (task_of task.now)) }
 {
     let words = frame_words(task.args, &task.body);
-    if is_software(task) {
+    if task.is_software() {
         words.saturating_add(DISPATCHER_WORDS)
     } else {
         words
@@ -100,12 +101,13 @@ fn need(app: &App, level: u8) -> u32
 
 /// The bytes of a level, up to the greatest number of 32 bits.
 fn level_bytes(app: &App, level: u8, has_handler: bool) -> u32
-    ensures { result ≡ saturated (if has_handler then ENTRY_BYTES + 4 * stack.need (app_of app.now) level else 0) }
+    ensures { let all = app_of app.now in
+        result ≡ saturated (if has_handler then 4 * (entry_words all.fpu + stack.need all level) else 0) }
 {
     if has_handler {
-        need(app, level)
+        entry_words(app.fpu)
+            .saturating_add(need(app, level))
             .saturating_mul(4)
-            .saturating_add(ENTRY_BYTES)
     } else {
         0
     }

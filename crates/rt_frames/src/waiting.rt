@@ -9,9 +9,12 @@ ghost use Rattle.rt_ids.specs.declared.limits.TheConstants.{TASKS};
 ghost use Rattle.rt_frames.specs.Inside.Flags.{HasFlags};
 
 use crate::flags::Flags;
-use crate::level::{is_software, tasks_of_level};
+use crate::level::tasks_of_level;
 use crate::measure::Measure;
-use rt_app::costs::{FREE_COST, MESSAGE_COST, READY_COST, READY_TASK_COST, TIMER_SECTION_COST};
+use rt_app::costs::{
+    FREE_COST, HANDLE_MESSAGE_COST, HANDLE_SECTION_COST, MESSAGE_COST, READY_COST, READY_TASK_COST,
+    TIMER_SECTION_COST,
+};
 use rt_app::{App, Ceilings, ReadyCeiling, Spawn, Stmt, Task, Value};
 use rt_ids::{ResId, TaskId};
 
@@ -63,7 +66,7 @@ fn timer_at(ceilings: &Ceilings) -> u8
 fn level_of(app: &App, task: TaskId) -> u8
     ensures { result ≡ task_priority (app_of app.now) task }
 {
-    match app.tasks.get(usize::from(task.0)) {
+    match app.task(task) {
         None => 0,
         Some(task) => task.priority,
     }
@@ -83,6 +86,13 @@ fn timer_section(measure: &Measure) -> u32
     TIMER_SECTION_COST + MESSAGE_COST * measure.messages()
 }
 
+/// Core steps of such a section in a `cancel` or a `reschedule_after`.
+fn handle_section(measure: &Measure) -> u32
+    ensures { result ≡ waiting.handle_section measure.now }
+{
+    HANDLE_SECTION_COST + HANDLE_MESSAGE_COST * measure.messages()
+}
+
 /// The greatest cost of a section of a spawn that counts.
 fn spawn_wait(app: &App, ceilings: &Ceilings, measure: &Measure, priority: u8, spawn: &Spawn) -> u32
     ensures { result ≡ waiting.spawn_wait (app_of app.now) measure.now ceilings.now priority (spawn_of spawn.now) }
@@ -97,6 +107,14 @@ fn spawn_wait(app: &App, ceilings: &Ceilings, measure: &Measure, priority: u8, s
             let free = free_at(ceilings, usize::from(task.0));
             let timer = if_reaches(priority, timer_at(ceilings), timer_section(measure));
             if_reaches(priority, free, FREE_COST).max(timer)
+        }
+        Spawn::Cancel(_word, task, _handle, _at) => {
+            let timer = if_reaches(priority, timer_at(ceilings), handle_section(measure));
+            let free = free_at(ceilings, usize::from(task.0));
+            timer.max(if_reaches(priority, free, FREE_COST))
+        }
+        Spawn::Move(_word, _delay, _task, _handle, _at) => {
+            if_reaches(priority, timer_at(ceilings), handle_section(measure))
         }
     }
 }
@@ -217,7 +235,7 @@ fn task_wait(
         return 0;
     }
     let own = block_wait(app, ceilings, measure, priority, &task.body.block);
-    if is_software(task) {
+    if task.is_software() {
         own.max(dispatcher_wait(app, ceilings, priority, number, task))
     } else {
         own
@@ -244,7 +262,7 @@ fn move_wait(ceilings: &Ceilings, priority: u8, task: &Task, is_armed: bool) -> 
         let own = waiting.if_reaches priority (waiting.ready_at ceilings.now t.priority) READY_COST in
         result ≡ (if level.is_software t then (if is_armed then own else 0) else 0) }
 {
-    if is_software(task) && is_armed {
+    if task.is_software() && is_armed {
         if_reaches(priority, ready_at(ceilings, task.priority), READY_COST)
     } else {
         0

@@ -14,7 +14,7 @@ ghost use Rattle.rt_moves.specs.Inside.Serving.{levels_of, has_number, serves, l
 use crate::machine::Served;
 use rt_app::costs::{DISPATCHER_COST, READY_TASK_COST};
 use rt_app::{App, ReadyCeiling, Task};
-use rt_frames::{Measure, is_of_level, tasks_of_level, timer_cost};
+use rt_frames::{Measure, tasks_of_level, timer_cost};
 use rt_ids::limits::IRQ_NUMBERS;
 use rt_ids::{NoMemory, TaskId};
 use rt_work::Handler;
@@ -95,7 +95,7 @@ fn cost_at(task: &Task, measure: &Measure, level: u8) -> u32
     ensures { let t = task_of task.now in
         result ≡ (if is_of_level level t then costs.body_cost measure.now t.body else 0) }
 {
-    if is_of_level(task, level) {
+    if task.is_of_level(level) {
         measure.body(&task.body)
     } else {
         0

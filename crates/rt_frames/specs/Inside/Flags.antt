@@ -1,11 +1,11 @@
 -- Tables of flags, one for each number that a byte can tell.
-use Rattle.std.specs.Prelude.{◌≡◌, ℕ, Bool, true, false, not, nat_lt, List, [], ◌∷◌, map, filter, length, get_or}
+use Rattle.std.specs.Prelude.{◌≡◌, ℕ, Bool, true, false, nat_lt, List, [], ◌∷◌, map, filter, length, get_or}
 use Rattle.std.specs.Prelude.{slice_set, Option, Some, None, if◌then◌else◌}
 use Rattle.rt_app.specs.declared.app.Mono.{Mono}
 use Rattle.rt_app.specs.Tree.{Spawn, Body, Task}
 use Rattle.rt_app.specs.Level.{is_software}
 use Rattle.rt_frames.specs.declared.flags.TheConstants.{NUMBERS}
-use Rattle.rt_app.specs.Spawned.{spawns, is_soon, target}
+use Rattle.rt_app.specs.Spawned.{spawns, arms_message, target}
 
 -- with the flags of these numbers set; there is no table where one of them has no place in it
 abbrev pub flagged : List ℕ → List Bool → List Bool
@@ -19,7 +19,7 @@ pub record HasFlags (flags : List Bool) (test : ℕ → Bool) : Type 0 where
 
 -- the tasks of the spawns after a delay
 abbrev pub armed_by : List Spawn → List ℕ
-armed_by ss = map target (filter (λ s. not (is_soon s)) ss)
+armed_by ss = map target (filter arms_message ss)
 
 abbrev pub thread_spawns : Option Body → List Spawn
 thread_spawns None = []

@@ -6,7 +6,8 @@ use Rattle.rt_ids.specs.Lists.{or_zero}
 use Rattle.rt_app.specs.declared.app.Mono.{Mono}
 use Rattle.rt_app.specs.declared.ceilings.ReadyCeiling.{ReadyCeiling}
 use Rattle.rt_app.specs.declared.costs.TheConstants.{FREE_COST, READY_COST, TIMER_SECTION_COST, MESSAGE_COST}
-use Rattle.rt_app.specs.Tree.{Spawn, Soon, After, Value, Calc, Now, Call}
+use Rattle.rt_app.specs.declared.costs.TheConstants.{HANDLE_SECTION_COST, HANDLE_MESSAGE_COST}
+use Rattle.rt_app.specs.Tree.{Spawn, Soon, After, Cancel, Move, Value, Calc, Now, Call}
 use Rattle.rt_app.specs.Tree.{Statement, Bind, Assign, Branch, Repeat, Locked, Emit, Pend, Spawns, Block, Empty, Then}
 use Rattle.rt_app.specs.Tree.{Body, Task, App}
 use Rattle.rt_app.specs.Bodies.{task_priority}
@@ -37,9 +38,13 @@ ready_at c p = ceiling_or_zero (find (λ r. r.level == p) c.ready)
 abbrev pub if_reaches : ℕ → ℕ → ℕ → ℕ
 if_reaches p ceiling cost = if nat_le p ceiling then cost else 0
 
--- a section of the timer queue
+-- a section of the timer queue, in a `spawn_after` and in the timer handler
 abbrev pub timer_section : Measure → ℕ
 timer_section m = TIMER_SECTION_COST + MESSAGE_COST * m.messages
+
+-- and in a `cancel` and a `reschedule_after`
+abbrev pub handle_section : Measure → ℕ
+handle_section m = HANDLE_SECTION_COST + HANDLE_MESSAGE_COST * m.messages
 
 module _ (app : App) (c : Ceilings) (p : ℕ) where
   -- the sections of a software task's dispatcher
@@ -64,6 +69,9 @@ module _ (app : App) (m : Measure) (c : Ceilings) (p : ℕ) where
       max (if_reaches p (free_at c task) FREE_COST) (if_reaches p (ready_at c (task_priority app task)) READY_COST)
   spawn_wait (After word delay task args at) =
       max (if_reaches p (free_at c task) FREE_COST) (if_reaches p (or_zero c.timer) (timer_section m))
+  spawn_wait (Cancel word task handle at) =
+      max (if_reaches p (or_zero c.timer) (handle_section m)) (if_reaches p (free_at c task) FREE_COST)
+  spawn_wait (Move word delay task handle at) = if_reaches p (or_zero c.timer) (handle_section m)
 
   abbrev pub value_wait : Value → ℕ
   value_wait (Calc e) = 0

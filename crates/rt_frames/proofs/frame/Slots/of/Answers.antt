@@ -2,7 +2,7 @@
 use Rattle.std.proofs.Common.{◌≡◌, ap}
 use Rattle.rt_app.specs.Frame.{first_expression_slot, first_lock_slot}
 use Rattle.rt_app.specs.View.{block_of, body_of}
-use Rattle.rt_frames.proofs.Within.{Found, first_expression, first_mask, first_spawn}
+use Rattle.rt_frames.proofs.Within.{first_expression, first_mask, first_spawn}
 use Rattle.rt_frames.proofs.frame.Slots.of.Goals as goal
 
 pub returns-clause-expressions : goal.returns-clause-expressions
