@@ -4,8 +4,11 @@ pub mod Precedence
 pub mod Least
 pub mod Taking
 pub mod Growing
-pub mod Ready
+pub mod ReadyBits
 pub mod Scanning
 pub mod OneBit
 pub mod Fitting
 pub mod Pending
+pub mod Flags
+pub mod Lowest
+pub mod Filling

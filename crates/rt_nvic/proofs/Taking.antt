@@ -1,8 +1,6 @@
 -- The one that is taken first is one alone, and what it is at other execution priorities and with one more pending.
-use Rattle.std.proofs.Common.{◌≡◌, ℕ, zero, suc, is_some, ◌==◌, ◌&&◌, Bool, ◌<◌, ◌≤◌, ◌⊎◌, inl, inr, false, ◌^◌, ◌/◌, ◌%◌, length, get_or, drop, replicate, List, Option, Some, None, refl, sym, ap, subst, ◌∙◌, arith}
-use Rattle.std.specs.Int.{bit_at}
+use Rattle.std.proofs.Common.{◌≡◌, ℕ, is_some, ◌==◌, ◌&&◌, Bool, ◌<◌, ◌≤◌, ◌⊎◌, inl, inr, false, ◌^◌, length, get_or, drop, replicate, List, Option, Some, None, refl, sym, ap, subst, ◌∙◌, arith}
 use Rattle.std.proofs.lemmas.Bool.{false≢true}
-use Rattle.std.proofs.lemmas.Nat.Bits.{bit_at-zero}
 use Rattle.rt_ids.specs.Arrivals.{bit_of}
 use Rattle.std.proofs.lemmas.List.{get_or-replicate, length-replicate}
 use Rattle.rt_ids.specs.declared.limits.TheConstants.{IRQ_NUMBERS}
@@ -11,8 +9,10 @@ use Rattle.rt_nvic.specs.declared.sizes.TheConstants.{NONE_READY, ACTIVE, WORDS}
 use Rattle.rt_nvic.specs.Nvic.{Nvic, IsSized, value_of, picked, IsReady}
 use Rattle.rt_nvic.specs.Inside.First.{shown, limit_of}
 use Rattle.rt_nvic.specs.Inside.Best.{IsBest}
+use Rattle.rt_nvic.specs.Inside.Bits.{flags, AreReady}
 use Rattle.rt_nvic.specs.Inside.Fields.{IsKept}
 use Rattle.rt_nvic.proofs.Fitting.{sized}
+use Rattle.rt_nvic.proofs.Flags.{get_or-same, clear_at_first, flags_none}
 use Rattle.rt_ids.specs.Lists.{numbers_below}
 use Rattle.rt_nvic.proofs.Choosing.{chosen}
 use Rattle.rt_nvic.proofs.Precedence.{IsChoice, choice}
@@ -74,43 +74,52 @@ best_of_all priorities pending active n best e is =
 
 -- what is taken, from what the fields keep
 
-abbrev view_of : List (Option ℕ) → List Bool → List ℕ → ℕ → Nvic
-view_of priorities pending active top = record { priorities = priorities; pending = pending; active = drop top active }
+abbrev view_of : List (Option ℕ) → List ℕ → List ℕ → ℕ → Nvic
+view_of priorities pending active top =
+    record { priorities = priorities; pending = flags pending; active = drop top active }
 
-pub sizes_of : (priorities : List (Option ℕ)) (pending : List Bool) (active : List ℕ) (top : ℕ) (words : List ℕ) (best : Best) (n : Nvic) → view_of priorities pending active top ≡ n
-    → IsKept priorities pending active top words best → IsSized n
-sizes_of priorities pending active top words best n e is = subst IsSized e (sized priorities pending active top is.fixed)
+module _ (priorities : List (Option ℕ)) (pending active : List ℕ) (top : ℕ) (words : List ℕ) (best : Best) (n : Nvic)
+    (e : view_of priorities pending active top ≡ n) (is : IsKept priorities pending active top words best) where
+  pub sizes_of : IsSized n
+  sizes_of = subst IsSized e (sized priorities pending active top is.fixed)
 
-pub then_picked : (priorities : List (Option ℕ)) (pending : List Bool) (active : List ℕ) (top : ℕ) (words : List ℕ) (best : Best) (n : Nvic) (exec : ℕ) → view_of priorities pending active top ≡ n
-    → IsKept priorities pending active top words best → exec < 2 ^ 16 → best.value < exec → best.irq ≡ picked n exec
-then_picked priorities pending active top words best n exec e is l h =
-    taken n exec best (omega arith) (best_of_all priorities pending (drop top active) n best e is.best) h
+  whole : IsBest n best
+  whole = best_of_all priorities (flags pending) (drop top active) n best e is.best
 
-pub none_picked : (priorities : List (Option ℕ)) (pending : List Bool) (active : List ℕ) (top : ℕ) (words : List ℕ) (best : Best) (n : Nvic) (exec : ℕ) → view_of priorities pending active top ≡ n
-    → IsKept priorities pending active top words best → exec < 2 ^ 16 → exec ≤ best.value → None ≡ picked n exec
-none_picked priorities pending active top words best n exec e is l h =
-    none_taken n exec best (omega arith) (best_of_all priorities pending (drop top active) n best e is.best) h
+  pub then_picked : (exec : ℕ) → exec < 2 ^ 16 → best.value < exec → best.irq ≡ picked n exec
+  then_picked exec l h = taken n exec best (omega arith) whole h
+
+  pub none_picked : (exec : ℕ) → exec < 2 ^ 16 → exec ≤ best.value → None ≡ picked n exec
+  none_picked exec l h = none_taken n exec best (omega arith) whole h
 
 -- at first nothing is pending
 none_at_first : (irq : ℕ) → irq < IRQ_NUMBERS → IsReady (shown (replicate IRQ_NUMBERS None) (replicate IRQ_NUMBERS false)) NONE_READY irq → ⊥
 none_at_first irq l r = false≢true (sym (get_or-replicate IRQ_NUMBERS irq false false l) ∙ r.pending)
 
-get_or-same : {A : Type 0} (n i : ℕ) (d : A) → get_or (replicate n d) i d ≡ d
-get_or-same zero i d = refl
-get_or-same (suc n) zero d = refl
-get_or-same (suc n) (suc i) d = get_or-same n i d
-
-bits_at_first : (irq : ℕ) → (bit_of (replicate WORDS 0) irq == 1) ≡ (get_or (replicate IRQ_NUMBERS false) irq false && is_some (get_or (replicate {A = Option ℕ} IRQ_NUMBERS None) irq None))
+bits_at_first : (irq : ℕ) → (bit_of (replicate WORDS 0) irq == 1)
+    ≡ (get_or (replicate IRQ_NUMBERS false) irq false && is_some (get_or (replicate {A = Option ℕ} IRQ_NUMBERS None) irq None))
 bits_at_first irq =
-    ap (λ (b : ℕ). bit_at b (irq % 32) == 1) (get_or-same WORDS (irq / 32) 0)
-    ∙ ap (λ (b : ℕ). b == 1) (bit_at-zero (irq % 32))
+    clear_at_first irq
     ∙ sym (ap (λ (b : Bool). b && is_some (get_or (replicate {A = Option ℕ} IRQ_NUMBERS None) irq None)) (get_or-same IRQ_NUMBERS irq false))
 
-pub kept_at_first : (active : List ℕ) → length active ≡ ACTIVE → IsKept (replicate IRQ_NUMBERS None) (replicate IRQ_NUMBERS false) active ACTIVE (replicate WORDS 0) (record { irq = None; value = NONE_READY })
+pub kept_at_first : (active : List ℕ) → length active ≡ ACTIVE
+    → IsKept (replicate IRQ_NUMBERS None) (replicate WORDS 0) active ACTIVE (replicate WORDS 0)
+    (record { irq = None; value = NONE_READY })
 kept_at_first active long =
+    let words : List ℕ = replicate WORDS 0 in
+    let none : List (Option ℕ) = replicate IRQ_NUMBERS None in
+    let Ready : List Bool → Type 0 = λ pending. AreReady none pending words in
+    let Best : List Bool → Type 0 = λ pending. IsBest (shown none pending) (record { irq = None; value = NONE_READY }) in
     record {
-      fixed = record { priorities_long = length-replicate {A = Option ℕ} IRQ_NUMBERS None; pending_long = length-replicate IRQ_NUMBERS false; active_long = long; top_within = omega arith };
-      words_long = length-replicate {A = ℕ} WORDS 0;
-      ready = record { each = bits_at_first };
-      best = record { irq = chosen_from (shown (replicate IRQ_NUMBERS None) (replicate IRQ_NUMBERS false)) NONE_READY IRQ_NUMBERS None (λ irq l r. none_at_first irq l r); value = refl };
+      fixed = record {
+        priorities_long = length-replicate {A = Option ℕ} IRQ_NUMBERS None;
+        pending_long = length-replicate {A = ℕ} WORDS 0;
+        active_long = long;
+        top_within = omega arith;
+      };
+      ready = subst Ready (sym flags_none) (record { each = bits_at_first });
+      best = subst Best (sym flags_none) (record {
+        irq = chosen_from (shown none (replicate IRQ_NUMBERS false)) NONE_READY IRQ_NUMBERS None (λ irq l r. none_at_first irq l r);
+        value = refl;
+      });
     }

@@ -1,5 +1,6 @@
 -- What private contracts and the invariant of the controller speak of.
 pub mod First
 pub mod Bits
+pub mod Filled
 pub mod Best
 pub mod Fields

@@ -3,11 +3,12 @@ ghost use Rattle.rt_ids.specs.declared.limits.TheConstants.{IRQ_NUMBERS};
 ghost use Rattle.rt_nvic.specs.declared.sizes.TheConstants.{WORDS};
 ghost use Rattle.rt_nvic.specs.Inside.First.{is_before};
 
-use crate::sizes::{NONE_READY, WORDS};
+use crate::ready::Ready;
+use crate::sizes::NONE_READY;
 use rt_ids::Irq;
 
 /// The ready interrupt that is taken first, and its priority value: where there is none, a value above all.
-#[derive(Clone, Copy, Debug)]
+#[derive(Clone, Copy)]
 pub(crate) struct Best {
     pub(crate) irq: Option<Irq>,
     pub(crate) value: u16,
@@ -78,15 +79,17 @@ impl Best {
     }
 
     /// The best of all whose bits are set.
-    pub(crate) fn of(priorities: &[Option<u8>], words: &[u32]) -> Best
+    pub(crate) fn of(priorities: &[Option<u8>], ready: &Ready) -> Best
         requires priorities { length priorities.now ≡ IRQ_NUMBERS }
-        requires few { length words.now ≡ WORDS }
-        requires within { AreNumbers words.now }
-        ensures { IsBestOf priorities.now words.now IRQ_NUMBERS result }
+        requires within { AreNumbers ready.now }
+        ensures { IsBestOf priorities.now ready.now IRQ_NUMBERS result }
     {
+        let words = ready.words();
         let mut best = NO_BEST;
-        for k in 0..WORDS as u16 {
+        let mut from = 0;
+        while let Some(k) = ready.next_filled(from) {
             best = best.with_word(priorities, words, k);
+            from = k + 1;
         }
         best
     }

@@ -4,6 +4,7 @@
 mod best;
 mod bits;
 pub mod nvic;
+mod ready;
 pub mod sizes;
 
 pub use nvic::Nvic;

@@ -7,7 +7,8 @@ ghost use Rattle.rt_nvic.specs.Nvic as spec;
 ghost use Rattle.rt_ids.specs.Arrivals.{arrivals, pended, holds};
 
 use crate::best::{Best, NO_BEST};
-use crate::bits::{clear_bit, set_bit};
+use crate::bits::{clear_bit, has_bit, set_bit};
+use crate::ready::Ready;
 use crate::sizes::{ACTIVE, NUMBERS, WORDS};
 use rt_ids::Irq;
 use rt_ids::limits::{IRQ_NUMBERS, THREAD_VALUE};
@@ -15,18 +16,18 @@ use std::marker::Model;
 
 /// The state of each external interrupt: whether it is enabled and with which priority value, whether it is pending,
 /// and which ones are active. An interrupt may be active and pending.
-#[derive(Debug, Drop)]
+#[derive(Drop)]
 pub struct Nvic {
     /// By number, the priority value of an enabled interrupt.
     priorities: [Option<u8>; NUMBERS],
-    /// By number.
-    pending: [bool; NUMBERS],
+    /// The bits of those that are pending.
+    pending: [u32; WORDS],
     /// From `top` on, the active ones, last entered first.
     active: [Irq; ACTIVE],
     /// From 0, where all places are taken, to `ACTIVE`, where none is.
     top: usize,
     /// The bits of those that are pending and enabled.
-    ready: [u32; WORDS],
+    ready: Ready,
     /// Of these the one that is taken first.
     best: Best,
 }
@@ -34,11 +35,16 @@ pub struct Nvic {
 impl Model for Nvic {
     ghost use Rattle.std.specs.Prelude.{drop};
     ghost use Rattle.rt_nvic.specs.Nvic.{Nvic};
+    ghost use Rattle.rt_nvic.specs.Inside.Bits.{flags};
     ghost use Rattle.rt_nvic.specs.Inside.Fields.{IsKept};
 
     ghost Value = { Nvic };
 
-    ghost view = { λ n. record { priorities = n.priorities; pending = n.pending; active = drop n.top n.active } };
+    ghost view = { λ n. record {
+      priorities = n.priorities;
+      pending = flags n.pending;
+      active = drop n.top n.active;
+    } };
 
     ghost invariant = { λ n. IsKept n.priorities n.pending n.active n.top n.ready n.best };
 }
@@ -54,10 +60,10 @@ impl Nvic {
         };
         Nvic {
             priorities: [None; NUMBERS],
-            pending: [false; NUMBERS],
+            pending: [0; WORDS],
             active: [irq; ACTIVE],
             top: ACTIVE,
-            ready: [0; WORDS],
+            ready: Ready::none(),
             best: NO_BEST,
         }
     }
@@ -66,9 +72,9 @@ impl Nvic {
     pub fn enable(&mut self, irq: Irq, prio: u8)
         ensures { self.new ≡ record self.old { priorities = slice_set self.old.priorities irq (Some prio) } }
     {
-        let number = usize::from(irq.get());
-        self.priorities[number] = Some(prio);
-        set_bit(&mut self.ready, irq.get(), self.pending[number]);
+        let number = irq.get();
+        self.priorities[usize::from(number)] = Some(prio);
+        self.ready.set(number, has_bit(&self.pending, number));
         self.best = Best::of(&self.priorities, &self.ready);
     }
 
@@ -93,10 +99,10 @@ impl Nvic {
     pub fn post(&mut self, irq: Irq)
         ensures { self.new ≡ record self.old { pending = slice_set self.old.pending irq true } }
     {
-        let number = usize::from(irq.get());
-        self.pending[number] = true;
-        let priority = self.priorities[number];
-        set_bit(&mut self.ready, irq.get(), priority.is_some());
+        let number = irq.get();
+        set_bit(&mut self.pending, number, true);
+        let priority = self.priorities[usize::from(number)];
+        self.ready.set(number, priority.is_some());
         self.best = self.best.with(irq, priority);
     }
 
@@ -117,7 +123,7 @@ impl Nvic {
     pub fn is_pending(&self, irq: Irq) -> bool
         ensures { result ≡ spec.is_pending self.now irq }
     {
-        self.pending[usize::from(irq.get())]
+        has_bit(&self.pending, irq.get())
     }
 
     /// The interrupt that is taken at an execution priority, which is 256 where nothing runs or masks: of those that
@@ -147,8 +153,9 @@ impl Nvic {
         ensures active { self.new.active ≡ irq ∷ self.old.active }
         ensures priorities { self.new.priorities ≡ self.old.priorities }
     {
-        self.pending[usize::from(irq.get())] = false;
-        clear_bit(&mut self.ready, irq.get());
+        let number = irq.get();
+        clear_bit(&mut self.pending, number);
+        self.ready.clear(number);
         self.top -= 1;
         self.active[self.top] = irq;
         self.best = Best::of(&self.priorities, &self.ready);

@@ -5,7 +5,7 @@ use rt_ids::limits::IRQ_NUMBERS;
 pub const NUMBERS: usize = IRQ_NUMBERS as usize;
 
 /// Words of 32 bits with a bit for each number.
-pub const WORDS: usize = 8;
+pub const WORDS: usize = 16;
 
 /// Interrupts that may be active at once: one for each priority value where 7 bits are implemented.
 pub const ACTIVE: usize = 128;

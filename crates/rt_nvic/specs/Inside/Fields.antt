@@ -1,23 +1,22 @@
 -- What the fields of a controller keep.
-use Rattle.std.specs.Prelude.{◌≡◌, ℕ, ◌≤◌, Bool, List, length, Option}
+use Rattle.std.specs.Prelude.{◌≡◌, ℕ, ◌≤◌, List, length, Option}
 use Rattle.rt_ids.specs.declared.limits.TheConstants.{IRQ_NUMBERS}
 use Rattle.rt_nvic.specs.declared.best.Best.{Best}
 use Rattle.rt_nvic.specs.declared.sizes.TheConstants.{ACTIVE, WORDS}
 use Rattle.rt_nvic.specs.Inside.First.{shown}
-use Rattle.rt_nvic.specs.Inside.Bits.{AreReady}
+use Rattle.rt_nvic.specs.Inside.Bits.{flags, AreReady}
 use Rattle.rt_nvic.specs.Inside.Best.{IsBest}
 
--- a place for each number and for each interrupt that may be active
-pub record IsFixed (priorities : List (Option ℕ)) (pending : List Bool) (active : List ℕ) (top : ℕ) : Type 0 where
+-- a place for each number, a word for each 32 of them, and a place for each interrupt that may be active
+pub record IsFixed (priorities : List (Option ℕ)) (pending : List ℕ) (active : List ℕ) (top : ℕ) : Type 0 where
   pub priorities_long : length priorities ≡ IRQ_NUMBERS
-  pub pending_long : length pending ≡ IRQ_NUMBERS
+  pub pending_long : length pending ≡ WORDS
   pub active_long : length active ≡ ACTIVE
   pub top_within : top ≤ ACTIVE
 
 -- and the bits and the best of those that are ready
-pub record IsKept (priorities : List (Option ℕ)) (pending : List Bool) (active : List ℕ) (top : ℕ) (words : List ℕ)
+pub record IsKept (priorities : List (Option ℕ)) (pending : List ℕ) (active : List ℕ) (top : ℕ) (words : List ℕ)
     (kept : Best) : Type 0 where
   pub fixed : IsFixed priorities pending active top
-  pub words_long : length words ≡ WORDS
-  pub ready : AreReady priorities pending words
-  pub best : IsBest (shown priorities pending) kept
+  pub ready : AreReady priorities (flags pending) words
+  pub best : IsBest (shown priorities (flags pending)) kept

@@ -1,5 +1,5 @@
 use Rattle.std.proofs.Common.{◌≡◌, ℕ, ◌+◌, ◌*◌, ◌^◌, ◌<◌, get_or, ap, ◌∙◌, arith}
-use Rattle.rt_nvic.proofs.Ready.{scanned_past}
+use Rattle.rt_nvic.proofs.ReadyBits.{scanned_past}
 use Rattle.rt_nvic.proofs.Scanning.{number_of_step, place_of_step, best_of_step, none_from}
 use Rattle.rt_nvic.proofs.best.Best.with_word.Goals as goal
 

@@ -2,6 +2,7 @@ use Rattle.std.proofs.Common.{◌≡◌, ℕ, ◌+◌, ◌*◌, length, List, Bo
 use Rattle.rt_nvic.specs.Nvic.{Nvic, is_pending}
 use Rattle.rt_ids.specs.Arrivals.{arrivals_below, pended}
 use Rattle.rt_nvic.proofs.Arriving.{pended_none, pended_set, pended_clear}
+use Rattle.rt_nvic.proofs.Flags.{length-flags}
 use Rattle.rt_nvic.proofs.Pending.{each}
 use Rattle.rt_nvic.proofs.nvic.Nvic.arrive.Goals as goal
 use Rattle.rt_nvic.proofs.nvic.Nvic.arrive.Goals.{then-bits-bit-eq1, else-bits-bit-eq1}
@@ -25,7 +26,7 @@ loop-bit-preserved c =
 pub returns-clause-each : goal.returns-clause-each
 returns-clause-each c = λ irq low.
     let pending = c.args.self.now.pending in
-    let long = sym (ap (λ (n : Nvic). length n.pending) c.self.view_is) ∙ c.self.invariant.fixed.pending_long in
+    let long = sym (ap (λ (n : Nvic). length n.pending) c.self.view_is) ∙ length-flags c.self.inside.pending in
     let all : c.loop-bit.bit ≡ 32 = omega arith in
     ap (λ (n : Nvic). is_pending n irq) c.loop-bit.invariant
     ∙ ap (λ (places : ℕ). get_or (pended (arrivals_below c.args.k c.args.bits places) pending) irq false) all

@@ -1,19 +1,41 @@
-use Rattle.std.proofs.Common.{◌≡◌, ℕ, ◌-◌, ◌<◌, set, length-set, subst, sym, ◌∙◌, arith}
-use Rattle.rt_ids.specs.Arrivals.{bit_of}
-use Rattle.rt_ids.specs.declared.limits.TheConstants.{IRQ_NUMBERS}
-use Rattle.rt_nvic.proofs.Ready.{kept_entered}
+use Rattle.std.proofs.Common.{ℕ, ◌-◌, ◌≤◌, false, set, length-set, ap, ◌∙◌, arith}
+use Rattle.rt_nvic.specs.Nvic.{Nvic}
+use Rattle.rt_nvic.specs.Inside.Bits.{flags}
+use Rattle.rt_nvic.specs.declared.sizes.TheConstants.{ACTIVE}
+use Rattle.rt_nvic.proofs.Flags.{flags_cleared}
+use Rattle.rt_nvic.proofs.ReadyBits.{kept_entered, entered_numbers}
 use Rattle.rt_nvic.proofs.nvic.Nvic.enter.Goals as goal
+
+pub of-self-inside-requires-clause-within : goal.of-self-inside-requires-clause-within
+of-self-inside-requires-clause-within c =
+    let is = c.self.inside in
+    let k = c.get-number.result in
+    let l = c.get-number.ensures.in_range in
+    let later = c.clear_bit.new.words in
+    let now = flags_cleared is.pending later k l c.clear_bit.ensures.same c.clear_bit.ensures.others in
+    entered_numbers is.priorities is.pending later is.active is.top is.ready c.clear.new.self is.best k l
+    c.self.invariant
+    c.clear.ensures.others now c.clear.ensures.same
 
 pub invariant_of-self : goal.invariant_of-self
 invariant_of-self c =
     let is = c.self.inside in
-    let k = c.from.result in
-    let words = c.clear_bit.new.words in
-    let number : k ≡ c.args.irq = c.from.ensures ∙ c.get.ensures.value in
-    let place : c.get-2.result ≡ k = c.get-2.ensures.value ∙ sym number in
-    let low : k < IRQ_NUMBERS = let l = c.get.ensures.in_range in let e = c.from.ensures in omega arith in
-    let Same : ℕ → Type 0 = λ i. bit_of words i ≡ 0 in
-    let same = subst Same place c.clear_bit.ensures.same in
+    let k = c.get-number.result in
+    let l = c.get-number.ensures.in_range in
+    let later = c.clear_bit.new.words in
+    let now = flags_cleared is.pending later k l c.clear_bit.ensures.same c.clear_bit.ensures.others in
     let within = c.self.invariant.fixed.top_within in
-    kept_entered is.priorities is.pending is.active (set is.active (is.top - 1) c.args.irq) is.top (is.top - 1) is.ready words is.best c.of-self-inside.result k low c.self.invariant
-    (length-set is.active (is.top - 1) c.args.irq) (omega arith) c.clear_bit.ensures.long same (λ j ne. c.clear_bit.ensures.others j (λ e. ne (e ∙ place))) c.of-self-inside.ensures
+    let less : is.top - 1 ≤ ACTIVE = omega arith in
+    kept_entered is.priorities is.pending later is.active is.top is.ready c.clear.new.self is.best k l c.self.invariant
+    c.clear.ensures.others (set is.active (is.top - 1) c.args.irq) (is.top - 1) c.of-self-inside.result
+    (length-set is.active (is.top - 1) c.args.irq) less c.clear_bit.ensures.long now c.clear.ensures.same
+    c.of-self-inside.ensures
+
+pub returns-clause-pending : goal.returns-clause-pending
+returns-clause-pending c =
+    let is = c.self.inside in
+    let k = c.get-number.result in
+    flags_cleared is.pending c.clear_bit.new.words k c.get-number.ensures.in_range c.clear_bit.ensures.same
+    c.clear_bit.ensures.others
+    ∙ ap (λ (i : ℕ). set (flags is.pending) i false) c.get-number.ensures.value
+    ∙ ap (λ (n : Nvic). set n.pending c.args.irq false) c.self.view_is

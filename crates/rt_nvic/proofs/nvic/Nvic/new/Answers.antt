@@ -1,8 +1,28 @@
-use Rattle.std.proofs.Common.{replicate}
+use Rattle.std.proofs.Common.{ℕ, ◌≤◌, Bool, false, List, drop, length, replicate, Option, None, sym, ap, subst, ◌∙◌}
+use Rattle.std.proofs.Common.{arith, drop_of_length-le}
 use Rattle.std.proofs.lemmas.List.{length-replicate}
-use Rattle.rt_nvic.specs.declared.sizes.TheConstants.{ACTIVE}
+use Rattle.rt_ids.specs.declared.limits.TheConstants.{IRQ_NUMBERS}
+use Rattle.rt_nvic.specs.Nvic.{Nvic}
+use Rattle.rt_nvic.specs.Inside.Fields.{IsKept}
+use Rattle.rt_nvic.specs.declared.sizes.TheConstants.{ACTIVE, NONE_READY, WORDS}
+use Rattle.rt_nvic.proofs.Flags.{flags_none}
 use Rattle.rt_nvic.proofs.Taking.{kept_at_first}
 use Rattle.rt_nvic.proofs.nvic.Nvic.new.Goals as goal
 
 pub invariant_of-result : goal.invariant_of-result
-invariant_of-result c = kept_at_first (replicate ACTIVE c.in-Some.irq) (length-replicate ACTIVE c.in-Some.irq)
+invariant_of-result c =
+    let none : List (Option ℕ) = replicate IRQ_NUMBERS None in
+    let active : List ℕ = replicate ACTIVE c.in-Some.irq in
+    let Kept : List ℕ → Type 0 = λ words. IsKept none (replicate WORDS 0) active ACTIVE words
+    (record { irq = None; value = NONE_READY }) in
+    subst Kept (sym c.none.ensures) (kept_at_first active (length-replicate ACTIVE c.in-Some.irq))
+
+pub returns : goal.returns
+returns c =
+    let active : List ℕ = replicate ACTIVE c.in-Some.irq in
+    let made : List Bool → List ℕ → Nvic =
+    λ pending active. record { priorities = replicate IRQ_NUMBERS None; pending = pending; active = active } in
+    let long = length-replicate ACTIVE c.in-Some.irq in
+    let all : length active ≤ ACTIVE = omega arith in
+    ap (λ (pending : List Bool). made pending (drop ACTIVE active)) flags_none
+    ∙ ap (made (replicate IRQ_NUMBERS false)) (drop_of_length-le active all)

@@ -8,12 +8,13 @@ use Rattle.rt_ids.specs.Arrivals.{bit_of}
 use Rattle.rt_ids.specs.declared.limits.TheConstants.{IRQ_NUMBERS}
 use Rattle.rt_lemmas.proofs.Bools.{and_left, and_both}
 use Rattle.rt_nvic.specs.declared.best.Best.{Best}
-use Rattle.rt_nvic.specs.declared.sizes.TheConstants.{NONE_READY, ACTIVE, WORDS}
+use Rattle.rt_nvic.specs.declared.sizes.TheConstants.{NONE_READY, ACTIVE}
 use Rattle.rt_nvic.specs.Nvic.{Nvic, IsReady}
 use Rattle.rt_nvic.specs.Inside.First.{shown}
-use Rattle.rt_nvic.specs.Inside.Bits.{AreNumbers, AreReady}
-use Rattle.rt_nvic.specs.Inside.Best.{IsBestBelow, IsBestOf, with}
-use Rattle.rt_nvic.specs.Inside.Fields.{IsFixed, IsKept}
+use Rattle.rt_nvic.specs.Inside.Bits.{flags, AreNumbers, AreReady}
+use Rattle.rt_nvic.specs.Inside.Best.{IsBest, IsBestBelow, IsBestOf, with}
+use Rattle.rt_nvic.specs.Inside.Fields.{IsKept}
+use Rattle.rt_nvic.proofs.Flags.{length-flags}
 use Rattle.rt_nvic.proofs.Taking.{chosen_from}
 use Rattle.rt_nvic.proofs.Growing.{ReadyBelow, best_alike, best_more}
 
@@ -36,8 +37,10 @@ pending_of_bit priorities pending words j is h =
 within : (pending : List Bool) (j : ℕ) → length pending ≡ IRQ_NUMBERS → get_or pending j false ≡ true → j < IRQ_NUMBERS
 within pending j long h = ⊎_elim (λ less. less) (λ more. absurd (false≢true (sym (get_or_past pending j false (omega arith)) ∙ h))) (cases_lt j IRQ_NUMBERS)
 
-pub numbers : (priorities : List (Option ℕ)) (pending : List Bool) (words : List ℕ) → length pending ≡ IRQ_NUMBERS → AreReady priorities pending words → AreNumbers words
-numbers priorities pending words long is = λ j h. within pending j long (pending_of_bit priorities pending words j is h)
+pub numbers : (priorities : List (Option ℕ)) (pending words : List ℕ) → AreReady priorities (flags pending) words
+    → AreNumbers words
+numbers priorities pending words is = λ j h.
+    within (flags pending) j (length-flags pending) (pending_of_bit priorities (flags pending) words j is h)
 
 -- what changes at one interrupt alone
 changed_by : (priorities after : List (Option ℕ)) (pending later : List Bool) (words left : List ℕ) (irq j : ℕ) → Dec (j ≡ irq) → AreReady priorities pending words
@@ -158,45 +161,76 @@ posted_best priorities pending irq kept inside l low is =
 
 -- what the fields keep, after each change
 
-kept_parts : (priorities : List (Option ℕ)) (pending : List Bool) (active : List ℕ) (top : ℕ) (words : List ℕ) (kept : Best) → IsFixed priorities pending active top → length words ≡ WORDS
-    → AreReady priorities pending words → IsBestOf priorities words IRQ_NUMBERS kept → IsKept priorities pending active top words kept
-kept_parts priorities pending active top words kept fixed long ready best = record { fixed = fixed; words_long = long; ready = ready; best = best pending ready }
+module _ (priorities : List (Option ℕ)) (pending later active : List ℕ) (top : ℕ) (words left : List ℕ) (kept : Best) (irq : ℕ)
+    (l : irq < IRQ_NUMBERS) (is : IsKept priorities pending active top words kept)
+    (others : (j : ℕ) → j ≢ irq → bit_of left j ≡ bit_of words j) where
+  flag_inside : irq < length (flags pending)
+  flag_inside = let long = length-flags pending in omega arith
 
-pub kept_posted : (priorities : List (Option ℕ)) (pending : List Bool) (active : List ℕ) (top : ℕ) (words left : List ℕ) (kept : Best) (irq : ℕ) → irq < IRQ_NUMBERS
-    → IsKept priorities pending active top words kept → length left ≡ length words → bit_of left irq ≡ (if is_some (get_or priorities irq None) then 1 else bit_of words irq)
-    → ((j : ℕ) → j ≢ irq → bit_of left j ≡ bit_of words j) → IfSome (get_or priorities irq None) (λ value. value < 256)
-    → IsKept priorities (set pending irq true) active top left (with kept irq (get_or priorities irq None))
-kept_posted priorities pending active top words left kept irq l is long same others low =
-    let fixed = is.fixed in
-    let plong = fixed.pending_long in
-    let inside : irq < length pending = omega arith in
-    record {
-      fixed = record { priorities_long = fixed.priorities_long; pending_long = length-set pending irq true ∙ plong; active_long = fixed.active_long; top_within = fixed.top_within };
-      words_long = long ∙ is.words_long;
-      ready = ready_posted priorities pending words left irq inside is.ready same others;
-      best = posted_best priorities pending irq kept inside l low is.best;
-    }
+  -- a request
+  pub kept_posted : length later ≡ length pending → flags later ≡ set (flags pending) irq true
+      → bit_of left irq ≡ (if is_some (get_or priorities irq None) then 1 else bit_of words irq)
+      → IfSome (get_or priorities irq None) (λ value. value < 256)
+      → IsKept priorities later active top left (with kept irq (get_or priorities irq None))
+  kept_posted long now same low =
+      let fixed = is.fixed in
+      let Ready : List Bool → Type 0 = λ flags. AreReady priorities flags left in
+      let First : List Bool → Type 0 = λ flags. IsBest (shown priorities flags) (with kept irq (get_or priorities irq None)) in
+      record {
+        fixed = record {
+          priorities_long = fixed.priorities_long;
+          pending_long = long ∙ fixed.pending_long;
+          active_long = fixed.active_long;
+          top_within = fixed.top_within;
+        };
+        ready = subst Ready (sym now) (ready_posted priorities (flags pending) words left irq flag_inside is.ready same others);
+        best = subst First (sym now) (posted_best priorities (flags pending) irq kept flag_inside l low is.best);
+      }
 
-pub kept_enabled : (priorities : List (Option ℕ)) (pending : List Bool) (active : List ℕ) (top : ℕ) (words left : List ℕ) (kept after : Best) (irq value : ℕ) → irq < IRQ_NUMBERS
-    → IsKept priorities pending active top words kept → length left ≡ length words → bit_of left irq ≡ (if get_or pending irq false then 1 else bit_of words irq)
-    → ((j : ℕ) → j ≢ irq → bit_of left j ≡ bit_of words j) → IsBestOf (set priorities irq (Some value)) left IRQ_NUMBERS after
-    → IsKept (set priorities irq (Some value)) pending active top left after
-kept_enabled priorities pending active top words left kept after irq value l is long same others best =
-    let fixed = is.fixed in
-    let plong = fixed.priorities_long in
-    let inside : irq < length priorities = omega arith in
-    kept_parts (set priorities irq (Some value)) pending active top left after
-    (record { priorities_long = length-set priorities irq (Some value) ∙ plong; pending_long = fixed.pending_long; active_long = fixed.active_long; top_within = fixed.top_within })
-    (long ∙ is.words_long) (ready_enabled priorities pending words left irq value inside is.ready same others) best
+  -- a priority value
+  pub kept_enabled : (value : ℕ) (after : Best)
+      → bit_of left irq ≡ (if get_or (flags pending) irq false then 1 else bit_of words irq)
+      → IsBestOf (set priorities irq (Some value)) left IRQ_NUMBERS after
+      → IsKept (set priorities irq (Some value)) pending active top left after
+  kept_enabled value after same best =
+      let fixed = is.fixed in
+      let plong = fixed.priorities_long in
+      let inside : irq < length priorities = omega arith in
+      let ready = ready_enabled priorities (flags pending) words left irq value inside is.ready same others in
+      record {
+        fixed = record {
+          priorities_long = length-set priorities irq (Some value) ∙ plong;
+          pending_long = fixed.pending_long;
+          active_long = fixed.active_long;
+          top_within = fixed.top_within;
+        };
+        ready = ready;
+        best = best (flags pending) ready;
+      }
 
-pub kept_entered : (priorities : List (Option ℕ)) (pending : List Bool) (active lists : List ℕ) (top more : ℕ) (words left : List ℕ) (kept after : Best) (irq : ℕ) → irq < IRQ_NUMBERS
-    → IsKept priorities pending active top words kept → length lists ≡ length active → more ≤ ACTIVE → length left ≡ length words → bit_of left irq ≡ 0
-    → ((j : ℕ) → j ≢ irq → bit_of left j ≡ bit_of words j) → IsBestOf priorities left IRQ_NUMBERS after
-    → IsKept priorities (set pending irq false) lists more left after
-kept_entered priorities pending active lists top more words left kept after irq l is same_long within long same others best =
-    let fixed = is.fixed in
-    let plong = fixed.pending_long in
-    let inside : irq < length pending = omega arith in
-    kept_parts priorities (set pending irq false) lists more left after
-    (record { priorities_long = fixed.priorities_long; pending_long = length-set pending irq false ∙ plong; active_long = same_long ∙ fixed.active_long; top_within = within })
-    (long ∙ is.words_long) (ready_entered priorities pending words left irq inside is.ready same others) best
+  ready_after_entry : flags later ≡ set (flags pending) irq false → bit_of left irq ≡ 0
+      → AreReady priorities (flags later) left
+  ready_after_entry now same =
+      let Ready : List Bool → Type 0 = λ flags. AreReady priorities flags left in
+      subst Ready (sym now) (ready_entered priorities (flags pending) words left irq flag_inside is.ready same others)
+
+  -- an entry
+  pub entered_numbers : flags later ≡ set (flags pending) irq false → bit_of left irq ≡ 0 → AreNumbers left
+  entered_numbers now same = numbers priorities later left (ready_after_entry now same)
+
+  pub kept_entered : (lists : List ℕ) (more : ℕ) (after : Best) → length lists ≡ length active → more ≤ ACTIVE
+      → length later ≡ length pending → flags later ≡ set (flags pending) irq false → bit_of left irq ≡ 0
+      → IsBestOf priorities left IRQ_NUMBERS after → IsKept priorities later lists more left after
+  kept_entered lists more after same_long within long now same best =
+      let fixed = is.fixed in
+      let ready = ready_after_entry now same in
+      record {
+        fixed = record {
+          priorities_long = fixed.priorities_long;
+          pending_long = long ∙ fixed.pending_long;
+          active_long = same_long ∙ fixed.active_long;
+          top_within = within;
+        };
+        ready = ready;
+        best = best (flags later) ready;
+      }
