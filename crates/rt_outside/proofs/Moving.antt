@@ -3,7 +3,6 @@ use Rattle.std.proofs.Common.{◌≡◌, ℕ, ◌+◌, ◌-◌, ◌≤◌, List,
 use Rattle.std.proofs.Math.Seq.{take-add}
 use Rattle.std.proofs.lemmas.List.{take-take, take-append-le, take-append-drop, drop-drop, take_rest, nil_from_length}
 use Rattle.std.proofs.lemmas.Grind.{common_steps}
-use Rattle.std.specs.Prelude.{Result, Ok, Err, OnErr}
 use Rattle.rt_outside.specs.Bytes.{MovesTold, Moves, Gave, Took}
 
 -- what was taken grows by the first bytes of the next piece

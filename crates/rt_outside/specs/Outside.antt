@@ -1,10 +1,24 @@
 -- What the objects outside the program show: a file and standard output tell nothing of their bytes.
 use Rattle.std.specs.Prelude.{ℕ, List, Option, None}
+use Rattle.rt_outside.specs.declared.file_source.State.{State}
+use Rattle.rt_outside.specs.declared.file_source.State.TheVariants as state
 
--- a file: its path, and how often it failed
+-- whether a file opened: that was not tried yet, it did, or it did not
+pub data Opening : Type 0 where
+  Untried : Opening
+  Opened : Opening
+  Missing : Opening
+
+-- a file: its path, whether it opened, and how often it failed
 pub record FileInput : Type 0 where
   pub path : List ℕ
+  pub opening : Opening
   pub faults : ℕ
+
+abbrev pub opening_of : {F : Type 0} → State F → Opening
+opening_of state.Closed = Untried
+opening_of (state.Open file) = Opened
+opening_of state.Missing = Missing
 
 -- nothing is told of the bytes
 abbrev pub untold : {A : Type 0} → A → Option (List ℕ)

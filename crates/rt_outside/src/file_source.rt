@@ -1,8 +1,10 @@
-ghost use Rattle.std.specs.Prelude.{◌≡◌, ℕ, ◌≤◌, [], Ok, length, IfOk, IfSome, OnOk, OnErr};
+ghost use Rattle.std.specs.Prelude.{◌≡◌, ◌≢◌, ℕ, ◌≤◌, ◌↔◌, [], None, Ok, IsErr, IsTrue, length, IfOk, IfSome, OnOk};
+ghost use Rattle.std.specs.Prelude.{OnErr};
 ghost use Rattle.rt_outside.specs.Faults.{HasCause};
 ghost use Rattle.rt_outside.specs.Bytes.{Moves};
 ghost use Rattle.rt_outside.specs.Memory.{next_fault};
-ghost use Rattle.rt_outside.specs.Outside.{untold};
+ghost use Rattle.rt_outside.specs.Outside.{opening_of, untold, Untried, Opened, Missing};
+ghost use Rattle.rt_outside.specs.declared.file_source.State.TheVariants as state;
 
 use crate::{Failed, Source};
 use std::fs;
@@ -10,8 +12,9 @@ use std::io::Read;
 use std::marker::Model;
 use std::rt::Files;
 
-/// A file as a source. It is opened at the first read, and no contract says what it gives. A file that does not
-/// open fails at each read. An empty path is an empty input.
+/// A file as a source. It is opened at the first read, and a file that does not open fails at each read. An empty path
+/// is an empty input. What no contract says, and what is trusted of the runtime: that a file opens where there is one
+/// at the path, and that a read of an open file gives what the file holds.
 #[derive(Drop)]
 pub struct FileSource<'a, R: Files> {
     rt: &'a R,
@@ -29,17 +32,17 @@ enum State<F> {
 }
 
 impl<'a, R: Files> Model for FileSource<'a, R> {
-    ghost use Rattle.rt_outside.specs.Outside.{FileInput};
+    ghost use Rattle.rt_outside.specs.Outside.{FileInput, opening_of};
 
     ghost Value = { FileInput };
 
-    ghost view = { λ s. record { path = s.path.now; faults = s.failed } };
+    ghost view = { λ s. record { path = s.path.now; opening = opening_of s.state; faults = s.failed } };
 }
 
 impl<'a, R: Files> FileSource<'a, R> {
     /// The file at this path, not yet opened.
     pub fn of(rt: &'a R, path: &'a str) -> FileSource<'a, R>
-        ensures { result ≡ record { path = path.now; faults = 0 } }
+        ensures { result ≡ record { path = path.now; opening = Untried; faults = 0 } }
     {
         FileSource {
             rt,
@@ -50,21 +53,40 @@ impl<'a, R: Files> FileSource<'a, R> {
     }
 }
 
-/// Opens the file where that was not tried yet, and reads some of it. None where it did not open or read.
-fn read_some<R: Files>(
-    rt: &R,
-    path: &str,
-    state: &mut State<R::File>,
-    buffer: &mut [u8],
-) -> Option<usize>
-    ensures { IfSome result (λ n. n ≤ length buffer.old) }
+/// Whether there is a file at a path: an empty path is an empty input.
+fn names_file(path: &str) -> bool
+    ensures { IsTrue result ↔ (path.now ≢ []) }
+{
+    !path.is_empty()
+}
+
+/// The file that an opening gave, or that it gave none.
+fn tried<F: Drop, E: Drop>(answer: Result<F, E>) -> State<F>
+    ensures ok { IfOk answer (λ file. result ≡ state.Open file) }
+    ensures err { OnErr answer (result ≡ state.Missing) }
+{
+    match answer {
+        Ok(file) => State::Open(file),
+        Err(_) => State::Missing,
+    }
+}
+
+/// Opens the file where that was not tried yet.
+fn open_once<R: Files>(rt: &R, path: &str, state: &mut State<R::File>)
+    ensures tried { opening_of state.new ≢ Untried }
+    ensures once { opening_of state.old ≢ Untried → state.new ≡ state.old }
 {
     if let State::Closed = state {
-        *state = match fs::open(rt, path) {
-            Ok(file) => State::Open(file),
-            Err(_) => State::Missing,
-        };
+        *state = tried(fs::open(rt, path));
     }
+}
+
+/// Reads some of the file. None where it did not open or read.
+fn read_some<F: Read>(state: &mut State<F>, buffer: &mut [u8]) -> Option<usize>
+    ensures within { IfSome result (λ n. n ≤ length buffer.old) }
+    ensures opened { opening_of state.old ≢ Opened → result ≡ None }
+    ensures same { opening_of state.new ≡ opening_of state.old }
+{
     match state {
         State::Open(file) => file.read(buffer).ok(),
         _ => None,
@@ -81,16 +103,22 @@ impl<R: Files> Source for FileSource<'_, R> {
         ensures moved { IfOk result (λ n. Moves (untold self.old) (untold self.new) buffer.new n) }
         ensures err { OnErr result (untold self.new ≡ untold self.old) }
         ensures cause { HasCause self.old.faults self.new.faults result }
-
-        ensures empty { self.old.path ≡ [] → result ≡ Ok 0 }
-        ensures path { self.new.path ≡ self.old.path }
         ensures quiet { OnOk result (self.new.faults ≡ self.old.faults) }
+
+        // An empty path is an empty input. Any other is opened at the first read, and only then.
+        ensures empty { self.old.path ≡ [] → result ≡ Ok 0 }
+        ensures opens { self.old.path ≢ [] → self.new.opening ≢ Untried }
+        ensures once { self.old.opening ≢ Untried → self.new.opening ≡ self.old.opening }
+        ensures missing { self.old.path ≢ [] → self.new.opening ≡ Missing → IsErr result }
+
+        ensures path { self.new.path ≡ self.old.path }
         ensures counted { OnErr result (self.new.faults ≡ next_fault self.old.faults) }
     {
-        if self.path.is_empty() {
+        if !names_file(self.path) {
             return Ok(0);
         }
-        match read_some(self.rt, self.path, &mut self.state, buffer) {
+        open_once(self.rt, self.path, &mut self.state);
+        match read_some(&mut self.state, buffer) {
             Some(count) => Ok(count),
             None => {
                 self.failed = self.failed.saturating_add(1);

@@ -11,7 +11,6 @@ use std::marker::Model;
 
 /// A sink that keeps what it takes in memory, made at once, and whose writes are numbered from 0. It fails at the
 /// writes that it was told, and once its room is used.
-#[derive(Debug, Drop)]
 pub struct MemSink {
     kept: Vec<u8>,
     free: u32,
@@ -35,6 +34,18 @@ impl Model for MemSink {
     } };
 
     ghost invariant = { λ s. vec_len s.kept + s.free ≤ vec_capacity s.kept };
+}
+
+impl Drop for MemSink {
+    fn drop(self) {
+        let MemSink {
+            kept: _,
+            free: _,
+            writes: _,
+            failing: _,
+            failed: _,
+        } = self;
+    }
 }
 
 impl MemSink {

@@ -9,7 +9,6 @@ use std::alloc::Global;
 use std::marker::Model;
 
 /// A source over a copy of some bytes, whose reads are numbered from 0. It fails at the reads that it was told.
-#[derive(Debug, Drop)]
 pub struct MemSource {
     bytes: Vec<u8>,
     start: usize,
@@ -32,6 +31,18 @@ impl Model for MemSource {
     } };
 
     ghost invariant = { λ s. s.start ≤ length s.bytes.items };
+}
+
+impl Drop for MemSource {
+    fn drop(self) {
+        let MemSource {
+            bytes: _,
+            start: _,
+            reads: _,
+            failing: _,
+            failed: _,
+        } = self;
+    }
 }
 
 impl MemSource {

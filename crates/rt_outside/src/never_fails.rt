@@ -4,7 +4,7 @@ use crate::{Failed, Source};
 use std::marker::Model;
 
 /// A source over borrowed bytes that never fails: its count of faults is always 0.
-#[derive(Debug, Drop)]
+#[derive(Drop)]
 pub struct NeverFails<'a> {
     rest: &'a [u8],
 }

@@ -1,4 +1,5 @@
-ghost use Rattle.std.specs.Prelude.{◌≡◌, ℕ, ◌<◌, ◌≤◌, length, take, IfOk, OnOk, OnErr};
+ghost use Rattle.std.specs.Prelude.{◌≡◌, ℕ, ◌<◌, ◌≤◌, nat_lt, if◌then◌else◌, Some, None, length, take, IfOk, OnOk};
+ghost use Rattle.std.specs.Prelude.{OnErr};
 ghost use Rattle.rt_outside.specs.Faults.{HasCause};
 ghost use Rattle.rt_outside.specs.Bytes.{Took};
 ghost use Rattle.rt_outside.specs.Memory.{next_fault};
@@ -7,8 +8,8 @@ ghost use Rattle.rt_outside.specs.Outside.{untold};
 use crate::{Failed, Sink};
 use std::marker::Model;
 
-/// Standard output as a sink. It has no buffer: what a write took is out when the call returns. No contract says
-/// what it takes.
+/// Standard output as a sink. It has no buffer: what a write took is out when the call returns. What no contract says,
+/// and what is trusted of the runtime: that standard output takes the first bytes of a piece, as many as it says.
 #[derive(Drop)]
 pub struct OutSink<'a, R: Print> {
     rt: &'a R,
@@ -32,6 +33,17 @@ impl<'a, R: Print> OutSink<'a, R> {
     }
 }
 
+/// How many bytes a write took, by its answer: none is a failure.
+fn taken_by<E: Drop>(answer: Result<usize, E>) -> Option<usize>
+    ensures ok { IfOk answer (λ n. result ≡ (if nat_lt 0 n then Some n else None)) }
+    ensures err { OnErr answer (result ≡ None) }
+{
+    match answer {
+        Ok(count) if count > 0 => Some(count),
+        _ => None,
+    }
+}
+
 impl<R: Print> Sink for OutSink<'_, R> {
     ghost taken = { untold };
 
@@ -50,9 +62,9 @@ impl<R: Print> Sink for OutSink<'_, R> {
         if piece.is_empty() {
             return Ok(0);
         }
-        match self.rt.write_some(piece) {
-            Ok(count) if count > 0 => Ok(count),
-            _ => {
+        match taken_by(self.rt.write_some(piece)) {
+            Some(count) => Ok(count),
+            None => {
                 self.failed = self.failed.saturating_add(1);
                 Err(Failed)
             }

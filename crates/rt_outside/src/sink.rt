@@ -18,7 +18,8 @@ pub trait Sink {
         ensures some { IfOk result (λ n. 0 < length piece.now → 0 < n) }
         ensures took { IfOk result (λ n. Took (taken self.old) (taken self.new) (take n piece.now)) }
         ensures err { OnErr result (taken self.new ≡ taken self.old) }
-        ensures cause { HasCause (faults self.old) (faults self.new) result };
+        ensures cause { HasCause (faults self.old) (faults self.new) result }
+        ensures quiet { OnOk result (faults self.new ≡ faults self.old) };
 }
 
 /// Writes all bytes, in as many pieces as the sink takes them.
@@ -26,6 +27,7 @@ pub fn put_all<K: Sink>(sink: &mut K, bytes: &[u8]) -> Result<(), Failed>
     ensures ok { OnOk result (Took (K.taken sink.old) (K.taken sink.new) bytes.now) }
     ensures err { OnErr result (TookPrefix (K.taken sink.old) (K.taken sink.new) bytes.now) }
     ensures cause { HasCause (K.faults sink.old) (K.faults sink.new) result }
+    ensures quiet { OnOk result (K.faults sink.new ≡ K.faults sink.old) }
 {
     let mut done = 0;
     // Each turn takes at least one byte.

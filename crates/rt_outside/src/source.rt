@@ -20,7 +20,8 @@ pub trait Source {
         ensures within { IfOk result (λ n. n ≤ length buffer.old) }
         ensures moved { IfOk result (λ n. Moves (left self.old) (left self.new) buffer.new n) }
         ensures err { OnErr result (left self.new ≡ left self.old) }
-        ensures cause { HasCause (faults self.old) (faults self.new) result };
+        ensures cause { HasCause (faults self.old) (faults self.new) result }
+        ensures quiet { OnOk result (faults self.new ≡ faults self.old) };
 }
 
 /// Why a text was not read.
@@ -59,7 +60,8 @@ impl From<AllocError> for ReadFail {
 /// How many bytes a text is read at a time, at most.
 const PIECE: usize = 4096;
 
-/// Reads all bytes up to the end of the source. After an error the source has lost what was taken.
+/// Reads all bytes up to the end of the source, where the first read gives none, and reads no further. After an error
+/// the source has lost what was taken.
 pub fn read_text<S: Source>(alloc: Global, source: &mut S, limit: u32) -> Result<Vec<u8>, ReadFail>
     requires { limit < 2 ^ 32 - 1 }
     ensures whole { IfOk result (λ text. GaveAll (S.left source.old) (S.left source.new) text.items) }
@@ -71,7 +73,9 @@ pub fn read_text<S: Source>(alloc: Global, source: &mut S, limit: u32) -> Result
         (¬ IsErrOf result ReadFail.TooLong → (n : ℕ) × (n ≤ limit)
         × GaveCount (S.left source.old) (S.left source.new) n) }
 
+    // A fault is told, and nothing else is told as one.
     ensures fault { IsErrOf result ReadFail.Fault → Rose (S.faults source.old) (S.faults source.new) }
+    ensures quiet { ¬ IsErrOf result ReadFail.Fault → S.faults source.new ≡ S.faults source.old }
     ensures later { S.faults source.old ≤ S.faults source.new }
 {
     let most = limit as usize + 1;

@@ -1,4 +1,4 @@
-use Rattle.std.proofs.Common.{take, drop, arith, length-drop}
+use Rattle.std.proofs.Common.{take, drop, arith, ◌∙◌, length-drop}
 use Rattle.std.proofs.lemmas.List.{take-append-drop}
 use Rattle.rt_lemmas.proofs.Results.{on_err_from}
 use Rattle.rt_outside.proofs.Moving.{Took-more}
@@ -18,5 +18,5 @@ loop-turn-preserved g c = record {
   took =
       Took-more _ _ _ c.args.bytes.now c.loop-turn.done c.in_ok-done.field-0
       c.loop-turn.invariant.took c.in_ok-done.ensures.took;
-  later = omega (arith, c.in_ok-done.ensures.cause.later, c.loop-turn.invariant.later);
+  quiet = c.in_ok-done.ensures.quiet ∙ c.loop-turn.invariant.quiet;
 }

@@ -1,4 +1,4 @@
-use Rattle.std.proofs.Common.{◌≡◌, ◌≤◌, ◌+◌, ◌-◌, ◌++◌, length, take, vec_len, arith, ap, length-take-le}
+use Rattle.std.proofs.Common.{◌≡◌, ◌≤◌, ◌+◌, ◌-◌, ◌++◌, length, take, vec_len, arith, ap, ◌∙◌, length-take-le}
 use Rattle.rt_lemmas.proofs.Results.{on_err_from}
 use Rattle.rt_outside.proofs.Moving.{Gave-more, length-moved, take-front}
 use Rattle.rt_outside.proofs.source.read_text.Goals as goal
@@ -44,5 +44,5 @@ loop-turn-preserved g c =
       within = omega (arith, grown, room, fits, c.if-len-count.false, c.len-in-loop-turn-2.ensures, c.loop-turn.invariant.within);
       buffer = c.loop-turn.invariant.buffer;
       gave = rw added (Gave-more _ _ _ text buffer count c.loop-turn.invariant.gave c.in_ok-count.ensures.moved);
-      later = omega (arith, c.loop-turn.invariant.later, c.in_ok-count.ensures.cause.later);
+      quiet = c.in_ok-count.ensures.quiet ∙ c.loop-turn.invariant.quiet;
     }

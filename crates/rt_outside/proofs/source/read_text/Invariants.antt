@@ -8,5 +8,5 @@ invariant-loop-turn g l = record {
   within : vec_len l.text ≤ l.limit;
   buffer : vec_len l.piece ≡ min 4096 (l.limit + 1);
   gave : Gave (g.S.Source.left l.initial.source) (g.S.Source.left l.source) l.text.items;
-  later : g.S.Source.faults l.initial.source ≤ g.S.Source.faults l.source;
+  quiet : g.S.Source.faults l.source ≡ g.S.Source.faults l.initial.source;
 }
