@@ -1,10 +1,10 @@
 ghost use Rattle.std.specs.Prelude.{◌≡◌, length, IfOk};
 
-use rt_code::{Instr, Note};
+use rt_code::Line;
 use rt_ids::NoMemory;
 
 /// The address behind code. Where it has no 32 bits there is no memory for so much code either.
-pub fn next_entry(code: &[(Instr, Option<Note>)]) -> Result<u32, NoMemory>
+pub fn next_entry(code: &[Line]) -> Result<u32, NoMemory>
     ensures { IfOk result (λ entry. entry ≡ length code.now) }
 {
     u32::try_from(code.len()).ok().ok_or(NoMemory)

@@ -7,7 +7,7 @@ use rt_ids::Prio;
 use rt_ids::limits::THREAD_VALUE;
 
 /// How the sections of a ceiling hold others off.
-#[derive(Clone, Copy, Debug, PartialEq, Eq)]
+#[derive(Clone, Copy)]
 pub struct Guard {
     /// The priority ceiling of what the sections guard.
     pub ceiling: u8,

@@ -2,15 +2,15 @@ ghost use Rattle.std.specs.Prelude.{◌≡◌, ◌∷◌, [], OnOk};
 ghost use Rattle.rt_gen_queue.specs.Line.{plain};
 ghost use Rattle.rt_gen_queue.specs.Inside.Making.{Appends};
 
-use rt_code::{Instr, Note};
+use rt_code::{Instr, Line};
 use rt_ids::NoMemory;
 use std::alloc::Global;
 use std::marker::Model;
 
 /// The lines of a spawn as they are generated.
-#[derive(Debug, Drop)]
+#[derive(Drop)]
 pub(crate) struct Lines {
-    lines: Vec<(Instr, Option<Note>)>,
+    lines: Vec<Line>,
 }
 
 impl Model for Lines {
@@ -40,7 +40,7 @@ impl Lines {
     }
 
     /// Some more.
-    pub(crate) fn append(&mut self, lines: &[(Instr, Option<Note>)]) -> Result<(), NoMemory>
+    pub(crate) fn append(&mut self, lines: &[Line]) -> Result<(), NoMemory>
         ensures { OnOk result (Appends self.old self.new lines.now) }
     {
         self.lines.extend_from_slice(lines)?;
@@ -48,7 +48,7 @@ impl Lines {
     }
 
     /// The lines.
-    pub(crate) fn as_slice(&self) -> &[(Instr, Option<Note>)]
+    pub(crate) fn as_slice(&self) -> &[Line]
         ensures { result.now ≡ self.now.lines }
     {
         self.lines.as_slice()

@@ -1,29 +1,29 @@
 ghost use Rattle.std.specs.Prelude.{◌≡◌, ◌+◌, ◌<◌, ◌≤◌, ◌^◌, OnOk};
-ghost use Rattle.rt_gen_queue.specs.Line as line;
+ghost use Rattle.rt_gen_queue.specs.Line.{plain, noted};
 ghost use Rattle.rt_gen_queue.specs.SpawnLines as spec;
 ghost use Rattle.rt_gen_queue.specs.Inside.Making.{Appends};
 
 use crate::lines::Lines;
 use crate::target::Target;
-use rt_code::{Instr, Note};
+use rt_code::{Instr, Line, Note};
 use rt_ids::{NoMemory, Op, Prio, Section};
 
 /// A line without a note.
-fn plain(instr: Instr) -> (Instr, Option<Note>)
-    ensures { result ≡ line.plain instr }
+fn plain(instr: Instr) -> Line
+    ensures { result ≡ plain instr }
 {
     (instr, None)
 }
 
 /// A line with a note.
-fn noted(instr: Instr, note: Note) -> (Instr, Option<Note>)
-    ensures { result ≡ line.noted instr note }
+fn noted(instr: Instr, note: Note) -> Line
+    ensures { result ≡ noted instr note }
 {
     (instr, Some(note))
 }
 
 /// The lines that take a place of the task, or lead to an address where none is left.
-pub(crate) fn take(target: &Target, level: u8, slot: u32, full: u32) -> [(Instr, Option<Note>); 8]
+pub(crate) fn take(target: &Target, level: u8, slot: u32, full: u32) -> [Line; 8]
     requires slots { slot + 16 < 2 ^ 32 }
     ensures { result ≡ spec.take_lines target.now level slot full }
 {
@@ -81,7 +81,7 @@ pub(crate) fn fill(target: &Target, level: u8, slot: u32, lines: &mut Lines) -> 
 }
 
 /// The lines that put the message into the ring of its level, and pend the level's dispatcher.
-pub(crate) fn ready(target: &Target, level: u8, slot: u32) -> [(Instr, Option<Note>); 12]
+pub(crate) fn ready(target: &Target, level: u8, slot: u32) -> [Line; 12]
     requires slots { slot + 16 < 2 ^ 32 }
     ensures { result ≡ spec.ready_lines target.now level slot }
 {
@@ -112,7 +112,7 @@ pub(crate) fn ready(target: &Target, level: u8, slot: u32) -> [(Instr, Option<No
 }
 
 /// The lines of the two answers, of which the first leads to an address.
-pub(crate) fn answer(target: &Target, level: u8, slot: u32, end: u32) -> [(Instr, Option<Note>); 4]
+pub(crate) fn answer(target: &Target, level: u8, slot: u32, end: u32) -> [Line; 4]
     requires slots { slot + 16 < 2 ^ 32 }
     ensures { result ≡ spec.end_lines target.now level slot end }
 {

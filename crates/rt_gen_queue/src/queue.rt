@@ -14,7 +14,7 @@ use rt_app::{App, IrqDecl, Plan, ReadyCeiling, Task};
 use rt_ids::Irq;
 
 /// The ready queue of a level of software tasks, as code finds it.
-#[derive(Clone, Copy, Debug)]
+#[derive(Clone, Copy)]
 pub struct ReadyQueue {
     pub level: u8,
     /// The first cell of its ring: where the oldest message is, before how many there are and the messages.
@@ -97,7 +97,7 @@ fn capacity_at(task: &Task, level: u8) -> u32
     ensures is { result ≡ (if levels.is_of_level level (task_of task.now) then (task_of task.now).capacity else 0) }
     ensures few { result < 256 }
 {
-    if task.binds.is_none() && task.priority == level {
+    if task.is_of_level(level) {
         u32::from(task.capacity)
     } else {
         0

@@ -17,7 +17,7 @@ use crate::lines::Lines;
 use crate::parts::{answer, fill, ready, take};
 use crate::target::{Target, find_target};
 use rt_app::Plan;
-use rt_code::{Instr, Note};
+use rt_code::Line;
 use rt_ids::{NoMemory, TaskId};
 use std::alloc::Global;
 
@@ -63,7 +63,7 @@ pub fn gen_spawn(
     level: u8,
     slot: u32,
     entry: u32,
-    code: &mut Vec<(Instr, Option<Note>)>,
+    code: &mut Vec<Line>,
 ) -> Result<(), NoMemory>
     requires accepted { IsAccepted (app_of plan.now.app.now) }
     requires planned { IsPlan plan.now }

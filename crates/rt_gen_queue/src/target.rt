@@ -12,7 +12,7 @@ use rt_app::{Plan, Task};
 use rt_ids::TaskId;
 
 /// What the code of a spawn of a task is made of.
-#[derive(Clone, Copy, Debug)]
+#[derive(Clone, Copy)]
 pub struct Target {
     pub task: TaskId,
     /// How many arguments the task takes.
