@@ -1,6 +1,6 @@
 -- The code by which a spawn stores the arguments in the cells of its place, and makes the word of its message.
-use Rattle.std.proofs.Common.{◌≡◌, ◌≢◌, ℕ, zero, suc, ◌+◌, ◌*◌, ◌<◌, ◌≤◌, List, [], ◌∷◌, length}
-use Rattle.std.proofs.Common.{slice_index, refl, sym, ap, ◌∙◌, arith, inl, inr}
+use Rattle.std.proofs.Common.{◌≡◌, ◌≢◌, ℕ, zero, suc, ◌+◌, ◌*◌, ◌<◌, ◌≤◌, List, [], ◌∷◌, ◌++◌, length}
+use Rattle.std.proofs.Common.{slice_index, refl, sym, ap, subst, ◌∙◌, arith, inl, inr}
 use Rattle.std.proofs.lemmas.Bool.{cases_lt}
 use Rattle.std.proofs.lemmas.Nat.{mul-le}
 use Rattle.rt_ids.specs.Entry.{Entry, count}
@@ -17,6 +17,7 @@ use Rattle.rt_gen_queue.specs.SpawnLines.{store_code}
 use Rattle.rt_gen_queue.specs.SpawnCode.{fill_code}
 use Rattle.rt_gen_queue.proofs.Numbers.{added, multiplied, steps_and}
 use Rattle.rt_gen_queue.proofs.Owning.{stores_place, place_in_memory}
+use Rattle.rt_gen_queue.proofs.Inputs.{lines_by_layout}
 use Rattle.rt_gen_queue.proofs.Facts.{Spawned, capacity, arguments, few_arguments, few_free, small}
 use Rattle.rt_gen_queue.proofs.Spots.{Lasts, Setting, Here, spot, Room}
 use Rattle.rt_gen_queue.proofs.Steps.{S, sets, calculates, stores_at}
@@ -124,6 +125,10 @@ module _ (z : Setting) (task : ℕ) (t : Task) (facts : Spawned z.app task t) wh
       let last : List Line =
       plain (instr.Set (slot + 7) (16 * task)) ∷ plain (instr.Calc op.Add (slot + 6) (slot + 6) (slot + 7)) ∷ [] in
       let lines : List Line = store_code args (inputs_at z.app task) slot 0 in
+      let stored : HasCode z.code (suc (suc h.at)) (lines ++ last) =
+      subst (λ (ls : List Line). HasCode z.code (suc (suc h.at)) (ls ++ last))
+      (lines_by_layout z.app task t facts.at facts.software (λ count cell. store_code count cell slot 0)
+      (λ a b. refl) args (arguments z.app task t facts)) has.1.1 in
       sets z _ end h slot (slot + 7) args has.0 (omega arith) lasts room (omega arith, omega arith)
       (λ s1 w1 r1.
       let h1 : Here = record h { done = suc h.done; slots = s1; at = suc h.at } in
@@ -137,14 +142,14 @@ module _ (z : Setting) (task : ℕ) (t : Task) (facts : Spawned z.app task t) wh
       kept_more slot (slot + 7) (e.place * args) h.slots s1 s2 (omega arith) (omega arith)
       (kept_more slot (slot + 7) args h.slots h.slots s1 (omega arith) (omega arith)
       (record { same = λ d far. refl; long = refl }) w1) w2 in
-      all_stored args 0 (suc (suc n)) end h2 slot e (code_front z.code (suc (suc h.at)) lines last has.1.1)
+      all_stored args 0 (suc (suc n)) end h2 slot e (code_front z.code (suc (suc h.at)) lines last stored)
       (omega arith) (omega (arith, few)) (omega arith) lasts r2 w2.here
       (record { of_task = hands.of_task; place = hands.place; some = hands.some; long = hands.long })
       (λ done at left done_is at_is filled.
       let h3 : Here = record h2 { done = done; at = at; cells = left } in
       let has3 : HasCode z.code at last =
       code_behind z.code (suc (suc h.at)) at lines last
-      (omega (arith, at_is, stores_long args (inputs_at z.app task) slot 0)) has.1.1 in
+      (omega (arith, at_is, stores_long args (inputs_at z.app task) slot 0)) stored in
       sets z _ end h3 slot (slot + 7) (16 * task) has3.0 (omega arith) lasts r2 (omega arith, omega arith)
       (λ s4 w4 r4.
       let h4 : Here = record h3 { done = suc h3.done; slots = s4; at = suc h3.at } in

@@ -9,6 +9,7 @@ pub mod Queues
 pub mod Owning
 pub mod Facts
 pub mod Placing
+pub mod Inputs
 pub mod Taking
 pub mod Filling
 pub mod Readying

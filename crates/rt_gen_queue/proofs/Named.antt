@@ -1,7 +1,8 @@
 -- The lines of a spawn name only what the application declares.
 use Rattle.std.proofs.Common.{◌≡◌, ℕ, zero, suc, ◌+◌, ◌*◌, ◌<◌, ◌==◌}
 use Rattle.std.proofs.Common.{Option, Some, None}
-use Rattle.std.proofs.Common.{List, [], ◌∷◌, ◌++◌, length, map, filter, nat_lt, slice_get, option_map, Contains, IsSome}
+use Rattle.std.proofs.Common.{List, [], ◌∷◌, ◌++◌, length, map, filter, nat_lt, slice_get, slice_index}
+use Rattle.std.proofs.Common.{option_map, Contains, IsSome}
 use Rattle.std.proofs.Common.{refl, sym, ap, subst, arith, eq-eqb}
 use Rattle.std.specs.List.{AllByRecursion}
 use Rattle.std.proofs.lemmas.List.{length-map}
@@ -15,7 +16,7 @@ use Rattle.rt_app.specs.declared.app.IrqDecl.{IrqDecl}
 use Rattle.rt_app.specs.Tree.{Task, App}
 use Rattle.rt_app.specs.Bodies.{task_priority}
 use Rattle.rt_app.specs.Handlers.{irq_number}
-use Rattle.rt_app.specs.Layout.{inputs_at}
+use Rattle.rt_app.specs.Layout.{layout}
 use Rattle.rt_app.specs.Level.{levels}
 use Rattle.rt_app.specs.Names.{names_of}
 use Rattle.rt_app.specs.Sending.{dispatcher_number}
@@ -93,13 +94,14 @@ module _ (app : App) (task : ℕ) (t : Task) (facts : Spawned app task t) where
 
   fill_named : (slot : ℕ) → AreNamed (fill_code app task slot)
   fill_named slot =
+      let inputs : ℕ = slice_index (layout app).inputs task in
       let last : List Line =
       plain (instr.Set (slot + 7) (16 * task)) ∷ plain (instr.Calc op.Add (slot + 6) (slot + 6) (slot + 7)) ∷ [] in (
         record { instr = tt; note = tt },
         (
           record { instr = tt; note = tt },
-          all_append (IsNameable (names_of app)) (store_code (arguments_of app task) (inputs_at app task) slot 0) last
-              (store_named (arguments_of app task) (inputs_at app task) slot 0)
+          all_append (IsNameable (names_of app)) (store_code (arguments_of app task) inputs slot 0) last
+              (store_named (arguments_of app task) inputs slot 0)
               (record { instr = tt; note = tt }, (record { instr = tt; note = tt }, tt)),
         ),
       )

@@ -1,11 +1,12 @@
 -- Where lines stand in code, and how many there are.
-use Rattle.std.proofs.Common.{◌≡◌, ℕ, zero, suc, ◌+◌, ◌*◌, ◌++◌, Some, List, [], ◌∷◌, length, slice_get, refl, ap}
+use Rattle.std.proofs.Common.{◌≡◌, ℕ, zero, suc, ◌+◌, ◌*◌, ◌++◌, Some, List, [], ◌∷◌, length, slice_get, slice_index}
+use Rattle.std.proofs.Common.{refl, ap}
 use Rattle.std.proofs.Common.{subst, arith, append_assoc}
 use Rattle.std.proofs.lemmas.List.{length-append}
 use Rattle.rt_ids.specs.declared.op.Op.TheVariants as op
 use Rattle.rt_app.specs.Tree.{App}
 use Rattle.rt_app.specs.Bodies.{task_priority}
-use Rattle.rt_app.specs.Layout.{inputs_at}
+use Rattle.rt_app.specs.Layout.{layout}
 use Rattle.rt_app.specs.Holding.{arguments_of}
 use Rattle.rt_code.specs.declared.instr.Instr.TheVariants as instr
 use Rattle.rt_gen_queue.specs.Line.{Line, plain, HasCode}
@@ -54,12 +55,13 @@ stores_long (suc count) cell slot from = ap suc (stores_long count cell slot (fr
 
 pub fill_long : (app : App) (task slot : ℕ) → length (fill_code app task slot) ≡ 4 + arguments_of app task
 fill_long app task slot =
+    let inputs : ℕ = slice_index (layout app).inputs task in
     let last : List Line =
     plain (instr.Set (slot + 7) (16 * task)) ∷ plain (instr.Calc op.Add (slot + 6) (slot + 6) (slot + 7)) ∷ [] in
     omega (
       arith,
-      length-append (store_code (arguments_of app task) (inputs_at app task) slot 0) last,
-      stores_long (arguments_of app task) (inputs_at app task) slot 0,
+      length-append (store_code (arguments_of app task) inputs slot 0) last,
+      stores_long (arguments_of app task) inputs slot 0,
     )
 
 pub spawn_long : (app : App) (task level slot at : ℕ)

@@ -12,7 +12,7 @@ use Rattle.rt_app.specs.Accepted.{IsAccepted}
 use Rattle.rt_app.specs.Bodies.{task_priority}
 use Rattle.rt_app.specs.Ceiling.{Ceilings, ceiling, free_ceilings}
 use Rattle.rt_app.specs.Holding.{arguments_of}
-use Rattle.rt_app.specs.Layout.{Layout, numbers_of, free_at, inputs_at}
+use Rattle.rt_app.specs.Layout.{Layout, layout, free_at}
 use Rattle.rt_app.specs.Level.{is_software}
 use Rattle.rt_app.specs.Plan.{IsPlan}
 use Rattle.rt_app.specs.View.{app_of}
@@ -22,18 +22,10 @@ use Rattle.rt_gen_queue.specs.SpawnCode as spec
 use Rattle.rt_gen_queue.specs.declared.guard.Guard.{Guard}
 use Rattle.rt_gen_queue.specs.declared.queue.ReadyQueue.{ReadyQueue}
 use Rattle.rt_gen_queue.specs.declared.target.Target.{Target}
-use Rattle.rt_gen_queue.proofs.Facts.{Spawned, arguments, priority, capacity, few_arguments, free_top}
+use Rattle.rt_gen_queue.proofs.Facts.{Spawned, arguments, priority, few_arguments, free_top}
+use Rattle.rt_gen_queue.proofs.Inputs.{number_at}
 
--- the first cell of a task's free places, and the ceiling of them
-pub free_number : (at : ℕ → ℕ) (n : ℕ) (ts : List Task) (i : ℕ) (t : Task) → slice_get ts i ≡ Some t
-    → is_software t ≡ true → slice_index (numbers_of is_software at n ts) i ≡ at (n + i)
-free_number at n [] i t there software = absurd (none-some t there)
-free_number at n (u ∷ ts) zero t there software =
-    let e : n ≡ n + 0 = omega arith in
-    ap (λ (b : Bool). if b then at n else 0) (ap is_software (same_Some u t there) ∙ software) ∙ ap at e
-free_number at n (u ∷ ts) (suc i) t there software =
-    let e : n + 1 + i ≡ n + suc i = omega arith in free_number at (n + 1) ts i t there software ∙ ap at e
-
+-- the ceiling of a task's free places
 pub free_top_is : (app : App) (n : ℕ) (ts : List Task) (i : ℕ) (t : Task) → slice_get ts i ≡ Some t
     → is_software t ≡ true
     → or_zero (then_from (slice_get (free_ceilings app n ts) i) (λ c. c)) ≡ ceiling app (section.Free (n + i))
@@ -83,22 +75,24 @@ module _ (plan : Plan) (task : ℕ) (t : Task) (accepted : IsAccepted (app_of pl
       record { task = task; args = args; free = free; inputs = inputs; guard = guard; queue = queue }
 
   -- what is read of the plan's tables makes what the spawn is made of
-  pub target_made : (bits : ℕ) (cells : List ℕ) (tops : List (Option ℕ)) (at free inputs top : ℕ) (guard : Guard)
-      (queue : ReadyQueue) → bits ≡ plan.app.now.bits → cells ≡ plan.lay.free → tops ≡ plan.ceil.free
-      → at ≡ task → free ≡ slice_index cells at → inputs ≡ free + 1 + t.capacity
+  pub target_made : (bits : ℕ) (cells starts : List ℕ) (tops : List (Option ℕ)) (at free inputs top : ℕ)
+      (guard : Guard) (queue : ReadyQueue) → bits ≡ plan.app.now.bits → cells ≡ plan.lay.free
+      → starts ≡ plan.lay.inputs → tops ≡ plan.ceil.free
+      → at ≡ task → free ≡ slice_index cells at → inputs ≡ slice_index starts at
       → top ≡ or_zero (then_from (slice_get tops task) (λ c. c)) → guard ≡ guarded bits top
       → queue ≡ queue_at of_plan t.priority
       → target_with t.args free inputs guard queue ≡ spec.target_of of_plan task
-  target_made bits cells tops at free inputs top guard queue bits_is cells_is tops_is at_is free_is inputs_is top_is
-      guard_is queue_is =
+  target_made bits cells starts tops at free inputs top guard queue bits_is cells_is starts_is tops_is at_is free_is
+      inputs_is top_is guard_is queue_is =
       let zeroth : 0 + task ≡ task = omega arith in
       let args_same : t.args ≡ arguments_of of_plan task = sym (arguments of_plan task t facts) in
       let free_same : free ≡ free_at of_plan task =
       free_is ∙ ap (λ n. slice_index cells n) at_is
       ∙ ap (λ (cs : List ℕ). slice_index cs task) (cells_is ∙ ap (λ (l : Layout). l.free) planned.layout)
-      ∙ free_number (free_at of_plan) 0 of_plan.tasks task t there software ∙ ap (free_at of_plan) zeroth in
-      let inputs_same : inputs ≡ inputs_at of_plan task =
-      omega (arith, free_same, inputs_is, capacity of_plan task t facts) in
+      ∙ number_at is_software (free_at of_plan) 0 of_plan.tasks task t there software ∙ ap (free_at of_plan) zeroth in
+      let inputs_same : inputs ≡ slice_index (layout of_plan).inputs task =
+      inputs_is ∙ ap (λ n. slice_index starts n) at_is
+      ∙ ap (λ (cs : List ℕ). slice_index cs task) (starts_is ∙ ap (λ (l : Layout). l.inputs) planned.layout) in
       let guard_same : guard ≡ guard_of of_plan (section.Free task) =
       guard_is ∙ ap (λ b. guarded b top) bits_is ∙ ap (guarded of_plan.bits) (top_at tops top tops_is top_is) in
       let queue_same : queue ≡ queue_at of_plan (task_priority of_plan task) =
@@ -106,7 +100,7 @@ module _ (plan : Plan) (task : ℕ) (t : Task) (accepted : IsAccepted (app_of pl
       ap (λ n. target_with n free inputs guard queue) args_same
       ∙ ap (λ n. target_with (arguments_of of_plan task) n inputs guard queue) free_same
       ∙ ap (λ n. target_with (arguments_of of_plan task) (free_at of_plan task) n guard queue) inputs_same
-      ∙ ap (λ (g : Guard). target_with (arguments_of of_plan task) (free_at of_plan task) (inputs_at of_plan task) g
+      ∙ ap (λ (g : Guard). target_with (arguments_of of_plan task) (free_at of_plan task) (slice_index (layout of_plan).inputs task) g
       queue) guard_same
       ∙ ap (λ (q : ReadyQueue). target_with (arguments_of of_plan task) (free_at of_plan task)
-      (inputs_at of_plan task) (guard_of of_plan (section.Free task)) q) queue_same
+      (slice_index (layout of_plan).inputs task) (guard_of of_plan (section.Free task)) q) queue_same

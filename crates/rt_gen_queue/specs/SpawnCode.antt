@@ -1,11 +1,11 @@
 -- The code of a spawn of a task of an application, by what the application determines: where the task's places and its
 -- ring lie in memory, and how their sections mask (the RTIC 1 book, software tasks, `spawn`). That code is made of
 -- these numbers is this project's own.
-use Rattle.std.specs.Prelude.{ℕ, List}
+use Rattle.std.specs.Prelude.{ℕ, List, slice_index}
 use Rattle.rt_ids.specs.declared.ids.Section.TheVariants as section
 use Rattle.rt_app.specs.Tree.{App}
 use Rattle.rt_app.specs.Bodies.{task_priority}
-use Rattle.rt_app.specs.Layout.{free_at, inputs_at}
+use Rattle.rt_app.specs.Layout.{layout, free_at}
 use Rattle.rt_app.specs.Holding.{arguments_of}
 use Rattle.rt_gen_queue.specs.Line.{Line}
 use Rattle.rt_gen_queue.specs.Guards.{guard_of}
@@ -20,7 +20,7 @@ module _ (app : App) where
     task = task;
     args = arguments_of app task;
     free = free_at app task;
-    inputs = inputs_at app task;
+    inputs = slice_index (layout app).inputs task;
     guard = guard_of app (section.Free task);
     queue = queue_at app p;
   }

@@ -54,13 +54,13 @@ pub(crate) fn take(target: &Target, level: u8, slot: u32, full: u32) -> [Line; 8
 /// Appends the lines that store the arguments in the cells of the place.
 fn store(target: &Target, slot: u32, lines: &mut Lines) -> Result<(), NoMemory>
     requires slots { slot + 16 < 2 ^ 32 }
-    requires cells { target.now.inputs + 16 < 2 ^ 32 }
     requires few { target.now.args ≤ 4 }
     ensures { OnOk result (Appends lines.old lines.new
         (spec.store_code target.now.args target.now.inputs slot 0)) }
 {
+    let inputs = u32::from(target.inputs);
     for place in 0..u32::from(target.args) {
-        lines.push(Instr::StoreAt(target.inputs + place, slot + 7, slot + place))?;
+        lines.push(Instr::StoreAt(inputs + place, slot + 7, slot + place))?;
     }
     Ok(())
 }
@@ -68,7 +68,6 @@ fn store(target: &Target, slot: u32, lines: &mut Lines) -> Result<(), NoMemory>
 /// Appends the lines that fill the place and make the word of its message.
 pub(crate) fn fill(target: &Target, level: u8, slot: u32, lines: &mut Lines) -> Result<(), NoMemory>
     requires slots { slot + 16 < 2 ^ 32 }
-    requires cells { target.now.inputs + 16 < 2 ^ 32 }
     requires few { target.now.args ≤ 4 }
     ensures { OnOk result (Appends lines.old lines.new (spec.fill_lines target.now level slot)) }
 {

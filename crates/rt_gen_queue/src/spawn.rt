@@ -38,7 +38,6 @@ fn append_spawn(
     entry: u32,
     lines: &mut Lines,
 ) -> Result<(), NoMemory>
-    requires inputs { target.now.inputs + 16 < 2 ^ 32 }
     requires few { target.now.args ≤ 4 }
     ensures { OnOk result (Appends lines.old lines.new (spawn_lines target.now level slot entry)) }
 {

@@ -1,4 +1,4 @@
-ghost use Rattle.std.specs.Prelude.{◌≡◌, ◌+◌, ◌<◌, ◌≤◌, true, slice_get, Some};
+ghost use Rattle.std.specs.Prelude.{◌≡◌, ◌≤◌, true, slice_get, Some};
 ghost use Rattle.rt_ids.specs.Lists.{is_some_and, or_zero, then_from};
 ghost use Rattle.rt_app.specs.Accepted.{IsAccepted};
 ghost use Rattle.rt_app.specs.Level.{is_software};
@@ -20,7 +20,7 @@ pub struct Target {
     /// The first cell of the task's free places: how many there are, before the places.
     pub free: u16,
     /// The first cell of the arguments of its places.
-    pub inputs: u32,
+    pub inputs: u16,
     /// How the section of its free places masks.
     pub guard: Guard,
     /// The ready queue of its level.
@@ -38,14 +38,6 @@ pub fn free_ceiling(ceilings: &[Option<u8>], task: TaskId) -> u8
     }
 }
 
-/// The first cell of the arguments of a task's places, behind those that are free.
-fn inputs_of(free: u16, capacity: u8) -> u32
-    ensures is { result ≡ free + 1 + capacity }
-    ensures small { result < 131072 }
-{
-    u32::from(free) + 1 + u32::from(capacity)
-}
-
 /// What the code of a spawn of a declared task is made of.
 fn target_of(plan: &Plan<'_>, task: TaskId, declared: &Task) -> Target
     requires accepted { IsAccepted (app_of plan.now.app.now) }
@@ -54,14 +46,15 @@ fn target_of(plan: &Plan<'_>, task: TaskId, declared: &Task) -> Target
     requires software { is_software (task_of declared.now) ≡ true }
     ensures is { result ≡ spec.target_of (app_of plan.now.app.now) task }
     ensures few { result.args ≤ 4 }
-    ensures inputs { result.inputs < 131072 }
 {
-    let free = cell_at(&plan.lay.free, usize::from(task.0));
+    let place = usize::from(task.0);
+    let free = cell_at(&plan.lay.free, place);
+    let inputs = cell_at(&plan.lay.inputs, place);
     Target {
         task,
         args: declared.args,
         free,
-        inputs: inputs_of(free, declared.capacity),
+        inputs,
         guard: Guard::of(plan.app.bits, free_ceiling(&plan.ceil.free, task)),
         queue: queue_of(plan, declared.priority),
     }
@@ -74,7 +67,6 @@ pub(crate) fn find_target(plan: &Plan<'_>, task: TaskId) -> Target
     requires software { is_some_and is_software (slice_get (app_of plan.now.app.now).tasks task) ≡ true }
     ensures is { result ≡ spec.target_of (app_of plan.now.app.now) task }
     ensures few { result.args ≤ 4 }
-    ensures inputs { result.inputs < 131072 }
 {
     target_of(plan, task, &plan.app.tasks[usize::from(task.0)])
 }

@@ -8,9 +8,9 @@ use Rattle.rt_gen_queue.proofs.target.target_of.Goals as goal
 pub of-requires-clause-greatest : goal.of-requires-clause-greatest
 of-requires-clause-greatest c =
     top_small c.args.plan.now c.args.task (task_of c.args.declared.now) c.requires.accepted c.requires.planned
-    c.requires.is_there c.requires.software c.plan.inside.0.0.now.bits c.deref-2.result.now c.free_ceiling.result
+    c.requires.is_there c.requires.software c.plan.inside.0.0.now.bits c.deref-3.result.now c.free_ceiling.result
     (ap (λ (p : Plan). p.app.now.bits) c.plan.view_is)
-    (c.deref-2.ensures.value ∙ ap (λ (p : Plan). p.ceil.free) c.plan.view_is) c.free_ceiling.ensures
+    (c.deref-3.ensures.value ∙ ap (λ (p : Plan). p.ceil.free) c.plan.view_is) c.free_ceiling.ensures
 
 pub queue_of-requires-clause-software : goal.queue_of-requires-clause-software
 queue_of-requires-clause-software c =
@@ -21,12 +21,13 @@ queue_of-requires-clause-software c =
 pub returns-clause-is : goal.returns-clause-is
 returns-clause-is c =
     target_made c.args.plan.now c.args.task (task_of c.args.declared.now) c.requires.accepted c.requires.planned
-    c.requires.is_there c.requires.software c.plan.inside.0.0.now.bits c.deref.result.now c.deref-2.result.now _
-    c.cell_at-free.result c.inputs_of.result c.free_ceiling.result c.of.result c.queue_of.result
+    c.requires.is_there c.requires.software c.plan.inside.0.0.now.bits c.deref.result.now c.deref-2.result.now
+    c.deref-3.result.now _ c.cell_at-free.result c.cell_at-inputs.result c.free_ceiling.result c.of.result c.queue_of.result
     (ap (λ (p : Plan). p.app.now.bits) c.plan.view_is)
     (c.deref.ensures.value ∙ ap (λ (p : Plan). p.lay.free) c.plan.view_is)
-    (c.deref-2.ensures.value ∙ ap (λ (p : Plan). p.ceil.free) c.plan.view_is)
-    (c.from.ensures ∙ c.task.view_is) c.cell_at-free.ensures c.inputs_of.ensures.is c.free_ceiling.ensures c.of.ensures
+    (c.deref-2.ensures.value ∙ ap (λ (p : Plan). p.lay.inputs) c.plan.view_is)
+    (c.deref-3.ensures.value ∙ ap (λ (p : Plan). p.ceil.free) c.plan.view_is)
+    (c.from-place.ensures ∙ c.task.view_is) c.cell_at-free.ensures c.cell_at-inputs.ensures c.free_ceiling.ensures c.of.ensures
     c.queue_of.ensures
 
 pub returns-clause-few : goal.returns-clause-few
