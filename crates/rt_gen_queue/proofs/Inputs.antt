@@ -1,6 +1,6 @@
 -- Where the arguments of a task's places lie, as the layout tells it: a task that takes none has no cell there.
 use Rattle.std.proofs.Common.{◌≡◌, ℕ, zero, suc, ◌+◌, ◌<◌, ◌&&◌, nat_lt, Bool, true, if◌then◌else◌, List, [], ◌∷◌, Some}
-use Rattle.std.proofs.Common.{slice_get, slice_index, sym, ap, ◌∙◌, arith}
+use Rattle.std.proofs.Common.{slice_get, slice_index, ap, ◌∙◌, arith}
 use Rattle.std.proofs.lemmas.Bool.{lt-ltb}
 use Rattle.std.proofs.lemmas.Option.{same_Some, none-some}
 use Rattle.rt_app.specs.Tree.{Task, App}

@@ -100,7 +100,7 @@ module _ (plan : Plan) (task : ℕ) (t : Task) (accepted : IsAccepted (app_of pl
       ap (λ n. target_with n free inputs guard queue) args_same
       ∙ ap (λ n. target_with (arguments_of of_plan task) n inputs guard queue) free_same
       ∙ ap (λ n. target_with (arguments_of of_plan task) (free_at of_plan task) n guard queue) inputs_same
-      ∙ ap (λ (g : Guard). target_with (arguments_of of_plan task) (free_at of_plan task) (slice_index (layout of_plan).inputs task) g
-      queue) guard_same
+      ∙ ap (λ (g : Guard). target_with (arguments_of of_plan task) (free_at of_plan task)
+      (slice_index (layout of_plan).inputs task) g queue) guard_same
       ∙ ap (λ (q : ReadyQueue). target_with (arguments_of of_plan task) (free_at of_plan task)
       (slice_index (layout of_plan).inputs task) (guard_of of_plan (section.Free task)) q) queue_same

@@ -1,4 +1,5 @@
 ghost use Rattle.std.specs.Prelude.{◌≡◌, ◌+◌, ◌<◌, ◌≤◌, ◌^◌, OnOk};
+ghost use Rattle.rt_app.specs.declared.costs.TheConstants.{SPAWN_WORDS};
 ghost use Rattle.rt_gen_queue.specs.Line.{plain, noted};
 ghost use Rattle.rt_gen_queue.specs.SpawnLines as spec;
 ghost use Rattle.rt_gen_queue.specs.Inside.Making.{Appends};
@@ -6,6 +7,7 @@ ghost use Rattle.rt_gen_queue.specs.Inside.Making.{Appends};
 use crate::lines::Lines;
 use crate::target::Target;
 use rt_code::{Instr, Line, Note};
+use rt_ids::limits::CAPACITY;
 use rt_ids::{NoMemory, Op, Prio, Section};
 
 /// A line without a note.
@@ -24,7 +26,7 @@ fn noted(instr: Instr, note: Note) -> Line
 
 /// The lines that take a place of the task, or lead to an address where none is left.
 pub(crate) fn take(target: &Target, level: u8, slot: u32, full: u32) -> [Line; 8]
-    requires slots { slot + 16 < 2 ^ 32 }
+    requires slots { slot + SPAWN_WORDS < 2 ^ 32 }
     ensures { result ≡ spec.take_lines target.now level slot full }
 {
     let guard = target.guard;
@@ -53,21 +55,22 @@ pub(crate) fn take(target: &Target, level: u8, slot: u32, full: u32) -> [Line; 8
 
 /// Appends the lines that store the arguments in the cells of the place.
 fn store(target: &Target, slot: u32, lines: &mut Lines) -> Result<(), NoMemory>
-    requires slots { slot + 16 < 2 ^ 32 }
+    requires slots { slot + SPAWN_WORDS < 2 ^ 32 }
     requires few { target.now.args ≤ 4 }
     ensures { OnOk result (Appends lines.old lines.new
         (spec.store_code target.now.args target.now.inputs slot 0)) }
 {
     let inputs = u32::from(target.inputs);
-    for place in 0..u32::from(target.args) {
-        lines.push(Instr::StoreAt(inputs + place, slot + 7, slot + place))?;
+    let offset = slot + 7;
+    for argument in 0..u32::from(target.args) {
+        lines.push(Instr::StoreAt(inputs + argument, offset, slot + argument))?;
     }
     Ok(())
 }
 
 /// Appends the lines that fill the place and make the word of its message.
 pub(crate) fn fill(target: &Target, level: u8, slot: u32, lines: &mut Lines) -> Result<(), NoMemory>
-    requires slots { slot + 16 < 2 ^ 32 }
+    requires slots { slot + SPAWN_WORDS < 2 ^ 32 }
     requires few { target.now.args ≤ 4 }
     ensures { OnOk result (Appends lines.old lines.new (spec.fill_lines target.now level slot)) }
 {
@@ -75,13 +78,13 @@ pub(crate) fn fill(target: &Target, level: u8, slot: u32, lines: &mut Lines) -> 
     lines.push(Instr::Set(factor, u32::from(target.args)))?;
     lines.push(Instr::Calc(Op::Mul, factor, place, factor))?;
     store(target, slot, lines)?;
-    lines.push(Instr::Set(factor, 16 * u32::from(target.task.0)))?;
+    lines.push(Instr::Set(factor, CAPACITY * u32::from(target.task.0)))?;
     lines.push(Instr::Calc(Op::Add, place, place, factor))
 }
 
 /// The lines that put the message into the ring of its level, and pend the level's dispatcher.
 pub(crate) fn ready(target: &Target, level: u8, slot: u32) -> [Line; 12]
-    requires slots { slot + 16 < 2 ^ 32 }
+    requires slots { slot + SPAWN_WORDS < 2 ^ 32 }
     ensures { result ≡ spec.ready_lines target.now level slot }
 {
     let ring = target.queue.level;
@@ -112,7 +115,7 @@ pub(crate) fn ready(target: &Target, level: u8, slot: u32) -> [Line; 12]
 
 /// The lines of the two answers, of which the first leads to an address.
 pub(crate) fn answer(target: &Target, level: u8, slot: u32, end: u32) -> [Line; 4]
-    requires slots { slot + 16 < 2 ^ 32 }
+    requires slots { slot + SPAWN_WORDS < 2 ^ 32 }
     ensures { result ≡ spec.end_lines target.now level slot end }
 {
     let closing = target.guard.closing(level, slot + 8);

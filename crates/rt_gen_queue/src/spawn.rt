@@ -17,16 +17,20 @@ use crate::lines::Lines;
 use crate::parts::{answer, fill, ready, take};
 use crate::target::{Target, find_target};
 use rt_app::Plan;
+use rt_app::costs::SPAWN_WORDS;
 use rt_code::Line;
 use rt_ids::{NoMemory, TaskId};
 use std::alloc::Global;
+
+/// Lines of a spawn, beside one for each argument.
+const SPAWN_LINES: u32 = 28;
 
 /// The address behind the lines of a spawn, by the address where they begin.
 fn next_end(target: &Target, entry: u32) -> Result<u32, NoMemory>
     ensures { IfOk result (λ end. end ≡ entry + (28 + target.now.args)) }
 {
     entry
-        .checked_add(28 + u32::from(target.args))
+        .checked_add(SPAWN_LINES + u32::from(target.args))
         .ok_or(NoMemory)
 }
 
@@ -41,7 +45,7 @@ fn append_spawn(
     requires few { target.now.args ≤ 4 }
     ensures { OnOk result (Appends lines.old lines.new (spawn_lines target.now level slot entry)) }
 {
-    slot.checked_add(16).ok_or(NoMemory)?;
+    slot.checked_add(SPAWN_WORDS).ok_or(NoMemory)?;
     let end = next_end(target, entry)?;
     lines.append(&take(target, level, slot, end - 2))?;
     fill(target, level, slot, lines)?;

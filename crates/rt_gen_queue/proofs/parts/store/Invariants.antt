@@ -3,5 +3,5 @@ use Rattle.std.proofs.Common.{◌≡◌, ◌++◌}
 use Rattle.rt_gen_queue.specs.SpawnLines.{store_code}
 use Rattle.rt_gen_queue.proofs.parts.store.Given as goal
 
-abbrev pub invariant-loop-place : goal.invariant-loop-place
-invariant-loop-place l = l.lines.lines ≡ l.fn.lines.lines ++ store_code l.place l.target.inputs l.slot 0
+abbrev pub invariant-loop-argument : goal.invariant-loop-argument
+invariant-loop-argument l = l.lines.lines ≡ l.fn.lines.lines ++ store_code l.argument l.target.inputs l.slot 0

@@ -22,13 +22,14 @@ pub returns-clause-is : goal.returns-clause-is
 returns-clause-is c =
     target_made c.args.plan.now c.args.task (task_of c.args.declared.now) c.requires.accepted c.requires.planned
     c.requires.is_there c.requires.software c.plan.inside.0.0.now.bits c.deref.result.now c.deref-2.result.now
-    c.deref-3.result.now _ c.cell_at-free.result c.cell_at-inputs.result c.free_ceiling.result c.of.result c.queue_of.result
+    c.deref-3.result.now _ c.cell_at-free.result c.cell_at-inputs.result c.free_ceiling.result c.of.result
+    c.queue_of.result
     (ap (λ (p : Plan). p.app.now.bits) c.plan.view_is)
     (c.deref.ensures.value ∙ ap (λ (p : Plan). p.lay.free) c.plan.view_is)
     (c.deref-2.ensures.value ∙ ap (λ (p : Plan). p.lay.inputs) c.plan.view_is)
     (c.deref-3.ensures.value ∙ ap (λ (p : Plan). p.ceil.free) c.plan.view_is)
-    (c.from-place.ensures ∙ c.task.view_is) c.cell_at-free.ensures c.cell_at-inputs.ensures c.free_ceiling.ensures c.of.ensures
-    c.queue_of.ensures
+    (c.from-place.ensures ∙ c.task.view_is) c.cell_at-free.ensures c.cell_at-inputs.ensures c.free_ceiling.ensures
+    c.of.ensures c.queue_of.ensures
 
 pub returns-clause-few : goal.returns-clause-few
 returns-clause-few c =
