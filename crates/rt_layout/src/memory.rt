@@ -52,9 +52,10 @@ fn push_task(alloc: Global, layout: &mut Layout, task: &Task) -> Result<(), NoMe
     requires room { length layout.old.cells + length (task_rows (task_of task.now)) < 2 ^ 16 }
     ensures { OnOk result (layout.new ≡ with_task layout.old (task_of task.now)) }
 {
-    match task.binds {
-        Some(_irq) => skip_task(layout),
-        None => push_queues(alloc, layout, task),
+    if task.is_software() {
+        push_queues(alloc, layout, task)
+    } else {
+        skip_task(layout)
     }
 }
 

@@ -16,7 +16,7 @@ fn add_capacity(rooms: &mut Rooms, task: &Task)
     ensures few { task.now.capacity < 2 ^ 8 }
 {
     let capacity = u32::from(task.capacity);
-    if task.binds.is_none() {
+    if task.is_software() {
         rooms[usize::from(task.priority)] += capacity;
     }
 }
