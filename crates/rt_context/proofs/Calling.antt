@@ -121,7 +121,7 @@ spells_called f c d row from args address s may args_are region entry frame call
       caller = caller ∙ ap Some (s.frame ∙ sym long);
       callers = ap (λ cs. reverse cs.items) callers ∙ s.callers;
       small = s.small;
-      eight = s.eight;
+      basic = s.basic;
       returns = omega (arith, long, may.slot);
       below_return = s.below_return;
     }

@@ -1,6 +1,7 @@
 -- What fields spell in the thread, and after exception entry.
 use Rattle.std.proofs.Common.{◌≡◌, ℕ, ◌+◌, ◌-◌, ◌^◌, ◌≤◌, min, IsTrue, [], ◌∷◌, ◌++◌, length, replicate, reverse, None, sym, ap, ◌∙◌, arith, append_assoc, length-append}
 use Rattle.std.proofs.lemmas.List.{length-replicate, reverse-append}
+use Rattle.rt_ids.specs.declared.exception.TheConstants.{BASIC_FRAME_WORDS}
 use Rattle.rt_stack.specs.Region.{Region, Fits, empty, top, pushed}
 use Rattle.rt_context.specs.declared.sizes.TheConstants.{STACK_WORDS}
 use Rattle.rt_context.specs.declared.frames.Frames.TheInside.{Inside}
@@ -23,10 +24,11 @@ entry_fits f c words n s stopped is =
 pub frame_fits : (f : Frames) (c : Inside) (r : Region) (x : Saved) (words : ℕ) → Spells f c
     → r ≡ record c.region { words = c.region.words ++ exception_frame c.entry x } → Fits c.region (c.entry + words) → Fits r words
 frame_fits f c r x words s region fits =
-    let eight : 8 ≤ c.entry = omega (arith, s.entry, s.eight) in
+    let basic : BASIC_FRAME_WORDS ≤ c.entry = omega (arith, s.entry, s.basic) in
     let long = ap (λ (r : Region). length r.words) region in
     let size = ap (λ (r : Region). r.size) region in
-    omega (arith, long, size, fits, length-append c.region.words (exception_frame c.entry x), length-exception_frame c.entry eight x)
+    let all = length-append c.region.words (exception_frame c.entry x) in
+    let pushed = length-exception_frame c.entry basic x in omega (arith, long, size, fits, all, pushed)
 
 pub spells_entered : (f : Frames) (c d : Inside) (number address n : ℕ) → Spells f c
     → d.region ≡ record c.region { words = (c.region.words ++ exception_frame c.entry (record { number = number; address = address; slots = top c.region c.frame; caller = None })) ++ replicate n 0 }
@@ -44,14 +46,16 @@ spells_entered f c d number address n s region entry frame caller callers =
       callers =
           ap reverse callers ∙ reverse-append c.callers.items (c.caller ∷ []) ∙ (λ i. s.caller i ∷ s.callers i);
       small = s.small;
-      eight = s.eight;
+      basic = s.basic;
       returns = tt;
       below_return = (s.returns, s.below_return);
     }
 
 -- the thread's frame alone
-pub spells_thread : (size entry n : ℕ) (d : Inside) → size ≤ STACK_WORDS → 8 ≤ entry → d.region ≡ pushed (empty size) n → d.entry ≡ entry → d.frame ≡ n → d.caller ≡ None → d.callers.items ≡ [] → Spells (thread size entry n) d
-spells_thread size entry n d small eight region entry_is frame caller callers =
+pub spells_thread : (size entry n : ℕ) (d : Inside) → size ≤ STACK_WORDS → BASIC_FRAME_WORDS ≤ entry
+    → d.region ≡ pushed (empty size) n → d.entry ≡ entry → d.frame ≡ n → d.caller ≡ None → d.callers.items ≡ []
+    → Spells (thread size entry n) d
+spells_thread size entry n d small basic region entry_is frame caller callers =
     record {
       spelled = ap (λ (r : Region). r.words) region;
       size = ap (λ (r : Region). r.size) region;
@@ -60,7 +64,7 @@ spells_thread size entry n d small eight region entry_is frame caller callers =
       caller = caller;
       callers = ap reverse callers;
       small = small;
-      eight = eight;
+      basic = basic;
       returns = tt;
       below_return = tt;
     }

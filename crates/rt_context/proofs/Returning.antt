@@ -53,7 +53,7 @@ back_by size entry slots (Some own) saved c d n address s calls region entry_is 
         caller = caller;
         callers = ap (λ cs. reverse cs.items) callers ∙ s.callers;
         small = s.small;
-        eight = s.eight;
+        basic = s.basic;
         returns = tt;
         below_return = s.below_return;
       };
@@ -101,7 +101,10 @@ module _ (f : Frames) (c : Inside) (caller : Option ℕ) (callers : List (Option
   pub entry_is_there : c.frame + c.entry ≤ used_words c.region
   entry_is_there =
       let count = ap length (below_is f c s ∙ under_words) in
-      omega (arith, count, used_is f c s, s.frame, s.entry, length-take (used_words c.region - c.frame) c.region.words, length-append (words (after f found.last found.others)) (exception_frame f.entry found.last), length-exception_frame f.entry s.eight found.last)
+      let kept = length-take (used_words c.region - c.frame) c.region.words in
+      let all = length-append (words (after f found.last found.others)) (exception_frame f.entry found.last) in
+      let pushed = length-exception_frame f.entry s.basic found.last in
+      omega (arith, count, used_is f c s, s.frame, s.entry, kept, all, pushed)
 
   pub left_leads : (d : Inside) (address : ℕ) → d.region ≡ popped (popped c.region c.frame) c.entry
       → d.entry ≡ c.entry → d.frame ≡ slice_index (top (popped c.region c.frame) c.entry) LINK → d.caller ≡ caller → reverse d.callers.items ≡ callers
@@ -111,10 +114,12 @@ module _ (f : Frames) (c : Inside) (caller : Option ℕ) (callers : List (Option
       let rest : List ℕ = words (after f found.last found.others) in
       let whole : popped c.region c.frame ≡ record { words = rest ++ pushed; size = f.size } =
       popped_is f c s ∙ (λ i. record { words = under_words i; size = f.size }) in
+      let long : length pushed ≡ f.entry = length-exception_frame f.entry s.basic found.last in
       let on_top : top (popped c.region c.frame) c.entry ≡ pushed =
-      (λ i. top (whole i) (s.entry i)) ∙ last_of-append f.entry rest pushed (length-exception_frame f.entry s.eight found.last) in
+      (λ i. top (whole i) (s.entry i)) ∙ last_of-append f.entry rest pushed long in
       let left_words : d.region.words ≡ rest =
-      ap (λ (r : Region). r.words) region ∙ (λ i. below_top (whole i) (s.entry i)) ∙ without-append f.entry rest pushed (length-exception_frame f.entry s.eight found.last) in
+      ap (λ (r : Region). r.words) region
+      ∙ (λ i. below_top (whole i) (s.entry i)) ∙ without-append f.entry rest pushed long in
       let returns = subst (AllByRecursion (λ (x : Saved). HasReturn x.caller)) found.below s.below_return in
       let answer : address ≡ found.last.address = read ∙ ap (λ ws. slice_index ws RETURN_ADDRESS) on_top in record {
         after = after f found.last found.others;
@@ -128,7 +133,7 @@ module _ (f : Frames) (c : Inside) (caller : Option ℕ) (callers : List (Option
           caller = caller_is ∙ found.caller_is;
           callers = callers_are ∙ found.callers_are;
           small = s.small;
-          eight = s.eight;
+          basic = s.basic;
           returns = returns.0;
           below_return = returns.1;
         };

@@ -33,7 +33,7 @@ module _ (f : Frames) (c : Inside) (s : Spells f c) where
   below_is = (λ i. take (length (regrouped i) - s.frame i) (regrouped i)) ∙ without-append (length f.slots) rest f.slots refl
 
   pub used_is : used_words c.region ≡ used f
-  used_is = ap length s.spelled ∙ words_are_counted f s.eight
+  used_is = ap length s.spelled ∙ words_are_counted f s.basic
 
   pub popped_is : popped c.region c.frame ≡ record { words = words_below f.entry f.below ++ words_of f.caller; size = f.size }
   popped_is = λ i. record { words = below_is i; size = s.size i }

@@ -2,6 +2,7 @@
 use Rattle.std.proofs.Common.{◌≡◌, ℕ, ◌-◌, ◌≤◌, List, [], ◌∷◌, ◌++◌, length, map, take, drop, Option, Some, None, refl, sym, ap, subst, ◌∙◌, arith, append_assoc, length-append}
 use Rattle.std.proofs.lemmas.List.{length-replicate}
 use Rattle.std.proofs.Math.Seq.{take-append_seam, drop-append_seam}
+use Rattle.rt_ids.specs.declared.exception.TheConstants.{BASIC_FRAME_WORDS}
 use Rattle.rt_context.specs.declared.frames.Frames.TheInside.{Inside}
 use Rattle.rt_code.specs.Stack.{words_of}
 use Rattle.rt_context.specs.Frames.{Saved, Frames, exception_frame, words_below, words}
@@ -27,8 +28,9 @@ below_caller-append : (caller : Option (List ℕ)) (xs : List ℕ) → below_cal
 below_caller-append None xs = without-append 0 xs [] refl
 below_caller-append (Some ws) xs = without-append (length ws) xs ws refl
 
-pub length-exception_frame : (entry : ℕ) → 8 ≤ entry → (s : Saved) → length (exception_frame entry s) ≡ entry
-length-exception_frame entry eight s = omega (arith, length-replicate {A = ℕ} (entry - 8) 0)
+pub length-exception_frame : (entry : ℕ) → BASIC_FRAME_WORDS ≤ entry → (s : Saved)
+    → length (exception_frame entry s) ≡ entry
+length-exception_frame entry basic s = omega (arith, length-replicate {A = ℕ} (entry - BASIC_FRAME_WORDS) 0)
 
 -- a context behind other words
 module _ (entry : ℕ) where
@@ -44,12 +46,12 @@ module _ (entry : ℕ) where
   from_caller s callers caller below =
       record { number = s.number; address = s.address; slots = s.slots; caller = caller } ∷ saved_of entry below callers
 
-  module _ (eight : 8 ≤ entry) where
+  module _ (basic : BASIC_FRAME_WORDS ≤ entry) where
     saved_of-append : (s : Saved) (xs : List ℕ) (callers : List (Option ℕ))
         → saved_of entry (xs ++ (words_of s.caller ++ (s.slots ++ exception_frame entry s))) (caller_size s.caller ∷ callers) ≡ s ∷ saved_of entry xs callers
     saved_of-append s xs callers =
         let pushed = exception_frame entry s in
-        let long = length-exception_frame entry eight s in
+        let long = length-exception_frame entry basic s in
         let rest : List ℕ = xs ++ words_of s.caller in
         let under : List ℕ = rest ++ s.slots in
         let regrouped : xs ++ (words_of s.caller ++ (s.slots ++ pushed)) ≡ under ++ pushed = simp append_assoc in
@@ -61,10 +63,12 @@ module _ (entry : ℕ) where
 abbrev pub sizes_of : List Saved → List (Option ℕ)
 sizes_of below = map (λ s. caller_size s.caller) below
 
-saved_of-words_below : (entry : ℕ) → 8 ≤ entry → (below : List Saved) → saved_of entry (words_below entry below) (sizes_of below) ≡ below
-saved_of-words_below entry eight [] = refl
-saved_of-words_below entry eight (s ∷ below) =
-    saved_of-append entry eight s (words_below entry below) (sizes_of below) ∙ ap (λ saved. s ∷ saved) (saved_of-words_below entry eight below)
+saved_of-words_below : (entry : ℕ) → BASIC_FRAME_WORDS ≤ entry → (below : List Saved)
+    → saved_of entry (words_below entry below) (sizes_of below) ≡ below
+saved_of-words_below entry basic [] = refl
+saved_of-words_below entry basic (s ∷ below) =
+    saved_of-append entry basic s (words_below entry below) (sizes_of below)
+    ∙ ap (λ saved. s ∷ saved) (saved_of-words_below entry basic below)
 
 -- the view of any fields, by the words and the sizes
 abbrev by_sizes : ℕ → ℕ → List ℕ → ℕ → Option ℕ → List (Option ℕ) → Frames
@@ -72,8 +76,9 @@ by_sizes size entry ws frame caller callers =
     let under = without frame ws in
     record { size = size; entry = entry; slots = last_of frame ws; caller = caller_of caller under; below = saved_of entry (below_caller caller under) callers }
 
-by_sizes-words : (f : Frames) → 8 ≤ f.entry → by_sizes f.size f.entry (words f) (length f.slots) (caller_size f.caller) (sizes_of f.below) ≡ f
-by_sizes-words f eight =
+by_sizes-words : (f : Frames) → BASIC_FRAME_WORDS ≤ f.entry
+    → by_sizes f.size f.entry (words f) (length f.slots) (caller_size f.caller) (sizes_of f.below) ≡ f
+by_sizes-words f basic =
     let rest : List ℕ = words_below f.entry f.below ++ words_of f.caller in
     let regrouped : words f ≡ rest ++ f.slots = simp append_assoc in
     ap (λ ws. by_sizes f.size f.entry ws (length f.slots) (caller_size f.caller) (sizes_of f.below)) regrouped
@@ -93,13 +98,14 @@ by_sizes-words f eight =
       caller = caller_of-append f.caller (words_below f.entry f.below) i;
       below = saved_of f.entry (below_caller-append f.caller (words_below f.entry f.below) i) (sizes_of f.below);
     })
-    ∙ (λ i. record f { below = saved_of-words_below f.entry eight f.below i })
+    ∙ (λ i. record f { below = saved_of-words_below f.entry basic f.below i })
 
 -- fields that spell frames are seen as these, and keep the invariant
 pub spelled : (f : Frames) (c : Inside) → Spells f c → frames c ≡ f
 unfolding frames
 spelled f c s =
-    (λ i. by_sizes (s.size i) (s.entry i) (s.spelled i) (s.frame i) (s.caller i) (s.callers i)) ∙ by_sizes-words f s.eight
+    (λ i. by_sizes (s.size i) (s.entry i) (s.spelled i) (s.frame i) (s.caller i) (s.callers i))
+    ∙ by_sizes-words f s.basic
 
 pub kept : (f : Frames) (c : Inside) → Spells f c → IsSpelled c
 kept f c s = subst (λ (g : Frames). Spells g c) (sym (spelled f c s)) s

@@ -21,7 +21,7 @@ spells_written f c d ws s long region entry frame caller callers =
       caller = caller ∙ s.caller;
       callers = ap (λ cs. reverse cs.items) callers ∙ s.callers;
       small = s.small;
-      eight = s.eight;
+      basic = s.basic;
       returns = s.returns;
       below_return = s.below_return;
     }

@@ -1,9 +1,12 @@
 -- The frames on the stack of a core, and the words in which they lie. At exception entry (ARMv7-M Architecture
--- Reference Manual, section B1.5.6) the architecture pushes a frame of eight words, whose contents say what was
--- interrupted; at exception return (section B1.5.8) it reads them. Here the frames are a structure, and the words are
--- its image. That LR holds the size of the interrupted frame in place of EXC_RETURN, and that the stack grows to higher
--- places, are this model's own. The code keeps the words and a few sizes, and reads the rest back from the words.
+-- Reference Manual, section B1.5.6) the architecture pushes the basic frame, whose contents say what was interrupted,
+-- or the extended frame, which has words for the floating-point registers above it; at exception return (section
+-- B1.5.8) it reads them. Here the frames are a structure, and the words are its image. That LR holds the size of the
+-- interrupted frame in place of EXC_RETURN, that the words for the floating-point registers are 0, and that the stack
+-- grows to higher places, are this model's own. The code keeps the words and a few sizes, and reads the rest back from
+-- the words.
 use Rattle.std.specs.Prelude.{ℕ, ◌-◌, ◌*◌, List, [], ◌∷◌, ◌++◌, length, replicate, Option}
+use Rattle.rt_ids.specs.declared.exception.TheConstants.{BASIC_FRAME_WORDS}
 use Rattle.rt_code.specs.Stack as stack
 
 -- what an entered handler interrupted
@@ -20,7 +23,7 @@ pub record Saved : Type 0 where
 pub record Frames : Type 0 where
   -- how many words have room
   pub size : ℕ
-  -- how many words exception entry pushes: at least eight
+  -- how many words exception entry pushes: at least those of the basic frame
   pub entry : ℕ
   -- the words of the running frame
   pub slots : List ℕ
@@ -30,11 +33,11 @@ pub record Frames : Type 0 where
   pub below : List Saved
 
 -- The so many words that exception entry pushes, from the lowest address: R0 to R3 and R12 of 0, LR with the size of
--- the interrupted frame, the return address, xPSR with the interrupted exception's number, and words of 0 past these
--- eight.
+-- the interrupted frame, the return address, xPSR with the interrupted exception's number; and above this basic frame
+-- words of 0.
 abbrev pub exception_frame : ℕ → Saved → List ℕ
 exception_frame entry s =
-    0 ∷ 0 ∷ 0 ∷ 0 ∷ 0 ∷ length s.slots ∷ s.address ∷ s.number ∷ replicate (entry - 8) 0
+    0 ∷ 0 ∷ 0 ∷ 0 ∷ 0 ∷ length s.slots ∷ s.address ∷ s.number ∷ replicate (entry - BASIC_FRAME_WORDS) 0
 
 -- the words below the running frames, the lowest first
 abbrev pub words_below : ℕ → List Saved → List ℕ

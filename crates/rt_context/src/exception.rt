@@ -1,5 +1,6 @@
 // The architecture's frame at the end of a region.
 ghost use Rattle.std.specs.Prelude.{◌≡◌, ◌+◌, ◌≤◌, ◌++◌, None, replicate, slice_index};
+ghost use Rattle.rt_ids.specs.declared.exception.TheConstants.{BASIC_FRAME_WORDS};
 ghost use Rattle.rt_stack.specs.Region.{Fits, used, top, popped};
 ghost use Rattle.rt_context.specs.Frames.{Saved, exception_frame};
 
@@ -24,7 +25,7 @@ pub(crate) struct Interrupted {
 /// Pushes the frame of so many words for the exception of a number, interrupted at a code address with the last so many
 /// words as its frame.
 pub(crate) fn push(region: &mut Region, entry: u32, frame: u32, number: u32, address: u32)
-    requires eight { 8 ≤ entry }
+    requires basic { BASIC_FRAME_WORDS ≤ entry }
     requires frame { frame ≤ used region.old }
     requires fits { Fits region.old entry }
     ensures { let interrupted : Saved = record {
@@ -45,7 +46,7 @@ pub(crate) fn push(region: &mut Region, entry: u32, frame: u32, number: u32, add
 /// Pops the last so many words and the architecture's frame of so many below them, and answers where the interrupted
 /// frame runs on.
 pub(crate) fn leave(region: &mut Region, entry: u32, words: u32) -> Interrupted
-    requires eight { 8 ≤ entry }
+    requires basic { BASIC_FRAME_WORDS ≤ entry }
     requires there { words + entry ≤ used region.old }
     ensures frame { result.frame ≡ slice_index (top (popped region.old words) entry) LINK }
     ensures address { result.address ≡ slice_index (top (popped region.old words) entry) RETURN_ADDRESS }

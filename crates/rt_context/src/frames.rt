@@ -1,5 +1,6 @@
 ghost use Rattle.std.specs.Prelude.{◌≡◌, ℕ, ◌+◌, ◌*◌, ◌/◌, ◌%◌, ◌^◌, ◌<◌, ◌≤◌, ◌↔◌, IsTrue, IfOk, Some, None, false};
 ghost use Rattle.std.specs.Prelude.{length, slice_index};
+ghost use Rattle.rt_ids.specs.declared.exception.TheConstants.{BASIC_FRAME_WORDS};
 ghost use Rattle.rt_code.specs.Processor.{processor, Gives};
 ghost use Rattle.rt_code.specs.Effect.{effect};
 ghost use Rattle.rt_context.specs.declared.sizes.TheConstants.{CONTEXTS, STACK_WORDS};
@@ -44,7 +45,7 @@ impl Model for Frames {
 
 impl Frames {
     /// The thread's frame of so many words of 0, alone in a stack of so many bytes. Exception entry will push so many
-    /// words, of which the architecture names the first eight.
+    /// words: those of the basic frame, or more.
     pub fn new(
         alloc: Global,
         stack_bytes: u32,
@@ -54,7 +55,7 @@ impl Frames {
         requires pairs { stack_bytes % 8 ≡ 0 }
         requires small { stack_bytes ≤ 2 ^ 20 }
         requires fits { 4 * thread_words ≤ stack_bytes }
-        requires eight { 8 ≤ entry }
+        requires basic { BASIC_FRAME_WORDS ≤ entry }
         ensures { IfOk result (λ made. made ≡ moves.thread (stack_bytes / 4) entry thread_words) }
     {
         let mut region = Region::new(alloc, stack_bytes)?;

@@ -2,6 +2,7 @@
 use Rattle.std.specs.Prelude.{◌≡◌, ℕ, ◌-◌, ◌<◌, ◌≤◌, List, [], ◌∷◌, length, map, reverse, take, drop, slice_index}
 use Rattle.std.specs.Prelude.{Option, option_map, unwrap_or, IfSome}
 use Rattle.std.specs.List.{AllByRecursion}
+use Rattle.rt_ids.specs.declared.exception.TheConstants.{BASIC_FRAME_WORDS}
 use Rattle.rt_context.specs.declared.exception.TheConstants.{LINK, RETURN_ADDRESS, STATUS}
 use Rattle.rt_context.specs.declared.sizes.TheConstants.{STACK_WORDS}
 use Rattle.rt_context.specs.declared.frames.Frames.TheInside.{Inside}
@@ -71,7 +72,7 @@ pub record Spells (f : Frames) (c : Inside) : Type 0 where
   pub caller : c.caller ≡ caller_size f.caller
   pub callers : reverse c.callers.items ≡ map (λ s. caller_size s.caller) f.below
   pub small : f.size ≤ STACK_WORDS
-  pub eight : 8 ≤ f.entry
+  pub basic : BASIC_FRAME_WORDS ≤ f.entry
   pub returns : HasReturn f.caller
   pub below_return : AllByRecursion (λ s. HasReturn s.caller) f.below
 

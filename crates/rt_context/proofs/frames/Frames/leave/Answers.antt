@@ -1,5 +1,6 @@
 use Rattle.std.proofs.Common.{◌≡◌, ◌≤◌, None, reverse, refl, sym, subst, arith}
 use Rattle.std.proofs.lemmas.Grind.{common_steps}
+use Rattle.rt_ids.specs.declared.exception.TheConstants.{BASIC_FRAME_WORDS}
 use Rattle.rt_context.specs.Moves.{left}
 use Rattle.rt_context.proofs.Running.{seen}
 use Rattle.rt_context.proofs.Returning.{Finds, finds, entry_is_there, Leads, left_leads, leads_kept, leads_view}
@@ -16,7 +17,7 @@ pub leave-interrupted-requires : goal.leave-interrupted-requires
 leave-interrupted-requires c =
     let s = seen c.args.self.now c.self.inside c.self.invariant c.self.view_is in
     record {
-      eight = subst (λ n. 8 ≤ n) (sym s.entry) s.eight;
+      basic = subst (λ n. BASIC_FRAME_WORDS ≤ n) (sym s.entry) s.basic;
       there = entry_is_there c.args.self.now c.self.inside c.in_ok-caller.caller (reverse c.pop.new.self.items) s (found (goal.at.leave-interrupted-requires c).In_ok-caller);
     }
 

@@ -9,7 +9,9 @@ use Rattle.rt_context.proofs.frames.Frames.new.Goals.{After-new-2}
 
 spells : (c : After-new-2) → Spells (thread (c.args.stack_bytes / 4) c.args.entry c.args.thread_words) (record { region = c.push.new.self; entry = c.args.entry; frame = c.args.thread_words; caller = None; callers = c.new-2.result })
 spells c =
-    spells_thread (c.args.stack_bytes / 4) c.args.entry c.args.thread_words _ (omega arith) c.requires.eight (c.push.ensures ∙ ap (λ (r : Region). pushed r c.args.thread_words) c.in_ok-region.ensures.empty) refl refl refl c.new-2.ensures
+    spells_thread (c.args.stack_bytes / 4) c.args.entry c.args.thread_words _ (omega arith) c.requires.basic
+    (c.push.ensures ∙ ap (λ (r : Region). pushed r c.args.thread_words) c.in_ok-region.ensures.empty)
+    refl refl refl c.new-2.ensures
 
 pub invariant_of-result : goal.invariant_of-result
 invariant_of-result c = kept _ _ (spells c)
