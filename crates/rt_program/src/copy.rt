@@ -44,6 +44,7 @@ pub(crate) fn image(alloc: Global, from: &Image) -> Result<Image, NoMemory>
     let names = from.names.copy(alloc)?;
     Ok(Image {
         bits: from.bits,
+        fpu: from.fpu,
         stack_bytes: from.stack_bytes,
         thread_words: from.thread_words,
         cells,

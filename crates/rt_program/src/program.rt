@@ -3,13 +3,12 @@ ghost use Rattle.rt_code.specs.Cells.{resource_cell};
 ghost use Rattle.rt_code.specs.Tables.{handler_of, argument_count};
 
 use crate::{copy, tables};
-use rt_code::{BodyRow, Handler, Image, Instr, Note};
+use rt_code::{BodyRow, Handler, Image, Line};
 use rt_ids::{Irq, NoMemory, ResId, TaskId};
 use std::alloc::Global;
 use std::marker::Model;
 
 /// An image with tables by number, so that nothing is looked for while it runs. Contracts see the image.
-#[derive(Drop)]
 pub struct Program {
     image: Image,
     /// By interrupt number.
@@ -30,6 +29,17 @@ impl Model for Program {
     ghost view = { λ p. p.image };
 
     ghost invariant = { HasTables };
+}
+
+impl Drop for Program {
+    fn drop(self) {
+        let Program {
+            image: _,
+            handlers: _,
+            resources: _,
+            arguments: _,
+        } = self;
+    }
 }
 
 impl Program {
@@ -80,7 +90,7 @@ impl Program {
     }
 
     /// The instruction at a code address, with its note.
-    pub fn line(&self, address: u32) -> Option<(Instr, Option<Note>)>
+    pub fn line(&self, address: u32) -> Option<Line>
         ensures { result ≡ slice_get self.now.code address }
     {
         self.image.code.get(address as usize).copied()
