@@ -2,7 +2,7 @@
 use Rattle.std.proofs.Common.{◌≡◌, ℕ, ◌+◌, ◌≤◌, List, [], ◌∷◌, map, refl, arith}
 use Rattle.std.specs.List.{AllByRecursion}
 use Rattle.rt_ids.specs.declared.limits.TheConstants.{DEPTH}
-use Rattle.rt_ast.specs.Tree.{Statement, Bind, Assign, Branch, Repeat, Locked, Emit, Pend, Spawns, Block, Empty, Then, Expression, Num, Read, Oper, Spawn, Soon, After, Value, Calc, Now, Call}
+use Rattle.rt_ast.specs.Tree.{Statement, Bind, Assign, Branch, Repeat, Locked, Emit, Pend, Spawns, Block, Empty, Then, Expression, Num, Read, Oper, Spawn, Soon, After, Cancel, Move, Value, Calc, Now, Call}
 use Rattle.rt_ast.specs.PrintableBody as source
 use Rattle.rt_ast.specs.PrintableBody.{depth_of, IsPrintableExpression, IsPrintableSpawn, IsPrintableValue, IsPrintableStatement, ArePrintable}
 use Rattle.rt_app.specs.Limits as kept
@@ -56,6 +56,8 @@ all_shallow names (e ∷ es) p = omega (arith, shallow names e p.0, all_shallow 
 spawn_shallow : (names : Names) (s : Spawn) → IsPrintableSpawn s → spawn_depth (spawn names s) ≤ DEPTH
 spawn_shallow names (Soon task args) p = all_shallow names args p.1
 spawn_shallow names (After word delay task args) p = omega (arith, shallow names delay p.0, all_shallow names args p.2)
+spawn_shallow names (Cancel word task handle) p = shallow names handle p.1
+spawn_shallow names (Move word delay task handle) p = omega (arith, shallow names delay p.0, shallow names handle p.2)
 
 value_shallow : (names : Names) (v : Value) → IsPrintableValue v → value_depth (value names v) ≤ DEPTH
 value_shallow names (Calc e) p = shallow names e p

@@ -1,7 +1,7 @@
 -- The numbers of a resolved block are those of the written one, and so are the turns of its loops.
 use Rattle.std.proofs.Common.{ℕ, ◌+◌, List, [], ◌∷◌, map}
 use Rattle.std.specs.List.{AllByRecursion}
-use Rattle.rt_ast.specs.Tree.{Statement, Bind, Assign, Branch, Repeat, Locked, Emit, Pend, Spawns, Block, Empty, Then, Expression, Num, Read, Oper, Spawn, Soon, After, Value, Calc, Now, Call}
+use Rattle.rt_ast.specs.Tree.{Statement, Bind, Assign, Branch, Repeat, Locked, Emit, Pend, Spawns, Block, Empty, Then, Expression, Num, Read, Oper, Spawn, Soon, After, Cancel, Move, Value, Calc, Now, Call}
 use Rattle.rt_ast.specs.PrintableBody.{IsSpelledOut, IsPrintableExpression, IsPrintableSpawn, IsPrintableValue, IsPrintableStatement, ArePrintable}
 use Rattle.rt_app.specs.Limits.{ExpressionFits, SpawnFits, ValueFits, StatementFits, BlockFits}
 use Rattle.rt_resolve.specs.Scope.{Names, inside}
@@ -19,6 +19,8 @@ expressions_fit names (e ∷ es) p = (expression_fits names e p.0.0, expressions
 spawn_fits : (names : Names) (s : Spawn) → IsPrintableSpawn s → SpawnFits (spawn names s)
 spawn_fits names (Soon task args) p = expressions_fit names args p.1
 spawn_fits names (After word delay task args) p = (expression_fits names delay p.0.0, expressions_fit names args p.2)
+spawn_fits names (Cancel word task handle) p = expression_fits names handle p.1.0
+spawn_fits names (Move word delay task handle) p = (expression_fits names delay p.0.0, expression_fits names handle p.2.0)
 
 value_fits : (names : Names) (v : Value) → IsPrintableValue v → ValueFits (value names v)
 value_fits names (Calc e) p = expression_fits names e p.0

@@ -3,8 +3,8 @@ use Rattle.std.specs.Prelude.{ℕ, ◌+◌, ◌||◌, Bool, List, [], ◌++◌, 
 use Rattle.std.specs.List.{list_any}
 use Rattle.rt_ids.specs.declared.rule.Rule.TheVariants as rule
 use Rattle.rt_ast.specs.declared.ident.Ident.{Ident}
-use Rattle.rt_ast.specs.Tree.{Expression, Num, Read, Oper, Spawn, Soon, After, Value, Calc, Now, Call, Statement, Bind}
-use Rattle.rt_ast.specs.Tree.{Assign, Branch, Repeat, Locked, Emit, Pend, Spawns, Block, Empty, Then}
+use Rattle.rt_ast.specs.Tree.{Expression, Num, Read, Oper, Spawn, Soon, After, Cancel, Move, Value, Calc, Now, Call}
+use Rattle.rt_ast.specs.Tree.{Statement, Bind, Assign, Branch, Repeat, Locked, Emit, Pend, Spawns, Block, Empty, Then}
 use Rattle.rt_app.specs.declared.violation.Violation.{Violation}
 use Rattle.rt_app.specs.Violation.{when}
 use Rattle.rt_resolve.specs.Scope.{Names, irq_named, task_named, shared_named, local_named, is_variable, inside}
@@ -29,13 +29,22 @@ expression_faults names (Num n) = []
 expression_faults names (Read x) = if_unknown (meaning names x.name) x.at
 expression_faults names (Oper o left right) = expression_faults names left ++ expression_faults names right
 
+-- a task and the arguments of a message to it
 abbrev pub call_faults : Names → Ident → List Expression → List Violation
 call_faults names task args =
     if_unknown (task_named names.app task.name) task.at ++ flat_map (expression_faults names) args
 
+-- a task and the handle of a message of it
+abbrev pub message_faults : Names → Ident → Expression → List Violation
+message_faults names task handle =
+    if_unknown (task_named names.app task.name) task.at ++ expression_faults names handle
+
+-- of a spawn, in order of the text
 abbrev pub spawn_faults : Names → Spawn → List Violation
 spawn_faults names (Soon task args) = call_faults names task args
 spawn_faults names (After word delay task args) = expression_faults names delay ++ call_faults names task args
+spawn_faults names (Cancel word task handle) = message_faults names task handle
+spawn_faults names (Move word delay task handle) = expression_faults names delay ++ message_faults names task handle
 
 abbrev pub value_faults : Names → Value → List Violation
 value_faults names (Calc e) = expression_faults names e

@@ -102,6 +102,7 @@ task app t = record {
 abbrev pub resolved : App → tree.App
 resolved app = record {
   bits = app.bits;
+  fpu = app.fpu;
   irqs = map irq app.irqs;
   dispatchers = map (dispatcher app) app.dispatchers;
   mono = option_map (mono app) app.mono;

@@ -19,6 +19,11 @@ spawn names (written.Soon task args) =
 spawn names (written.After word delay task args) =
     tree.After word (expression names delay) (or_unknown (task_named names.app task.name))
     (map (expression names) args) task.at
+spawn names (written.Cancel word task handle) =
+    tree.Cancel word (or_unknown (task_named names.app task.name)) (expression names handle) task.at
+spawn names (written.Move word delay task handle) =
+    tree.Move word (expression names delay) (or_unknown (task_named names.app task.name)) (expression names handle)
+    task.at
 
 abbrev pub value : Names → written.Value → tree.Value
 value names (written.Calc e) = tree.Calc (expression names e)

@@ -57,6 +57,7 @@ pub(crate) fn resolve_app(
     let tasks = resolve_tasks(alloc, faults, app, &app.tasks)?;
     Ok(App {
         bits: app.bits as u8,
+        fpu: app.fpu,
         irqs: resolve_irqs(alloc, &app.irqs)?,
         dispatchers,
         mono,

@@ -114,6 +114,17 @@ pub(crate) fn resolve_spawn(
             let args = resolve_expressions(alloc, faults, names, args)?;
             Ok(rt_app::Spawn::After(*word, delay, task, args, x.at))
         }
+        Spawn::Cancel(word, x, handle) => {
+            let task = resolve_task(faults, names, x)?;
+            let handle = resolve_expression(alloc, faults, names, handle)?;
+            Ok(rt_app::Spawn::Cancel(*word, task, handle, x.at))
+        }
+        Spawn::Move(word, delay, x, handle) => {
+            let delay = resolve_expression(alloc, faults, names, delay)?;
+            let task = resolve_task(faults, names, x)?;
+            let handle = resolve_expression(alloc, faults, names, handle)?;
+            Ok(rt_app::Spawn::Move(*word, delay, task, handle, x.at))
+        }
     }
 }
 
