@@ -10,7 +10,7 @@ use Rattle.rt_ids.specs.Storage.{Runner}
 use Rattle.rt_ids.specs.declared.limits.TheConstants.{BODY_COST}
 use Rattle.rt_app.specs.declared.app.Mono.{Mono}
 use Rattle.rt_app.specs.Tree.{Statement, Bind, Assign, Branch, Repeat, Locked, Emit, Pend, Spawns, Calc, Now, Call}
-use Rattle.rt_app.specs.Tree.{Spawn, Soon, After}
+use Rattle.rt_app.specs.Tree.{Spawn, Soon, After, Cancel, Move}
 use Rattle.rt_app.specs.Spawned.{statement_spawns, spawns}
 use Rattle.rt_app.specs.Layout.{memory}
 use Rattle.rt_app.specs.Holding.{storage}
@@ -251,6 +251,12 @@ module _ (code : List Line) (bodies : List BodyRow) (thread : ℕ) (who : Runner
     statement_stands (Bind x (Call (After word delay task args at))) count visible fixed locked level lock room sound
         placed below fixed_below fits n k h vars vs later fuel has lasts ready is on =
         absurd (no_mono app.mono facts.no_clock sound.1.4)
+    statement_stands (Bind x (Call (Cancel word task handle at))) count visible fixed locked level lock room sound
+        placed below fixed_below fits n k h vars vs later fuel has lasts ready is on =
+        absurd (no_mono app.mono facts.no_clock sound.1.1.timed)
+    statement_stands (Bind x (Call (Move word delay task handle at))) count visible fixed locked level lock room sound
+        placed below fixed_below fits n k h vars vs later fuel has lasts ready is on =
+        absurd (no_mono app.mono facts.no_clock sound.1.1.timed)
     statement_stands (Assign x e at) count visible fixed locked level lock room sound placed below fixed_below fits n k
         h vars vs later fuel has lasts ready is on =
         assigns (storage app) code bodies thread who caller app m (length (memory app)) words top lays c facts x e at n
@@ -396,6 +402,12 @@ module _ (code : List Line) (bodies : List BodyRow) (thread : ℕ) (who : Runner
     statement_stands (Spawns (After word delay task args at)) count visible fixed locked level lock room sound placed
         below fixed_below fits n k h vars vs later fuel has lasts ready is on =
         absurd (no_mono app.mono facts.no_clock sound.4)
+    statement_stands (Spawns (Cancel word task handle at)) count visible fixed locked level lock room sound placed
+        below fixed_below fits n k h vars vs later fuel has lasts ready is on =
+        absurd (no_mono app.mono facts.no_clock sound.1.timed)
+    statement_stands (Spawns (Move word delay task handle at)) count visible fixed locked level lock room sound placed
+        below fixed_below fits n k h vars vs later fuel has lasts ready is on =
+        absurd (no_mono app.mono facts.no_clock sound.1.timed)
 
     pub block_stands : (b : Block) (count : ℕ) (visible fixed locked : List ℕ) (level lock : ℕ)
         → RoomForBlock top words c.expressions c.spawns app b count lock → IsSoundBlock app m count locked fixed b

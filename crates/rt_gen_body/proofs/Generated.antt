@@ -3,9 +3,9 @@ use Rattle.std.proofs.Common.{true, zero, suc, ◌≡◌, refl, sym, ap, subst, 
 use Rattle.std.proofs.Common.{◌^◌, List, [], ◌++◌, length, map, slice_get, get_or, Option, Some, None, option_map}
 use Rattle.std.proofs.Common.{arith}
 use Rattle.std.specs.List.{AllByRecursion, range_with_len}
-use Rattle.std.proofs.lemmas.List.{length-map, append-nil}
+use Rattle.std.proofs.lemmas.List.{append-nil}
 use Rattle.std.proofs.lemmas.Simd.{map-map}
-use Rattle.std.proofs.lemmas.Option.{slice_get_read, slice_get_past}
+use Rattle.std.proofs.lemmas.Option.{slice_get_read, slice_get-map}
 use Rattle.rt_lemmas.proofs.Lists.{mapped_at}
 use Rattle.rt_lemmas.proofs.Membership.{all_at}
 use Rattle.rt_ids.specs.declared.ids.BodyId.{BodyId}
@@ -69,21 +69,21 @@ task_code app guards id n t at guarded is there =
     (option_map (λ t. record { id = body.Task n; priority = t.priority; args = t.args; body = t.body }) o) at) there)
     ∙ ap (λ i. blocks_of (app_of app) (member_at (app_of app) i) at) (sym is)
 
-pub no_task : (app : code.App) (items : List row.Task) (id : BodyId) (n : ℕ) (at : ℕ) → items ≡ app.tasks.items
-    → id ≡ body.Task n → length items ≤ n → blocks_of (app_of app) (member_at (app_of app) id) at ≡ []
-no_task app items id n at is named beyond =
+pub no_task : (app : code.App) (id : BodyId) (n : ℕ) (at : ℕ) → id ≡ body.Task n
+    → slice_get (app_of app).tasks n ≡ None → blocks_of (app_of app) (member_at (app_of app) id) at ≡ []
+no_task app id n at named absent =
     ap (λ i. blocks_of (app_of app) (member_at (app_of app) i) at) named
     ∙ ap (λ (o : Option Task). blocks_of (app_of app)
-    (option_map (λ t. record { id = body.Task n; priority = t.priority; args = t.args; body = t.body }) o) at)
-    (slice_get_past (app_of app).tasks n (subst (λ k. k ≤ n)
-    (ap (λ (xs : List row.Task). length xs) is ∙ sym (length-map app.tasks.items task_of)) beyond))
+    (option_map (λ t. record { id = body.Task n; priority = t.priority; args = t.args; body = t.body }) o) at) absent
 
-pub task_absent : (app : code.App) (items : List row.Task) (n k : ℕ) → items ≡ app.tasks.items → n ≡ k
-    → length items ≤ n → slice_get (app_of app).tasks k ≡ None
-task_absent app items n k is same beyond =
-    subst (λ m. slice_get (app_of app).tasks m ≡ None) same
-    (slice_get_past (app_of app).tasks n (subst (λ l. l ≤ n)
-    (ap (λ (xs : List row.Task). length xs) is ∙ sym (length-map app.tasks.items task_of)) beyond))
+-- the same of a task that is found by its number, and of none
+pub task_found : (app : code.App) (n : ℕ) (t : row.Task) → Some t ≡ slice_get app.tasks.items n
+    → slice_get (app_of app).tasks n ≡ Some (task_of t)
+task_found app n t is = mapped_at task_of app.tasks.items n t (sym is)
+
+pub task_not_found : (app : code.App) (n : ℕ) → None ≡ slice_get app.tasks.items n
+    → slice_get (app_of app).tasks n ≡ None
+task_not_found app n is = slice_get-map task_of app.tasks.items n ∙ ap (option_map task_of) (sym is)
 
 pub appends_none : (code : Lines) → Appends code code []
 appends_none code = ap (λ (xs : List Line). record code { lines = xs }) (sym (append-nil code.lines))

@@ -15,7 +15,8 @@ use Rattle.rt_ids.specs.declared.ids.Section.TheVariants as section
 use Rattle.rt_app.specs.declared.app.IrqDecl.{IrqDecl}
 use Rattle.rt_app.specs.declared.expr.Atom.{Atom}
 use Rattle.rt_app.specs.declared.expr.Atom.TheVariants as atom
-use Rattle.rt_app.specs.Tree.{Expression, Num, Read, Oper, Spawn, Soon, After, Value, Calc, Now, Call, Task, App}
+use Rattle.rt_app.specs.Tree.{Expression, Num, Read, Oper, Spawn, Soon, After, Cancel, Move, Value, Calc, Now, Call}
+use Rattle.rt_app.specs.Tree.{Task, App}
 use Rattle.rt_app.specs.Tree.{Statement, Bind, Assign, Branch, Repeat, Locked, Emit, Pend, Spawns, Block, Empty, Then}
 use Rattle.rt_app.specs.Bodies.{Member, member_at}
 use Rattle.rt_app.specs.Frame.{first_lock_slot, first_spawn_slot}
@@ -132,6 +133,8 @@ module _ (app : App) (c : Context) (numbers : (i : ℕ) → i < length app.irqs
       all_append IsNamed front (message_code c level (at + length front) task) (arguments_named args c.spawns)
       (named_spawns level (at + length front) task)
   send_named level at (After word delay task args place) = tt
+  send_named level at (Cancel word task handle place) = tt
+  send_named level at (Move word delay task handle place) = tt
 
   bind_named : (level at x : ℕ) (v : Value) → AreNamed (bind_code c level at x v)
   bind_named level at x (Calc e) =

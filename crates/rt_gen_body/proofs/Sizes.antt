@@ -8,7 +8,8 @@ use Rattle.rt_ids.specs.declared.limits.TheConstants.{CODE_SIZE}
 use Rattle.rt_ids.specs.declared.ids.BodyId.{BodyId}
 use Rattle.rt_ids.specs.declared.ids.BodyId.TheVariants as body
 use Rattle.rt_ids.specs.declared.ids.Section.TheVariants as section
-use Rattle.rt_app.specs.Tree.{Expression, Num, Read, Oper, Spawn, Soon, After, Calc, Now, Call, Body, Task, App}
+use Rattle.rt_app.specs.Tree.{Expression, Num, Read, Oper, Spawn, Soon, After, Cancel, Move, Calc, Now, Call, Body}
+use Rattle.rt_app.specs.Tree.{Task, App}
 use Rattle.rt_app.specs.Tree.{Statement, Bind, Assign, Branch, Repeat, Locked, Emit, Pend, Spawns, Block, Empty, Then}
 use Rattle.rt_app.specs.Accepted.{IsAccepted}
 use Rattle.rt_app.specs.Bodies.{Member, thread_members, task_members, members, member_at, body_at}
@@ -102,6 +103,8 @@ module _ (app : App) (c : Context) (few_lines : HasFewLines c) where
         few_lines level (at + length front) task,
       )
   send_size (After word delay task args place) level at = omega arith
+  send_size (Cancel word task handle place) level at = omega arith
+  send_size (Move word delay task handle place) level at = omega arith
 
   branch_size : (at : ℕ) (first second : ℕ → List Line) (b : Block) (m n : ℕ) → ((a : ℕ) → length (first a) ≤ m)
       → ((a : ℕ) → length (second a) ≤ n)

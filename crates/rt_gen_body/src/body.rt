@@ -21,7 +21,7 @@ ghost use Rattle.rt_gen_body.specs.Inside.Generating.{slots_code};
 use crate::generator::Generator;
 use crate::lines::Lines;
 use rt_app::{App, Body, Plan};
-use rt_code::{Instr, Note};
+use rt_code::{Instr, Line, Note};
 use rt_frames::Slots;
 use rt_gen_queue::{Guard, next_entry};
 use rt_ids::limits::ARGUMENTS;
@@ -43,7 +43,7 @@ fn guards(alloc: Global, bits: u8, ceilings: &[u8]) -> Result<Vec<Guard>, NoMemo
 }
 
 /// What the body of a member is generated with: the plan, how sections mask, and the level that the body holds off.
-#[derive(Clone, Copy, Debug)]
+#[derive(Clone, Copy)]
 struct Source<'a> {
     plan: &'a Plan<'a>,
     guards: &'a [Guard],
@@ -134,7 +134,7 @@ fn declared(
             ),
             None => Ok(()),
         },
-        BodyId::Task(number) => match app.tasks.get(usize::from(number.0)) {
+        BodyId::Task(number) => match app.task(number) {
             Some(task) => {
                 let level = task.priority;
                 blocks(
@@ -158,8 +158,8 @@ fn declared(
 fn is_called(app: &App, number: TaskId) -> bool
     ensures { result ≡ is_some_and is_software (slice_get (app_of app.now).tasks number) }
 {
-    match app.tasks.get(usize::from(number.0)) {
-        Some(task) => task.binds.is_none(),
+    match app.task(number) {
+        Some(task) => task.is_software(),
         None => false,
     }
 }
@@ -203,7 +203,7 @@ pub fn gen_body(
     alloc: Global,
     plan: &Plan<'_>,
     id: BodyId,
-    code: &mut Vec<(Instr, Option<Note>)>,
+    code: &mut Vec<Line>,
 ) -> Result<u32, NoMemory>
     requires accepted { IsAccepted (app_of plan.now.app.now) }
     requires planned { IsPlan plan.now }

@@ -12,7 +12,7 @@ use rt_ids::NoMemory;
 use std::alloc::Global;
 
 /// What the code of a body is generated with.
-#[derive(Clone, Copy, Debug)]
+#[derive(Clone, Copy)]
 pub(crate) struct Generator<'a> {
     pub(crate) alloc: Global,
     pub(crate) plan: &'a Plan<'a>,

@@ -7,17 +7,17 @@ ghost use Rattle.rt_gen_body.specs.Inside.Generating.{context, IsReady};
 ghost use Rattle.rt_gen_body.specs.Inside.Lines.{next_address, Appends};
 
 use crate::generator::Generator;
-use rt_code::{Instr, Note};
+use rt_code::{Instr, Line, Note};
 use rt_gen_queue::{gen_spawn, next_entry};
 use rt_ids::{NoMemory, TaskId};
 use std::alloc::Global;
 use std::marker::Model;
 
 /// The lines of a body as they are generated, from the address of the first one on.
-#[derive(Debug, Drop)]
+#[derive(Drop)]
 pub(crate) struct Lines {
     entry: u32,
-    lines: Vec<(Instr, Option<Note>)>,
+    lines: Vec<Line>,
 }
 
 impl Model for Lines {
@@ -79,7 +79,7 @@ impl Lines {
     }
 
     /// The lines.
-    pub(crate) fn as_slice(&self) -> &[(Instr, Option<Note>)]
+    pub(crate) fn as_slice(&self) -> &[Line]
         ensures { result.now ≡ self.now.lines }
     {
         self.lines.as_slice()

@@ -37,7 +37,7 @@ impl<'a> Generator<'a> {
         ensures { OnOk result (Appends code.old code.new
             (simple.message_code (context self.now) level (next_address code.old) number)) }
     {
-        if task.binds.is_none() {
+        if task.is_software() {
             code.push_spawn(self, level, number)
         } else {
             Ok(())
@@ -50,13 +50,13 @@ impl<'a> Generator<'a> {
         ensures { OnOk result (Appends code.old code.new
             (simple.message_code (context self.now) level (next_address code.old) number)) }
     {
-        match self.plan.app.tasks.get(usize::from(number.0)) {
+        match self.plan.app.task(number) {
             Some(task) => self.message_of(level, number, task, code),
             None => Ok(()),
         }
     }
 
-    /// A spawn, at a static level. One after a delay has no code yet.
+    /// A spawn, at a static level. One after a delay, a cancel and a move have no code yet.
     pub(crate) fn send(&self, level: u8, spawn: &Spawn, code: &mut Lines) -> Result<(), NoMemory>
         requires { IsReady self.now }
         ensures { OnOk result (Appends code.old code.new
@@ -68,6 +68,8 @@ impl<'a> Generator<'a> {
                 self.message(level, *task, code)
             }
             Spawn::After(_word, _delay, _task, _args, _at) => Ok(()),
+            Spawn::Cancel(_word, _task, _handle, _at) => Ok(()),
+            Spawn::Move(_word, _delay, _task, _handle, _at) => Ok(()),
         }
     }
 }

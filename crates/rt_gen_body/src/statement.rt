@@ -12,7 +12,7 @@ use rt_gen_queue::Guard;
 use rt_ids::{Irq, NoMemory, Op, ResId, Section};
 
 /// A loop's variable, its first number, and the one that it does not reach.
-#[derive(Clone, Copy, Debug)]
+#[derive(Clone, Copy)]
 struct Bounds {
     variable: u32,
     first: u32,

@@ -4,7 +4,7 @@ use Rattle.std.specs.Prelude.{ℕ, ◌+◌, List, [], ◌∷◌, ◌++◌, lengt
 use Rattle.rt_ids.specs.Lists.{is_some_and}
 use Rattle.rt_app.specs.declared.expr.Atom.{Atom}
 use Rattle.rt_app.specs.Level.{is_software}
-use Rattle.rt_app.specs.Tree.{Expression, Spawn, Soon, After, Value, Calc, Now, Call}
+use Rattle.rt_app.specs.Tree.{Expression, Spawn, Soon, After, Cancel, Move, Value, Calc, Now, Call}
 use Rattle.rt_code.specs.declared.instr.Instr.TheVariants as instr
 use Rattle.rt_gen_queue.specs.Line.{Line, plain}
 use Rattle.rt_gen_queue.specs.SpawnCode.{spawn_code}
@@ -16,12 +16,14 @@ module _ (c : Context) where
   message_code level at n =
       if is_some_and is_software (slice_get c.app.tasks n) then spawn_code c.app n level c.spawns at else []
 
-  -- A spawn after a delay has no code yet.
+  -- A spawn after a delay, a cancel and a move have no code yet.
   abbrev pub send_code : ℕ → ℕ → Spawn → List Line
   send_code level at (Soon n args place) =
       let front : List Line = arguments_code c args c.spawns in
       front ++ message_code level (at + length front) n
   send_code level at (After word delay n args place) = []
+  send_code level at (Cancel word n handle place) = []
+  send_code level at (Move word delay n handle place) = []
 
   abbrev pub bind_code : ℕ → ℕ → ℕ → Value → List Line
   bind_code level at x (Calc e) = value_code c e ++ plain (instr.Copy x c.expressions) ∷ []
