@@ -1,6 +1,6 @@
 ghost use Rattle.std.specs.Prelude.{◌≡◌, ◌<◌, ◌≤◌, slice_get, Some, true};
 ghost use Rattle.rt_app.specs.Accepted.{IsAccepted};
-ghost use Rattle.rt_app.specs.Level as spec;
+ghost use Rattle.rt_app.specs.Level.{is_software};
 ghost use Rattle.rt_app.specs.Plan.{IsPlan};
 ghost use Rattle.rt_app.specs.View.{task_of, app_of};
 ghost use Rattle.rt_gen_disp.specs.Code.{called_at};
@@ -12,7 +12,7 @@ use rt_gen_queue::target::free_ceiling;
 use rt_ids::TaskId;
 
 /// A task whose body a dispatcher calls.
-#[derive(Clone, Copy, Debug)]
+#[derive(Clone, Copy)]
 pub struct Called {
     pub task: TaskId,
     /// Its row among the bodies of software tasks.
@@ -27,26 +27,12 @@ pub struct Called {
     pub guard: Guard,
 }
 
-/// Whether a task binds no interrupt.
-pub(crate) fn is_software(task: &Task) -> bool
-    ensures { result ≡ spec.is_software (task_of task.now) }
-{
-    task.binds.is_none()
-}
-
-/// Whether a task is a software task of this level.
-pub(crate) fn is_of_level(task: &Task, level: u8) -> bool
-    ensures { result ≡ spec.is_of_level level (task_of task.now) }
-{
-    is_software(task) && task.priority == level
-}
-
 /// The software task of a number, whose body has this row.
 pub(crate) fn called_of(plan: &Plan<'_>, number: usize, row: u32, task: &Task) -> Called
     requires accepted { IsAccepted (app_of plan.now.app.now) }
     requires planned { IsPlan plan.now }
     requires task { slice_get (app_of plan.now.app.now).tasks number ≡ Some (task_of task.now) }
-    requires software { spec.is_software (task_of task.now) ≡ true }
+    requires software { is_software (task_of task.now) ≡ true }
     ensures is { result ≡ called_at (app_of plan.now.app.now) number row (task_of task.now) }
     ensures few { result.args ≤ 4 }
     ensures inputs { result.inputs < 131072 }

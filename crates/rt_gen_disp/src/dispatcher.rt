@@ -13,17 +13,17 @@ ghost use Rattle.rt_gen_queue.specs.Queue.{queue_at};
 ghost use Rattle.rt_gen_disp.specs.Code.{choices_code, dispatcher_code, last_from};
 ghost use Rattle.rt_gen_disp.specs.Inside.Generating.{task_code};
 
-use crate::called::{called_of, is_of_level, is_software};
+use crate::called::called_of;
 use crate::lines::{Exit, push_choice, push_front};
 use rt_app::{Plan, Task};
-use rt_code::{Instr, Note};
+use rt_code::Line;
 use rt_gen_queue::{ReadyQueue, next_entry, queue_of};
 use rt_ids::NoMemory;
 use std::alloc::Global;
 
 /// The address of the next line, where the first stands at an entry. Where it, or what a task's lines lead to, has no
 /// 32 bits there is no memory for so much code either.
-fn next_address(entry: u32, lines: &[(Instr, Option<Note>)]) -> Result<u32, NoMemory>
+fn next_address(entry: u32, lines: &[Line]) -> Result<u32, NoMemory>
     ensures at { IfOk result (λ at. at ≡ entry + length lines.now) }
     ensures room { IfOk result (λ at. at + 300 < 2 ^ 32) }
 {
@@ -42,7 +42,7 @@ fn last_of(tasks: &[Task], level: u8) -> usize
 {
     let mut last: usize = 0;
     for number in 0..tasks.len() {
-        if is_of_level(&tasks[number], level) {
+        if tasks[number].is_of_level(level) {
             last = number;
         }
     }
@@ -57,7 +57,7 @@ fn push_task(
     number: usize,
     row: u32,
     entry: u32,
-    lines: &mut Vec<(Instr, Option<Note>)>,
+    lines: &mut Vec<Line>,
 ) -> Result<(), NoMemory>
     requires accepted { IsAccepted (app_of plan.now.app.now) }
     requires planned { IsPlan plan.now }
@@ -68,7 +68,7 @@ fn push_task(
 {
     match plan.app.tasks.get(number) {
         Some(task) => {
-            if !is_of_level(task, queue.level) {
+            if !task.is_of_level(queue.level) {
                 return Ok(());
             }
             let at = next_address(entry, lines)?;
@@ -85,7 +85,7 @@ fn push_choices(
     queue: &ReadyQueue,
     exit: Exit,
     entry: u32,
-    lines: &mut Vec<(Instr, Option<Note>)>,
+    lines: &mut Vec<Line>,
 ) -> Result<(), NoMemory>
     requires accepted { IsAccepted (app_of plan.now.app.now) }
     requires planned { IsPlan plan.now }
@@ -97,7 +97,7 @@ fn push_choices(
     for number in 0..plan.app.tasks.len() {
         push_task(plan, queue, exit, number, row, entry, lines)?;
         let task = &plan.app.tasks[number];
-        row += u32::from(is_software(task));
+        row += u32::from(task.is_software());
     }
     Ok(())
 }
@@ -107,7 +107,7 @@ fn generate(
     plan: &Plan<'_>,
     level: u8,
     entry: u32,
-    lines: &mut Vec<(Instr, Option<Note>)>,
+    lines: &mut Vec<Line>,
 ) -> Result<(), NoMemory>
     requires accepted { IsAccepted (app_of plan.now.app.now) }
     requires planned { IsPlan plan.now }
@@ -130,7 +130,7 @@ pub fn gen_dispatcher(
     alloc: Global,
     plan: &Plan<'_>,
     level: u8,
-    code: &mut Vec<(Instr, Option<Note>)>,
+    code: &mut Vec<Line>,
 ) -> Result<u32, NoMemory>
     requires accepted { IsAccepted (app_of plan.now.app.now) }
     requires planned { IsPlan plan.now }

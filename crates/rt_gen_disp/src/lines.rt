@@ -3,7 +3,7 @@ ghost use Rattle.rt_gen_queue.specs.Guards.{enter_line, leave_line};
 ghost use Rattle.rt_gen_disp.specs.Code as spec;
 
 use crate::called::Called;
-use rt_code::{Instr, Note};
+use rt_code::{Instr, Line, Note};
 use rt_gen_queue::{Guard, ReadyQueue};
 use rt_ids::{NoMemory, Op, Prio, Section};
 
@@ -11,14 +11,14 @@ use rt_ids::{NoMemory, Op, Prio, Section};
 const MASK: u32 = 14;
 
 /// The line that opens a section at a level.
-fn entering(guard: Guard, level: u8, section: Section) -> (Instr, Option<Note>)
+fn entering(guard: Guard, level: u8, section: Section) -> Line
     ensures { result ≡ enter_line section guard level 14 }
 {
     (guard.opening(level, MASK), Some(Note::Enter(section)))
 }
 
 /// The line that closes it.
-fn leaving(guard: Guard, level: u8, section: Section) -> (Instr, Option<Note>)
+fn leaving(guard: Guard, level: u8, section: Section) -> Line
     ensures { result ≡ leave_line section guard level 14 }
 {
     (guard.closing(level, MASK), Some(Note::Leave(section)))
@@ -28,7 +28,7 @@ fn leaving(guard: Guard, level: u8, section: Section) -> (Instr, Option<Note>)
 pub(crate) fn push_front(
     queue: &ReadyQueue,
     entry: u32,
-    lines: &mut Vec<(Instr, Option<Note>)>,
+    lines: &mut Vec<Line>,
 ) -> Result<(), NoMemory>
     requires room { entry + 6 < 2 ^ 32 }
     ensures { OnOk result (lines.new.items ≡ lines.old.items ++ spec.front_lines queue.now entry) }
@@ -60,7 +60,7 @@ pub(crate) fn push_front(
 }
 
 /// Where a dispatcher goes with a message that is of no task of its level, behind the test of the last one.
-#[derive(Clone, Copy, Debug)]
+#[derive(Clone, Copy)]
 pub struct Exit {
     pub address: u32,
     /// The number of the last task of the level.
@@ -84,7 +84,7 @@ impl Exit {
 fn push_test(
     called: &Called,
     next: u32,
-    lines: &mut Vec<(Instr, Option<Note>)>,
+    lines: &mut Vec<Line>,
 ) -> Result<(), NoMemory>
     ensures { OnOk result (lines.new.items ≡ lines.old.items ++ spec.test_lines called.now next) }
 {
@@ -100,7 +100,7 @@ fn push_test(
 }
 
 /// The lines that load its arguments.
-fn push_arguments(called: &Called, lines: &mut Vec<(Instr, Option<Note>)>) -> Result<(), NoMemory>
+fn push_arguments(called: &Called, lines: &mut Vec<Line>) -> Result<(), NoMemory>
     requires cells { called.now.inputs < 131072 }
     ensures { OnOk result (lines.new.items ≡ lines.old.items
         ++ spec.argument_lines called.now.inputs called.now.args) }
@@ -116,7 +116,7 @@ fn push_start(
     queue: &ReadyQueue,
     called: &Called,
     at: u32,
-    lines: &mut Vec<(Instr, Option<Note>)>,
+    lines: &mut Vec<Line>,
 ) -> Result<(), NoMemory>
     requires room { at + 3 < 2 ^ 32 }
     ensures { OnOk result (lines.new.items ≡ lines.old.items ++ spec.start_lines queue.now called.now at) }
@@ -145,7 +145,7 @@ pub(crate) fn push_choice(
     called: &Called,
     next: u32,
     at: u32,
-    lines: &mut Vec<(Instr, Option<Note>)>,
+    lines: &mut Vec<Line>,
 ) -> Result<(), NoMemory>
     requires few { called.now.args ≤ 4 }
     requires cells { called.now.inputs < 131072 }
