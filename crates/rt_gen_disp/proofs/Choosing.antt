@@ -22,7 +22,7 @@ use Rattle.rt_ids.proofs.Greatest.{greatest_has}
 use Rattle.rt_app.specs.Tree.{Task, App}
 use Rattle.rt_app.specs.Level.{is_software, is_of_level, levels}
 use Rattle.rt_app.specs.BodyCost.{cost_measure, body_cost}
-use Rattle.rt_app.specs.Layout.{inputs_at}
+use Rattle.rt_app.specs.Layout.{layout, inputs_at}
 use Rattle.rt_app.specs.Limits.{KeepsTaskLimits}
 use Rattle.rt_app.specs.Holding.{SpellsReady, message_at, arguments_of}
 use Rattle.rt_app.specs.Sending.{capacity_of}
@@ -37,6 +37,7 @@ use Rattle.rt_gen_queue.specs.Line.{Line, plain, HasCode}
 use Rattle.rt_gen_queue.specs.Guards.{kind_at}
 use Rattle.rt_gen_queue.specs.Queue.{queue_at}
 use Rattle.rt_gen_queue.specs.Called.{AreSpelled, CalledAtLevel, CalledBodyStands, CalledTaskStands, row_for, rows_for}
+use Rattle.rt_gen_queue.proofs.Inputs.{lines_by_layout}
 use Rattle.rt_gen_queue.proofs.Places.{IsPlaceOf}
 use Rattle.rt_gen_queue.proofs.Placing.{code_front, code_behind}
 use Rattle.rt_gen_queue.proofs.Spots.{Setting, Here}
@@ -154,7 +155,8 @@ module _ (app : App) (accepted : IsAccepted app) (p : ℕ) (level_is : Contains 
       → slice_get app.tasks n ≡ Some t → is_of_level p t ≡ true → slice_get rows row ≡ Some (row_for entry n t)
       → k + m ≡ cost → 18 + most ≤ m → k + 10 ≤ deadline → from ≡ at + (2 + t.args)
       → HasCode code at (plain (instr.Set 7 t.args) ∷ plain (instr.Calc op.Mul 7 9 7)
-      ∷ (argument_lines (inputs_at app n) t.args ++ start_lines (queue_at app p) (called_at app n row t) from))
+      ∷ (argument_lines (slice_index (layout app).inputs n) t.args
+      ++ start_lines (queue_at app p) (called_at app n row t) from))
       → Known n place cells queues vs es
       → S z m (chosen k deadline a b c d w i x n place e f g kept r at cells queues vs es)
   task_runs n row t m k deadline a b c d w i x place e f g kept r at from cells queues vs es at_task of there fuel
@@ -172,6 +174,11 @@ module _ (app : App) (accepted : IsAccepted app) (p : ℕ) (level_is : Contains 
       let body_less : body_cost (cost_measure app) t.body ≤ most =
       greatest_has (λ t. body_cost (cost_measure app) t.body) (is_of_level p) app.tasks n t at_task of in
       let first : ℕ = inputs_at app n + place * t.args in
+      let start : List Line = start_lines (queue_at app p) (called_at app n row t) from in
+      let loads : HasCode code (suc (suc at)) (argument_lines (inputs_at app n) t.args ++ start) =
+      subst (λ (lines : List Line). HasCode code (suc (suc at)) (lines ++ start))
+      (lines_by_layout app n t at_task software (λ count cell. argument_lines cell count) (λ a b. refl) t.args refl)
+      has.1.1 in
       let args : List ℕ = map (slice_index cells) (range_with_len first t.args) in
       let arguments : arguments_of app n ≡ t.args = ap (λ o. or_zero (option_map (λ t. t.args) o)) at_task in
       let message_is : message_at app (slice_index cells) (entry_at n place) ≡ record { task = n; args = args } =
@@ -200,8 +207,8 @@ module _ (app : App) (accepted : IsAccepted app) (p : ℕ) (level_is : Contains 
       (all_load z n place (section.Ready p) (alone app p (section.Ready p)) deadline cost cells queues h.rest es apart
       (open_here app p (section.Ready p) (kind_at app (section.Ready p) p 14)) known.queue known.spelled.long w
       (length es) i 1 place n e f g r kept t.args (place * t.args) first fin (suc (suc k)) (suc (suc at))
-      (start_lines (queue_at app p) (called_at app n row t) from) a b c d few refl
-      (λ j small. input_is_home app n t at_task software place j less small) has.1.1 (omega arith) (omega arith)
+      start a b c d few refl
+      (λ j small. input_is_home app n t at_task software place j less small) loads (omega arith) (omega arith)
       (omega arith)
       (λ left to a2 b2 c2 d2 left_is to_is behind shown.
       let to_from : from ≡ to = omega arith in

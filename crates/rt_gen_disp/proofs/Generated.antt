@@ -201,18 +201,18 @@ none_behind level found n (suc j) (u ∷ ts) t less there of =
 -- what is read of the plan's tables makes what the dispatcher has of a task
 pub called_made : (plan : Plan) (n r : ℕ) (t : Task) → IsAccepted (app_of plan.app.now) → IsPlan plan
     → slice_get (app_of plan.app.now).tasks n ≡ Some t → is_software t ≡ true
-    → (bits : ℕ) (cells : List ℕ) (tops : List (Option ℕ)) (free inputs top : ℕ) (guard : Guard)
-    → bits ≡ plan.app.now.bits → cells ≡ plan.lay.free → tops ≡ plan.ceil.free
-    → free ≡ slice_index cells n → inputs ≡ free + 1 + t.capacity
+    → (bits : ℕ) (cells starts : List ℕ) (tops : List (Option ℕ)) (free inputs top : ℕ) (guard : Guard)
+    → bits ≡ plan.app.now.bits → cells ≡ plan.lay.free → starts ≡ plan.lay.inputs → tops ≡ plan.ceil.free
+    → free ≡ slice_index cells n → inputs ≡ slice_index starts n
     → top ≡ or_zero (then_from (slice_get tops n) (λ c. c)) → guard ≡ guarded bits top
     → record { task = n; row = r; args = t.args; free = free; inputs = inputs; guard = guard }
     ≡ called_at (app_of plan.app.now) n r t
-called_made plan n r t accepted planned there software bits cells tops free inputs top guard bits_is cells_is tops_is
-    free_is inputs_is top_is guard_is =
+called_made plan n r t accepted planned there software bits cells starts tops free inputs top guard bits_is cells_is
+    starts_is tops_is free_is inputs_is top_is guard_is =
     let app : App = app_of plan.app.now in
     let made =
-    target_made plan n t accepted planned there software bits cells tops n free inputs top guard
-    (queue_at app t.priority) bits_is cells_is tops_is refl free_is inputs_is top_is guard_is refl in
+    target_made plan n t accepted planned there software bits cells starts tops n free inputs top guard
+    (queue_at app t.priority) bits_is cells_is starts_is tops_is refl free_is inputs_is top_is guard_is refl in
     let with_args : ℕ → Target → Called = λ args c. record {
       task = n;
       row = r;

@@ -3,13 +3,13 @@
 -- its place, looks among the tasks of the level for its task, loads its arguments, gives its place back and calls the
 -- body. What it means is not told here but by the law that it stands. That it is made of these instructions is this
 -- project's own.
-use Rattle.std.specs.Prelude.{ℕ, ◌+◌, ◌==◌, List, [], ◌∷◌, ◌++◌, map, if◌then◌else◌}
+use Rattle.std.specs.Prelude.{ℕ, ◌+◌, ◌==◌, List, [], ◌∷◌, ◌++◌, map, slice_index, if◌then◌else◌}
 use Rattle.std.specs.List.{range_with_len}
 use Rattle.rt_ids.specs.declared.ids.Section.TheVariants as section
 use Rattle.rt_ids.specs.declared.op.Op.TheVariants as op
 use Rattle.rt_app.specs.Tree.{Task, App}
 use Rattle.rt_app.specs.Level.{is_software, is_of_level}
-use Rattle.rt_app.specs.Layout.{free_at, inputs_at}
+use Rattle.rt_app.specs.Layout.{layout, free_at}
 use Rattle.rt_code.specs.declared.instr.Instr.TheVariants as instr
 use Rattle.rt_code.specs.declared.instr.Note.TheVariants as note
 use Rattle.rt_gen_queue.specs.Line.{Line, plain, noted}
@@ -67,7 +67,7 @@ called_at app n row t = record {
   row = row;
   args = t.args;
   free = free_at app n;
-  inputs = inputs_at app n;
+  inputs = slice_index (layout app).inputs n;
   guard = guard_of app (section.Free n);
 }
 

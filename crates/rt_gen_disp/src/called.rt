@@ -1,4 +1,4 @@
-ghost use Rattle.std.specs.Prelude.{◌≡◌, ◌<◌, ◌≤◌, slice_get, Some, true};
+ghost use Rattle.std.specs.Prelude.{◌≡◌, ◌≤◌, slice_get, Some, true};
 ghost use Rattle.rt_app.specs.Accepted.{IsAccepted};
 ghost use Rattle.rt_app.specs.Level.{is_software};
 ghost use Rattle.rt_app.specs.Plan.{IsPlan};
@@ -22,7 +22,7 @@ pub struct Called {
     /// The first cell of its free places: how many there are, before the places.
     pub free: u16,
     /// The first cell of the arguments of its places.
-    pub inputs: u32,
+    pub inputs: u16,
     /// How the section of its free places masks.
     pub guard: Guard,
 }
@@ -35,16 +35,16 @@ pub(crate) fn called_of(plan: &Plan<'_>, number: usize, row: u32, task: &Task) -
     requires software { is_software (task_of task.now) ≡ true }
     ensures is { result ≡ called_at (app_of plan.now.app.now) number row (task_of task.now) }
     ensures few { result.args ≤ 4 }
-    ensures inputs { result.inputs < 131072 }
 {
     let id = TaskId(number as u8);
     let free = cell_at(&plan.lay.free, number);
+    let inputs = cell_at(&plan.lay.inputs, number);
     Called {
         task: id,
         row,
         args: task.args,
         free,
-        inputs: u32::from(free) + 1 + u32::from(task.capacity),
+        inputs,
         guard: Guard::of(plan.app.bits, free_ceiling(&plan.ceil.free, id)),
     }
 }

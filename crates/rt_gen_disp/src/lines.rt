@@ -101,12 +101,12 @@ fn push_test(
 
 /// The lines that load its arguments.
 fn push_arguments(called: &Called, lines: &mut Vec<Line>) -> Result<(), NoMemory>
-    requires cells { called.now.inputs < 131072 }
     ensures { OnOk result (lines.new.items ≡ lines.old.items
         ++ spec.argument_lines called.now.inputs called.now.args) }
 {
+    let inputs = u32::from(called.inputs);
     for argument in 0..u32::from(called.args) {
-        lines.push((Instr::LoadAt(argument, called.inputs + argument, 7), None))?;
+        lines.push((Instr::LoadAt(argument, inputs + argument, 7), None))?;
     }
     Ok(())
 }
@@ -148,7 +148,6 @@ pub(crate) fn push_choice(
     lines: &mut Vec<Line>,
 ) -> Result<(), NoMemory>
     requires few { called.now.args ≤ 4 }
-    requires cells { called.now.inputs < 131072 }
     requires room { at + 300 < 2 ^ 32 }
     ensures { OnOk result (lines.new.items ≡ lines.old.items ++ spec.choice_lines queue.now called.now next at) }
 {

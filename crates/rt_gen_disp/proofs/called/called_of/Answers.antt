@@ -1,4 +1,4 @@
-use Rattle.std.proofs.Common.{ap, ◌∙◌, arith}
+use Rattle.std.proofs.Common.{ap, ◌∙◌}
 use Rattle.rt_app.specs.declared.plan.Plan.{Plan}
 use Rattle.rt_app.specs.View.{task_of}
 use Rattle.rt_gen_queue.proofs.Planned.{top_small, few_planned}
@@ -8,9 +8,9 @@ use Rattle.rt_gen_disp.proofs.called.called_of.Goals as goal
 pub of-requires-clause-greatest : goal.of-requires-clause-greatest
 of-requires-clause-greatest c =
     top_small c.args.plan.now c.args.number (task_of c.args.task.now) c.requires.accepted c.requires.planned
-    c.requires.task c.requires.software c.plan.inside.0.0.now.bits c.deref-2.result.now c.free_ceiling.result
+    c.requires.task c.requires.software c.plan.inside.0.0.now.bits c.deref-3.result.now c.free_ceiling.result
     (ap (λ (p : Plan). p.app.now.bits) c.plan.view_is)
-    (c.deref-2.ensures.value ∙ ap (λ (p : Plan). p.ceil.free) c.plan.view_is) c.free_ceiling.ensures
+    (c.deref-3.ensures.value ∙ ap (λ (p : Plan). p.ceil.free) c.plan.view_is) c.free_ceiling.ensures
 
 pub returns-clause-few : goal.returns-clause-few
 returns-clause-few c =
@@ -21,8 +21,10 @@ pub returns-clause-is : goal.returns-clause-is
 returns-clause-is c =
     called_made c.args.plan.now c.args.number c.args.row (task_of c.args.task.now) c.requires.accepted
     c.requires.planned c.requires.task c.requires.software c.plan.inside.0.0.now.bits c.deref.result.now
-    c.deref-2.result.now c.cell_at-free.result _ c.free_ceiling.result c.of.result
+    c.deref-2.result.now c.deref-3.result.now c.cell_at-free.result c.cell_at-inputs.result c.free_ceiling.result
+    c.of.result
     (ap (λ (p : Plan). p.app.now.bits) c.plan.view_is)
     (c.deref.ensures.value ∙ ap (λ (p : Plan). p.lay.free) c.plan.view_is)
-    (c.deref-2.ensures.value ∙ ap (λ (p : Plan). p.ceil.free) c.plan.view_is) c.cell_at-free.ensures (omega arith)
+    (c.deref-2.ensures.value ∙ ap (λ (p : Plan). p.lay.inputs) c.plan.view_is)
+    (c.deref-3.ensures.value ∙ ap (λ (p : Plan). p.ceil.free) c.plan.view_is) c.cell_at-free.ensures c.cell_at-inputs.ensures
     c.free_ceiling.ensures c.of.ensures
