@@ -6,6 +6,7 @@
 use Rattle.std.specs.Prelude.{ℕ, ◌+◌, ◌==◌, List, [], ◌∷◌, ◌++◌, map, slice_index, if◌then◌else◌}
 use Rattle.std.specs.List.{range_with_len}
 use Rattle.rt_ids.specs.declared.ids.Section.TheVariants as section
+use Rattle.rt_ids.specs.declared.limits.TheConstants.{CAPACITY}
 use Rattle.rt_ids.specs.declared.op.Op.TheVariants as op
 use Rattle.rt_app.specs.Tree.{Task, App}
 use Rattle.rt_app.specs.Level.{is_software, is_of_level}
@@ -18,42 +19,43 @@ use Rattle.rt_gen_queue.specs.Queue.{queue_at}
 use Rattle.rt_gen_queue.specs.declared.queue.ReadyQueue.{ReadyQueue}
 use Rattle.rt_gen_disp.specs.declared.called.Called.{Called}
 use Rattle.rt_gen_disp.specs.declared.lines.Exit.{Exit}
+use Rattle.rt_gen_disp.specs.declared.slots.TheConstants.{WORD, LEFT, INDEX, OTHER, ONE, PLACE, TASK, MASK}
 
--- where the slot 10 has not the task's number an address is next; else it comes into the slot 7 how far a place's
--- arguments are from the task's first
+-- where the message is not of the task an address is next; else it comes into a slot how far the place's arguments are
+-- from the task's first
 abbrev pub test_lines : Called → ℕ → List Line
 test_lines c next =
-    plain (instr.Set 7 c.task) ∷ plain (instr.Calc op.Eq 7 10 7) ∷ plain (instr.JumpZ 7 next)
-    ∷ plain (instr.Set 7 c.args) ∷ plain (instr.Calc op.Mul 7 9 7) ∷ []
+    plain (instr.Set OTHER c.task) ∷ plain (instr.Calc op.Eq OTHER TASK OTHER) ∷ plain (instr.JumpZ OTHER next)
+    ∷ plain (instr.Set OTHER c.args) ∷ plain (instr.Calc op.Mul OTHER PLACE OTHER) ∷ []
 
 -- so many arguments of the place come into the first slots, where a task's arguments lie from a cell on
 abbrev pub argument_lines : ℕ → ℕ → List Line
-argument_lines inputs count = map (λ j. plain (instr.LoadAt j (inputs + j) 7)) (range_with_len 0 count)
+argument_lines inputs count = map (λ j. plain (instr.LoadAt j (inputs + j) OTHER)) (range_with_len 0 count)
 
--- Sections keep in the slot 14 what the mask was.
 module _ (q : ReadyQueue) where
-  -- From an address on: where nothing is ready it returns; else the word of the oldest message comes into the slot 4,
-  -- its place and its task into the slots 9 and 10, how many are left into the slot 5, and the queue is without it.
+  -- From an address on: where nothing is ready it returns; else the word of the oldest message, its place, its task and
+  -- how many are left come into slots, and the queue is without it.
   abbrev pub front_lines : ℕ → List Line
   front_lines at =
-      enter_line (section.Ready q.level) q.guard q.level 14 ∷ plain (instr.Load 5 (q.at + 1))
-      ∷ plain (instr.JumpZ 5 (at + 4)) ∷ plain (instr.Jump (at + 6))
-      ∷ leave_line (section.Ready q.level) q.guard q.level 14 ∷ plain instr.Ret
-      ∷ plain (instr.Load 6 q.at) ∷ plain (instr.LoadAt 4 (q.at + 2) 6)
-      ∷ plain (instr.Set 8 1) ∷ plain (instr.Calc op.Sub 5 5 8) ∷ plain (instr.Store (q.at + 1) 5)
-      ∷ plain (instr.Calc op.Add 6 6 8) ∷ plain (instr.Set 7 q.room)
-      ∷ plain (instr.Calc op.Rem 6 6 7) ∷ plain (instr.Store q.at 6)
-      ∷ plain (instr.Set 7 16) ∷ plain (instr.Calc op.Div 10 4 7) ∷ plain (instr.Calc op.Rem 9 4 7) ∷ []
+      enter_line (section.Ready q.level) q.guard q.level MASK ∷ plain (instr.Load LEFT (q.at + 1))
+      ∷ plain (instr.JumpZ LEFT (at + 4)) ∷ plain (instr.Jump (at + 6))
+      ∷ leave_line (section.Ready q.level) q.guard q.level MASK ∷ plain instr.Ret
+      ∷ plain (instr.Load INDEX q.at) ∷ plain (instr.LoadAt WORD (q.at + 2) INDEX)
+      ∷ plain (instr.Set ONE 1) ∷ plain (instr.Calc op.Sub LEFT LEFT ONE) ∷ plain (instr.Store (q.at + 1) LEFT)
+      ∷ plain (instr.Calc op.Add INDEX INDEX ONE) ∷ plain (instr.Set OTHER q.room)
+      ∷ plain (instr.Calc op.Rem INDEX INDEX OTHER) ∷ plain (instr.Store q.at INDEX)
+      ∷ plain (instr.Set OTHER CAPACITY) ∷ plain (instr.Calc op.Div TASK WORD OTHER)
+      ∷ plain (instr.Calc op.Rem PLACE WORD OTHER) ∷ []
 
   -- from an address on: the message starts, and where more are ready the dispatcher is pended again; then the place is
   -- given back, and the body runs
   abbrev pub start_lines : Called → ℕ → List Line
   start_lines c at =
-      noted instr.Mark (note.Start c.task 0) ∷ plain (instr.JumpZ 5 (at + 3)) ∷ plain (instr.Post q.irq)
-      ∷ leave_line (section.Ready q.level) q.guard q.level 14
-      ∷ enter_line (section.Free c.task) c.guard q.level 14 ∷ plain (instr.Load 6 c.free)
-      ∷ plain (instr.StoreAt (c.free + 1) 6 9) ∷ plain (instr.Calc op.Add 6 6 8)
-      ∷ noted (instr.Store c.free 6) (note.Free c.task) ∷ leave_line (section.Free c.task) c.guard q.level 14
+      noted instr.Mark (note.Start c.task 0) ∷ plain (instr.JumpZ LEFT (at + 3)) ∷ plain (instr.Post q.irq)
+      ∷ leave_line (section.Ready q.level) q.guard q.level MASK
+      ∷ enter_line (section.Free c.task) c.guard q.level MASK ∷ plain (instr.Load INDEX c.free)
+      ∷ plain (instr.StoreAt (c.free + 1) INDEX PLACE) ∷ plain (instr.Calc op.Add INDEX INDEX ONE)
+      ∷ noted (instr.Store c.free INDEX) (note.Free c.task) ∷ leave_line (section.Free c.task) c.guard q.level MASK
       ∷ plain (instr.Call c.row 0) ∷ plain instr.Ret ∷ []
 
   -- from an address on: a message of the task is run, and one of another is left to the code at a further one

@@ -12,9 +12,10 @@ ghost use Rattle.rt_gen_queue.specs.Line.{IsNameable};
 ghost use Rattle.rt_gen_queue.specs.Queue.{queue_at};
 ghost use Rattle.rt_gen_disp.specs.Code.{choices_code, dispatcher_code, last_from};
 ghost use Rattle.rt_gen_disp.specs.Inside.Generating.{task_code};
+ghost use Rattle.rt_gen_disp.specs.declared.lines.TheConstants.{MANY_LINES};
 
 use crate::called::called_of;
-use crate::lines::{Exit, push_choice, push_front};
+use crate::lines::{CHOICE_LINES, EMPTY_OFFSET, Exit, MANY_LINES, push_choice, push_front};
 use rt_app::{Plan, Task};
 use rt_code::Line;
 use rt_gen_queue::{ReadyQueue, next_entry, queue_of};
@@ -25,15 +26,12 @@ use std::alloc::Global;
 /// 32 bits there is no memory for so much code either.
 fn next_address(entry: u32, lines: &[Line]) -> Result<u32, NoMemory>
     ensures at { IfOk result (λ at. at ≡ entry + length lines.now) }
-    ensures room { IfOk result (λ at. at + 300 < 2 ^ 32) }
+    ensures room { IfOk result (λ at. at + MANY_LINES < 2 ^ 32) }
 {
     let count = next_entry(lines)?;
     let at = entry.checked_add(count).ok_or(NoMemory)?;
-    if at > 4_000_000_000 {
-        Err(NoMemory)
-    } else {
-        Ok(at)
-    }
+    at.checked_add(MANY_LINES).ok_or(NoMemory)?;
+    Ok(at)
 }
 
 /// The number of the last task of a level, 0 where it has none.
@@ -72,7 +70,7 @@ fn push_task(
                 return Ok(());
             }
             let at = next_address(entry, lines)?;
-            let next = exit.next_for(number, at + (17 + u32::from(task.args)));
+            let next = exit.next_for(number, at + (CHOICE_LINES + u32::from(task.args)));
             push_choice(queue, &called_of(plan, number, row, task), next, at, lines)
         }
         None => Ok(()),
@@ -103,12 +101,7 @@ fn push_choices(
 }
 
 /// The lines of the dispatcher of a level, the first of which will stand at this address.
-fn generate(
-    plan: &Plan<'_>,
-    level: u8,
-    entry: u32,
-    lines: &mut Vec<Line>,
-) -> Result<(), NoMemory>
+fn generate(plan: &Plan<'_>, level: u8, entry: u32, lines: &mut Vec<Line>) -> Result<(), NoMemory>
     requires accepted { IsAccepted (app_of plan.now.app.now) }
     requires planned { IsPlan plan.now }
     requires software { Contains (levels (app_of plan.now.app.now)) level }
@@ -119,7 +112,7 @@ fn generate(
     let at = next_address(entry, lines)?;
     push_front(&queue, at, lines)?;
     let last = last_of(&plan.app.tasks, level);
-    let address = at + 4;
+    let address = at + EMPTY_OFFSET;
     push_choices(plan, &queue, Exit { address, last }, entry, lines)
 }
 

@@ -1,25 +1,41 @@
 ghost use Rattle.std.specs.Prelude.{◌≡◌, ◌+◌, ◌^◌, ◌≤◌, ◌<◌, ◌++◌, OnOk};
 ghost use Rattle.rt_gen_queue.specs.Guards.{enter_line, leave_line};
 ghost use Rattle.rt_gen_disp.specs.Code as spec;
+ghost use Rattle.rt_gen_disp.specs.declared.slots.TheConstants.{MASK};
+ghost use Rattle.rt_gen_disp.specs.declared.lines.TheConstants.{TAKING_OFFSET, MANY_LINES};
 
 use crate::called::Called;
+use crate::slots::{INDEX, LEFT, MASK, ONE, OTHER, PLACE, TASK, WORD};
 use rt_code::{Instr, Line, Note};
 use rt_gen_queue::{Guard, ReadyQueue};
+use rt_ids::limits::CAPACITY;
 use rt_ids::{NoMemory, Op, Prio, Section};
 
-/// The slot where a section keeps what the mask was.
-const MASK: u32 = 14;
+/// How far behind the first line a dispatcher returns, where nothing is ready.
+pub(crate) const EMPTY_OFFSET: u32 = 4;
+
+/// How far behind the first line it takes the oldest message.
+const TAKING_OFFSET: u32 = 6;
+
+/// Lines that look whether a message is of a task, up to where its arguments are loaded.
+const TEST_LINES: u32 = 5;
+
+/// Lines of a task, beside one for each argument.
+pub(crate) const CHOICE_LINES: u32 = 17;
+
+/// More lines than a task has.
+pub(crate) const MANY_LINES: u32 = 300;
 
 /// The line that opens a section at a level.
 fn entering(guard: Guard, level: u8, section: Section) -> Line
-    ensures { result ≡ enter_line section guard level 14 }
+    ensures { result ≡ enter_line section guard level MASK }
 {
     (guard.opening(level, MASK), Some(Note::Enter(section)))
 }
 
 /// The line that closes it.
 fn leaving(guard: Guard, level: u8, section: Section) -> Line
-    ensures { result ≡ leave_line section guard level 14 }
+    ensures { result ≡ leave_line section guard level MASK }
 {
     (guard.closing(level, MASK), Some(Note::Leave(section)))
 }
@@ -30,7 +46,7 @@ pub(crate) fn push_front(
     entry: u32,
     lines: &mut Vec<Line>,
 ) -> Result<(), NoMemory>
-    requires room { entry + 6 < 2 ^ 32 }
+    requires room { entry + TAKING_OFFSET < 2 ^ 32 }
     ensures { OnOk result (lines.new.items ≡ lines.old.items ++ spec.front_lines queue.now entry) }
 {
     let head = u32::from(queue.at);
@@ -38,23 +54,23 @@ pub(crate) fn push_front(
     let (guard, level) = (queue.guard, queue.level);
     lines.extend_from_slice(&[
         entering(guard, level, Section::Ready(Prio(level))),
-        (Instr::Load(5, count), None),
-        (Instr::JumpZ(5, entry + 4), None),
-        (Instr::Jump(entry + 6), None),
+        (Instr::Load(LEFT, count), None),
+        (Instr::JumpZ(LEFT, entry + EMPTY_OFFSET), None),
+        (Instr::Jump(entry + TAKING_OFFSET), None),
         leaving(guard, level, Section::Ready(Prio(level))),
         (Instr::Ret, None),
-        (Instr::Load(6, head), None),
-        (Instr::LoadAt(4, head + 2, 6), None),
-        (Instr::Set(8, 1), None),
-        (Instr::Calc(Op::Sub, 5, 5, 8), None),
-        (Instr::Store(count, 5), None),
-        (Instr::Calc(Op::Add, 6, 6, 8), None),
-        (Instr::Set(7, queue.room), None),
-        (Instr::Calc(Op::Rem, 6, 6, 7), None),
-        (Instr::Store(head, 6), None),
-        (Instr::Set(7, 16), None),
-        (Instr::Calc(Op::Div, 10, 4, 7), None),
-        (Instr::Calc(Op::Rem, 9, 4, 7), None),
+        (Instr::Load(INDEX, head), None),
+        (Instr::LoadAt(WORD, head + 2, INDEX), None),
+        (Instr::Set(ONE, 1), None),
+        (Instr::Calc(Op::Sub, LEFT, LEFT, ONE), None),
+        (Instr::Store(count, LEFT), None),
+        (Instr::Calc(Op::Add, INDEX, INDEX, ONE), None),
+        (Instr::Set(OTHER, queue.room), None),
+        (Instr::Calc(Op::Rem, INDEX, INDEX, OTHER), None),
+        (Instr::Store(head, INDEX), None),
+        (Instr::Set(OTHER, CAPACITY), None),
+        (Instr::Calc(Op::Div, TASK, WORD, OTHER), None),
+        (Instr::Calc(Op::Rem, PLACE, WORD, OTHER), None),
     ])?;
     Ok(())
 }
@@ -81,20 +97,16 @@ impl Exit {
 }
 
 /// The lines that look whether the message is of a task, up to where its arguments are loaded.
-fn push_test(
-    called: &Called,
-    next: u32,
-    lines: &mut Vec<Line>,
-) -> Result<(), NoMemory>
+fn push_test(called: &Called, next: u32, lines: &mut Vec<Line>) -> Result<(), NoMemory>
     ensures { OnOk result (lines.new.items ≡ lines.old.items ++ spec.test_lines called.now next) }
 {
     let args = u32::from(called.args);
     lines.extend_from_slice(&[
-        (Instr::Set(7, u32::from(called.task.0)), None),
-        (Instr::Calc(Op::Eq, 7, 10, 7), None),
-        (Instr::JumpZ(7, next), None),
-        (Instr::Set(7, args), None),
-        (Instr::Calc(Op::Mul, 7, 9, 7), None),
+        (Instr::Set(OTHER, u32::from(called.task.0)), None),
+        (Instr::Calc(Op::Eq, OTHER, TASK, OTHER), None),
+        (Instr::JumpZ(OTHER, next), None),
+        (Instr::Set(OTHER, args), None),
+        (Instr::Calc(Op::Mul, OTHER, PLACE, OTHER), None),
     ])?;
     Ok(())
 }
@@ -106,7 +118,7 @@ fn push_arguments(called: &Called, lines: &mut Vec<Line>) -> Result<(), NoMemory
 {
     let inputs = u32::from(called.inputs);
     for argument in 0..u32::from(called.args) {
-        lines.push((Instr::LoadAt(argument, inputs + argument, 7), None))?;
+        lines.push((Instr::LoadAt(argument, inputs + argument, OTHER), None))?;
     }
     Ok(())
 }
@@ -124,14 +136,14 @@ fn push_start(
     let (free, level) = (u32::from(called.free), queue.level);
     lines.extend_from_slice(&[
         (Instr::Mark, Some(Note::Start(called.task, 0))),
-        (Instr::JumpZ(5, at + 3), None),
+        (Instr::JumpZ(LEFT, at + 3), None),
         (Instr::Post(queue.irq), None),
         leaving(queue.guard, level, Section::Ready(Prio(level))),
         entering(called.guard, level, Section::Free(called.task)),
-        (Instr::Load(6, free), None),
-        (Instr::StoreAt(free + 1, 6, 9), None),
-        (Instr::Calc(Op::Add, 6, 6, 8), None),
-        (Instr::Store(free, 6), Some(Note::Free(called.task))),
+        (Instr::Load(INDEX, free), None),
+        (Instr::StoreAt(free + 1, INDEX, PLACE), None),
+        (Instr::Calc(Op::Add, INDEX, INDEX, ONE), None),
+        (Instr::Store(free, INDEX), Some(Note::Free(called.task))),
         leaving(called.guard, level, Section::Free(called.task)),
         (Instr::Call(called.row, 0), None),
         (Instr::Ret, None),
@@ -148,10 +160,15 @@ pub(crate) fn push_choice(
     lines: &mut Vec<Line>,
 ) -> Result<(), NoMemory>
     requires few { called.now.args ≤ 4 }
-    requires room { at + 300 < 2 ^ 32 }
+    requires room { at + MANY_LINES < 2 ^ 32 }
     ensures { OnOk result (lines.new.items ≡ lines.old.items ++ spec.choice_lines queue.now called.now next at) }
 {
     push_test(called, next, lines)?;
     push_arguments(called, lines)?;
-    push_start(queue, called, at + (5 + u32::from(called.args)), lines)
+    push_start(
+        queue,
+        called,
+        at + (TEST_LINES + u32::from(called.args)),
+        lines,
+    )
 }

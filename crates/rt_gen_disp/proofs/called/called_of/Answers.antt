@@ -26,5 +26,6 @@ returns-clause-is c =
     (ap (λ (p : Plan). p.app.now.bits) c.plan.view_is)
     (c.deref.ensures.value ∙ ap (λ (p : Plan). p.lay.free) c.plan.view_is)
     (c.deref-2.ensures.value ∙ ap (λ (p : Plan). p.lay.inputs) c.plan.view_is)
-    (c.deref-3.ensures.value ∙ ap (λ (p : Plan). p.ceil.free) c.plan.view_is) c.cell_at-free.ensures c.cell_at-inputs.ensures
+    (c.deref-3.ensures.value ∙ ap (λ (p : Plan). p.ceil.free) c.plan.view_is) c.cell_at-free.ensures
+    c.cell_at-inputs.ensures
     c.free_ceiling.ensures c.of.ensures
