@@ -1,6 +1,7 @@
 -- What each outcome keeps: the time, and the cells but for what an instruction stores; and its item is none of an arrival or a tick.
 use Rattle.std.proofs.Common.{◌≡◌, ℕ, suc, ◌+◌, Bool, true, false, if◌then◌else◌, List, [], ◌∷◌, map, Option, Some, None, slice_get, option_map, nat_le, refl, ◌∙◌, ap}
 use Rattle.rt_ids.specs.Event.{Arrive, Tick}
+use Rattle.rt_ids.specs.Lists.{then_from}
 use Rattle.rt_code.specs.Image.{Image, entry_words}
 use Rattle.rt_code.specs.Effect.{effect}
 use Rattle.rt_code.specs.Processor.{Effect, Traps, Leads}
@@ -84,20 +85,30 @@ module _ (img : Image) (c : Core) where
   answer_keeps request.Back = back_keeps c.caller
   answer_keeps request.Return = resumed_keeps (interrupted c.caller c.below)
 
-start_keeps : (time : ℕ) (cells : List ℕ) (c : Core) (t : ℕ) (args : Option (List ℕ)) → c.time ≡ time → c.processor.cells ≡ cells
-    → Keeps time cells (stepping.noted c (option_map (what.Start t) args))
-start_keeps time cells c t None h k = (h, k)
-start_keeps time cells c t (Some args) h k = (h, k, refl)
+-- an item of what may not be there, a trap where it is not
+told_keeps : {A : Type 0} (time : ℕ) (cells : List ℕ) (c : Core) (make : A → What) (o : Option A)
+    → ((x : A) → event_of (make x) ≡ [])
+    → c.time ≡ time → c.processor.cells ≡ cells → Keeps time cells (stepping.noted c (option_map make o))
+told_keeps time cells c make None own h k = (h, k)
+told_keeps time cells c make (Some x) own h k = (h, k, own x)
 
-arm_keeps : (time : ℕ) (cells : List ℕ) (c : Core) (t : ℕ) (instant : Option ℕ) → c.time ≡ time → c.processor.cells ≡ cells
-    → Keeps time cells (stepping.noted c (option_map (what.Arm t) instant))
-arm_keeps time cells c t None h k = (h, k)
-arm_keeps time cells c t (Some instant) h k = (h, k, refl)
+move_keeps : (time : ℕ) (cells : List ℕ) (c : Core) (t : ℕ) (handle instant : Option ℕ)
+    → c.time ≡ time → c.processor.cells ≡ cells
+    → Keeps time cells (stepping.noted c (then_from handle (λ handle. option_map (what.Move t handle) instant)))
+move_keeps time cells c t None instant h k = (h, k)
+move_keeps time cells c t (Some handle) instant h k =
+    told_keeps time cells c (what.Move t handle) instant (λ v. refl) h k
 
 noted_keeps : (time : ℕ) (cells : List ℕ) (img : Image) (c : Core) (n : Note) → c.time ≡ time → c.processor.cells ≡ cells
     → Keeps time cells (stepping.noted c (shown_by img c n))
-noted_keeps time cells img c (note.Start t from) h k = start_keeps time cells c t (slots_from c from (argument_count img t)) h k
-noted_keeps time cells img c (note.Arm t s) h k = arm_keeps time cells c t (slice_get c.processor.slots s) h k
+noted_keeps time cells img c (note.Start t from) h k =
+    told_keeps time cells c (what.Start t) (slots_from c from (argument_count img t)) (λ args. refl) h k
+noted_keeps time cells img c (note.Arm t s) h k =
+    told_keeps time cells c (what.Arm t) (slice_get c.processor.slots s) (λ instant. refl) h k
+noted_keeps time cells img c (note.Cancel t s) h k =
+    told_keeps time cells c (what.Cancel t) (slice_get c.processor.slots s) (λ handle. refl) h k
+noted_keeps time cells img c (note.Move t s a) h k =
+    move_keeps time cells c t (slice_get c.processor.slots s) (slice_get c.processor.slots a) h k
 noted_keeps time cells img c (note.Enter s) h k = (h, k, refl)
 noted_keeps time cells img c (note.Leave s) h k = (h, k, refl)
 noted_keeps time cells img c (note.Placed t) h k = (h, k, refl)

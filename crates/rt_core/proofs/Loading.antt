@@ -1,5 +1,6 @@
 -- What a step does depends on memory by what it loads alone.
 use Rattle.std.proofs.Common.{◌≡◌, ℕ, ◌+◌, Bool, true, false, nat_le, if◌then◌else◌, List, [], length, Option, Some, None, slice_get, option_map, refl, sym, ap, ◌∙◌}
+use Rattle.rt_ids.specs.Lists.{then_from}
 use Rattle.rt_code.specs.Access.{Stores}
 use Rattle.rt_code.specs.Effect.{effect}
 use Rattle.rt_code.specs.Image.{Image, entry_words}
@@ -101,6 +102,10 @@ plain-note img c (note.Start t from) = plain-noted c (option_map (what.Start t) 
 plain-note img c (note.Free t) = refl
 plain-note img c (note.Arm t s) = plain-noted c (option_map (what.Arm t) (slice_get c.processor.slots s))
 plain-note img c (note.Fire t) = refl
+plain-note img c (note.Cancel t s) = plain-noted c (option_map (what.Cancel t) (slice_get c.processor.slots s))
+plain-note img c (note.Move t s a) =
+    let slots = c.processor.slots in
+    plain-noted c (then_from (slice_get slots s) (λ handle. option_map (what.Move t handle) (slice_get slots a)))
 plain-note img c (note.End b) = refl
 
 plain-with_note : (img : Image) (n : Option Note) (o : Outcome) → plain (stepping.with_note img n o) ≡ plain (stepping.with_note img n (cut o))

@@ -1,5 +1,5 @@
 -- Worked examples: what the definitions of the core compute is what a person worked out. Handlers without locks.
-use Rattle.std.proofs.Common.{◌≡◌, [], ◌∷◌, ◌++◌, refl, codes}
+use Rattle.std.proofs.Common.{◌≡◌, true, false, [], ◌∷◌, ◌++◌, refl, codes}
 use Rattle.rt_ids.specs.Event.{Arrive}
 use Rattle.rt_ids.specs.declared.ids.BodyId.TheVariants as body
 use Rattle.rt_code.specs.Image.{Image}
@@ -14,6 +14,7 @@ use Rattle.rt_core.proofs.RowParts.{enabled, plain, noted, core_steps, at}
 two : Image
 two = record {
   bits = 4;
+  fpu = false;
   stack_bytes = 40;
   thread_words = 0;
   cells = [];
@@ -33,10 +34,22 @@ lower_number_first : trace two (Arrive 7 ∷ Arrive 3 ∷ core_steps 20)
 unfolding two labels happen step
 lower_number_first = refl
 
+-- with the floating-point extension each entry takes the space of an extended frame
+extended : Image
+extended = record two { fpu = true; stack_bytes = 112 }
+
+extended_frames : trace extended (Arrive 7 ∷ Arrive 3 ∷ core_steps 20)
+    ≡ at 0 (what.Pend 7) ∷ at 0 (what.Pend 3) ∷ at 0 (what.End body.Init)
+    ∷ at 1 (what.Take 3 112) ∷ at 3 (what.Emit 10) ∷ at 4 (what.Ret 3)
+    ∷ at 5 (what.Take 7 112) ∷ at 7 (what.Emit 20) ∷ at 8 (what.Ret 7) ∷ []
+unfolding two extended labels happen step
+extended_frames = refl
+
 -- LO = 0, MID = 1 and HI = 2, of three levels
 three : Image
 three = record {
   bits = 4;
+  fpu = false;
   stack_bytes = 120;
   thread_words = 0;
   cells = [];

@@ -1,5 +1,6 @@
--- Worked examples: what the definitions of the core compute is what a person worked out. Calls of bodies, and the alarm.
-use Rattle.std.proofs.Common.{◌≡◌, [], ◌∷◌, ◌++◌, refl, codes}
+-- Worked examples: what the definitions of the core compute is what a person worked out. Calls of bodies, handles of
+-- messages, and the alarm.
+use Rattle.std.proofs.Common.{◌≡◌, false, [], ◌∷◌, ◌++◌, refl, codes}
 use Rattle.rt_ids.specs.Event.{Arrive, Tick}
 use Rattle.rt_ids.specs.declared.ids.BodyId.TheVariants as body
 use Rattle.rt_code.specs.Image.{Image}
@@ -14,6 +15,7 @@ use Rattle.rt_core.proofs.RowParts.{enabled, plain, noted, core_steps, at}
 calling : Image
 calling = record {
   bits = 4;
+  fpu = false;
   stack_bytes = 56;
   thread_words = 0;
   cells = [];
@@ -41,10 +43,32 @@ depth_after_its_return : depth_after calling (Arrive 0 ∷ core_steps 8) ≡ 48
 unfolding calling core_after happen step
 depth_after_its_return = refl
 
+-- the thread has two slots, and takes back a message and puts one off by their handle
+handling : Image
+handling = record {
+  bits = 4;
+  fpu = false;
+  stack_bytes = 8;
+  thread_words = 2;
+  cells = [];
+  irqs = [];
+  bodies = [];
+  code = plain (instr.Set 0 7) ∷ plain (instr.Set 1 9) ∷ noted instr.Mark (note.Cancel 0 0)
+      ∷ noted instr.Mark (note.Move 0 0 1) ∷ noted instr.Mark (note.Move 0 0 2) ∷ [];
+  names = record { irqs = []; tasks = codes "t" ∷ []; shared = [] };
+}
+
+-- the items show what the slots hold, and a slot that is not in the frame traps
+handles_are_shown : trace handling (core_steps 6)
+    ≡ at 2 (what.Cancel 0 7) ∷ at 3 (what.Move 0 7 9) ∷ at 4 (what.Trap 2) ∷ []
+unfolding handling labels happen step
+handles_are_shown = refl
+
 -- the thread sets the alarm to the instant 2 for A = 0
 alarmed : Image
 alarmed = record {
   bits = 4;
+  fpu = false;
   stack_bytes = 48;
   thread_words = 1;
   cells = [];

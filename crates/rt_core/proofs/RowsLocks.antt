@@ -1,5 +1,5 @@
 -- Worked examples: what the definitions of the core compute is what a person worked out. Handlers with locks.
-use Rattle.std.proofs.Common.{◌≡◌, [], ◌∷◌, refl, codes, Some}
+use Rattle.std.proofs.Common.{◌≡◌, false, [], ◌∷◌, refl, codes, Some}
 use Rattle.rt_ids.specs.Event.{Arrive}
 use Rattle.rt_ids.specs.declared.op.Op.TheVariants as op
 use Rattle.rt_ids.specs.declared.ids.BodyId.TheVariants as body
@@ -16,6 +16,7 @@ use Rattle.rt_core.proofs.RowParts.{enabled, plain, noted, core_steps, at}
 own : Image
 own = record {
   bits = 4;
+  fpu = false;
   stack_bytes = 48;
   thread_words = 0;
   cells = record { name = codes "s"; first = 5 } ∷ [];
@@ -39,6 +40,7 @@ lock_at_own_level = refl
 top : Image
 top = record {
   bits = 3;
+  fpu = false;
   stack_bytes = 80;
   thread_words = 0;
   cells = record { name = codes "s"; first = 0 } ∷ [];
@@ -67,6 +69,7 @@ ceiling_of_the_highest_level = refl
 nest : Image
 nest = record {
   bits = 4;
+  fpu = false;
   stack_bytes = 128;
   thread_words = 0;
   cells = record { name = codes "a"; first = 0 } ∷ record { name = codes "b"; first = 0 } ∷ [];

@@ -3,7 +3,7 @@ use Rattle.std.proofs.Common.{◌≡◌, ℕ, suc, ◌+◌, ◌<◌, ◌^◌, �
 use Rattle.std.specs.List.{AllByRecursion}
 use Rattle.std.proofs.lemmas.Bool.{le-leb}
 use Rattle.rt_lemmas.proofs.Membership.{all_weaker}
-use Rattle.rt_ids.specs.Lists.{is_empty}
+use Rattle.rt_ids.specs.Lists.{is_empty, then_from}
 use Rattle.rt_ids.specs.Action.{Clocks, Returns}
 use Rattle.rt_ids.specs.Storage.{Storage, Runner}
 use Rattle.rt_ids.specs.declared.ids.BodyId.{BodyId}
@@ -106,6 +106,12 @@ module _ (img : Image) (st : Storage) (thread : ℕ) (who : Runner) (c : Core) (
   note_shows p (note.Free n) a = refl
   note_shows p (note.Arm n slot) a = ap (λ o. settle (noted (with_processor c p) (option_map (λ instant. what.Arm n instant) o))) a.shown
   note_shows p (note.Fire n) a = refl
+  note_shows p (note.Cancel n slot) a =
+      ap (λ o. settle (noted (with_processor c p) (option_map (λ handle. what.Cancel n handle) o))) a.shown
+  note_shows p (note.Move n slot from) a =
+      ap (λ o. settle (noted (with_processor c p)
+      (then_from o (λ handle. option_map (λ instant. what.Move n handle instant) (slice_get p.slots from))))) a.shown
+      ∙ ap (λ o. settle (noted (with_processor c p) (option_map (λ instant. what.Move n a.handle instant) o))) a.put_off
   note_shows p told a = absurd a
 
   module _ (i : Instr) where

@@ -56,7 +56,7 @@ in_context c x others = record c {
 }
 
 module _ (st : Storage) (bodies : List BodyRow) (who : Runner) (later : Spot → Type 0) where
-  -- the item of a note, with the arguments or the instant as the job knows them
+  -- the item of a note, with the arguments, the handle or the instant as the job knows them
   abbrev pub item_of : (told : Note) (t : Spot) → Noted st bodies who told t later → What
   item_of (note.Placed n) t noted = what.Placed n
   item_of (note.Full n) t noted = what.Full n
@@ -65,4 +65,6 @@ module _ (st : Storage) (bodies : List BodyRow) (who : Runner) (later : Spot →
   item_of (note.Free n) t noted = what.Free n
   item_of (note.Arm n slot) t noted = what.Arm n noted.instant
   item_of (note.Fire n) t noted = what.Fire n
+  item_of (note.Cancel n slot) t noted = what.Cancel n noted.handle
+  item_of (note.Move n slot from) t noted = what.Move n noted.handle noted.instant
   item_of told t noted = absurd noted

@@ -2,6 +2,7 @@
 -- in the terms of RTIC 1 what the code has done. None where a slot that the note names is not in the frame.
 use Rattle.std.specs.Prelude.{ℕ, ◌+◌, ◌==◌, ◌||◌, nat_le, if◌then◌else◌, List, length, take, drop, slice_get}
 use Rattle.std.specs.Prelude.{option_map, Option, Some, None}
+use Rattle.rt_ids.specs.Lists.{then_from}
 use Rattle.rt_code.specs.Image.{Image}
 use Rattle.rt_code.specs.declared.instr.Note.{Note}
 use Rattle.rt_code.specs.declared.instr.Note.TheVariants as note
@@ -34,4 +35,8 @@ shown_by img c (note.Start t from) = option_map (what.Start t) (slots_from c fro
 shown_by img c (note.Free t) = Some (what.Free t)
 shown_by img c (note.Arm t s) = option_map (what.Arm t) (slice_get c.processor.slots s)
 shown_by img c (note.Fire t) = Some (what.Fire t)
+shown_by img c (note.Cancel t s) = option_map (what.Cancel t) (slice_get c.processor.slots s)
+shown_by img c (note.Move t s a) =
+    let slots = c.processor.slots in
+    then_from (slice_get slots s) (λ handle. option_map (what.Move t handle) (slice_get slots a))
 shown_by img c (note.End b) = Some (what.End b)

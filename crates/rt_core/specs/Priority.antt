@@ -1,5 +1,5 @@
 -- The execution priority, and which interrupt is taken (ARMv7-M Architecture Reference Manual, section B1.5.4). There
--- are no sub-priorities. The code scans the interrupt numbers once.
+-- are no sub-priorities. The code asks its interrupt controller, which keeps the first of those that are ready.
 use Rattle.std.specs.Prelude.{ℕ, ◌==◌, Bool, false, ◌&&◌, ◌||◌, nat_lt, if◌then◌else◌, List, [], ◌∷◌, min}
 use Rattle.std.specs.Prelude.{slice_index_or, Option, Some, None}
 use Rattle.rt_ids.specs.declared.limits.TheConstants.{THREAD_VALUE}

@@ -24,7 +24,6 @@ use std::marker::Model;
 
 /// A core with an image. Contracts see the image, the state of the core, and how many core steps it has taken. All
 /// memory is taken when it is made.
-#[derive(Drop)]
 pub struct Core {
     pub(crate) program: Program,
     pub(crate) time: u32,
@@ -47,6 +46,22 @@ impl Model for Core {
     ghost view = { machine };
 
     ghost invariant = { IsSound };
+}
+
+impl Drop for Core {
+    fn drop(self) {
+        let Core {
+            program: _,
+            time: _,
+            alarm: _,
+            nvic: _,
+            frames: _,
+            registers: _,
+            cells: _,
+            stopped: _,
+            steps: _,
+        } = self;
+    }
 }
 
 /// The first values of cells.

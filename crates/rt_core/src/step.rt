@@ -188,6 +188,13 @@ impl Core {
         Some(Args::of(&slots[from..end]))
     }
 
+    /// The word of a slot, where it is in the frame.
+    fn slot(&self, slot: u32) -> Option<u32>
+        ensures { result ≡ slice_get self.now.core.processor.slots slot }
+    {
+        self.frames.slots().get(slot as usize).copied()
+    }
+
     /// The item of a note, and None where a slot that it names is not in the frame.
     fn shown_by(&self, note: Note) -> Option<What>
         ensures { result ≡ notes.shown_by self.now.image self.now.core note }
@@ -208,13 +215,23 @@ impl Core {
             }
             Note::Free(task) => Some(What::Free(task)),
             Note::Arm(task, slot) => {
-                let instant = self.frames.slots().get(slot as usize).copied()?;
+                let instant = self.slot(slot)?;
                 Some(What::Arm(task, instant))
             }
             Note::Fire(task) => Some(What::Fire(task)),
+            Note::Cancel(task, slot) => {
+                let handle = self.slot(slot)?;
+                Some(What::Cancel(task, handle))
+            }
+            Note::Move(task, slot, from) => {
+                let handle = self.slot(slot)?;
+                let instant = self.slot(from)?;
+                Some(What::Move(task, handle, instant))
+            }
             Note::End(body) => Some(What::End(body)),
         }
     }
+
     /// The instruction's own effect. A trap changes nothing.
     fn execute(&mut self, instr: Instr) -> Result<Request, Trap>
         requires { self.old.core.processor.address + 1 < 2 ^ 32 }
