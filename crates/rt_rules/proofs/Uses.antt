@@ -9,12 +9,12 @@ use Rattle.rt_app.specs.Tree.{App}
 use Rattle.rt_app.specs.Bodies.{Member}
 use Rattle.rt_app.specs.View.{expression_of, spawn_of, statement_of, block_of}
 use Rattle.rt_app.specs.Violation.{when}
-use Rattle.rt_app.specs.Statements.{is_bad_spawn, use_breaks, breaks}
+use Rattle.rt_app.specs.Statements.{is_bad_spawn, is_bad_message, use_breaks, breaks}
 use Rattle.rt_app.specs.Use.{Use, Placed, Locks, MakesSpawn, placed, reads, spawn_uses, statement_uses, uses}
 use Rattle.rt_app.specs.declared.violation.Violation.{Violation}
 use Rattle.rt_app.specs.declared.expr.Expr.{Expr, Oper}
 use Rattle.rt_app.specs.declared.stmt.Spawn.{Spawn}
-use Rattle.rt_app.specs.declared.stmt.Spawn.TheVariants.{After}
+use Rattle.rt_app.specs.declared.stmt.Spawn.TheVariants.{After, Move}
 use Rattle.rt_app.specs.declared.stmt.Stmt.{Stmt, Branch, Repeat, Locked}
 use Rattle.rt_app.proofs.Statements.{branch_is, repeat_is, locked_is}
 use Rattle.rt_rules.specs.Inside.First.{first_of}
@@ -83,3 +83,20 @@ after_uses app m locked o p q r s spawn word delay task own at args args' timele
     let behind_delay : s ≡ first_use app m q (ds ++ es) =
     uses_behind app m q r s ds es (ds ++ es) refl e3 (e4 ∙ ap (λ (es : List Expr). first_use app m r (flat_map (reads locked) (map expression_of es))) f') in
     uses_behind_one app m o q s locked (MakesSpawn u) (ds ++ es) (spawn_uses locked (spawn_of spawn)) (ap (λ s. spawn_uses locked (spawn_of s)) is) spawned behind_delay
+
+-- a message that is put off by its handle: the word and the task, the delay and the handle
+pub move_uses : (app : App) (m : Member) (locked : List ℕ) (o p q r : Option Violation)
+    (spawn : Spawn) (word : ℕ) (delay : Expr) (task : ℕ) (handle : Expr) (at : ℕ)
+    → spawn ≡ Move word delay task handle at
+    → p ≡ first_of o
+    (when (is_none app.mono) rule.NoMonotonic word ++ when (is_bad_message app task) rule.NotSoftware at)
+    → q ≡ first_use app m p (reads locked (expression_of delay))
+    → r ≡ first_use app m q (reads locked (expression_of handle))
+    → r ≡ first_use app m o (spawn_uses locked (spawn_of spawn))
+move_uses app m locked o p q r spawn word delay task handle at is e1 e2 e3 =
+    let u : tree.Spawn = tree.Move word (expression_of delay) task (expression_of handle) at in
+    let ds = reads locked (expression_of delay) in
+    let hs = reads locked (expression_of handle) in
+    let behind_task : r ≡ first_use app m p (ds ++ hs) = uses_behind app m p q r ds hs (ds ++ hs) refl e2 e3 in
+    uses_behind_one app m o p r locked (MakesSpawn u) (ds ++ hs) (spawn_uses locked (spawn_of spawn))
+    (ap (λ s. spawn_uses locked (spawn_of s)) is) e1 behind_task

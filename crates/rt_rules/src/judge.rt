@@ -5,7 +5,7 @@ ghost use Rattle.rt_app.specs.Level.{is_software};
 ghost use Rattle.rt_ids.specs.Lists.{is_some_and};
 ghost use Rattle.rt_app.specs.Use.{loops as loops_of};
 ghost use Rattle.rt_app.specs.Statements.{listing_in, is_lockable, is_free, is_outside, is_misplaced_lock};
-ghost use Rattle.rt_app.specs.Statements.{is_inside_itself, is_fixed, is_bad_spawn};
+ghost use Rattle.rt_app.specs.Statements.{is_inside_itself, is_fixed, is_bad_spawn, is_bad_message};
 ghost use Rattle.rt_rules.specs.Inside.Locked.{locked_of};
 ghost use Rattle.rt_rules.specs.Inside.Tables.{has, listing_at};
 ghost use Rattle.rt_rules.specs.Inside.View.{member_of};
@@ -126,6 +126,13 @@ impl<'a> Judge<'a> {
         task.0 != UNKNOWN && !takes(self.app, task, args.len())
     }
 
+    /// Whether a task of this number is a hardware task, so that it has no messages.
+    pub(crate) fn is_bad_message(&self, task: TaskId) -> bool
+        ensures { result ≡ is_bad_message (app_of self.now.app.now) task }
+    {
+        task.0 != UNKNOWN && !is_software_task(self.app, task)
+    }
+
     /// Whether the application has no monotonic.
     pub(crate) fn is_timeless(&self) -> bool
         ensures { result ≡ is_none (app_of self.now.app.now).mono }
@@ -138,8 +145,18 @@ impl<'a> Judge<'a> {
 fn takes(app: &App, task: TaskId, args: usize) -> bool
     ensures { result ≡ is_some_and (λ t. is_software t && (args == t.args)) (slice_get (app_of app.now).tasks task) }
 {
-    match app.tasks.get(task.0 as usize) {
-        Some(task) => task.binds.is_none() && args == task.args as usize,
+    match app.task(task) {
+        Some(task) => task.is_software() && args == usize::from(task.args),
+        None => false,
+    }
+}
+
+/// Whether it is a software task.
+fn is_software_task(app: &App, task: TaskId) -> bool
+    ensures { result ≡ is_some_and is_software (slice_get (app_of app.now).tasks task) }
+{
+    match app.task(task) {
+        Some(task) => task.is_software(),
         None => false,
     }
 }

@@ -1,11 +1,11 @@
 #![tactic(auto, using(crate::proofs::Fold::first_of_append))]
 
-ghost use Rattle.std.specs.Prelude.{◌≡◌, [], ◌∷◌, flat_map, map, OnOk};
+ghost use Rattle.std.specs.Prelude.{◌≡◌, [], ◌∷◌, ◌++◌, flat_map, map, is_none, OnOk};
 ghost use Rattle.rt_app.specs.View.{app_of, expression_of, spawn_of, value_of, statement_of, block_of};
 ghost use Rattle.rt_app.specs.Use.{Reads, Writes, Locks, MakesSpawn, AsksTime, placed, reads, spawn_uses, value_uses};
 ghost use Rattle.rt_app.specs.Use.{statement_uses, uses};
 ghost use Rattle.rt_app.specs.Bodies.{members};
-ghost use Rattle.rt_app.specs.Statements.{is_bad_spawn, use_breaks, breaks};
+ghost use Rattle.rt_app.specs.Statements.{is_bad_spawn, is_bad_message, use_breaks, breaks};
 ghost use Rattle.rt_app.specs.Violation.{when};
 ghost use Rattle.rt_ids.specs.declared.rule.Rule.TheVariants as rule;
 ghost use Rattle.rt_rules.specs.Inside.First.{first_of};
@@ -62,6 +62,16 @@ fn judge_target(first: &mut First, judge: &Judge<'_>, task: TaskId, args: &[Expr
     first.offer_when(judge.is_bad_spawn(task, args), Rule::NotSoftware, at);
 }
 
+/// Offers a word that goes to a message by its handle: one without a monotonic, and one of a hardware task.
+fn judge_message(first: &mut First, judge: &Judge<'_>, word: u32, task: TaskId, at: u32)
+    ensures { first.new ≡ first_of first.old
+        (when (is_none (app_of judge.now.app.now).mono) rule.NoMonotonic word
+        ++ when (is_bad_message (app_of judge.now.app.now) task) rule.NotSoftware at) }
+{
+    first.offer_when(judge.is_timeless(), Rule::NoMonotonic, word);
+    first.offer_when(judge.is_bad_message(task), Rule::NotSoftware, at);
+}
+
 /// Offers the uses of an expression.
 fn judge_expression(first: &mut First, judge: &Judge<'_>, locked: &Locked<'_>, expr: &Expr)
     ensures { first.new ≡ first_use (app_of judge.now.app.now) (member_of judge.now.member) first.old
@@ -102,6 +112,15 @@ fn judge_spawn(first: &mut First, judge: &Judge<'_>, locked: &Locked<'_>, spawn:
             judge_target(first, judge, *task, args, *at);
             judge_expression(first, judge, locked, delay);
             judge_expressions(first, judge, locked, args);
+        }
+        Spawn::Cancel(word, task, handle, at) => {
+            judge_message(first, judge, *word, *task, *at);
+            judge_expression(first, judge, locked, handle);
+        }
+        Spawn::Move(word, delay, task, handle, at) => {
+            judge_message(first, judge, *word, *task, *at);
+            judge_expression(first, judge, locked, delay);
+            judge_expression(first, judge, locked, handle);
         }
     }
 }

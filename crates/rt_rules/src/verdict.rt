@@ -80,7 +80,7 @@ pub fn rules(alloc: Global, src: &[u8], resolved: Resolved) -> Result<App, Refus
         (λ r. IsRefusal src.now (resolved.faults.items ++ violations (app_of resolved.app)) r) }
 {
     match first_violation(alloc, &resolved) {
-        Ok(None) => Ok(resolved.app),
+        Ok(None) => Ok(resolved.into_app()),
         Ok(Some(violation)) => Err(Refused::At(fault_at(src, violation))),
         Err(NoMemory) => Err(Refused::NoMemory),
     }

@@ -1,4 +1,5 @@
-use Rattle.std.proofs.Common.{◌++◌, refl, sym, ◌∙◌}
+use Rattle.std.proofs.Common.{◌++◌, ap, sym, ◌∙◌}
+use Rattle.rt_app.specs.declared.app.App.{App}
 use Rattle.rt_app.specs.View.{app_of}
 use Rattle.rt_app.specs.Rules.{violations}
 use Rattle.rt_rules.proofs.Earliest.{is_first, is_none, are_none}
@@ -9,7 +10,8 @@ returns-in-Ok-None-clause-ok c =
     let faults = c.args.resolved.faults.items in
     let broken = violations (app_of c.args.resolved.app) in
     let none = are_none faults broken (is_none (faults ++ broken) (sym c.in-Ok-None.ensures ∙ c.in-Ok-None.field-0-is)) in
-    (refl, none.0, none.1)
+    let same = ap (λ (app : App). violations (app_of app)) c.into_app.ensures in
+    (c.into_app.ensures, none.0, same ∙ none.1)
 
 pub returns-in-Ok-Some-clause-refused : goal.returns-in-Ok-Some-clause-refused
 returns-in-Ok-Some-clause-refused c =
