@@ -10,6 +10,7 @@ use Rattle.rt_code.specs.Listable.{IsListable, AreWritable, HasTask, HasInstr, H
 use Rattle.rt_listing.specs.Listing.{sizes_line, numbered, cell_line, irq_line, body_line, code_line, listing}
 use Rattle.rt_listing.specs.Numbers.{IsShort, AreShort, handler_numbers, instr_numbers, note_numbers, HasShortNumbers}
 use Rattle.rt_listing.proofs.Reading.{Reader}
+use Rattle.rt_listing.proofs.Lined.{form_of, form_reads}
 use Rattle.rt_listing.proofs.Lined.{sizes_of, sizes_reads, cell_of, cell_reads, irq_row_of, irq_row_reads, body_row_of, body_row_reads, line_of, line_reads, IsGoodLine}
 
 -- the fourth byte of a line, which differs between kinds of lines
@@ -110,10 +111,11 @@ readable img listable short = record {
   code = good_lines img.names img.code listable.instrs listable.notes short.instrs short.notes;
 }
 
-same_image : (a b : Image) → a.bits ≡ b.bits → a.stack_bytes ≡ b.stack_bytes → a.thread_words ≡ b.thread_words
+same_image : (a b : Image) → a.fpu ≡ b.fpu → a.bits ≡ b.bits → a.stack_bytes ≡ b.stack_bytes
+    → a.thread_words ≡ b.thread_words
     → a.cells ≡ b.cells → a.irqs ≡ b.irqs → a.bodies ≡ b.bodies → a.code ≡ b.code → a.names ≡ b.names → a ≡ b
-same_image a b bits stack_bytes thread_words same_cells same_irqs same_bodies same_code names =
-    rw (bits, stack_bytes, thread_words, same_cells, same_irqs, same_bodies, same_code, names) refl
+same_image a b fpu bits stack_bytes thread_words same_cells same_irqs same_bodies same_code names =
+    rw (fpu, bits, stack_bytes, thread_words, same_cells, same_irqs, same_bodies, same_code, names) refl
 
 -- no line for code, and then none for a body or an interrupt, begins as lines of another kind do
 code_differs : (names : Names) (img : Image) (other : ℕ) → AreWritable names → 101 ≢ other → 0 ≢ other → mark (code_on names img) ≢ other
@@ -131,6 +133,7 @@ irqs_differ names img good =
 same_over : (names : Names) (a b : Image) → AreWritable names → IsReadable names a → IsReadable names b → a.names ≡ b.names
     → sizes_line a ++ cells_on names a ≡ sizes_line b ++ cells_on names b → a ≡ b
 same_over names a b good p q same_names texts =
+    let form : a.fpu ≡ b.fpu = sym (form_reads a _) ∙ ap form_of texts ∙ form_reads b _ in
     let front = sym (sizes_reads a _ p.bits p.stack_bytes p.thread_words) ∙ ap sizes_of texts ∙ sizes_reads b _ q.bits q.stack_bytes q.thread_words in
     let sizes = ap (λ (t : (ℕ × ℕ × ℕ) × List ℕ). t.0) front in
     let first = lines_tell _ _ _ _ cells 0 a.cells b.cells _ _ p.cells q.cells (irqs_differ names a good) (irqs_differ names b good)
@@ -140,7 +143,8 @@ same_over names a b good p q same_names texts =
     let third = lines_tell _ _ _ _ (bodies names good) 0 a.bodies b.bodies _ _ p.bodies q.bodies
     (code_differs names a 121 good (omega arith) (omega arith)) (code_differs names b 121 good (omega arith) (omega arith)) second.1 in
     let last = lines_tell _ _ _ _ (code names good) 0 a.code b.code [] [] p.code q.code (omega arith) (omega arith) third.1 in
-    same_image a b (ap (λ (t : ℕ × ℕ × ℕ). t.0) sizes) (ap (λ (t : ℕ × ℕ × ℕ). t.1) sizes) (ap (λ (t : ℕ × ℕ × ℕ). t.2) sizes)
+    same_image a b form
+    (ap (λ (t : ℕ × ℕ × ℕ). t.0) sizes) (ap (λ (t : ℕ × ℕ × ℕ). t.1) sizes) (ap (λ (t : ℕ × ℕ × ℕ). t.2) sizes)
     first.0 second.0 third.0 last.0 same_names
 
 pub images_apart : (a b : Image) → IsListable a → IsListable b → HasShortNumbers a → HasShortNumbers b → a.names ≡ b.names

@@ -100,6 +100,9 @@ task_note names make = one (task_of names) (λ t. Some (make t))
 abbrev slot_note : Names → (ℕ → ℕ → Note) → Reader (Option Note)
 slot_note names make = two (task_of names) value (λ t s. Some (make t s))
 
+abbrev slots_note : Names → (ℕ → ℕ → ℕ → Note) → Reader (Option Note)
+slots_note names make = three (task_of names) value value (λ t s a. Some (make t s a))
+
 abbrev section_note : Names → (Section → Note) → Reader (Option Note)
 section_note names make = one (section_of names) (λ s. Some (make s))
 
@@ -109,7 +112,8 @@ note_table names =
     ∷ (codes "ok", task_note names note.Placed) ∷ (codes "full", task_note names note.Full)
     ∷ (codes "ready", task_note names note.Ready) ∷ (codes "start", slot_note names note.Start)
     ∷ (codes "free", task_note names note.Free) ∷ (codes "arm", slot_note names note.Arm)
-    ∷ (codes "fire", task_note names note.Fire) ∷ (codes "end", one (body_of names) (λ b. Some (note.End b))) ∷ []
+    ∷ (codes "fire", task_note names note.Fire) ∷ (codes "cancel", slot_note names note.Cancel)
+    ∷ (codes "move", slots_note names note.Move) ∷ (codes "end", one (body_of names) (λ b. Some (note.End b))) ∷ []
 
 -- a line feed stands where there is no note
 abbrev pub note_of : Names → Reader (Option Note)
@@ -123,6 +127,15 @@ slot_reads : (names : Names) (make : ℕ → ℕ → Note) (t s : ℕ) (rest : L
     → slot_note names make (((32 ∷ task_name names t) ++ spaced s) ++ (10 ∷ rest)) ≡ (Some (make t s), 10 ∷ rest)
 slot_reads names make t s rest good here short =
     two_reads (task_of names) value (λ t s. Some (make t s)) t s _ _ (10 ∷ rest) (task_shows names t good here) (number_shows s short.0) refl
+
+slots_reads : (names : Names) (make : ℕ → ℕ → ℕ → Note) (t s a : ℕ) (rest : List ℕ) → AreWritable names
+    → HasTask names t
+    → AreShort (s ∷ a ∷ [])
+    → slots_note names make ((((32 ∷ task_name names t) ++ spaced s) ++ spaced a) ++ (10 ∷ rest))
+    ≡ (Some (make t s a), 10 ∷ rest)
+slots_reads names make t s a rest good here short =
+    three_reads (task_of names) value value (λ t s a. Some (make t s a)) t s a _ _ _ (10 ∷ rest)
+    (task_shows names t good here) (number_shows s short.0) (number_shows a short.1.0) refl
 
 section_reads : (names : Names) (make : Section → Note) (s : Section) (rest : List ℕ) → AreWritable names → HasSection names s → AreShort (section_numbers s)
     → section_note names make ((32 ∷ section_name names s) ++ (10 ∷ rest)) ≡ (Some (make s), 10 ∷ rest)
@@ -140,4 +153,6 @@ note_reads names (Some (note.Start t s)) rest good here short = slot_reads names
 note_reads names (Some (note.Free t)) rest good here short = task_reads names note.Free t rest good here
 note_reads names (Some (note.Arm t s)) rest good here short = slot_reads names note.Arm t s rest good here short
 note_reads names (Some (note.Fire t)) rest good here short = task_reads names note.Fire t rest good here
+note_reads names (Some (note.Cancel t s)) rest good here short = slot_reads names note.Cancel t s rest good here short
+note_reads names (Some (note.Move t s a)) rest good here short = slots_reads names note.Move t s a rest good here short
 note_reads names (Some (note.End b)) rest good here short = one_reads (body_of names) (λ b. Some (note.End b)) b _ (10 ∷ rest) (body_shows names b good here) refl

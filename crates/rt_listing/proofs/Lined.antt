@@ -1,5 +1,6 @@
 -- Lines are read back, each up to its line feed.
-use Rattle.std.proofs.Common.{◌≡◌, ℕ, true, cond, eqb, List, [], ◌∷◌, ◌++◌, length, get_or, drop, codes, decimal, Option, Some, None, refl, ap, ◌∙◌, append_assoc}
+use Rattle.std.proofs.Common.{◌≡◌, ℕ, Bool, true, false, cond, eqb, List, [], ◌∷◌, ◌++◌, length}
+use Rattle.std.proofs.Common.{get_or, drop, codes, decimal, Option, Some, None, refl, ap, ◌∙◌, append_assoc}
 use Rattle.std.specs.Str.Parse.{digits_value}
 use Rattle.rt_ids.specs.Names.{Names}
 use Rattle.rt_ids.specs.declared.cell.CellRow.{CellRow}
@@ -12,7 +13,7 @@ use Rattle.rt_code.specs.declared.image.BodyRow.{BodyRow}
 use Rattle.rt_code.specs.declared.instr.Instr.{Instr}
 use Rattle.rt_code.specs.declared.instr.Note.{Note}
 use Rattle.rt_listing.specs.Words.{spaced, instr_text, note_text}
-use Rattle.rt_listing.specs.Listing.{sizes_line, cell_line, handler_text, irq_line, body_line, code_line}
+use Rattle.rt_listing.specs.Listing.{form_text, sizes_line, cell_line, handler_text, irq_line, body_line, code_line}
 use Rattle.rt_listing.specs.Numbers.{IsShort, AreShort, handler_numbers, instr_numbers, note_numbers}
 use Rattle.rt_listing.proofs.Reading.{is_ended, word, word_reads, word_has_no_blank, decimal_has_no_blank, Shows, number_shows, Reader, one, two, three, after, one_reads, two_reads, three_reads, after_reads, last_one, last_two, last_three}
 use Rattle.rt_listing.proofs.Named.{task_of, task_shows}
@@ -36,6 +37,29 @@ number_skipped n = record { plain = decimal_has_no_blank n; reads = refl }
 word_shows : (w : List ℕ) → IsWord w → Shows same w w
 word_shows w h = record { plain = word_has_no_blank w h; reads = refl }
 
+-- the form of a listing, in front of the sizes
+abbrev pub form_of : List ℕ → Bool
+form_of text = eqb (get_or text 6 0) 50
+
+form_shows : (fpu : Bool) (text : List ℕ) → form_of (form_text fpu ++ text) ≡ fpu
+form_shows true text = refl
+form_shows false text = refl
+
+behind_form : (fpu : Bool) (text : List ℕ) → drop 7 (form_text fpu ++ text) ≡ text
+behind_form true text = refl
+behind_form false text = refl
+
+sizes_apart : (u a b c v w rest : List ℕ)
+    → ((((((u ++ a) ++ b) ++ c) ++ v) ++ w) ++ 10 ∷ []) ++ rest ≡ u ++ (((a ++ b) ++ c) ++ ((v ++ w) ++ (10 ∷ rest)))
+sizes_apart u a b c v w rest = simp append_assoc
+
+pub form_reads : (img : Image) (rest : List ℕ) → form_of (sizes_line img ++ rest) ≡ img.fpu
+form_reads img rest =
+    ap form_of
+    (sizes_apart (form_text img.fpu) (spaced img.bits) (spaced img.stack_bytes) (spaced img.thread_words)
+    (spaced (length img.code)) (spaced (length img.cells)) rest)
+    ∙ form_shows img.fpu _
+
 -- the line of the sizes
 abbrev sizes : ℕ → ℕ → ℕ → ℕ × ℕ × ℕ
 sizes bits bytes words = (bits, bytes, words)
@@ -50,7 +74,11 @@ sizes_reads img rest bits bytes words =
     let code = spaced (length img.code) in
     let cells = spaced (length img.cells) in
     let more = (code ++ cells) ++ (10 ∷ rest) in
-    ap sizes_of (last_two (codes "image 1" ++ spaced img.bits ++ spaced img.stack_bytes ++ spaced img.thread_words) code cells (10 ∷ []) rest)
+    ap sizes_of
+    (sizes_apart (form_text img.fpu) (spaced img.bits) (spaced img.stack_bytes) (spaced img.thread_words)
+    code cells rest)
+    ∙ ap (after (three value value value sizes) (λ front. two skipped skipped (λ code cells. front)))
+    (behind_form img.fpu (front ++ more))
     ∙ after_reads (three value value value sizes) (λ front. two skipped skipped (λ code cells. front)) _ _ (front ++ more) more _
     (three_reads value value value sizes img.bits img.stack_bytes img.thread_words _ _ _ more
     (number_shows _ bits) (number_shows _ bytes) (number_shows _ words) refl)

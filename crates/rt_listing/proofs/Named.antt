@@ -1,6 +1,6 @@
 -- Interrupts, tasks, sections and bodies are read back from their names.
-use Rattle.std.proofs.Common.{◌≡◌, ◌≢◌, ℕ, ◌==◌, ◌<◌, zero, suc, Bool, false, cond, eqb, List, [], ◌∷◌, length, map, get_or, drop, codes, bytes_eq, Contains, IsSome, Some, refl, ap, subst, ◌∙◌, arith}
-use Rattle.std.specs.List.{AllByRecursion, position_or_len, slice_get, list_any, find}
+use Rattle.std.proofs.Common.{◌≡◌, ◌≢◌, ℕ, ◌==◌, ◌<◌, Bool, false, cond, eqb, List, [], ◌∷◌, length, map, get_or, drop, codes, bytes_eq, Contains, IsSome, Some, refl, ap, subst, ◌∙◌, arith}
+use Rattle.std.specs.List.{AllByRecursion, position_or_len, list_any, find}
 use Rattle.std.specs.Str.Parse.{digits_value}
 use Rattle.std.proofs.lemmas.List.{length-map, get_or-map, get_or_default}
 use Rattle.std.proofs.lemmas.List.Elements.{All-from_recursion}

@@ -1,5 +1,5 @@
--- A worked example: what the definition computes is what a person worked out.
-use Rattle.std.proofs.Common.{◌≡◌, [], ◌∷◌, refl, Some, None, codes}
+-- Worked examples: what the definition computes is what a person worked out.
+use Rattle.std.proofs.Common.{◌≡◌, true, false, [], ◌∷◌, refl, Some, None, codes}
 use Rattle.std.specs.Fmt.{digits}
 use Rattle.rt_ids.specs.declared.ids.BodyId.TheVariants as body
 use Rattle.rt_code.specs.Image.{Image}
@@ -11,6 +11,7 @@ use Rattle.rt_listing.specs.Listing.{listing}
 two_image : Image
 two_image = record {
   bits = 4;
+  fpu = false;
   stack_bytes = 40;
   thread_words = 0;
   cells = [];
@@ -27,3 +28,11 @@ two_listing : listing two_image
     ≡ codes "image 1 4 40 0 8 0\nirq A 3 224 5 2\nirq B 7 224 2 2\ncode 0 serve ; end init\ncode 1 wait\ncode 2 set 0 20\ncode 3 emit 0\ncode 4 ret\ncode 5 set 0 10\ncode 6 emit 0\ncode 7 ret\n"
 unfolding two_image digits
 two_listing = refl
+
+-- the same with the floating-point extension, and without its interrupts and code
+extended_image : Image
+extended_image = record two_image { fpu = true; stack_bytes = 112; irqs = []; code = [] }
+
+extended_listing : listing extended_image ≡ codes "image 2 4 112 0 0 0\n"
+unfolding two_image extended_image digits
+extended_listing = refl

@@ -1,6 +1,7 @@
 -- The one text of an image: a line of its sizes, then a line for each cell, declared interrupt, body of a software task
 -- and instruction. Words stand one space apart, numbers are decimal, and each line ends with a line feed.
-use Rattle.std.specs.Prelude.{ℕ, suc, List, [], ◌∷◌, ◌++◌, flat_map, length, codes, Option, Some, None}
+use Rattle.std.specs.Prelude.{ℕ, suc, Bool, if◌then◌else◌, List, [], ◌∷◌, ◌++◌, flat_map, length, codes, Option, Some}
+use Rattle.std.specs.Prelude.{None}
 use Rattle.rt_ids.specs.Names.{Names}
 use Rattle.rt_ids.specs.declared.cell.CellRow.{CellRow}
 use Rattle.rt_code.specs.Image.{Image}
@@ -12,10 +13,14 @@ use Rattle.rt_code.specs.declared.instr.Instr.{Instr}
 use Rattle.rt_code.specs.declared.instr.Note.{Note}
 use Rattle.rt_listing.specs.Words.{spaced, instr_text, note_text}
 
--- priority bits, stack bytes, words of the thread's frame, instructions, cells
+-- the form of a listing: 2 where the core has the floating-point extension, else 1
+abbrev pub form_text : Bool → List ℕ
+form_text fpu = if fpu then codes "image 2" else codes "image 1"
+
+-- its form, priority bits, stack bytes, words of the thread's frame, instructions, cells
 abbrev pub sizes_line : Image → List ℕ
 sizes_line img =
-    codes "image 1" ++ spaced img.bits ++ spaced img.stack_bytes ++ spaced img.thread_words
+    form_text img.fpu ++ spaced img.bits ++ spaced img.stack_bytes ++ spaced img.thread_words
     ++ spaced (length img.code) ++ spaced (length img.cells) ++ 10 ∷ []
 
 -- a line for each thing, which says its number

@@ -52,6 +52,8 @@ note_numbers (Some (note.Enter s)) = section_numbers s
 note_numbers (Some (note.Leave s)) = section_numbers s
 note_numbers (Some (note.Start t s)) = s ∷ []
 note_numbers (Some (note.Arm t s)) = s ∷ []
+note_numbers (Some (note.Cancel t s)) = s ∷ []
+note_numbers (Some (note.Move t s a)) = s ∷ a ∷ []
 note_numbers n = []
 
 pub record HasShortNumbers (img : Image) : Type 0 where

@@ -67,6 +67,8 @@ note_words names (note.Start t s) = codes "start " ++ task_name names t ++ space
 note_words names (note.Free t) = codes "free " ++ task_name names t
 note_words names (note.Arm t s) = codes "arm " ++ task_name names t ++ spaced s
 note_words names (note.Fire t) = codes "fire " ++ task_name names t
+note_words names (note.Cancel t s) = codes "cancel " ++ task_name names t ++ spaced s
+note_words names (note.Move t s a) = codes "move " ++ task_name names t ++ spaced s ++ spaced a
 note_words names (note.End b) = codes "end " ++ body_name names b
 
 -- a note stands behind a semicolon

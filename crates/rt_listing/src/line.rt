@@ -138,6 +138,22 @@ fn push_task(out: &mut Vec<u8>, word: &[u8], task: TaskId, names: &Names) -> Res
     push_bytes(out, task_name(names, task))
 }
 
+/// Appends a word, the name of a task and a slot.
+fn push_slot(
+    out: &mut Vec<u8>,
+    word: &[u8],
+    task: TaskId,
+    slot: u32,
+    names: &Names,
+) -> Result<(), NoMemory>
+    ensures text { OnOk result (out.new.items
+        ≡ out.old.items ++ word.now ++ name.task_name names.now task ++ spaced slot) }
+    ensures short { IsShort slot }
+{
+    push_task(out, word, task, names)?;
+    push_spaced(out, slot)
+}
+
 /// Appends the words of a note.
 fn push_note_words(out: &mut Vec<u8>, note: Note, names: &Names) -> Result<(), NoMemory>
     ensures text { OnOk result (out.new.items ≡ out.old.items ++ note_words names.now note) }
@@ -155,16 +171,15 @@ fn push_note_words(out: &mut Vec<u8>, note: Note, names: &Names) -> Result<(), N
         Note::Placed(task) => push_task(out, b"ok ", task, names),
         Note::Full(task) => push_task(out, b"full ", task, names),
         Note::Ready(task) => push_task(out, b"ready ", task, names),
-        Note::Start(task, slot) => {
-            push_task(out, b"start ", task, names)?;
-            push_spaced(out, slot)
-        }
+        Note::Start(task, slot) => push_slot(out, b"start ", task, slot, names),
         Note::Free(task) => push_task(out, b"free ", task, names),
-        Note::Arm(task, slot) => {
-            push_task(out, b"arm ", task, names)?;
-            push_spaced(out, slot)
-        }
+        Note::Arm(task, slot) => push_slot(out, b"arm ", task, slot, names),
         Note::Fire(task) => push_task(out, b"fire ", task, names),
+        Note::Cancel(task, slot) => push_slot(out, b"cancel ", task, slot, names),
+        Note::Move(task, slot, from) => {
+            push_slot(out, b"move ", task, slot, names)?;
+            push_spaced(out, from)
+        }
         Note::End(body) => {
             push_bytes(out, b"end ")?;
             push_bytes(out, body_name(names, body))

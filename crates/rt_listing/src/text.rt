@@ -1,12 +1,12 @@
 ghost use Rattle.std.specs.Prelude.{◌≡◌, [], ◌∷◌, ◌++◌, flat_map, All, IfOk, OnOk};
-ghost use Rattle.rt_listing.specs.Listing.{sizes_line, numbered, cell_line, irq_line, body_line, code_line};
+ghost use Rattle.rt_listing.specs.Listing.{form_text, sizes_line, numbered, cell_line, irq_line, body_line, code_line};
 ghost use Rattle.rt_listing.specs.Listing as spec;
 ghost use Rattle.rt_listing.specs.Numbers.{AreShort, HasShortNumbers};
 ghost use Rattle.rt_listing.specs.Short.{IsShortCell, IsShortIrq, IsShortBody, HasShortInstr, HasShortNote};
 
 use crate::line::{push_count, push_instr, push_note, push_spaced};
 use crate::names::task_name;
-use rt_code::{BodyRow, Image, Instr, IrqRow, Note};
+use rt_code::{BodyRow, Image, IrqRow, Line};
 use rt_ids::{CellRow, Names, NoMemory, push_bytes};
 use std::alloc::Global;
 
@@ -24,12 +24,19 @@ pub fn listing(alloc: Global, image: &Image) -> Result<Vec<u8>, NoMemory>
     Ok(out)
 }
 
+/// The form of a listing, which says whether the core has the floating-point extension.
+fn form(fpu: bool) -> &'static [u8]
+    ensures { result.now ≡ form_text fpu }
+{
+    if fpu { b"image 2" } else { b"image 1" }
+}
+
 /// Appends the line of an image's sizes.
 fn push_sizes(out: &mut Vec<u8>, image: &Image) -> Result<(), NoMemory>
     ensures text { OnOk result (out.new.items ≡ out.old.items ++ sizes_line image.now) }
     ensures short { OnOk result (AreShort (image.now.bits ∷ image.now.stack_bytes ∷ image.now.thread_words ∷ [])) }
 {
-    push_bytes(out, b"image 1")?;
+    push_bytes(out, form(image.fpu))?;
     push_spaced(out, u32::from(image.bits))?;
     push_spaced(out, image.stack_bytes)?;
     push_spaced(out, image.thread_words)?;
@@ -109,11 +116,7 @@ fn push_body(out: &mut Vec<u8>, row: BodyRow, names: &Names) -> Result<(), NoMem
 }
 
 /// Appends a line for each instruction with its note, by address.
-fn push_code(
-    out: &mut Vec<u8>,
-    code: &[(Instr, Option<Note>)],
-    names: &Names,
-) -> Result<(), NoMemory>
+fn push_code(out: &mut Vec<u8>, code: &[Line], names: &Names) -> Result<(), NoMemory>
     ensures text { OnOk result (out.new.items ≡ out.old.items ++ numbered (code_line names.now) 0 code.now) }
     ensures instrs_short { OnOk result (All HasShortInstr code.now) }
     ensures notes_short { OnOk result (All HasShortNote code.now) }
