@@ -55,8 +55,8 @@ fn print_operations(rt: &impl Print) -> io::Result<()> {
 pub fn print_bounds(rt: &impl Print) -> io::Result<()> {
     print_line(
         rt,
-        "interrupts 239 and 240",
-        &[Irq::new(239), Irq::new(240)],
+        "interrupts 495 and 496",
+        &[Irq::new(495), Irq::new(496)],
     )?;
     print_priorities(rt)?;
     let statuses = [Status::Done, Status::App, Status::Memory];
