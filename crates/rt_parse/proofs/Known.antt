@@ -7,12 +7,14 @@ use Rattle.rt_ids.specs.declared.limit.Limit.{Limit}
 use Rattle.rt_ids.specs.declared.op.Op.{Op}
 use Rattle.rt_lex.specs.declared.token.Kind.{Kind}
 use Rattle.rt_lex.specs.declared.token.Kind.TheVariants as kind
-use Rattle.rt_lex.specs.Token.{Token, is_this_sign, if_word, if_sign}
+use Rattle.rt_lex.specs.Token.{Token, is_this_sign, if_word, if_sign, if_name}
 use Rattle.rt_ast.specs.declared.ident.Ident.{Ident}
 use Rattle.rt_ast.specs.declared.ident.Number.{Number}
 use Rattle.rt_grammar.specs.Mark.{Mark, Takes, Ends}
 use Rattle.rt_grammar.specs.Language.{Language, gives, ◌>>=◌, ◌or◌, or_else, only_if, never, token, times, repeat}
-use Rattle.rt_grammar.specs.Tokens.{free, limited_word, limited_sign, limited_name, limited_number, word_of, sign_of, ident_of, ident_at, number_of, number_at, name_limit, number_limit, list, adds}
+use Rattle.rt_grammar.specs.Tokens.{free, limited_word, limited_sign, limited_name, this_name, limited_number, word_of}
+use Rattle.rt_grammar.specs.Tokens.{sign_of, name_of, ident_of, ident_at, number_of, number_at, name_limit}
+use Rattle.rt_grammar.specs.Tokens.{number_limit, list, adds}
 use Rattle.rt_grammar.specs.Expression.{Operand, Signs, op_of, operator, comparisons, strengths, chains, comparison, plain_atom, atom, ends, expression}
 
 -- the mark takes no such byte
@@ -72,6 +74,10 @@ sign_kind : (k : Kind) (same : Bool) → if_sign k same ≡ true → k ≢ kind.
 sign_kind kind.Foreign same e = absurd cc
 sign_kind other same e = λ f. absurd cc
 
+this_name_kind : (k : Kind) (same : Bool) → if_name k same ≡ true → k ≢ kind.Foreign
+this_name_kind kind.Foreign same e = absurd cc
+this_name_kind other same e = λ f. absurd cc
+
 name_kind : (k : Kind) (text : List ℕ) (at : ℕ) (x : Ident) → ident_at k text at ≡ Some x → k ≢ kind.Foreign
 name_kind kind.Foreign text at x e = absurd cc
 name_kind other text at x e = λ f. absurd cc
@@ -85,6 +91,10 @@ known_word {text = text} {what = what} = known_token (word_of text) (λ _. what)
 
 pub known_sign : {text : List ℕ} {what : Option Limit} → Known (limited_sign text what)
 known_sign {text = text} {what = what} = known_token (sign_of text) (λ _. what) (λ t x e. sign_kind t.kind _ (some_when _ t.at x e))
+
+pub known_this_name : {text : List ℕ} → Known (this_name text)
+known_this_name {text = text} =
+    known_token (name_of text) (λ _. free) (λ t x e. this_name_kind t.kind _ (some_when _ t.at x e))
 
 pub known_name : (what : Option Limit) → Known (limited_name what)
 known_name what = known_token ident_of (name_limit what) (λ t x e. name_kind t.kind t.text t.at x e)

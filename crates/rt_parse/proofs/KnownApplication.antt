@@ -1,5 +1,5 @@
 -- The tokens of applications.
-use Rattle.std.proofs.Common.{ℕ, codes, List, [], ◌-◌, None}
+use Rattle.std.proofs.Common.{ℕ, true, false, codes, List, [], ◌-◌, None}
 use Rattle.std.specs.List.{AllByRecursion}
 use Rattle.rt_ids.specs.declared.limit.Limit.TheVariants as limit
 use Rattle.rt_ids.specs.declared.limits.TheConstants.{IRQ_NUMBERS, LEAST_BITS, MOST_BITS, CAPACITY}
@@ -11,8 +11,8 @@ use Rattle.rt_grammar.specs.Limits.{within}
 use Rattle.rt_grammar.specs.Resources.{interrupt, interrupts, monotonic, first_value, lock_free, locked, shared, local, locals}
 use Rattle.rt_grammar.specs.Options.{Owner, OfInit, OfIdle, OfTask, Options, listed, option, options}
 use Rattle.rt_grammar.specs.Bodies.{thread_body, arguments, task}
-use Rattle.rt_grammar.specs.Declaration.{dispatchers, head, application}
-use Rattle.rt_parse.proofs.Known.{Known, IsToken, known_gives, known_then, known_or, known_or_else, known_only_if, known_repeat, known_word, known_sign, known_name, known_number, known_list, known_adds}
+use Rattle.rt_grammar.specs.Declaration.{dispatchers, fpu, head, application}
+use Rattle.rt_parse.proofs.Known.{Known, IsToken, known_gives, known_then, known_or, known_or_else, known_only_if, known_repeat, known_word, known_sign, known_this_name, known_name, known_number, known_list, known_adds}
 use Rattle.rt_parse.proofs.KnownStatement.{known_block}
 
 known_names : Known names
@@ -21,9 +21,14 @@ known_names = known_then known_sign (λ at. known_list (codes "]") (known_adds (
 known_dispatchers : Known dispatchers
 known_dispatchers = known_or_else [] (known_then known_sign (λ at. known_then known_word (λ at. known_then known_sign (λ at. known_names))))
 
+known_fpu : Known fpu
+known_fpu = known_or_else false (known_then known_sign (λ at. known_then known_this_name (λ at. known_then known_sign
+    (λ at. known_then known_this_name (λ at. known_gives true)))))
+
 known_head : Known head
 known_head = known_then known_word (λ at. known_then (known_name _) (λ x. known_then known_sign (λ at. known_then known_word (λ at. known_then known_sign (λ at.
-    known_then (known_number (within LEAST_BITS MOST_BITS limit.Bits)) (λ bits. known_then known_dispatchers (λ ds. known_then known_sign (λ at. known_then known_sign (λ at. known_gives _)))))))))
+    known_then (known_number (within LEAST_BITS MOST_BITS limit.Bits)) (λ bits. known_then known_dispatchers (λ ds.
+    known_then known_fpu (λ on. known_then known_sign (λ at. known_then known_sign (λ at. known_gives _))))))))))
 
 known_interrupt : (n : ℕ) → Known (interrupt n)
 known_interrupt n = known_then (known_name _) (λ x. known_then known_sign (λ at. known_then (known_number (within 0 (IRQ_NUMBERS - 1) limit.Interrupt)) (λ n. known_gives _)))

@@ -3,7 +3,7 @@ use Rattle.std.proofs.Common.{ℕ, zero, suc, codes, [], Option}
 use Rattle.rt_ids.specs.declared.limit.Limit.{Limit}
 use Rattle.rt_grammar.specs.Tokens.{free}
 use Rattle.rt_grammar.specs.Limits.{turned}
-use Rattle.rt_grammar.specs.Spawn.{arguments, soon, after, spawn, value}
+use Rattle.rt_grammar.specs.Spawn.{arguments, handle, soon, after, cancel, move, spawn, value}
 use Rattle.rt_grammar.specs.Simple.{bind, assign, emit, pend, call}
 use Rattle.rt_grammar.specs.Statement.{Blocks, branch, loop, further, lock, statement, braced, block, inside}
 use Rattle.rt_parse.proofs.Known.{Known, known_gives, known_then, known_or, known_or_else, known_never, known_repeat, known_word, known_sign, known_name, known_number, known_list, known_adds, known_expression}
@@ -17,8 +17,23 @@ known_soon most what = known_then known_word (λ at. known_then (known_name _) (
 known_after : (most : ℕ) (what : Option Limit) → Known (after most what)
 known_after most what = known_then known_word (λ at. known_then known_sign (λ paren. known_then (known_expression most) (λ delay. known_then known_sign (λ end. known_then (known_name _) (λ task. known_then (known_arguments most) (λ args. known_gives _))))))
 
+known_handle : (most : ℕ) → Known (handle most)
+known_handle most =
+    known_then known_sign (λ at. known_then (known_expression most) (λ e. known_then known_sign (λ end. known_gives e)))
+
+known_cancel : (most : ℕ) (what : Option Limit) → Known (cancel most what)
+known_cancel most what = known_then known_word
+    (λ at. known_then (known_name _) (λ task. known_then (known_handle most) (λ h. known_gives _)))
+
+known_move : (most : ℕ) (what : Option Limit) → Known (move most what)
+known_move most what =
+    known_then known_word (λ at. known_then known_sign (λ paren. known_then (known_expression most)
+    (λ delay. known_then known_sign (λ end. known_then (known_name _)
+    (λ task. known_then (known_handle most) (λ h. known_gives _))))))
+
 known_spawn : (most : ℕ) (what : Option Limit) → Known (spawn most what)
-known_spawn most what = known_or (known_soon most what) (known_after most what)
+known_spawn most what = known_or (known_soon most what)
+    (known_or (known_after most what) (known_or (known_cancel most what) (known_move most what)))
 
 known_value : (most : ℕ) → Known (value most)
 known_value most = known_or (known_then known_word (λ at. known_gives _)) (known_or (known_then (known_spawn most free) (λ s. known_gives _)) (known_then (known_expression most) (λ e. known_gives _)))

@@ -1,11 +1,12 @@
 -- Statements and blocks with more parentheses and more blocks allowed inside each other.
 use Rattle.std.proofs.Common.{ℕ, zero, suc, ◌≤◌, codes, List, [], ◌∷◌, ◌++◌, Option, arith}
 use Rattle.rt_ids.specs.declared.limit.Limit.{Limit}
-use Rattle.rt_ast.specs.Tree.{Statement, Then, Locked, Empty, Branch, Repeat, Bind, Assign, Emit, Spawns, Calc, Call, Now, Soon, After}
+use Rattle.rt_ast.specs.Tree.{Statement, Then, Locked, Empty, Branch, Repeat, Bind, Assign, Emit, Spawns, Calc, Call}
+use Rattle.rt_ast.specs.Tree.{Now, Soon, After, Cancel, Move}
 use Rattle.rt_grammar.specs.Language.{gives, ◌>>=◌, ◌>>◌}
 use Rattle.rt_grammar.specs.Tokens.{free, first_of, word, limited_word, sign, limited_sign, name, limited_name, number, limited_number}
 use Rattle.rt_grammar.specs.Limits.{counted, nested, turned}
-use Rattle.rt_grammar.specs.Spawn.{arguments, soon, after, spawn, value}
+use Rattle.rt_grammar.specs.Spawn.{arguments, handle, soon, after, cancel, move, spawn, value}
 use Rattle.rt_grammar.specs.Simple.{Counted, bind, assign, emit, pend, call}
 use Rattle.rt_grammar.specs.Statement.{Blocks, branch, loop, further, lock, statement, one_more, block_of, braced, block, inside}
 use Rattle.rt_parse.proofs.Larger.{Grows, grows_same, grows_never, grows_then, grows_behind, grows_before, grows_or, grows_or_else, grows_repeat, grows_list, grows_adds}
@@ -27,8 +28,26 @@ larger_after m n most what =
     grows_behind (sign (codes ")")) (λ closed.
     grows_behind name (λ task. grows_before (λ args. gives (After at delay task args)) (larger_arguments m n most))))))
 
+larger_handle : (m n : ℕ) → m ≤ n → Grows (handle m) (handle n)
+larger_handle m n most =
+    grows_behind (sign (codes "(")) (λ at. grows_before (λ e. sign (codes ")") >> gives e) (larger_expression m n most))
+
+larger_cancel : (m n : ℕ) → m ≤ n → (what : Option Limit) → Grows (cancel m what) (cancel n what)
+larger_cancel m n most what =
+    grows_behind (limited_word (codes "cancel") what) (λ at.
+    grows_behind name (λ task. grows_before (λ h. gives (Cancel at task h)) (larger_handle m n most)))
+
+larger_move : (m n : ℕ) → m ≤ n → (what : Option Limit) → Grows (move m what) (move n what)
+larger_move m n most what =
+    grows_behind (limited_word (codes "reschedule_after") what) (λ at.
+    grows_behind (sign (codes "(")) (λ opened.
+    grows_then (larger_expression m n most) (λ delay.
+    grows_behind (sign (codes ")")) (λ closed.
+    grows_behind name (λ task. grows_before (λ h. gives (Move at delay task h)) (larger_handle m n most))))))
+
 pub larger_spawn : (m n : ℕ) → m ≤ n → (what : Option Limit) → Grows (spawn m what) (spawn n what)
-larger_spawn m n most what = grows_or (larger_soon m n most what) (larger_after m n most what)
+larger_spawn m n most what = grows_or (larger_soon m n most what)
+    (grows_or (larger_after m n most what) (grows_or (larger_cancel m n most what) (larger_move m n most what)))
 
 pub larger_value : (m n : ℕ) → m ≤ n → Grows (value m) (value n)
 larger_value m n most =

@@ -40,6 +40,7 @@ pub mod ReadsStatement
 pub mod ReadsBlock
 pub mod ReadsForm
 pub mod ReadsHead
+pub mod ReadsFeatures
 pub mod ReadsOptions
 pub mod ReadsTask
 pub mod ReadsApplication

@@ -28,7 +28,9 @@ use Rattle.rt_parse.proofs.ExactEnds.{exact_whole}
 use Rattle.rt_parse.proofs.ExactSigns.{words_apart}
 use Rattle.rt_parse.proofs.ReadsWords.{adds_reads}
 use Rattle.rt_parse.proofs.ReadsForm.{Form, form_then, form_seq, form_map, form_fewer, form_goes}
-use Rattle.rt_parse.proofs.ReadsHead.{resources_of, local_resources_of, shared_starts, locals_starts, head_form, interrupts_form, monotonic_form, shared_form, locals_form}
+use Rattle.rt_parse.proofs.ReadsFeatures.{head_form}
+use Rattle.rt_parse.proofs.ReadsHead.{resources_of, local_resources_of, shared_starts, locals_starts, interrupts_form}
+use Rattle.rt_parse.proofs.ReadsHead.{monotonic_form, shared_form, locals_form}
 use Rattle.rt_parse.proofs.ReadsTask.{thread_of, thread_starts, thread_body_form, task_starts, task_form}
 
 -- any token
@@ -89,6 +91,7 @@ abbrev app_is : Head → List IrqTree → Option MonoTree → List SharedTree �
 app_is first irqs mono ss ls init idle tasks = record {
   name = first.name;
   bits = first.bits;
+  fpu = first.fpu;
   dispatchers = first.dispatchers;
   irqs = irqs;
   mono = mono;

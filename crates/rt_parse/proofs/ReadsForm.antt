@@ -1,17 +1,21 @@
 -- A form that is read and that some text is in, so that it may stand behind another.
-use Rattle.std.proofs.Common.{◌≡◌, ℕ, suc, ◌≤◌, Bool, true, List, Option, Ok}
+use Rattle.std.proofs.Common.{◌≡◌, ℕ, suc, ◌≤◌, Bool, true, List, Option, Ok, refl}
 use Rattle.std.specs.Prelude.{if◌then◌else◌}
 use Rattle.rt_ids.specs.declared.limit.Limit.{Limit}
 use Rattle.rt_lex.specs.Token.{Token}
 use Rattle.rt_grammar.specs.Language.{Language, gives, ◌>>=◌, or_else}
-use Rattle.rt_grammar.specs.Tokens.{limited_word, limited_sign, limited_name, limited_number}
+use Rattle.rt_grammar.specs.Tokens.{limited_word, limited_sign, this_name, limited_name, limited_number}
 use Rattle.rt_parse.specs.Inside.Reading as reading
-use Rattle.rt_parse.specs.Inside.Reading.{Reader, begins_with, limited_word_at, limited_sign_at, limited_name_at, limited_number_at}
+use Rattle.rt_parse.specs.Inside.Reading.{Reader, begins_with, limited_word_at, limited_sign_at, this_name_at}
+use Rattle.rt_parse.specs.Inside.Reading.{limited_name_at, limited_number_at}
 use Rattle.rt_parse.proofs.Exact.{IsInhabited, Avoids, Starts, ReadsAfter, nothing}
-use Rattle.rt_parse.proofs.ExactThen.{some_then, reads_seq, reads_then, reads_map, reads_fewer, reads_goes, reads_no_stop}
+use Rattle.rt_parse.proofs.ExactLaws.{IsWithinLanguage}
+use Rattle.rt_parse.proofs.ExactThen.{some_then, reads_seq, reads_then, reads_map, reads_fewer, reads_goes}
+use Rattle.rt_parse.proofs.ExactThen.{reads_no_stop, reads_same}
 use Rattle.rt_parse.proofs.ExactStarts.{some_token, some_gives, some_left}
 use Rattle.rt_parse.proofs.ExactChoice.{reads_optional}
-use Rattle.rt_parse.proofs.ExactSigns.{means_name, means_number, some_word, some_sign, reads_word, reads_sign, reads_name, reads_number}
+use Rattle.rt_parse.proofs.ExactSigns.{means_name, means_number, some_word, some_sign, some_this_name}
+use Rattle.rt_parse.proofs.ExactSigns.{reads_word, reads_sign, reads_this_name, reads_name, reads_number}
 
 pub record Form {A C : Type 0} (B : Type 0) (before : Token → Bool) (goes stops : A → Token → Bool) (longer : ℕ → ℕ) (value : A → C) (form : Language A) (reader : Reader C) : Type 1 where
   pub reads : ReadsAfter B before goes stops longer value form reader
@@ -22,6 +26,10 @@ form_word {text = text} {what = what} = record { reads = reads_word; some = some
 
 pub form_sign : {B : Type 0} {before : Token → Bool} {text : List ℕ} {what : Option Limit} → Form B before nothing nothing suc (λ x. x) (limited_sign text what) (limited_sign_at text what)
 form_sign {text = text} {what = what} = record { reads = reads_sign; some = some_sign text what }
+
+pub form_this_name : {B : Type 0} {before : Token → Bool} {text : List ℕ}
+    → Form B before nothing nothing suc (λ x. x) (this_name text) (this_name_at text)
+form_this_name {text = text} = record { reads = reads_this_name; some = some_this_name text }
 
 pub form_name : {B : Type 0} {before : Token → Bool} (what : Option Limit) → Form B before nothing nothing suc (λ x. x) (limited_name what) (limited_name_at what)
 form_name what = record { reads = reads_name what; some = some_token means_name }
@@ -57,6 +65,15 @@ form_fewer less first = record { reads = reads_fewer less first.reads; some = fi
 pub form_goes : {A B C : Type 0} {before : Token → Bool} {goes goes' stops : A → Token → Bool} {longer : ℕ → ℕ} {value : A → C} {L : Language A} {reader : Reader C}
     → ((x : A) (t : Token) → goes x t ≡ true → goes' x t ≡ true) → Form B before goes stops longer value L reader → Form B before goes' nothing longer value L reader
 form_goes wider first = record { reads = reads_no_stop (reads_goes wider first.reads); some = first.some }
+
+-- another form with the same texts
+pub form_same : {A B C : Type 0} {before : Token → Bool} {goes stops : A → Token → Bool} {longer : ℕ → ℕ}
+    {value : A → C} {L M : Language A} {reader : Reader C} → IsWithinLanguage L M → IsWithinLanguage M L
+    → Form B before goes stops longer value L reader → Form B before goes stops longer value M reader
+form_same into out first = record {
+  reads = reads_same into out (λ tokens. refl) first.reads;
+  some = (first.some.0, first.some.1, into first.some.0 first.some.1 first.some.2);
+}
 
 -- a form that may be left out, and that begins with such a token
 pub form_optional : {A B C : Type 0} {before : Token → Bool} {goes : A → Token → Bool} {longer : ℕ → ℕ} {value : A → C} {L : Language A} {reader : Reader C} (test : Token → Bool) (x : A)

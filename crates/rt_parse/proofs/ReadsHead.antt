@@ -1,10 +1,10 @@
--- The readers of the first declarations.
+-- The readers of the declarations behind the first.
 use Rattle.std.proofs.Common.{◌≡◌, ℕ, suc, ◌-◌, Bool, true, false, List, [], length, Option, Some, None, Err, refl, arith}
 use Rattle.std.specs.Prelude.{codes, ◌||◌, bytes_eq}
 use Rattle.rt_lemmas.proofs.Bools.{or_left, or_right}
 use Rattle.rt_ids.specs.declared.limit.Limit.{Limit}
 use Rattle.rt_ids.specs.declared.limit.Limit.TheVariants as limit
-use Rattle.rt_ids.specs.declared.limits.TheConstants.{SHARED, LOCALS, IRQS, IRQ_NUMBERS, LEAST_BITS, MOST_BITS}
+use Rattle.rt_ids.specs.declared.limits.TheConstants.{SHARED, LOCALS, IRQS, IRQ_NUMBERS}
 use Rattle.rt_lex.specs.Token.{Token, is_this_word, is_this_sign}
 use Rattle.rt_ast.specs.declared.app.MonoTree.{MonoTree}
 use Rattle.rt_ast.specs.declared.app.SharedTree.{SharedTree}
@@ -13,21 +13,19 @@ use Rattle.rt_grammar.specs.Language.{Language, gives, ◌>>=◌, ◌>>◌, ◌o
 use Rattle.rt_grammar.specs.Tokens.{free, word, sign, name, number, list, adds, name_limit, limited_name, names}
 use Rattle.rt_grammar.specs.Limits.{within, at_most}
 use Rattle.rt_grammar.specs.Resources.{interrupt, interrupts, monotonic, first_value, lock_free, locked, shared, local, locals}
-use Rattle.rt_grammar.specs.Declaration.{dispatchers, head}
 use Rattle.rt_parse.specs.Inside.Reading.{Reader, wrong_at, name_at, token_at}
 use Rattle.rt_parse.specs.Inside.ReadingList.{items_at, adds_at, names_at}
 use Rattle.rt_parse.specs.Inside.ReadingExpression.{is_name}
 use Rattle.rt_parse.specs.Inside.ReadingResources.{interrupt_at, interrupts_at, clock_at, monotonic_at, first_value_at, lock_free_at, locked_at, resource_at, resources_at, shared_at, local_at, local_resources_at, locals_at}
-use Rattle.rt_parse.specs.Inside.ReadingDeclaration.{dispatcher_names_at, dispatchers_at, head_at}
 use Rattle.rt_parse.proofs.Exact.{Starts, nothing}
 use Rattle.rt_parse.proofs.ExactStarts.{starts_token, starts_then, starts_or, starts_wider, avoids_apart, some_left}
 use Rattle.rt_parse.proofs.ExactChoice.{reads_choice}
-use Rattle.rt_parse.proofs.ExactSigns.{starts_sign, starts_word, signs_apart, word_no_sign}
+use Rattle.rt_parse.proofs.ExactSigns.{starts_word, word_no_sign}
 use Rattle.rt_parse.proofs.ExactAtom.{name_kind}
 use Rattle.rt_parse.proofs.ReadsWords.{list_some, adds_list_reads}
 use Rattle.rt_parse.proofs.ReadsBlock as block
 use Rattle.rt_parse.proofs.ReadsBlock.{name_no_sign}
-use Rattle.rt_parse.proofs.ReadsForm.{Form, form_word, form_sign, form_name, form_number, form_then, form_seq, form_map, form_fewer, form_goes, form_optional}
+use Rattle.rt_parse.proofs.ReadsForm.{Form, form_word, form_sign, form_name, form_number, form_then, form_map, form_fewer, form_goes, form_optional}
 
 pub name_starts : (what : Option Limit) → Starts is_name (limited_name what)
 name_starts what = starts_token (name_limit what) is_name (λ t x e. name_kind t.kind t.text t.at x e)
@@ -46,22 +44,6 @@ form_list closing test item reader no_comma starts apart none reads =
 pub names_form : {B : Type 0} {before : Token → Bool} → Form B before nothing nothing suc (λ xs. xs) names names_at
 unfolding names_at token_at
 names_form = form_fewer (λ n. omega arith) (form_then _ form_sign (λ at. form_list (codes "]") is_name (λ n. name) (λ n. name_at) refl (λ n. name_starts free) (name_apart (codes "]")) (λ n. refl) (λ n. form_name free)))
-
-dispatchers_form : {B : Type 0} {before : Token → Bool} → Form B before (λ x. is_this_sign (codes ",")) nothing (λ n. n) (λ xs. xs) dispatchers dispatchers_at
-unfolding dispatchers_at dispatcher_names_at
-dispatchers_form = form_optional (is_this_sign (codes ",")) [] (starts_then (λ at. word (codes "dispatchers") >>= λ at. sign (codes "=") >>= λ at. names) (starts_sign (codes ",") free)) (λ t e. e) (λ n. omega arith)
-    (form_goes {goes = nothing} (λ x t e. absurd cc)
-    (form_then _ form_sign (λ at. form_then _ form_word (λ at. form_then _ form_sign (λ at. names_form)))))
-
-pub head_form : {B : Type 0} {before : Token → Bool} → Form B before nothing nothing suc (λ x. x) head head_at
-unfolding head_at
-head_form = form_fewer (λ n. omega arith)
-    (form_then _ form_word (λ at. form_then _ (form_name free) (λ x. form_then _ form_sign (λ at. form_then _ form_word (λ at. form_then _ form_sign
-    (λ at. form_then _ (form_number (within LEAST_BITS MOST_BITS limit.Bits))
-    (λ bits. form_seq _ dispatchers_form
-    (λ ds. form_then _ form_sign (λ at. form_map (λ at. record { name = x; bits = bits.value; dispatchers = ds }) (λ at. record { name = x; bits = bits.value; dispatchers = ds }) form_sign (λ at. refl)))
-    (λ ds K avoids. avoids_apart (is_this_sign (codes ")")) (is_this_sign (codes ",")) (signs_apart (codes ")") (codes ",") refl)
-    (starts_then (λ at. sign (codes ";") >>= λ at. gives (record { name = x; bits = bits.value; dispatchers = ds })) (starts_sign (codes ")") free)) K))))))))
 
 interrupt_form : {B : Type 0} {before : Token → Bool} (n : ℕ) → Form B before nothing nothing suc (λ x. x) (interrupt n) (interrupt_at n)
 unfolding interrupt_at

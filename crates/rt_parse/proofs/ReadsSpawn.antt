@@ -1,32 +1,33 @@
 -- The readers of values and of the statements with no blocks. They are told how many statements may come, where the grammar
 -- tells how many stand before.
-use Rattle.std.proofs.Common.{◌≡◌, ℕ, suc, ◌-◌, ◌≤◌, Bool, List, [], ◌∷◌, length, Option, Ok, Err, refl, ap, arith}
+use Rattle.std.proofs.Common.{◌≡◌, ℕ, suc, ◌-◌, ◌≤◌, Bool, List, [], ◌∷◌, Option, Err, refl, ap, arith}
 use Rattle.std.specs.Prelude.{nat_le, nat_eq, codes}
 use Rattle.rt_ids.specs.declared.limit.Limit.{Limit}
 use Rattle.rt_ids.specs.declared.limit.Limit.TheVariants as limit
 use Rattle.rt_ids.specs.declared.limits.TheConstants.{PARENTHESES, STATEMENTS}
 use Rattle.rt_lex.specs.Token.{Token, is_this_word}
 use Rattle.rt_ast.specs.declared.ident.Ident.{Ident}
-use Rattle.rt_ast.specs.Tree.{Spawn, Expression, Soon, After}
-use Rattle.rt_grammar.specs.Language.{gives, ◌>>=◌}
+use Rattle.rt_ast.specs.Tree.{Expression, Soon, After, Cancel, Move}
+use Rattle.rt_grammar.specs.Language.{Language, gives, ◌>>=◌, ◌or◌}
 use Rattle.rt_grammar.specs.Tokens.{free, limit_if, limited_word, sign, name, limited_name, adds}
 use Rattle.rt_grammar.specs.Expression.{expression}
 use Rattle.rt_grammar.specs.Limits.{counted}
-use Rattle.rt_grammar.specs.Spawn.{arguments, soon, after, spawn}
+use Rattle.rt_grammar.specs.Spawn.{arguments, handle, soon, after, cancel, move, spawn}
 use Rattle.rt_grammar.specs.Simple.{Counted}
-use Rattle.rt_parse.specs.Inside.Reading as reading
-use Rattle.rt_parse.specs.Inside.Reading.{Reader, begins_with, wrong_at, token_at, limited_word_at, word_at, sign_at, limited_name_at, name_at}
-use Rattle.rt_parse.specs.Inside.ReadingList.{items_at, adds_at}
+use Rattle.rt_parse.specs.Inside.Reading.{wrong_at, token_at, limited_word_at, limited_name_at}
 use Rattle.rt_parse.specs.Inside.ReadingExpression.{expression_at, comparison_at, chains_at, chain_at, atom_or_at, nested_at, parenthesized_at}
-use Rattle.rt_parse.specs.Inside.ReadingSpawn.{arguments_at, soon_at, after_at, spawn_at}
+use Rattle.rt_parse.specs.Inside.ReadingSpawn.{arguments_at, enclosed_at, delayed_at, soon_at, after_at, cancel_at}
+use Rattle.rt_parse.specs.Inside.ReadingSpawn.{move_at, spawn_at}
 use Rattle.rt_parse.specs.Inside.ReadingSimple.{counted_limit}
 use Rattle.rt_parse.proofs.Exact.{IsInhabited, Starts, ReadsAfter, nothing}
-use Rattle.rt_parse.proofs.ExactThen.{some_then, reads_then, reads_map, reads_fewer, reads_same}
-use Rattle.rt_parse.proofs.ExactStarts.{starts_then, some_token, some_gives, some_left}
-use Rattle.rt_parse.proofs.ExactSigns.{reads_word, reads_sign, reads_name, some_word, some_sign, starts_word, means_name}
+use Rattle.rt_parse.proofs.ExactLaws.{IsWithinLanguage, then_then, then_then', gives_then, gives_then', then_same}
+use Rattle.rt_parse.proofs.ExactThen.{some_then, reads_same, reads_after}
+use Rattle.rt_parse.proofs.ExactStarts.{starts_then, some_token, some_gives}
+use Rattle.rt_parse.proofs.ExactSigns.{reads_word, reads_name, some_sign, starts_word, means_name}
 use Rattle.rt_parse.proofs.ExactAtom.{begins_expression, expression_some, expression_starts, expression_no_sign}
 use Rattle.rt_parse.proofs.ReadsExpression.{expression_reads}
 use Rattle.rt_parse.proofs.ReadsWords.{of_words, starts_one, starts_words, reads_words, list_some, adds_list_reads}
+use Rattle.rt_parse.proofs.ReadsForm.{Form, form_word, form_sign, form_name, form_then, form_map, form_fewer, form_same}
 
 -- how what is read of a body is read: with the number of statements that may come behind it
 abbrev pub spent : {A : Type 0} → Counted A → Counted A
@@ -58,70 +59,171 @@ expression_none : expression_at [] ≡ Err (wrong_at [])
 unfolding expression_at comparison_at chains_at chain_at atom_or_at nested_at parenthesized_at token_at
 expression_none = refl
 
-pub call_some : (most : ℕ) → IsInhabited (arguments most)
-call_some most = some_then (some_sign (codes "(") free) (λ at. list_some (codes ")") (adds (λ before. expression most)) [])
+-- What they begin with; each list begins with the word of its name.
 
-named_some : (most : ℕ) (f : Ident → List Expression → Spawn) → IsInhabited (name >>= λ task. arguments most >>= λ args. gives (f task args))
-named_some most f = some_then (name_some free) (λ task. some_then (call_some most) (λ args. some_gives (f task args)))
+abbrev of_move : List (List ℕ)
+of_move = codes "reschedule_after" ∷ []
 
-delay_some : (most at : ℕ) (delay : Expression) → IsInhabited (sign (codes ")") >>= λ end. name >>= λ task. arguments most >>= λ args. gives (After at delay task args))
-delay_some most at delay = some_then (some_sign (codes ")") free) (λ end. named_some most (After at delay))
+abbrev of_cancel : List (List ℕ)
+of_cancel = codes "cancel" ∷ of_move
 
-open_some : (most at : ℕ) → IsInhabited (expression most >>= λ delay. sign (codes ")") >>= λ end. name >>= λ task. arguments most >>= λ args. gives (After at delay task args))
-open_some most at = some_then (expression_some most) (delay_some most at)
+abbrev of_after : List (List ℕ)
+of_after = codes "spawn_after" ∷ of_cancel
 
-pub soon_some : (most : ℕ) (what : Option Limit) → IsInhabited (soon most what)
-soon_some most what = some_then (some_word (codes "spawn") what) (λ at. named_some most Soon)
+abbrev pub spawn_words : List (List ℕ)
+spawn_words = codes "spawn" ∷ of_after
 
-pub spawn_some : (most : ℕ) (what : Option Limit) → IsInhabited (spawn most what)
-spawn_some most what = some_left (soon_some most what)
+module _ (most : ℕ) (what : Option Limit) where
+  soon_starts : Starts (is_this_word (codes "spawn")) (soon most what)
+  soon_starts = starts_then _ (starts_word (codes "spawn") what)
 
-soon_starts : (most : ℕ) (what : Option Limit) → Starts (is_this_word (codes "spawn")) (soon most what)
-soon_starts most what = starts_then (λ at. name >>= λ task. arguments most >>= λ args. gives (Soon task args)) (starts_word (codes "spawn") what)
+  after_starts : Starts (is_this_word (codes "spawn_after")) (after most what)
+  after_starts = starts_then _ (starts_word (codes "spawn_after") what)
 
-after_starts : (most : ℕ) (what : Option Limit) → Starts (is_this_word (codes "spawn_after")) (after most what)
-after_starts most what = starts_then (λ at. sign (codes "(") >>= λ paren. expression most >>= λ delay. sign (codes ")") >>= λ end. name >>= λ task. arguments most >>= λ args. gives (After at delay task args)) (starts_word (codes "spawn_after") what)
+  cancel_starts : Starts (is_this_word (codes "cancel")) (cancel most what)
+  cancel_starts = starts_then _ (starts_word (codes "cancel") what)
 
-pub spawn_starts : (most : ℕ) (what : Option Limit) → Starts (of_words (codes "spawn" ∷ codes "spawn_after" ∷ [])) (spawn most what)
-spawn_starts most what = starts_words (codes "spawn") (codes "spawn_after" ∷ []) (soon_starts most what) (starts_one (codes "spawn_after") (after_starts most what))
+  move_starts : Starts (of_words of_move) (move most what)
+  move_starts = starts_one (codes "reschedule_after") (starts_then _ (starts_word (codes "reschedule_after") what))
+
+  cancels_start : Starts (of_words of_cancel) (cancel most what or move most what)
+  cancels_start = starts_words (codes "cancel") of_move cancel_starts move_starts
+
+  afters_start : Starts (of_words of_after) (after most what or cancel most what or move most what)
+  afters_start = starts_words (codes "spawn_after") of_cancel after_starts cancels_start
+
+  pub spawn_starts : Starts (of_words spawn_words) (spawn most what)
+  spawn_starts = starts_words (codes "spawn") of_after soon_starts afters_start
+
+-- A delay in parentheses and a task, and behind them another form: at once, as it is read, and one by one.
+
+abbrev delayed : ℕ → Language (Expression × Ident)
+delayed most = handle most >>= λ delay. name >>= λ task. gives (delay, task)
+
+module _ {B : Type 0} (most : ℕ) (K : Expression → Language B) where
+  abbrev inner : Language Expression
+  inner = expression most >>= λ e. sign (codes ")") >>= λ end. gives e
+
+  abbrev ended : Expression → Language Expression
+  ended e = sign (codes ")") >>= λ end. gives e
+
+  abbrev behind : Expression → Language B
+  behind e = sign (codes ")") >>= λ end. K e
+
+  enclosed_in : IsWithinLanguage (handle most >>= K) (sign (codes "(") >>= λ at. expression most >>= behind)
+  enclosed_in marks y l =
+      then_same (sign (codes "(")) (λ at. inner >>= K) (λ at. expression most >>= behind)
+      (λ at marks y l. then_same (expression most) (λ e. ended e >>= K) behind
+      (λ e marks y l. then_same (sign (codes ")")) (λ end. gives e >>= K) (λ end. K e) (λ end. gives_then' e K)
+      marks y (then_then' (sign (codes ")")) (λ end. gives e) K marks y l))
+      marks y (then_then' (expression most) ended K marks y l))
+      marks y (then_then' (sign (codes "(")) (λ at. inner) K marks y l)
+
+  enclosed_out : IsWithinLanguage (sign (codes "(") >>= λ at. expression most >>= behind) (handle most >>= K)
+  enclosed_out marks y l =
+      then_then (sign (codes "(")) (λ at. inner) K marks y
+      (then_same (sign (codes "(")) (λ at. expression most >>= behind) (λ at. inner >>= K)
+      (λ at marks y l. then_then (expression most) ended K marks y
+      (then_same (expression most) behind (λ e. ended e >>= K)
+      (λ e marks y l. then_then (sign (codes ")")) (λ end. gives e) K marks y
+      (then_same (sign (codes ")")) (λ end. K e) (λ end. gives e >>= K) (λ end. gives_then e K) marks y l))
+      marks y l))
+      marks y l)
+
+module _ {B : Type 0} (most : ℕ) (K : Expression → Ident → Language B) where
+  abbrev with_both : Expression × Ident → Language B
+  with_both x = K x.0 x.1
+
+  abbrev named : Expression → Language (Expression × Ident)
+  named delay = name >>= λ task. gives (delay, task)
+
+  abbrev with_delay : Expression → Language B
+  with_delay delay = name >>= K delay
+
+  abbrev one_by_one : Language B
+  one_by_one = sign (codes "(") >>= λ at. expression most >>= λ delay. sign (codes ")") >>= λ end. with_delay delay
+
+  delayed_in : IsWithinLanguage (delayed most >>= with_both) one_by_one
+  delayed_in marks y l = enclosed_in most with_delay marks y
+      (then_same (handle most) (λ delay. named delay >>= with_both) with_delay
+      (λ delay marks y l. then_same name (λ task. gives (delay, task) >>= with_both) (K delay)
+      (λ task. gives_then' (delay, task) with_both) marks y
+      (then_then' name (λ task. gives (delay, task)) with_both marks y l))
+      marks y (then_then' (handle most) named with_both marks y l))
+
+  delayed_out : IsWithinLanguage one_by_one (delayed most >>= with_both)
+  delayed_out marks y l = then_then (handle most) named with_both marks y
+      (then_same (handle most) with_delay (λ delay. named delay >>= with_both)
+      (λ delay marks y l. then_then name (λ task. gives (delay, task)) with_both marks y
+      (then_same name (K delay) (λ task. gives (delay, task) >>= with_both)
+      (λ task. gives_then (delay, task) with_both) marks y l))
+      marks y (enclosed_out most with_delay marks y l))
 
 module _ (most : ℕ) (enough : suc PARENTHESES ≤ most) where
-  arguments_reads : {B : Type 0} {before : Token → Bool} → ReadsAfter B before nothing nothing suc (λ xs. xs) (arguments most) arguments_at
+  expression_form : {B : Type 0} {before : Token → Bool}
+      → Form B before nothing nothing suc (λ e. e) (expression most) expression_at
+  expression_form = record { reads = reads_after (expression_reads most enough); some = expression_some most }
+
+  arguments_form : {B : Type 0} {before : Token → Bool}
+      → Form B before nothing nothing suc (λ xs. xs) (arguments most) arguments_at
   unfolding arguments_at
-  arguments_reads = reads_fewer (λ n. omega arith)
-      (reads_then (λ at tokens. items_at (codes ")") (adds_at (λ before. expression_at)) (length tokens) [] tokens) reads_sign
-      (λ at. adds_list_reads (codes ")") begins_expression (λ before. expression most) (λ before. expression_at) refl (λ n. expression_starts most) (expression_no_sign (codes ")") refl)
-      (λ n. expression_none) (λ n. expression_reads most enough))
-      (λ at. list_some (codes ")") (adds (λ before. expression most)) []))
+  arguments_form = form_fewer (λ n. omega arith) (form_then _ form_sign (λ at. record {
+    reads = adds_list_reads (codes ")") begins_expression (λ before. expression most) (λ before. expression_at) refl
+        (λ n. expression_starts most) (expression_no_sign (codes ")") refl) (λ n. expression_none)
+        (λ n. expression_reads most enough);
+    some = list_some (codes ")") (adds (λ before. expression most)) [];
+  }))
 
-  named_reads : {B : Type 0} {before : Token → Bool} (f : Ident → List Expression → Spawn) → ReadsAfter B before nothing nothing suc (λ x. x) (name >>= λ task. arguments most >>= λ args. gives (f task args))
-      (λ tokens. reading.◌>>=◌ (name_at tokens) (λ task. reading.◌>>=◌ (arguments_at task.1) (λ args. Ok (f task.0 args.0, args.1))))
-  named_reads f = reads_fewer (λ n. omega arith)
-      (reads_then (λ task tokens. reading.◌>>=◌ (arguments_at tokens) (λ args. Ok (f task args.0, args.1))) (reads_name free)
-      (λ task. reads_map (f task) (f task) arguments_reads (λ args. refl))
-      (λ task. some_then (call_some most) (λ args. some_gives (f task args))))
+  enclosed_form : {B : Type 0} {before : Token → Bool}
+      → Form B before nothing nothing suc (λ e. e) (handle most) enclosed_at
+  unfolding enclosed_at
+  enclosed_form = form_fewer (λ n. omega arith)
+      (form_then _ form_sign (λ at. form_then _ expression_form
+      (λ e. form_map (λ end. e) (λ end. e) form_sign (λ end. refl))))
 
-  soon_reads : {B : Type 0} {before : Token → Bool} (what : Option Limit) → ReadsAfter B before nothing nothing suc (λ x. x) (soon most what) (soon_at what)
-  unfolding soon_at
-  soon_reads what = reads_fewer (λ n. omega arith)
-      (reads_then (λ at tokens. reading.◌>>=◌ (name_at tokens) (λ task. reading.◌>>=◌ (arguments_at task.1) (λ args. Ok (Soon task.0 args.0, args.1)))) reads_word
-      (λ at. named_reads Soon) (λ at. named_some most Soon))
+  delayed_form : {B : Type 0} {before : Token → Bool}
+      → Form B before nothing nothing suc (λ x. x) (delayed most) delayed_at
+  unfolding delayed_at
+  delayed_form = form_fewer (λ n. omega arith)
+      (form_then _ enclosed_form
+      (λ delay. form_map (λ task. (delay, task)) (λ task. (delay, task)) (form_name free) (λ task. refl)))
 
-  after_reads : {B : Type 0} {before : Token → Bool} (what : Option Limit) → ReadsAfter B before nothing nothing suc (λ x. x) (after most what) (after_at what)
-  unfolding after_at
-  after_reads what = reads_fewer (λ n. omega arith)
-      (reads_then (λ at tokens. reading.◌>>=◌ (sign_at (codes "(") tokens) (λ a. reading.◌>>=◌ (expression_at a.1) (λ delay. reading.◌>>=◌ (sign_at (codes ")") delay.1) (λ b.
-      reading.◌>>=◌ (name_at b.1) (λ task. reading.◌>>=◌ (arguments_at task.1) (λ args. Ok (After at delay.0 task.0 args.0, args.1))))))) reads_word
-      (λ at. reads_then (λ paren tokens. reading.◌>>=◌ (expression_at tokens) (λ delay. reading.◌>>=◌ (sign_at (codes ")") delay.1) (λ b.
-      reading.◌>>=◌ (name_at b.1) (λ task. reading.◌>>=◌ (arguments_at task.1) (λ args. Ok (After at delay.0 task.0 args.0, args.1)))))) reads_sign
-      (λ paren. reads_then (λ delay tokens. reading.◌>>=◌ (sign_at (codes ")") tokens) (λ b.
-      reading.◌>>=◌ (name_at b.1) (λ task. reading.◌>>=◌ (arguments_at task.1) (λ args. Ok (After at delay task.0 args.0, args.1))))) (expression_reads most enough)
-      (λ delay. reads_then (λ end tokens. reading.◌>>=◌ (name_at tokens) (λ task. reading.◌>>=◌ (arguments_at task.1) (λ args. Ok (After at delay task.0 args.0, args.1)))) reads_sign
-      (λ end. named_reads (After at delay)) (λ end. named_some most (After at delay)))
-      (delay_some most at))
-      (λ paren. open_some most at))
-      (λ at. some_then (some_sign (codes "(") free) (λ paren. open_some most at)))
+  module _ {B : Type 0} {before : Token → Bool} (what : Option Limit) where
+    soon_form : Form B before nothing nothing suc (λ x. x) (soon most what) (soon_at what)
+    unfolding soon_at
+    soon_form = form_fewer (λ n. omega arith)
+        (form_then _ form_word (λ at. form_then _ (form_name free)
+        (λ task. form_map (Soon task) (Soon task) arguments_form (λ args. refl))))
 
-  pub spawn_reads : {B : Type 0} {before : Token → Bool} (what : Option Limit) → ReadsAfter B before nothing nothing suc (λ x. x) (spawn most what) (spawn_at what)
-  unfolding spawn_at
-  spawn_reads what = reads_words (codes "spawn") (codes "spawn_after" ∷ []) refl (soon_starts most what) (starts_one (codes "spawn_after") (after_starts most what)) (soon_reads what) (after_reads what)
+    after_form : Form B before nothing nothing suc (λ x. x) (after most what) (after_at what)
+    unfolding after_at
+    after_form = form_fewer (λ n. omega arith)
+        (form_then _ form_word (λ at. form_same
+        (delayed_in most (λ delay task. arguments most >>= λ args. gives (After at delay task args)))
+        (delayed_out most (λ delay task. arguments most >>= λ args. gives (After at delay task args)))
+        (form_then _ delayed_form
+        (λ x. form_map (After at x.0 x.1) (After at x.0 x.1) arguments_form (λ args. refl)))))
+
+    cancel_form : Form B before nothing nothing suc (λ x. x) (cancel most what) (cancel_at what)
+    unfolding cancel_at
+    cancel_form = form_fewer (λ n. omega arith)
+        (form_then _ form_word (λ at. form_then _ (form_name free)
+        (λ task. form_map (Cancel at task) (Cancel at task) enclosed_form (λ h. refl))))
+
+    move_form : Form B before nothing nothing suc (λ x. x) (move most what) (move_at what)
+    unfolding move_at
+    move_form = form_fewer (λ n. omega arith)
+        (form_then _ form_word (λ at. form_same
+        (delayed_in most (λ delay task. handle most >>= λ h. gives (Move at delay task h)))
+        (delayed_out most (λ delay task. handle most >>= λ h. gives (Move at delay task h)))
+        (form_then _ delayed_form
+        (λ x. form_map (Move at x.0 x.1) (Move at x.0 x.1) enclosed_form (λ h. refl)))))
+
+    pub spawn_reads : ReadsAfter B before nothing nothing suc (λ x. x) (spawn most what) (spawn_at what)
+    unfolding spawn_at
+    spawn_reads =
+        reads_words (codes "spawn") of_after refl (soon_starts most what) (afters_start most what) soon_form.reads
+        (reads_words (codes "spawn_after") of_cancel refl (after_starts most what) (cancels_start most what)
+        after_form.reads
+        (reads_words (codes "cancel") of_move refl (cancel_starts most what) (move_starts most what) cancel_form.reads
+        move_form.reads))

@@ -26,7 +26,7 @@ use Rattle.rt_parse.proofs.ExactSigns.{reads_word, reads_sign, reads_name, reads
 use Rattle.rt_parse.proofs.ExactAtom.{name_kind, expression_some}
 use Rattle.rt_parse.proofs.ReadsExpression.{expression_reads}
 use Rattle.rt_parse.proofs.ReadsWords.{of_words, starts_words, reads_words, or_second}
-use Rattle.rt_parse.proofs.ReadsSpawn.{spent, less_room, reads_counted_word, name_some, spawn_starts}
+use Rattle.rt_parse.proofs.ReadsSpawn.{spent, less_room, reads_counted_word, name_some, spawn_words, spawn_starts}
 use Rattle.rt_parse.proofs.ReadsValue.{bind_reads, assign_reads, emit_reads, pend_reads, call_reads}
 
 abbrev pub is_else : Token → Bool
@@ -116,11 +116,8 @@ module _ {B : Type 0} (most : ℕ) (enough : suc PARENTHESES ≤ most) (block : 
       inner_some r = some_then (some (suc n)) (λ inner. some_gives (Locked r inner.0, inner.1))
 
 -- the words that a statement begins with, where it begins with no name; each list begins with the word of its name
-abbrev of_spawn : List (List ℕ)
-of_spawn = codes "spawn" ∷ codes "spawn_after" ∷ []
-
 abbrev of_pend : List (List ℕ)
-of_pend = codes "pend" ∷ of_spawn
+of_pend = codes "pend" ∷ spawn_words
 
 abbrev of_emit : List (List ℕ)
 of_emit = codes "emit" ∷ of_pend
@@ -144,11 +141,11 @@ module _ (most : ℕ) (block inside : Blocks) (nesting n : ℕ) where
   assign_starts : Starts is_name (assign most n)
   assign_starts = starts_then _ (starts_token (name_limit (counted n)) is_name (λ t x e. name_kind t.kind t.text t.at x e))
 
-  call_starts : Starts (of_words of_spawn) (call most n)
+  call_starts : Starts (of_words spawn_words) (call most n)
   call_starts = starts_then _ (spawn_starts most (counted n))
 
   pend_starts : Starts (of_words of_pend) (pend n or call most n)
-  pend_starts = starts_words (codes "pend") of_spawn (starts_then _ (starts_word (codes "pend") (counted n))) call_starts
+  pend_starts = starts_words (codes "pend") spawn_words (starts_then _ (starts_word (codes "pend") (counted n))) call_starts
 
   emit_starts : Starts (of_words of_emit) (emit most n or pend n or call most n)
   emit_starts = starts_words (codes "emit") of_pend (starts_then _ (starts_word (codes "emit") (counted n))) pend_starts
@@ -187,4 +184,4 @@ module _ (most : ℕ) (block inside : Blocks) (nesting n : ℕ) where
         (reads_words (codes "for") of_lock refl (starts_then _ (starts_word (codes "for") (counted n))) lock_starts (reads_any (loop_reads most enough block nesting reader some reads n))
         (reads_words (codes "lock") of_emit refl (starts_then _ (starts_word (codes "lock") (counted n))) emit_starts (reads_any (lock_reads most enough inside nesting reader' some' reads' n))
         (reads_words (codes "emit") of_pend refl (starts_then _ (starts_word (codes "emit") (counted n))) pend_starts (reads_any (emit_reads most enough n))
-        (reads_words (codes "pend") of_spawn refl (starts_then _ (starts_word (codes "pend") (counted n))) call_starts (reads_any (pend_reads n)) (reads_any (call_reads most enough n)))))))))
+        (reads_words (codes "pend") spawn_words refl (starts_then _ (starts_word (codes "pend") (counted n))) call_starts (reads_any (pend_reads n)) (reads_any (call_reads most enough n)))))))))

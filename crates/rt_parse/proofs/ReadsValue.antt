@@ -1,5 +1,5 @@
 -- The readers of values and of the statements with no blocks.
-use Rattle.std.proofs.Common.{◌≡◌, ℕ, suc, ◌-◌, ◌≤◌, Bool, true, false, List, [], ◌∷◌, Option, refl, ap, arith}
+use Rattle.std.proofs.Common.{◌≡◌, ℕ, suc, ◌-◌, ◌≤◌, Bool, true, false, List, [], ◌∷◌, Option, refl, sym, ap, ◌∙◌, arith}
 use Rattle.std.specs.Prelude.{codes, bytes_eq, ◌||◌}
 use Rattle.rt_lemmas.proofs.Bools.{or_left, or_right, or_neither}
 use Rattle.rt_ids.specs.declared.limit.Limit.{Limit}
@@ -25,7 +25,7 @@ use Rattle.rt_parse.proofs.ExactSigns.{reads_word, reads_sign, reads_name, some_
 use Rattle.rt_parse.proofs.ExactAtom.{is_num, is_plain, begins_expression, expression_some, expression_starts}
 use Rattle.rt_parse.proofs.ReadsExpression.{expression_reads}
 use Rattle.rt_parse.proofs.ReadsWords.{of_words, no_word}
-use Rattle.rt_parse.proofs.ReadsSpawn.{spent, less_room, counted_is, reads_counted_word, reads_counted_name, name_some, sign_gives_some, spawn_starts, spawn_reads}
+use Rattle.rt_parse.proofs.ReadsSpawn.{spent, less_room, counted_is, reads_counted_word, reads_counted_name, name_some, sign_gives_some, spawn_words, spawn_starts, spawn_reads}
 
 -- an expression begins with no word
 plain_no_word : (k : Kind) (same : Bool) → (is_num k || is_name_kind k) ≡ true → if_word k same ≡ false
@@ -52,24 +52,27 @@ pub value_some : (most : ℕ) → IsInhabited (value most)
 value_some most = some_left (some_then (some_word (codes "now") free) (λ at. some_gives (Now at)))
 
 -- Spelled with `or`, as the reader has it.
-is_spawn_words : (t : Token) → of_words (codes "spawn" ∷ codes "spawn_after" ∷ []) t ≡ true → is_spawn t ≡ true
-is_spawn_words t e = go (is_this_word (codes "spawn") t) (is_this_word (codes "spawn_after") t) e
+words_are_spawn : (t : Token) → of_words spawn_words t ≡ is_spawn t
+words_are_spawn t = go (is_this_word (codes "spawn") t) (is_this_word (codes "spawn_after") t)
+    (is_this_word (codes "cancel") t) (is_this_word (codes "reschedule_after") t)
   where
-    go : (a b : Bool) → (a || (b || false)) ≡ true → (a || b) ≡ true
-    go true b e = refl
-    go false true e = refl
-    go false false e = absurd cc
+    go : (a b c d : Bool) → (a || (b || (c || (d || false)))) ≡ (a || b || c || d)
+    go true b c d = refl
+    go false true c d = refl
+    go false false true d = refl
+    go false false false true = refl
+    go false false false false = refl
 
-words_spawn : (t : Token) → is_spawn t ≡ true → of_words (codes "spawn" ∷ codes "spawn_after" ∷ []) t ≡ true
-words_spawn t e = go (is_this_word (codes "spawn") t) (is_this_word (codes "spawn_after") t) e
-  where
-    go : (a b : Bool) → (a || b) ≡ true → (a || (b || false)) ≡ true
-    go true b e = refl
-    go false true e = refl
-    go false false e = absurd cc
+is_spawn_words : (t : Token) → of_words spawn_words t ≡ true → is_spawn t ≡ true
+is_spawn_words t e = sym (words_are_spawn t) ∙ e
+
+expression_no_words : (texts : List (List ℕ)) (t : Token) → begins_expression t ≡ true → of_words texts t ≡ false
+expression_no_words [] t e = refl
+expression_no_words (text ∷ texts) t e =
+    or_neither (is_this_word text t) (of_words texts t) (expression_no_word text t e) (expression_no_words texts t e)
 
 expression_no_spawn : (t : Token) → begins_expression t ≡ true → is_spawn t ≡ false
-expression_no_spawn t e = or_neither (is_this_word (codes "spawn") t) (is_this_word (codes "spawn_after") t) (expression_no_word (codes "spawn") t e) (expression_no_word (codes "spawn_after") t e)
+expression_no_spawn t e = sym (words_are_spawn t) ∙ expression_no_words spawn_words t e
 
 -- the first tokens of a value but for the word `now`
 abbrev other_begins : Token → Bool
@@ -79,7 +82,7 @@ other_no_now : (t : Token) → other_begins t ≡ true → is_this_word (codes "
 other_no_now t e = go (is_spawn t) refl e
   where
     go : (b : Bool) → is_spawn t ≡ b → (b || begins_expression t) ≡ true → is_this_word (codes "now") t ≡ false
-    go true f e = no_word (codes "now") (codes "spawn" ∷ codes "spawn_after" ∷ []) refl t (words_spawn t f)
+    go true f e = no_word (codes "now") spawn_words refl t (words_are_spawn t ∙ f)
     go false f e = expression_no_word (codes "now") t e
 
 module _ (most : ℕ) (enough : suc PARENTHESES ≤ most) where

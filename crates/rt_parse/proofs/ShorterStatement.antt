@@ -7,7 +7,8 @@ use Rattle.rt_grammar.specs.Simple.{Counted}
 use Rattle.rt_parse.specs.Inside.Reading.{Reader, begins_with, repeat_at, wrong_at}
 use Rattle.rt_parse.specs.Inside.ReadingList.{adds_at}
 use Rattle.rt_parse.specs.Inside.ReadingExpression.{is_name, expression_at}
-use Rattle.rt_parse.specs.Inside.ReadingSpawn.{arguments_at, soon_at, after_at, spawn_at, now_at, call_value_at, calc_at, value_at, is_spawn}
+use Rattle.rt_parse.specs.Inside.ReadingSpawn.{arguments_at, enclosed_at, delayed_at, soon_at, after_at, cancel_at}
+use Rattle.rt_parse.specs.Inside.ReadingSpawn.{move_at, spawn_at, now_at, call_value_at, calc_at, value_at, is_spawn}
 use Rattle.rt_parse.specs.Inside.ReadingSimple.{bind_at, assign_at, emit_at, pend_at, call_at}
 use Rattle.rt_parse.specs.Inside.ReadingNested.{else_block_at, else_at, branch_at, loop_at, further_at, lock_at}
 use Rattle.rt_parse.specs.Inside.ReadingStatement.{statement_at, one_more_at, is_inside, braced_at, closed_block_at, nothing_at, block_at, inside_at}
@@ -20,6 +21,16 @@ unfolding arguments_at
 shorter_arguments =
     shorter_then (shorter_token _ _) (λ _ tokens. no_longer_items (codes ")") (adds_at (λ before. expression_at)) (λ xs. shorter_no_longer (shorter_adds (λ before. expression_at) (λ before. shorter_expression) xs)) (length tokens) [] tokens)
 
+shorter_enclosed : IsShorter enclosed_at
+unfolding enclosed_at
+shorter_enclosed = shorter_then (shorter_token _ _) (λ _. no_longer_then (shorter_no_longer shorter_expression)
+    (λ _. no_longer_then (shorter_no_longer (shorter_token _ _)) (λ _. no_longer_ok _)))
+
+shorter_delayed : IsShorter delayed_at
+unfolding delayed_at
+shorter_delayed = shorter_then shorter_enclosed
+    (λ _. no_longer_then (shorter_no_longer (shorter_token _ _)) (λ _. no_longer_ok _))
+
 pub shorter_soon : (what : Option Limit) → IsShorter (soon_at what)
 unfolding soon_at
 shorter_soon what =
@@ -28,12 +39,27 @@ shorter_soon what =
 pub shorter_after : (what : Option Limit) → IsShorter (after_at what)
 unfolding after_at
 shorter_after what =
-    shorter_then (shorter_token _ _) (λ _. no_longer_then (shorter_no_longer (shorter_token _ _)) (λ _. no_longer_then (shorter_no_longer shorter_expression) (λ _. no_longer_then (shorter_no_longer (shorter_token _ _)) (λ _. no_longer_then (shorter_no_longer (shorter_token _ _)) (λ _. no_longer_then (shorter_no_longer shorter_arguments) (λ _. no_longer_ok _))))))
+    shorter_then (shorter_token _ _) (λ _. no_longer_then (shorter_no_longer shorter_delayed)
+    (λ _. no_longer_then (shorter_no_longer shorter_arguments) (λ _. no_longer_ok _)))
+
+shorter_cancel : (what : Option Limit) → IsShorter (cancel_at what)
+unfolding cancel_at
+shorter_cancel what =
+    shorter_then (shorter_token _ _) (λ _. no_longer_then (shorter_no_longer (shorter_token _ _))
+    (λ _. no_longer_then (shorter_no_longer shorter_enclosed) (λ _. no_longer_ok _)))
+
+shorter_move : (what : Option Limit) → IsShorter (move_at what)
+unfolding move_at
+shorter_move what =
+    shorter_then (shorter_token _ _) (λ _. no_longer_then (shorter_no_longer shorter_delayed)
+    (λ _. no_longer_then (shorter_no_longer shorter_enclosed) (λ _. no_longer_ok _)))
 
 pub shorter_spawn : (what : Option Limit) → IsShorter (spawn_at what)
 unfolding spawn_at
 shorter_spawn what =
-    shorter_if (begins_with (is_this_word (codes "spawn"))) _ _ (shorter_soon what) (shorter_after what)
+    shorter_if (begins_with (is_this_word (codes "spawn"))) _ _ (shorter_soon what)
+    (shorter_if (begins_with (is_this_word (codes "spawn_after"))) _ _ (shorter_after what)
+    (shorter_if (begins_with (is_this_word (codes "cancel"))) _ _ (shorter_cancel what) (shorter_move what)))
 
 pub shorter_value : IsShorter value_at
 unfolding value_at now_at call_value_at calc_at

@@ -8,7 +8,8 @@ use Rattle.rt_grammar.specs.Bodies.{arguments, thread_body, task}
 use Rattle.rt_grammar.specs.Declaration.{head, application}
 use Rattle.rt_parse.proofs.Exact.{IsInhabited}
 use Rattle.rt_parse.proofs.ExactStarts.{some_gives, some_left}
-use Rattle.rt_parse.proofs.ReadsHead.{head_form, interrupts_form}
+use Rattle.rt_parse.proofs.ReadsFeatures.{head_form}
+use Rattle.rt_parse.proofs.ReadsHead.{interrupts_form}
 use Rattle.rt_parse.proofs.Shrinks.{Shrinks, shrinks_same, shrinks_then, shrinks_or, shrinks_repeat, shrinks_gives, shrinks_word, shrinks_name, shrinks_adds}
 use Rattle.rt_parse.proofs.ShrinksStatement.{shrinks_block}
 

@@ -8,7 +8,7 @@ use Rattle.rt_grammar.specs.Language.{Language, gives}
 use Rattle.rt_grammar.specs.Tokens.{free, limit_if, first_of, name_limit}
 use Rattle.rt_grammar.specs.Expression.{Operand, Signs, operator, comparisons, strengths, chains, comparison, atom, ends, expression}
 use Rattle.rt_grammar.specs.Limits.{counted, nested, turned}
-use Rattle.rt_grammar.specs.Spawn.{arguments, soon, after, spawn, value}
+use Rattle.rt_grammar.specs.Spawn.{arguments, handle, soon, after, cancel, move, spawn, value}
 use Rattle.rt_grammar.specs.Simple.{bind, assign, emit, pend, call}
 use Rattle.rt_grammar.specs.Statement.{Blocks, branch, loop, further, lock, statement, braced, block, inside}
 use Rattle.rt_parse.proofs.Exact.{IsInhabited}
@@ -63,8 +63,24 @@ module _ (most most' : ℕ) (enough : suc PARENTHESES ≤ most') where
   shrinks_after : (what : Option Limit) → Shrinks (after most what) (after most' what)
   shrinks_after what = shrinks_then shrinks_word (λ at. shrinks_then shrinks_sign (λ paren. shrinks_then shrinks_expression (λ delay. shrinks_then shrinks_sign (λ end. shrinks_then (shrinks_name free) (λ task. shrinks_then shrinks_arguments (λ args. shrinks_gives _))))))
 
+  shrinks_handle : Shrinks (handle most) (handle most')
+  shrinks_handle = shrinks_then shrinks_sign
+      (λ at. shrinks_then shrinks_expression (λ e. shrinks_then shrinks_sign (λ end. shrinks_gives e)))
+
+  shrinks_cancel : (what : Option Limit) → Shrinks (cancel most what) (cancel most' what)
+  shrinks_cancel what = shrinks_then shrinks_word
+      (λ at. shrinks_then (shrinks_name free) (λ task. shrinks_then shrinks_handle (λ h. shrinks_gives _)))
+
+  shrinks_move : (what : Option Limit) → Shrinks (move most what) (move most' what)
+  shrinks_move what =
+      shrinks_then shrinks_word (λ at. shrinks_then shrinks_sign (λ paren. shrinks_then shrinks_expression
+      (λ delay. shrinks_then shrinks_sign (λ end. shrinks_then (shrinks_name free)
+      (λ task. shrinks_then shrinks_handle (λ h. shrinks_gives _))))))
+
   shrinks_spawn : (what : Option Limit) → Shrinks (spawn most what) (spawn most' what)
-  shrinks_spawn what = shrinks_or (shrinks_soon what) (shrinks_after what)
+  shrinks_spawn what =
+      shrinks_or (shrinks_soon what) (shrinks_or (shrinks_after what)
+      (shrinks_or (shrinks_cancel what) (shrinks_move what)))
 
   shrinks_value : Shrinks (value most) (value most')
   shrinks_value = shrinks_or (shrinks_then shrinks_word (λ at. shrinks_gives _)) (shrinks_or (shrinks_then (shrinks_spawn free) (λ s. shrinks_gives _)) (shrinks_then shrinks_expression (λ e. shrinks_gives _)))

@@ -446,6 +446,7 @@ fn app_tree(
     AppTree {
         name: first.name,
         bits: first.bits,
+        fpu: first.fpu,
         dispatchers: first.dispatchers,
         irqs,
         mono,

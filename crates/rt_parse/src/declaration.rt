@@ -16,15 +16,15 @@ ghost use Rattle.rt_parse.specs.Inside.ReadingOptions.{listed_plainly_at, listed
 ghost use Rattle.rt_parse.specs.Inside.ReadingOptions.{takes, option_at, some_options_at, options_at};
 ghost use Rattle.rt_parse.specs.Inside.ReadingBodies.{body_block_at, thread_at, thread_body_at, argument_at};
 ghost use Rattle.rt_parse.specs.Inside.ReadingBodies.{parameters_at, task_arguments_at, task_at};
-ghost use Rattle.rt_parse.specs.Inside.ReadingDeclaration.{dispatcher_names_at, dispatchers_at, dispatched_at};
-ghost use Rattle.rt_parse.specs.Inside.ReadingDeclaration.{levels_at, head_at, application_at, text_at};
+ghost use Rattle.rt_parse.specs.Inside.ReadingDeclaration.{dispatchers_at, extension_at, fpu_at, behind_comma_at};
+ghost use Rattle.rt_parse.specs.Inside.ReadingDeclaration.{features_at, featured_at, levels_at, head_at};
 
 use crate::list::{Item, comma, goes_past, list};
 use crate::statement::block;
 use crate::stop::Stop;
 use crate::tokens::{
-    begins_sign, begins_word, limit_if, limited_name, limited_word, name, number, number_within,
-    sign, word, wrong,
+    begins_sign, begins_this_name, begins_word, limit_if, limited_name, limited_word, name, number,
+    number_within, sign, this_name, word, wrong,
 };
 use rt_ast::{
     AppTree, BodyTree, Ident, IrqTree, ListedTree, LocalTree, MonoTree, Number, SharedTree, Stmt,
@@ -106,18 +106,68 @@ pub(crate) fn interrupts<'a>(
     list(alloc, tokens, b"}")
 }
 
-/// The names of the dispatchers, behind a comma.
-#[tactic(auto, unfolding(crate::specs::Inside::ReadingDeclaration::dispatchers_at, crate::specs::Inside::ReadingDeclaration::dispatcher_names_at))]
+/// The dispatchers, behind their comma.
+#[tactic(auto, unfolding(crate::specs::Inside::ReadingDeclaration::dispatchers_at))]
 fn dispatchers<'a>(alloc: Global, tokens: Tokens<'a>) -> Result<(Vec<Ident>, Tokens<'a>), Stop>
     ensures { Gives (λ x. (x.0.items, x.1)) result (dispatchers_at tokens.entry) }
 {
-    if !begins_sign(&tokens, b",") {
-        return Ok((Vec::new(alloc), tokens));
-    }
-    let (_, tokens) = sign(tokens, b",")?;
     let (_, tokens) = word(tokens, b"dispatchers")?;
     let (_, tokens) = sign(tokens, b"=")?;
     names(alloc, tokens)
+}
+
+/// That the core has the floating-point extension, behind its comma.
+#[tactic(auto, unfolding(crate::specs::Inside::ReadingDeclaration::extension_at))]
+fn extension(tokens: Tokens<'_>) -> Result<(bool, Tokens<'_>), Stop>
+    ensures { Gives (λ x. x) result (extension_at tokens.entry) }
+{
+    let (_, tokens) = this_name(tokens, b"fpu")?;
+    let (_, tokens) = sign(tokens, b"=")?;
+    let (_, tokens) = this_name(tokens, b"on")?;
+    Ok((true, tokens))
+}
+
+/// Whether the core has the floating-point extension, behind the dispatchers.
+#[tactic(auto, unfolding(crate::specs::Inside::ReadingDeclaration::fpu_at))]
+fn fpu(tokens: Tokens<'_>) -> Result<(bool, Tokens<'_>), Stop>
+    ensures { Gives (λ x. x) result (fpu_at tokens.entry) }
+{
+    if !begins_sign(&tokens, b",") {
+        return Ok((false, tokens));
+    }
+    let (_, tokens) = sign(tokens, b",")?;
+    extension(tokens)
+}
+
+/// What stands behind the first comma, which the token there tells: the extension, or the dispatchers and perhaps the
+/// extension.
+#[tactic(auto, unfolding(crate::specs::Inside::ReadingDeclaration::behind_comma_at))]
+fn behind_comma<'a>(
+    alloc: Global,
+    tokens: Tokens<'a>,
+) -> Result<((Vec<Ident>, bool), Tokens<'a>), Stop>
+    ensures { Gives (λ x. ((x.0.0.items, x.0.1), x.1)) result (behind_comma_at tokens.entry) }
+{
+    if begins_this_name(&tokens, b"fpu") {
+        let (fpu, tokens) = extension(tokens)?;
+        Ok(((Vec::new(alloc), fpu), tokens))
+    } else {
+        let (dispatchers, tokens) = dispatchers(alloc, tokens)?;
+        let (fpu, tokens) = fpu(tokens)?;
+        Ok(((dispatchers, fpu), tokens))
+    }
+}
+
+/// The dispatchers, and whether the core has the floating-point extension.
+#[tactic(auto, unfolding(crate::specs::Inside::ReadingDeclaration::features_at))]
+fn features<'a>(alloc: Global, tokens: Tokens<'a>) -> Result<((Vec<Ident>, bool), Tokens<'a>), Stop>
+    ensures { Gives (λ x. ((x.0.0.items, x.0.1), x.1)) result (features_at tokens.entry) }
+{
+    if !begins_sign(&tokens, b",") {
+        return Ok(((Vec::new(alloc), false), tokens));
+    }
+    let (_, tokens) = sign(tokens, b",")?;
+    behind_comma(alloc, tokens)
 }
 
 /// The first declaration.
@@ -125,24 +175,26 @@ fn dispatchers<'a>(alloc: Global, tokens: Tokens<'a>) -> Result<(Vec<Ident>, Tok
 pub(crate) struct Opening {
     pub(crate) name: Ident,
     pub(crate) bits: u32,
+    pub(crate) fpu: bool,
     pub(crate) dispatchers: Vec<Ident>,
 }
 
-/// The first declaration from its dispatchers on.
-fn dispatched<'a>(
+/// The first declaration behind its priority bits.
+fn featured<'a>(
     alloc: Global,
     tokens: Tokens<'a>,
     name: Ident,
     bits: u32,
 ) -> Result<(Opening, Tokens<'a>), Stop>
-    ensures { Gives (λ x. (opening_view x.0, x.1)) result (dispatched_at name bits tokens.entry) }
+    ensures { Gives (λ x. (opening_view x.0, x.1)) result (featured_at name bits tokens.entry) }
 {
-    let (dispatchers, tokens) = dispatchers(alloc, tokens)?;
+    let ((dispatchers, fpu), tokens) = features(alloc, tokens)?;
     let (_, tokens) = sign(tokens, b")")?;
     let (_, tokens) = sign(tokens, b";")?;
     let opening = Opening {
         name,
         bits,
+        fpu,
         dispatchers,
     };
     Ok((opening, tokens))
@@ -156,7 +208,7 @@ fn levels<'a>(alloc: Global, tokens: Tokens<'a>, name: Ident) -> Result<(Opening
     let (_, tokens) = word(tokens, b"bits")?;
     let (_, tokens) = sign(tokens, b"=")?;
     let (bits, tokens) = number_within(tokens, LEAST_BITS, MOST_BITS, Limit::Bits)?;
-    dispatched(alloc, tokens, name, bits.value)
+    featured(alloc, tokens, name, bits.value)
 }
 
 #[tactic(auto, unfolding(crate::specs::Inside::ReadingDeclaration::head_at))]

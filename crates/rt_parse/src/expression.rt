@@ -22,14 +22,14 @@ use rt_lex::{Kind, Token, Tokens};
 use std::alloc::Global;
 
 /// A tree, and its depth, which keeps the limit. The tree is boxed, so that what is on the stack is small.
-#[derive(Debug, Drop)]
+#[derive(Drop)]
 struct Kept {
     tree: Box<Expr>,
     depth: u8,
 }
 
 /// An expression as it is read. No tree is kept of one that is too deep, so that no tree is ever deep.
-#[derive(Debug, Drop)]
+#[derive(Drop)]
 struct Measured {
     /// The offset of its first token.
     at: u32,

@@ -8,8 +8,9 @@ ghost use Rattle.rt_ast.specs.View.{expression_of, statement_of, spawn_of, value
 ghost use Rattle.rt_parse.specs.Inside.Reading.{Gives, begins_with, repeat_at};
 ghost use Rattle.rt_parse.specs.Inside.ReadingList.{items_at, adds_at};
 ghost use Rattle.rt_parse.specs.Inside.ReadingExpression.{expression_at};
-ghost use Rattle.rt_parse.specs.Inside.ReadingSpawn.{is_spawn, arguments_at, soon_at, after_at, spawn_at, now_at};
-ghost use Rattle.rt_parse.specs.Inside.ReadingSpawn.{call_value_at, calc_at, value_at};
+ghost use Rattle.rt_parse.specs.Inside.ReadingSpawn.{is_spawn, arguments_at, enclosed_at, delayed_at, soon_at};
+ghost use Rattle.rt_parse.specs.Inside.ReadingSpawn.{after_at, cancel_at, move_at, spawn_at, now_at, call_value_at};
+ghost use Rattle.rt_parse.specs.Inside.ReadingSpawn.{calc_at, value_at};
 ghost use Rattle.rt_parse.specs.Inside.ReadingSimple.{counted_limit, bind_at, assign_at, emit_at, pend_at, call_at};
 ghost use Rattle.rt_parse.specs.Inside.ReadingNested.{nested_limit, else_block_at, else_at, branch_at, loop_at};
 ghost use Rattle.rt_parse.specs.Inside.ReadingNested.{further_at, lock_at};
@@ -23,7 +24,7 @@ use crate::tokens::{
     begins_name, begins_sign, begins_word, last_number, limit_if, limited_name, limited_sign,
     limited_word, name, number, sign, word, wrong,
 };
-use rt_ast::{Expr, Spawn, Stmt, Value};
+use rt_ast::{Expr, Ident, Spawn, Stmt, Value};
 use rt_ids::Limit;
 use rt_lex::Tokens;
 use std::alloc::Global;
@@ -66,6 +67,27 @@ fn arguments<'a>(alloc: Global, tokens: Tokens<'a>) -> Result<(Vec<Expr>, Tokens
     expressions(alloc, tokens)
 }
 
+/// An expression in parentheses: a delay, or the handle of a message.
+#[tactic(auto, unfolding(crate::specs::Inside::ReadingSpawn::enclosed_at))]
+fn enclosed<'a>(alloc: Global, tokens: Tokens<'a>) -> Result<(Expr, Tokens<'a>), Stop>
+    ensures { Gives (λ x. (expression_of x.0, x.1)) result (enclosed_at tokens.entry) }
+{
+    let (_, tokens) = sign(tokens, b"(")?;
+    let (expr, tokens) = expression(alloc, tokens)?;
+    let (_, tokens) = sign(tokens, b")")?;
+    Ok((expr, tokens))
+}
+
+/// A delay, and the task behind it.
+#[tactic(auto, unfolding(crate::specs::Inside::ReadingSpawn::delayed_at))]
+fn delayed<'a>(alloc: Global, tokens: Tokens<'a>) -> Result<((Expr, Ident), Tokens<'a>), Stop>
+    ensures { Gives (λ x. ((expression_of x.0.0, x.0.1), x.1)) result (delayed_at tokens.entry) }
+{
+    let (delay, tokens) = enclosed(alloc, tokens)?;
+    let (task, tokens) = name(alloc, tokens)?;
+    Ok(((delay, task), tokens))
+}
+
 #[tactic(auto, unfolding(crate::specs::Inside::ReadingSpawn::soon_at))]
 fn soon<'a>(
     alloc: Global,
@@ -89,15 +111,40 @@ fn after<'a>(
     ensures { Gives (λ x. (spawn_of x.0, x.1)) result (after_at limit tokens.entry) }
 {
     let (at, tokens) = limited_word(tokens, b"spawn_after", limit)?;
-    let (_, tokens) = sign(tokens, b"(")?;
-    let (delay, tokens) = expression(alloc, tokens)?;
-    let (_, tokens) = sign(tokens, b")")?;
-    let (task, tokens) = name(alloc, tokens)?;
+    let ((delay, task), tokens) = delayed(alloc, tokens)?;
     let (args, tokens) = arguments(alloc, tokens)?;
     Ok((Spawn::After(at, delay, task, args), tokens))
 }
 
-/// A spawn, whose first word may pass a limit.
+#[tactic(auto, unfolding(crate::specs::Inside::ReadingSpawn::cancel_at))]
+fn cancel<'a>(
+    alloc: Global,
+    tokens: Tokens<'a>,
+    limit: Option<Limit>,
+) -> Result<(Spawn, Tokens<'a>), Stop>
+    ensures { Gives (λ x. (spawn_of x.0, x.1)) result (cancel_at limit tokens.entry) }
+{
+    let (at, tokens) = limited_word(tokens, b"cancel", limit)?;
+    let (task, tokens) = name(alloc, tokens)?;
+    let (handle, tokens) = enclosed(alloc, tokens)?;
+    Ok((Spawn::Cancel(at, task, handle), tokens))
+}
+
+#[tactic(auto, unfolding(crate::specs::Inside::ReadingSpawn::move_at))]
+fn reschedule<'a>(
+    alloc: Global,
+    tokens: Tokens<'a>,
+    limit: Option<Limit>,
+) -> Result<(Spawn, Tokens<'a>), Stop>
+    ensures { Gives (λ x. (spawn_of x.0, x.1)) result (move_at limit tokens.entry) }
+{
+    let (at, tokens) = limited_word(tokens, b"reschedule_after", limit)?;
+    let ((delay, task), tokens) = delayed(alloc, tokens)?;
+    let (handle, tokens) = enclosed(alloc, tokens)?;
+    Ok((Spawn::Move(at, delay, task, handle), tokens))
+}
+
+/// A spawn, or what its handle takes back or puts off. Its first word may pass a limit.
 #[tactic(auto, unfolding(crate::specs::Inside::ReadingSpawn::spawn_at))]
 fn spawn<'a>(
     alloc: Global,
@@ -108,8 +155,12 @@ fn spawn<'a>(
 {
     if begins_word(&tokens, b"spawn") {
         soon(alloc, tokens, limit)
-    } else {
+    } else if begins_word(&tokens, b"spawn_after") {
         after(alloc, tokens, limit)
+    } else if begins_word(&tokens, b"cancel") {
+        cancel(alloc, tokens, limit)
+    } else {
+        reschedule(alloc, tokens, limit)
     }
 }
 
@@ -118,7 +169,12 @@ fn begins_spawn(tokens: &Tokens<'_>) -> bool
     ensures { result ≡ begins_with is_spawn tokens.now }
 {
     match tokens.peek() {
-        Some(token) => token.is_word(b"spawn") || token.is_word(b"spawn_after"),
+        Some(token) => {
+            token.is_word(b"spawn")
+                || token.is_word(b"spawn_after")
+                || token.is_word(b"cancel")
+                || token.is_word(b"reschedule_after")
+        }
         None => false,
     }
 }

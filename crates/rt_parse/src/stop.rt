@@ -4,7 +4,7 @@ use rt_ids::{NoMemory, Refusal};
 use std::alloc::{AllocError, AllocFailed};
 
 /// The first thing that is wrong with a text.
-#[derive(Clone, Copy, Debug, PartialEq, Eq)]
+#[derive(Clone, Copy)]
 pub(crate) struct Found {
     /// The bytes of the text before it; none where it is the end of the text.
     pub(crate) at: Option<u32>,
@@ -12,7 +12,7 @@ pub(crate) struct Found {
 }
 
 /// Why no tree was read.
-#[derive(Debug, Drop)]
+#[derive(Drop)]
 pub(crate) enum Stop {
     Memory,
     At(Found),

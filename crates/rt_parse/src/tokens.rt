@@ -4,12 +4,12 @@ ghost use Rattle.std.specs.Prelude.{◌≡◌, ◌≤◌, nat_le, ◌&&◌, [], 
 ghost use Rattle.rt_ids.specs.declared.limit.Limit.{Limit};
 ghost use Rattle.rt_ids.specs.declared.refusal.Refusal.TheVariants as refusal;
 ghost use Rattle.rt_parse.specs.declared.stop.Stop.TheVariants.{At};
-ghost use Rattle.rt_lex.specs.Token.{view, is_this_sign, is_this_word};
-ghost use Rattle.rt_grammar.specs.Tokens.{free, limit_if, word_of, sign_of, ident_of, number_of, name_limit};
+ghost use Rattle.rt_lex.specs.Token.{view, is_this_sign, is_this_word, is_this_name};
+ghost use Rattle.rt_grammar.specs.Tokens.{free, limit_if, word_of, sign_of, name_of, ident_of, number_of, name_limit};
 ghost use Rattle.rt_grammar.specs.Tokens.{number_limit};
 ghost use Rattle.rt_parse.specs.Inside.Reading.{Gives, Leaves, begins_with, token_at, wrong_at, wrong_token};
 ghost use Rattle.rt_parse.specs.Inside.Reading.{limited_word_at, word_at, limited_sign_at, sign_at, limited_name_at};
-ghost use Rattle.rt_parse.specs.Inside.Reading.{name_at, number_at, limited_number_at, unless_limited};
+ghost use Rattle.rt_parse.specs.Inside.Reading.{name_at, this_name_at, number_at, limited_number_at, unless_limited};
 ghost use Rattle.rt_parse.specs.Inside.ReadingExpression.{is_name};
 ghost use Rattle.rt_grammar.specs.Limits.{within, turned};
 
@@ -93,6 +93,27 @@ pub(crate) fn word<'a>(tokens: Tokens<'a>, word: &[u8]) -> Result<(u32, Tokens<'
     ensures { Gives (λ x. x) result (word_at word.now tokens.entry) }
 {
     limited_word(tokens, word, None)
+}
+
+/// Whether this name comes next.
+pub(crate) fn begins_this_name(tokens: &Tokens<'_>, name: &[u8]) -> bool
+    ensures { result ≡ begins_with (is_this_name name.now) tokens.now }
+{
+    match tokens.peek() {
+        Some(token) => token.is_name(name),
+        None => false,
+    }
+}
+
+/// A name that has a meaning where it stands.
+#[tactic(auto, unfolding(crate::specs::Inside::Reading::token_at))]
+pub(crate) fn this_name<'a>(mut tokens: Tokens<'a>, name: &[u8]) -> Result<(u32, Tokens<'a>), Stop>
+    ensures { Gives (λ x. x) result (this_name_at name.now tokens.entry) }
+{
+    match tokens.next() {
+        Some(token) if token.is_name(name) => Ok((token.at, tokens)),
+        other => Err(Stop::At(wrong_token(other))),
+    }
 }
 
 /// Whether a token is the sign of this byte.

@@ -11,7 +11,7 @@ use Rattle.rt_parse.specs.declared.body.Owner.{Owner}
 use Rattle.rt_parse.specs.declared.body.Owner.TheVariants as owner
 
 abbrev pub opening_view : Opening → Head
-opening_view h = record { name = h.name; bits = h.bits; dispatchers = h.dispatchers.items }
+opening_view h = record { name = h.name; bits = h.bits; dispatchers = h.dispatchers.items; fpu = h.fpu }
 
 abbrev pub declared_view : Declared → reading.Declared
 declared_view d = record {

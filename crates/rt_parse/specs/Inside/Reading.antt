@@ -11,7 +11,7 @@ use Rattle.rt_lex.specs.declared.token.Token as code
 use Rattle.rt_lex.specs.Token.{Token, view}
 use Rattle.rt_ast.specs.declared.ident.Ident.{Ident}
 use Rattle.rt_ast.specs.declared.ident.Number.{Number}
-use Rattle.rt_grammar.specs.Tokens.{free, word_of, sign_of, ident_of, number_of, name_limit, number_limit}
+use Rattle.rt_grammar.specs.Tokens.{free, word_of, sign_of, name_of, ident_of, number_of, name_limit, number_limit}
 use Rattle.rt_parse.specs.declared.stop.Found.{Found}
 use Rattle.rt_parse.specs.declared.stop.Stop.{Stop}
 use Rattle.rt_parse.specs.declared.stop.Stop.TheVariants as stop
@@ -91,6 +91,9 @@ limited_word_at text what = token_at (word_of text) (λ _. what)
 
 abbrev pub word_at : List ℕ → Reader ℕ
 word_at text = limited_word_at text free
+
+abbrev pub this_name_at : List ℕ → Reader ℕ
+this_name_at text = token_at (name_of text) (λ _. free)
 
 abbrev pub limited_sign_at : List ℕ → Option Limit → Reader ℕ
 limited_sign_at text what = token_at (sign_of text) (λ _. what)

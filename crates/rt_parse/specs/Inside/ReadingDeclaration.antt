@@ -3,7 +3,7 @@ use Rattle.std.specs.Prelude.{ℕ, Bool, true, false, codes, List, [], ◌∷◌
 use Rattle.std.specs.Prelude.{if◌then◌else◌}
 use Rattle.rt_ids.specs.declared.limit.Limit.TheVariants as limit
 use Rattle.rt_ids.specs.declared.limits.TheConstants.{LEAST_BITS, MOST_BITS}
-use Rattle.rt_lex.specs.Token.{Token, is_this_word, is_this_sign}
+use Rattle.rt_lex.specs.Token.{Token, is_this_word, is_this_name, is_this_sign}
 use Rattle.rt_ast.specs.declared.ident.Ident.{Ident}
 use Rattle.rt_ast.specs.declared.app.IrqTree.{IrqTree}
 use Rattle.rt_ast.specs.declared.app.MonoTree.{MonoTree}
@@ -15,30 +15,70 @@ use Rattle.rt_grammar.specs.Options.{OfInit, OfIdle}
 use Rattle.rt_grammar.specs.Declaration.{Head}
 use Rattle.rt_parse.specs.declared.stop.Found.{Found}
 use Rattle.rt_parse.specs.Inside.Reading.{Reader, ◌>>=◌, begins_with, wrong_at, repeat_at, word_at, sign_at, name_at}
-use Rattle.rt_parse.specs.Inside.Reading.{limited_number_at}
+use Rattle.rt_parse.specs.Inside.Reading.{this_name_at, limited_number_at}
 use Rattle.rt_parse.specs.Inside.ReadingList.{adds_at, names_at}
 use Rattle.rt_parse.specs.Inside.ReadingResources.{interrupts_at, monotonic_at, shared_at, locals_at}
 use Rattle.rt_parse.specs.Inside.ReadingBodies.{thread_body_at, task_at}
 
--- the names of the dispatchers behind their comma
-unfoldable pub dispatcher_names_at : Reader (List Ident)
-dispatcher_names_at tokens = do
-  a ← sign_at (codes ",") tokens
-  b ← word_at (codes "dispatchers") a.1
-  c ← sign_at (codes "=") b.1
-  names_at c.1
-
+-- the dispatchers behind their comma
 unfoldable pub dispatchers_at : Reader (List Ident)
-dispatchers_at tokens = if begins_with (is_this_sign (codes ",")) tokens then dispatcher_names_at tokens
-    else Ok ([], tokens)
+dispatchers_at tokens = do
+  a ← word_at (codes "dispatchers") tokens
+  b ← sign_at (codes "=") a.1
+  names_at b.1
 
--- the first declaration from its dispatchers on
-abbrev pub dispatched_at : Ident → ℕ → Reader Head
-dispatched_at name bits tokens = do
+-- the floating-point extension behind its comma
+unfoldable pub extension_at : Reader Bool
+extension_at tokens = do
+  a ← this_name_at (codes "fpu") tokens
+  b ← sign_at (codes "=") a.1
+  c ← this_name_at (codes "on") b.1
+  Ok (true, c.1)
+
+abbrev pub comma_extension_at : Reader Bool
+comma_extension_at tokens = do
+  a ← sign_at (codes ",") tokens
+  extension_at a.1
+
+-- whether the extension is there, behind the dispatchers
+unfoldable pub fpu_at : Reader Bool
+fpu_at tokens = if begins_with (is_this_sign (codes ",")) tokens then comma_extension_at tokens else Ok (false, tokens)
+
+-- Both parts begin with a comma, so that the token behind the first comma tells which of them stands there.
+abbrev pub Features : Type 0
+Features = List Ident × Bool
+
+abbrev pub alone_at : Reader Features
+alone_at tokens = do
+  on ← extension_at tokens
+  Ok (([], on.0), on.1)
+
+abbrev pub dispatched_at : Reader Features
+dispatched_at tokens = do
   ds ← dispatchers_at tokens
-  e ← sign_at (codes ")") ds.1
+  on ← fpu_at ds.1
+  Ok ((ds.0, on.0), on.1)
+
+unfoldable pub behind_comma_at : Reader Features
+behind_comma_at tokens = if begins_with (is_this_name (codes "fpu")) tokens then alone_at tokens
+    else dispatched_at tokens
+
+abbrev pub comma_features_at : Reader Features
+comma_features_at tokens = do
+  a ← sign_at (codes ",") tokens
+  behind_comma_at a.1
+
+unfoldable pub features_at : Reader Features
+features_at tokens = if begins_with (is_this_sign (codes ",")) tokens then comma_features_at tokens
+    else Ok (([], false), tokens)
+
+-- the first declaration behind its priority bits
+abbrev pub featured_at : Ident → ℕ → Reader Head
+featured_at name bits tokens = do
+  fs ← features_at tokens
+  e ← sign_at (codes ")") fs.1
   f ← sign_at (codes ";") e.1
-  Ok (record { name = name; bits = bits; dispatchers = ds.0 }, f.1)
+  Ok (record { name = name; bits = bits; dispatchers = fs.0.0; fpu = fs.0.1 }, f.1)
 
 -- the first declaration from its parenthesis on
 abbrev pub levels_at : Ident → Reader Head
@@ -47,7 +87,7 @@ levels_at name tokens = do
   c ← word_at (codes "bits") b.1
   d ← sign_at (codes "=") c.1
   bits ← limited_number_at (within LEAST_BITS MOST_BITS limit.Bits) d.1
-  dispatched_at name bits.0.value bits.1
+  featured_at name bits.0.value bits.1
 
 unfoldable pub head_at : Reader Head
 head_at tokens = do
@@ -68,6 +108,7 @@ abbrev pub app_is : Declared → Option Body → Option Body → List Task → A
 app_is d init idle tasks = record {
   name = d.first.name;
   bits = d.first.bits;
+  fpu = d.first.fpu;
   dispatchers = d.first.dispatchers;
   irqs = d.irqs;
   mono = d.mono;

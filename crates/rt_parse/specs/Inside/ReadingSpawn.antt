@@ -2,7 +2,8 @@
 use Rattle.std.specs.Prelude.{Bool, ◌||◌, codes, List, [], length, Option, Ok, if◌then◌else◌}
 use Rattle.rt_ids.specs.declared.limit.Limit.{Limit}
 use Rattle.rt_lex.specs.Token.{Token, is_this_word}
-use Rattle.rt_ast.specs.Tree.{Value, Spawn, Expression, Calc, Now, Call, Soon, After}
+use Rattle.rt_ast.specs.declared.ident.Ident.{Ident}
+use Rattle.rt_ast.specs.Tree.{Value, Spawn, Expression, Calc, Now, Call, Soon, After, Cancel, Move}
 use Rattle.rt_grammar.specs.Tokens.{free}
 use Rattle.rt_parse.specs.Inside.Reading.{Reader, ◌>>=◌, begins_with, limited_word_at, word_at, sign_at, name_at}
 use Rattle.rt_parse.specs.Inside.ReadingList.{items_at, adds_at}
@@ -12,6 +13,21 @@ unfoldable pub arguments_at : Reader (List Expression)
 arguments_at tokens = do
   a ← sign_at (codes "(") tokens
   items_at (codes ")") (adds_at (λ before. expression_at)) (length a.1) [] a.1
+
+-- an expression in parentheses: a delay, or the handle of a message
+unfoldable pub enclosed_at : Reader Expression
+enclosed_at tokens = do
+  a ← sign_at (codes "(") tokens
+  e ← expression_at a.1
+  b ← sign_at (codes ")") e.1
+  Ok (e.0, b.1)
+
+-- a delay, and the task behind it
+unfoldable pub delayed_at : Reader (Expression × Ident)
+delayed_at tokens = do
+  delay ← enclosed_at tokens
+  task ← name_at delay.1
+  Ok ((delay.0, task.0), task.1)
 
 unfoldable pub soon_at : Option Limit → Reader Spawn
 soon_at what tokens = do
@@ -23,16 +39,29 @@ soon_at what tokens = do
 unfoldable pub after_at : Option Limit → Reader Spawn
 after_at what tokens = do
   at ← limited_word_at (codes "spawn_after") what tokens
-  a ← sign_at (codes "(") at.1
-  delay ← expression_at a.1
-  b ← sign_at (codes ")") delay.1
-  task ← name_at b.1
+  task ← delayed_at at.1
   args ← arguments_at task.1
-  Ok (After at.0 delay.0 task.0 args.0, args.1)
+  Ok (After at.0 task.0.0 task.0.1 args.0, args.1)
+
+unfoldable pub cancel_at : Option Limit → Reader Spawn
+cancel_at what tokens = do
+  at ← limited_word_at (codes "cancel") what tokens
+  task ← name_at at.1
+  handle ← enclosed_at task.1
+  Ok (Cancel at.0 task.0 handle.0, handle.1)
+
+unfoldable pub move_at : Option Limit → Reader Spawn
+move_at what tokens = do
+  at ← limited_word_at (codes "reschedule_after") what tokens
+  task ← delayed_at at.1
+  handle ← enclosed_at task.1
+  Ok (Move at.0 task.0.0 task.0.1 handle.0, handle.1)
 
 unfoldable pub spawn_at : Option Limit → Reader Spawn
 spawn_at what tokens = if begins_with (is_this_word (codes "spawn")) tokens then soon_at what tokens
-    else after_at what tokens
+    else if begins_with (is_this_word (codes "spawn_after")) tokens then after_at what tokens
+    else if begins_with (is_this_word (codes "cancel")) tokens then cancel_at what tokens
+    else move_at what tokens
 
 unfoldable pub now_at : Reader Value
 now_at tokens = do
@@ -51,6 +80,7 @@ calc_at tokens = do
 
 abbrev pub is_spawn : Token → Bool
 is_spawn t = is_this_word (codes "spawn") t || is_this_word (codes "spawn_after") t
+    || is_this_word (codes "cancel") t || is_this_word (codes "reschedule_after") t
 
 unfoldable pub value_at : Reader Value
 value_at tokens =
