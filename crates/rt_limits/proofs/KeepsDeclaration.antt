@@ -8,12 +8,13 @@ use Rattle.rt_ast.specs.PrintableBody.{IsPrintableName, IsPrintableNumber}
 use Rattle.rt_ast.specs.Printable.{IfThere, ArePrintableNames, IsPrintableIrq, IsPrintableMono, IsPrintableResource, IsPrintableLocal, IsPrintableListed, IsPrintableBody, IsPrintablePriority, IsPrintableCapacity, IsPrintableTask}
 use Rattle.rt_grammar.specs.Tokens.{free, adds}
 use Rattle.rt_grammar.specs.Tokens.{names}
-use Rattle.rt_grammar.specs.Declaration.{dispatchers, Head, head}
+use Rattle.rt_grammar.specs.Declaration.{dispatchers, fpu, Head, head}
 use Rattle.rt_grammar.specs.Resources.{interrupt, interrupts, monotonic, first_value, lock_free, locked, shared, local, locals}
 use Rattle.rt_grammar.specs.Options.{Options, no_options, Owner, OfTask, is_init, binds_option, priority_option, capacity_option, listed, shared_option, local_option, option, options}
 use Rattle.rt_grammar.specs.Bodies.{or_empty, body_of, thread_body, arguments, task}
 use Rattle.rt_limits.proofs.Keeps.{Keeps, AreFew, none_are_few, one_more_is_few, keeps_gives, keeps_then, keeps_or, keeps_or_else, keeps_only_if, keeps_as, keeps_repeat, keeps_all, keeps_few}
-use Rattle.rt_limits.proofs.KeepsTokens.{still_below, between, keeps_word, keeps_sign, keeps_name, keeps_number, keeps_list}
+use Rattle.rt_limits.proofs.KeepsTokens.{still_below, between, keeps_word, keeps_sign, keeps_this_name, keeps_name}
+use Rattle.rt_limits.proofs.KeepsTokens.{keeps_number, keeps_list}
 use Rattle.rt_limits.proofs.KeepsStatement.{IsBlockKept, keeps_block}
 
 -- Declarations before the bodies.
@@ -24,6 +25,11 @@ keeps_names = keeps_then keeps_sign (λ at under. keeps_list ArePrintableNames (
 keeps_dispatchers : Keeps dispatchers ArePrintableNames
 keeps_dispatchers = keeps_or_else tt (keeps_then keeps_sign (λ at under. keeps_then keeps_word (λ at under. keeps_then keeps_sign (λ equals under. keeps_names))))
 
+-- nothing is asked of it
+keeps_fpu : Keeps fpu (λ on. Unit {0})
+keeps_fpu = keeps_or_else tt (keeps_then keeps_sign (λ at under. keeps_then keeps_this_name (λ at under.
+    keeps_then keeps_sign (λ equals under. keeps_then keeps_this_name (λ at under. keeps_gives tt)))))
+
 pub record IsHeadKept (h : Head) : Type 0 where
   pub name : IsPrintableName h.name
   pub bits : (LEAST_BITS ≤ h.bits) × (h.bits ≤ MOST_BITS)
@@ -32,8 +38,9 @@ pub record IsHeadKept (h : Head) : Type 0 where
 pub keeps_head : Keeps head IsHeadKept
 keeps_head =
     keeps_then keeps_word (λ at under. keeps_then keeps_name (λ x h. keeps_then keeps_sign (λ opened under. keeps_then keeps_word (λ at under. keeps_then keeps_sign (λ equals under.
-    keeps_then keeps_number (λ n m. keeps_then keeps_dispatchers (λ ds all. keeps_then keeps_sign (λ closed under. keeps_then keeps_sign (λ end under.
-    keeps_gives (record { name = h.name; bits = between LEAST_BITS MOST_BITS n.value limit.Bits m.free; dispatchers = all }))))))))))
+    keeps_then keeps_number (λ n m. keeps_then keeps_dispatchers (λ ds all. keeps_then keeps_fpu (λ on any. keeps_then keeps_sign (λ closed under.
+    keeps_then keeps_sign (λ end under.
+    keeps_gives (record { name = h.name; bits = between LEAST_BITS MOST_BITS n.value limit.Bits m.free; dispatchers = all })))))))))))
 
 keeps_interrupt : (before : ℕ) → Keeps (interrupt before) (λ irq. IsPrintableIrq irq × (before < IRQS))
 keeps_interrupt before =

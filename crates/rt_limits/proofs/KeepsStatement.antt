@@ -8,8 +8,7 @@ use Rattle.rt_ast.specs.Tree.{Statement, Block, Empty, Then, Spawn}
 use Rattle.rt_ast.specs.PrintableBody.{IsPrintableExpression, IsPrintableSpawn, IsPrintableValue, IsPrintableStatement, ArePrintable, inner_blocks, blocks_of, statements_in, statements_of}
 use Rattle.rt_grammar.specs.Tokens.{free}
 use Rattle.rt_grammar.specs.Limits.{counted, nested}
-use Rattle.rt_grammar.specs.Spawn.{arguments}
-use Rattle.rt_grammar.specs.Spawn.{soon, after, spawn, value}
+use Rattle.rt_grammar.specs.Spawn.{arguments, handle, soon, after, cancel, move, spawn, value}
 use Rattle.rt_grammar.specs.Simple.{Counted, bind, assign, emit, pend, call}
 use Rattle.rt_grammar.specs.Statement.{Blocks, branch, loop, further, lock, statement, block_of, braced, block, inside}
 use Rattle.rt_limits.proofs.Keeps.{Keeps, keeps_gives, keeps_then, keeps_or, keeps_or_else, keeps_never, keeps_repeat, keeps_all}
@@ -42,8 +41,24 @@ keeps_after most what =
     keeps_then keeps_word (λ at under. keeps_then keeps_sign (λ opened k. keeps_then (keeps_expression most) (λ delay d. keeps_then keeps_sign (λ closed k.
     keeps_then keeps_name (λ task h. keeps_then (keeps_arguments most) (λ args all. keeps_gives (record { printable = (d, h.name, all); free = under })))))))
 
+keeps_handle : (most : ℕ) → Keeps (handle most) IsPrintableExpression
+keeps_handle most = keeps_then keeps_sign (λ opened under. keeps_then (keeps_expression most) (λ e h.
+    keeps_then keeps_sign (λ closed under. keeps_gives h)))
+
+keeps_cancel : (most : ℕ) (what : Option Limit) → Keeps (cancel most what) (IsSpawnTaken what)
+keeps_cancel most what =
+    keeps_then keeps_word (λ at under. keeps_then keeps_name (λ task h. keeps_then (keeps_handle most) (λ e k.
+    keeps_gives (record { printable = (h.name, k); free = under }))))
+
+keeps_move : (most : ℕ) (what : Option Limit) → Keeps (move most what) (IsSpawnTaken what)
+keeps_move most what =
+    keeps_then keeps_word (λ at under. keeps_then keeps_sign (λ opened k. keeps_then (keeps_expression most) (λ delay d.
+    keeps_then keeps_sign (λ closed k. keeps_then keeps_name (λ task h. keeps_then (keeps_handle most) (λ e g.
+    keeps_gives (record { printable = (d, h.name, g); free = under })))))))
+
 keeps_spawn : (most : ℕ) (what : Option Limit) → Keeps (spawn most what) (IsSpawnTaken what)
-keeps_spawn most what = keeps_or (keeps_soon most what) (keeps_after most what)
+keeps_spawn most what = keeps_or (keeps_soon most what)
+    (keeps_or (keeps_after most what) (keeps_or (keeps_cancel most what) (keeps_move most what)))
 
 keeps_value : (most : ℕ) → Keeps (value most) IsPrintableValue
 keeps_value most =

@@ -16,7 +16,8 @@ use Rattle.rt_ast.specs.declared.ident.Number.{Number}
 use Rattle.rt_ast.specs.PrintableBody.{IsPrintableName, IsPrintableNumber}
 use Rattle.rt_grammar.specs.Mark.{Mark}
 use Rattle.rt_grammar.specs.Language.{Language, token}
-use Rattle.rt_grammar.specs.Tokens.{limit_if, first_of, ident_at, ident_of, number_of, name_limit, number_limit, limited_word, limited_sign, limited_name, limited_number, list}
+use Rattle.rt_grammar.specs.Tokens.{limit_if, first_of, ident_at, ident_of, number_of, name_limit, number_limit}
+use Rattle.rt_grammar.specs.Tokens.{limited_word, limited_sign, limited_name, this_name, limited_number, list}
 use Rattle.rt_limits.proofs.Keeps.{AllSound, Keeps, keeps_gives, keeps_then, keeps_or, keeps_as, keeps_repeat}
 
 -- Limits that are not passed.
@@ -66,6 +67,9 @@ keeps_word = keeps_as keeps_token (λ x t. t.free)
 
 pub keeps_sign : {text : List ℕ} {what : Option Limit} → Keeps (limited_sign text what) (λ at. what ≡ None)
 keeps_sign = keeps_as keeps_token (λ x t. t.free)
+
+pub keeps_this_name : {text : List ℕ} → Keeps (this_name text) (λ at. Unit {0})
+keeps_this_name = keeps_as keeps_token (λ x t. tt)
 
 -- a name that is printable, and the further limit that it does not pass
 pub record IsNameTaken (what : Option Limit) (x : Ident) : Type 0 where
