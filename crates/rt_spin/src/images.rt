@@ -1,4 +1,4 @@
-use rt_code::{Handler, Image, Instr, IrqRow, Note};
+use rt_code::{Handler, Image, Instr, IrqRow, Line};
 use rt_ids::{Irq, Name, Names, NoMemory, Op};
 use std::alloc::Global;
 
@@ -66,7 +66,7 @@ fn rows(alloc: Global, irqs: Irqs) -> Result<Vec<IrqRow>, NoMemory> {
 }
 
 /// Instructions without notes.
-fn lines(alloc: Global, code: &[Instr]) -> Result<Vec<(Instr, Option<Note>)>, NoMemory> {
+fn lines(alloc: Global, code: &[Instr]) -> Result<Vec<Line>, NoMemory> {
     let mut lines = Vec::new(alloc);
     for instr in code {
         lines.push((*instr, None))?;
@@ -80,6 +80,7 @@ fn image(alloc: Global, irqs: Irqs, code: &[Instr]) -> Result<Image, NoMemory> {
     let code = lines(alloc, code)?;
     Ok(Image {
         bits: 4,
+        fpu: false,
         stack_bytes: 64,
         thread_words: FRAME,
         cells: Vec::new(alloc),

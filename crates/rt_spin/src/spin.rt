@@ -4,7 +4,7 @@ use rt_core::Core;
 use rt_trace::What;
 
 /// What a core showed.
-#[derive(Clone, Copy, Debug, PartialEq, Eq)]
+#[derive(Clone, Copy, PartialEq, Eq)]
 pub struct Shown {
     /// How many items.
     pub items: u32,
