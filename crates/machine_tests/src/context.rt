@@ -6,6 +6,7 @@ use Step::{Back, Call, Enter, Leave, Write};
 use rt_code::{BodyRow, Instr, Registers};
 use rt_context::Frames;
 use rt_ids::TaskId;
+use std::process::Abort;
 use std::test::Fail;
 
 /// What a row of the walk does.
@@ -84,17 +85,38 @@ const WALK: [(Step, Answer, u32, &[u32]); 18] = [
     (Leave, RunsOn(Some(100)), 8, &[0, 0]),
 ];
 
-/// Each step of the walk answers, and leaves the stack, as its row says.
-#[test]
-fn frames_stand_on_each_other(rt: HostRuntime) -> Result<(), Fail> {
-    let mut frames = Frames::new(rt.alloc(), 160, 8, 2)?;
-    for (row, &(step, answer, depth, slots)) in WALK.iter().enumerate() {
-        let took = take(&mut frames, step);
+/// The same where exception entry pushes 26 words.
+const WIDE_WALK: [(Step, Answer, u32, &[u32]); 5] = [
+    (Enter(17, 100, 13), Done(false), 8, &[0, 0]),
+    (Enter(17, 100, 12), Done(true), 160, &[0; 12]),
+    (
+        Write(11, 7),
+        Done(true),
+        160,
+        &[0, 0, 0, 0, 0, 0, 0, 0, 0, 0, 0, 7],
+    ),
+    (Leave, RunsOn(Some(100)), 8, &[0, 0]),
+    (Leave, RunsOn(None), 8, &[0, 0]),
+];
+
+/// Each step of a walk answers, and leaves the stack, as its row says.
+fn walks(rt: &impl Abort, frames: &mut Frames, rows: &[(Step, Answer, u32, &[u32])])
+    requires { length frames.old.below + length rows.now ≤ CONTEXTS }
+{
+    for (row, &(step, answer, depth, slots)) in rows.iter().enumerate() {
+        let took = take(frames, step);
         assert_eq!(rt;
             (took, frames.depth(), frames.slots()),
             (answer, depth, slots),
             "row {row}"
         );
     }
+}
+
+/// With the basic frame of 8 words at exception entry, and with the extended one of 26.
+#[test]
+fn frames_stand_on_each_other(rt: HostRuntime) -> Result<(), Fail> {
+    walks(&rt, &mut Frames::new(rt.alloc(), 160, 8, 2)?, &WALK);
+    walks(&rt, &mut Frames::new(rt.alloc(), 160, 26, 2)?, &WIDE_WALK);
     Ok(())
 }

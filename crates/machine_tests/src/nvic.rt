@@ -16,19 +16,27 @@ fn takes(rt: &impl Abort, nvic: &Nvic, rows: &[(u16, Option<Irq>)]) {
     }
 }
 
-/// Interrupt 3 at 32, 7 at 32 and 31 at 16; 35 is not enabled. Each row has an execution priority and what is taken
-/// there.
+/// Interrupt 3 at 32, 7 and 495 at 32 and 31 at 16; 35 is not enabled. Each row has an execution priority and what is
+/// taken there.
 #[test]
 fn the_highest_is_taken_then_the_lowest_number(rt: HostRuntime) -> Result<(), Fail> {
     let low = irq(3)?;
     let high = irq(31)?;
+    let last = irq(495)?;
     let mut nvic = Nvic::new();
     nvic.enable(irq(7)?, 32);
+    nvic.enable(last, 32);
     nvic.enable(low, 32);
     nvic.enable(high, 16);
     nvic.arrive(1, 1 << 3);
     assert!(rt; nvic.is_pending(irq(35)?));
     takes(&rt, &nvic, &[(256, None)]);
+    nvic.post(last);
+    takes(
+        &rt,
+        &nvic,
+        &[(256, Some(last)), (33, Some(last)), (32, None)],
+    );
     nvic.arrive(0, (1 << 3) | (1 << 7));
     takes(
         &rt,
@@ -47,7 +55,7 @@ fn the_highest_is_taken_then_the_lowest_number(rt: HostRuntime) -> Result<(), Fa
 /// A pend of an active interrupt makes it active and pending, and it is entered again after its return.
 #[test]
 fn a_pend_of_an_active_interrupt_waits(rt: HostRuntime) -> Result<(), Fail> {
-    let irq = irq(239)?;
+    let irq = irq(495)?;
     let mut nvic = Nvic::new();
     nvic.enable(irq, 48);
     nvic.post(irq);
