@@ -1,7 +1,6 @@
 -- The first violation of lists that stand one behind the other.
-use Rattle.std.proofs.Common.{◌≡◌, ℕ, ◌+◌, ◌<◌, List, [], ◌∷◌, ◌++◌, length, get_or, take, map, flat_map, Option, refl, ap, sym, ◌∙◌, append-nil}
+use Rattle.std.proofs.Common.{◌≡◌, ℕ, ◌+◌, ◌<◌, List, [], ◌∷◌, ◌++◌, length, get_or, take, map, flat_map, Option, refl, ap, sym, ◌∙◌}
 use Rattle.std.proofs.lemmas.List.{take_more, get_or_default}
-use Rattle.std.proofs.lemmas.List.Concat.{flat_map-append}
 use Rattle.rt_lemmas.proofs.Lists.{flat_map_next, flat_map-map}
 use Rattle.rt_app.specs.declared.violation.Violation.{Violation}
 use Rattle.rt_rules.specs.Inside.First.{earlier, first_of}
