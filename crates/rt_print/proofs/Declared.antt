@@ -1,5 +1,5 @@
 -- The texts of an application's first declarations are read as them: the head, interrupts, the monotonic and resources.
-use Rattle.std.proofs.Common.{◌≡◌, ℕ, ◌<◌, ◌≤◌, true, false, List, [], ◌∷◌, ◌++◌, map, length, None, refl, ap, arith, append_assoc}
+use Rattle.std.proofs.Common.{◌≡◌, ℕ, ◌<◌, ◌≤◌, Bool, true, false, List, [], ◌∷◌, ◌++◌, map, length, None, refl, ap, arith, append_assoc}
 use Rattle.std.specs.Prelude.{codes, decimal}
 use Rattle.std.specs.List.{AllByRecursion}
 use Rattle.std.proofs.lemmas.Bool.{le-leb, lt-leb}
@@ -11,15 +11,16 @@ use Rattle.rt_ast.specs.Tree.{App}
 use Rattle.rt_ast.specs.Bare.{bare_name}
 use Rattle.rt_ast.specs.CanonicalExpression.{separated, name_text}
 use Rattle.rt_ast.specs.CanonicalOptions.{bracketed}
-use Rattle.rt_ast.specs.Canonical.{enclosed, dispatchers_text, head_text}
+use Rattle.rt_ast.specs.Canonical.{enclosed, dispatchers_text, fpu_text, head_text}
 use Rattle.rt_ast.specs.PrintableBody.{IsPrintableName}
 use Rattle.rt_ast.specs.Printable.{ArePrintableNames}
 use Rattle.rt_grammar.specs.Language.{Language, gives, ◌>>◌}
-use Rattle.rt_grammar.specs.Tokens.{free, name, limited_number, sign, word, list, adds, names}
+use Rattle.rt_grammar.specs.Tokens.{free, name, this_name, limited_number, sign, word, list, adds, names}
 use Rattle.rt_grammar.specs.Limits.{within, at_most}
-use Rattle.rt_grammar.specs.Declaration.{dispatchers, Head, head}
+use Rattle.rt_grammar.specs.Declaration.{dispatchers, fpu, Head, head}
 use Rattle.rt_print.proofs.Reading.{Reads, Any, read_gives, read_then, read_holds, read_left, read_right, read_space, read_trail, read_same}
-use Rattle.rt_print.proofs.Lexemes.{Stops, IsNamed, IsNumber, read_name, read_number, read_word, read_sign}
+use Rattle.rt_print.proofs.Lexemes.{Stops, IsNamed, IsNumber, read_name, read_this_name, read_number, read_word}
+use Rattle.rt_print.proofs.Lexemes.{read_sign}
 use Rattle.rt_print.proofs.Expressions.{Plain}
 use Rattle.rt_print.proofs.Lists.{IsEnd, Items, list_reads}
 
@@ -98,24 +99,52 @@ dispatchers_read (x ∷ xs) Y h =
     (read_then (sign (codes "=")) _ Any P (codes "= " ++ B) (32 ∷ B) Y (read_sign (codes "=") free (32 ∷ B) refl refl) (λ c w.
     read_space names P B Y (names_read (x ∷ xs) Y h)))))))
 
+abbrev IsOn : Bool → Bool → Type 0
+IsOn on read = read ≡ on
+
+-- the extension, and the parenthesis behind it
+fpu_reads : (on : Bool) (Y : List ℕ) → Reads fpu (IsOn on) (fpu_text on ++ 41 ∷ Y) (41 ∷ Y)
+fpu_reads false Y =
+    read_left (gives false) _ (IsOn false) (41 ∷ Y) (41 ∷ Y) (read_gives (IsOn false) false (41 ∷ Y) refl)
+fpu_reads true Y =
+    let P = IsOn true in
+    let E = 41 ∷ Y in
+    let N = codes "on" ++ E in
+    let F = codes "fpu = on" ++ E in
+    read_right (gives false) _ P (codes ", " ++ F) E
+    (read_then (sign (codes ",")) _ Any P (codes ", " ++ F) (32 ∷ F) E
+    (read_sign (codes ",") free (32 ∷ F) refl refl) (λ a u.
+    read_space _ P F E
+    (read_then (this_name (codes "fpu")) _ Any P F (codes " = " ++ N) E
+    (read_this_name (codes "fpu") (codes " = " ++ N) refl) (λ b v.
+    read_space _ P (codes "= " ++ N) E
+    (read_then (sign (codes "=")) _ Any P (codes "= " ++ N) (32 ∷ N) E
+    (read_sign (codes "=") free (32 ∷ N) refl refl) (λ c w.
+    read_space _ P N E
+    (read_then (this_name (codes "on")) _ Any P N E E (read_this_name (codes "on") E refl) (λ d x.
+    read_gives P true E refl))))))))
+
 -- the head of this application
 pub record IsHead (a : App) (h : Head) : Type 0 where
   pub name : IsNamed a.name h.name
   pub bits : h.bits ≡ a.bits
   pub dispatchers : AreNames a.dispatchers h.dispatchers
+  pub fpu : IsOn a.fpu h.fpu
 
-stops_dispatchers : (xs : List Ident) (Y : List ℕ) → Stops (dispatchers_text xs ++ 41 ∷ Y)
-stops_dispatchers [] Y = refl
-stops_dispatchers (x ∷ xs) Y = refl
+stops_features : (xs : List Ident) (on : Bool) (Y : List ℕ) → Stops (dispatchers_text xs ++ (fpu_text on ++ 41 ∷ Y))
+stops_features [] false Y = refl
+stops_features [] true Y = refl
+stops_features (x ∷ xs) on Y = refl
 
-head_append : (a : App) (Y : List ℕ) → head_text a ++ Y ≡ codes "app " ++ (a.name.name ++ (codes "(bits = " ++ (decimal a.bits ++ (dispatchers_text a.dispatchers ++ (codes ");" ++ 10 ∷ Y)))))
+head_append : (a : App) (Y : List ℕ) → head_text a ++ Y ≡ codes "app " ++ (a.name.name ++ (codes "(bits = " ++ (decimal a.bits ++ (dispatchers_text a.dispatchers ++ (fpu_text a.fpu ++ (codes ");" ++ 10 ∷ Y))))))
 head_append a Y = simp append_assoc refl
 
 pub head_reads : (a : App) (Y : List ℕ) → IsPrintableName a.name → LEAST_BITS ≤ a.bits → a.bits ≤ MOST_BITS → ArePrintableNames a.dispatchers → Reads head (IsHead a) (head_text a ++ Y) Y
 head_reads a Y n least greatest ds =
     let P = IsHead a in
     let E = 41 ∷ 59 ∷ 10 ∷ Y in
-    let D = dispatchers_text a.dispatchers ++ E in
+    let F = fpu_text a.fpu ++ E in
+    let D = dispatchers_text a.dispatchers ++ F in
     let B = decimal a.bits ++ D in
     let N = a.name.name ++ (codes "(bits = " ++ B) in
     read_trail head P (head_text a ++ Y) Y
@@ -129,8 +158,10 @@ head_reads a Y n least greatest ds =
     (read_then (sign (codes "=")) _ Any P (codes "= " ++ B) (32 ∷ B) (10 ∷ Y) (read_sign (codes "=") free (32 ∷ B) refl refl) (λ c3 u3.
     read_space _ P B (10 ∷ Y)
     (read_then (limited_number (within LEAST_BITS MOST_BITS limit.Bits)) _ (IsNumber a.bits) P B D (10 ∷ Y)
-    (read_number a.bits (within LEAST_BITS MOST_BITS limit.Bits) D (omega (arith, greatest)) (within_free LEAST_BITS MOST_BITS limit.Bits a.bits least greatest) (stops_dispatchers a.dispatchers (59 ∷ 10 ∷ Y))) (λ bits b.
-    read_then dispatchers _ (AreNames a.dispatchers) P D E (10 ∷ Y) (dispatchers_read a.dispatchers E ds) (λ xs d.
+    (read_number a.bits (within LEAST_BITS MOST_BITS limit.Bits) D (omega (arith, greatest)) (within_free LEAST_BITS MOST_BITS limit.Bits a.bits least greatest) (stops_features a.dispatchers a.fpu (59 ∷ 10 ∷ Y))) (λ bits b.
+    read_then dispatchers _ (AreNames a.dispatchers) P D F (10 ∷ Y) (dispatchers_read a.dispatchers F ds) (λ xs d.
+    read_then fpu _ (IsOn a.fpu) P F E (10 ∷ Y) (fpu_reads a.fpu (59 ∷ 10 ∷ Y)) (λ on f.
     read_then (sign (codes ")")) _ Any P E (59 ∷ 10 ∷ Y) (10 ∷ Y) (read_sign (codes ")") free (59 ∷ 10 ∷ Y) refl refl) (λ c4 u4.
     read_then (sign (codes ";")) _ Any P (59 ∷ 10 ∷ Y) (10 ∷ Y) (10 ∷ Y) (read_sign (codes ";") free (10 ∷ Y) refl refl) (λ c5 u5.
-    read_gives P (record { name = x; bits = bits.value; dispatchers = xs }) (10 ∷ Y) (record { name = e; bits = b; dispatchers = d })))))))))))))))
+    read_gives P (record { name = x; bits = bits.value; dispatchers = xs; fpu = on }) (10 ∷ Y)
+    (record { name = e; bits = b; dispatchers = d; fpu = f }))))))))))))))))

@@ -47,7 +47,7 @@ application_reads a h =
     read_then (thread_body 16 OfInit (codes "init")) _ (IsMaybe bare_body a.init) P N D [] (init_reads a.init D h.init) (λ init e6.
     read_then (thread_body 16 OfIdle (codes "idle")) _ (IsMaybe bare_body a.idle) P D T [] (idle_reads a.idle T h.idle) (λ idle e7.
     read_then (repeat (adds (task 16)) []) _ (AreAll bare_task a.tasks) P T [] [] (tasks_read a.tasks [] h.tasks h.few_tasks) (λ tasks e8.
-    read_gives P (record { name = first.name; bits = first.bits; dispatchers = first.dispatchers; irqs = irqs; mono = mono; shared = ss; locals = ls; init = init; idle = idle; tasks = tasks }) [] (rw (e1.name, e1.bits, e1.dispatchers, e2, e3, e4, e5, e6, e7, e8) refl))))))))))
+    read_gives P (record { name = first.name; bits = first.bits; fpu = first.fpu; dispatchers = first.dispatchers; irqs = irqs; mono = mono; shared = ss; locals = ls; init = init; idle = idle; tasks = tasks }) [] (rw (e1.name, e1.bits, e1.fpu, e1.dispatchers, e2, e3, e4, e5, e6, e7, e8) refl))))))))))
 
 reads_back : (a : App) → IsPrintable a → ReadsBack a
 reads_back a h =

@@ -27,7 +27,8 @@ use Rattle.rt_lex.specs.Bytes.{is_blank, digit_value}
 use Rattle.rt_ids.specs.Byte.{is_digit, is_letter, is_lower, is_upper, is_name_byte}
 use Rattle.rt_lex.specs.Front.{Front, skips, makes, front_of, name_front, number_front, sign_front, hex_digits, comment}
 use Rattle.rt_lex.proofs.Lexing.{takes}
-use Rattle.rt_grammar.specs.Tokens.{word_of, sign_of, ident_of, number_of, name_limit, number_limit, limited_word, limited_sign, limited_name, limited_number}
+use Rattle.rt_grammar.specs.Tokens.{free, word_of, sign_of, name_of, ident_of, number_of, name_limit, number_limit}
+use Rattle.rt_grammar.specs.Tokens.{limited_word, limited_sign, limited_name, this_name, limited_number}
 use Rattle.rt_print.proofs.Reading.{Reads, Any, read_token}
 
 -- a text begins with this token where this stands behind it
@@ -54,6 +55,12 @@ pub read_sign : (text : List ℕ) (what : Option Limit) (Y : List ℕ) → what 
 read_sign text what Y free h at =
     read_token (sign_of text) (λ x. what) Any (text ++ Y) Y at (at + length text) (record { at = at; kind = kind.Sign; text = text }) at (rw (same_text text) refl) free tt
     (token_first text kind.Sign Y at h)
+
+pub read_this_name : (text Y : List ℕ) → IsFront text kind.Name Y → Reads (this_name text) Any (text ++ Y) Y
+read_this_name text Y h at =
+    read_token (name_of text) (λ x. free) Any (text ++ Y) Y at (at + length text)
+    (record { at = at; kind = kind.Name; text = text }) at (rw (same_text text) refl) refl tt
+    (token_first text kind.Name Y at h)
 
 -- a text at whose start no name and no number goes on
 abbrev pub Stops : List ℕ → Type 0

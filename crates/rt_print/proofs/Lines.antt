@@ -1,16 +1,16 @@
 -- Statements and blocks of the code, and their texts.
-use Rattle.std.proofs.Common.{◌≡◌, ℕ, ◌<◌, List, [], ◌∷◌, ◌++◌, flat_map, map, length, Vec, Global, Result, OnOk, Some, codes, decimal, refl, sym, ap, ◌∙◌, arith, append_assoc}
+use Rattle.std.proofs.Common.{◌≡◌, ℕ, ◌<◌, List, [], ◌∷◌, ◌++◌, flat_map, length, Vec, Global, Result, OnOk, Some, codes, decimal, refl, sym, ap, ◌∙◌, arith, append_assoc}
 use Rattle.rt_lemmas.proofs.Results.{on_ok_weaker}
 use Rattle.rt_ast.specs.Tree as tree
 use Rattle.rt_ast.specs.View.{expression_of, spawn_of, statement_of, block_of}
 use Rattle.rt_ast.specs.declared.app.MonoTree.{MonoTree}
 use Rattle.rt_ast.specs.Canonical.{mono_text}
-use Rattle.rt_ast.specs.CanonicalExpression.{newline, expression_text}
-use Rattle.rt_ast.specs.CanonicalBlock.{deeper, line, braces, branch_head, repeat_head, lock_head, call_text, spawn_text, statement_text, block_text, else_text, lines_text}
+use Rattle.rt_ast.specs.CanonicalExpression.{newline, name_text, expression_text}
+use Rattle.rt_ast.specs.CanonicalBlock.{deeper, line, braces, branch_head, repeat_head, lock_head, spawn_text, statement_text, block_text, else_text, lines_text}
 use Rattle.rt_ast.specs.declared.ident.Ident.{Ident}
 use Rattle.rt_ast.specs.declared.expr.Expr.{Expr}
 use Rattle.rt_ast.specs.declared.stmt.Spawn.{Spawn}
-use Rattle.rt_ast.specs.declared.stmt.Spawn.TheVariants.{After}
+use Rattle.rt_ast.specs.declared.stmt.Spawn.TheVariants.{Move}
 use Rattle.rt_ast.specs.declared.stmt.Stmt.{Stmt, Branch, Repeat, Locked}
 use Rattle.rt_ast.proofs.Statements.{branch_is, repeat_is, locked_is}
 
@@ -97,16 +97,20 @@ pub lock_text_appended : {A E : Type 0} (r : Result A E) (margin o0 o1 o2 : List
     → OnOk r (o2 ≡ o1 ++ block_text margin (block_of inner)) → OnOk r (o2 ≡ o0 ++ statement_text margin (statement_of stmt))
 lock_text_appended r margin o0 o1 o2 stmt x v inner is e1 f h = on_ok_weaker r _ _ (λ k. lock_appended margin o0 o1 o2 stmt x v inner is e1 f k) h
 
--- a delayed spawn
-after_appended : (o0 o1 o2 o3 o4 d call : List ℕ) → o1 ≡ o0 ++ codes "spawn_after(" → o2 ≡ o1 ++ d → o3 ≡ o2 ++ codes ") " → o4 ≡ o3 ++ call → o4 ≡ o0 ++ (codes "spawn_after(" ++ d ++ codes ") " ++ call)
-after_appended o0 o1 o2 o3 o4 d call e1 e2 e3 e4 = rw (e4, e3, e2, e1) (simp append_assoc refl)
+-- a message that is put off
+move_appended : (o0 o1 o2 d n h : List ℕ) → o1 ≡ o0 ++ (codes "reschedule_after(" ++ d ++ codes ") ")
+    → o2 ≡ o1 ++ (n ++ codes "(" ++ h ++ codes ")")
+    → o2 ≡ o0 ++ (codes "reschedule_after(" ++ d ++ codes ") " ++ n ++ codes "(" ++ h ++ codes ")")
+move_appended o0 o1 o2 d n h e1 e2 = rw (e2, e1) (simp append_assoc refl)
 
-pub after_text_appended : {A E : Type 0} (r : Result A E) (o0 o1 o2 o3 o4 : List ℕ) (spawn : Spawn) (at : ℕ) (delay : Expr) (task : Ident) (own : Vec Expr Global) (args : List Expr) → spawn ≡ After at delay task own
-    → o1 ≡ o0 ++ codes "spawn_after(" → o2 ≡ o1 ++ expression_text (expression_of delay) → o3 ≡ o2 ++ codes ") " → args ≡ own.items → OnOk r (o4 ≡ o3 ++ call_text task (map expression_of args))
-    → OnOk r (o4 ≡ o0 ++ spawn_text (spawn_of spawn))
-after_text_appended r o0 o1 o2 o3 o4 spawn at delay task own args is e1 e2 e3 f h =
-    on_ok_weaker r _ _ (λ k. after_appended o0 o1 o2 o3 o4 (expression_text (expression_of delay)) (call_text task (map expression_of args)) e1 e2 e3 k
-    ∙ ap (λ (xs : List Expr). o0 ++ (codes "spawn_after(" ++ expression_text (expression_of delay) ++ codes ") " ++ call_text task (map expression_of xs))) f
+pub move_text_appended : {A E : Type 0} (r : Result A E) (o0 o1 o2 : List ℕ) (spawn : Spawn) (at : ℕ) (delay : Expr)
+    (task : Ident) (handle : Expr) → spawn ≡ Move at delay task handle
+    → o1 ≡ o0 ++ (codes "reschedule_after(" ++ expression_text (expression_of delay) ++ codes ") ")
+    → OnOk r (o2 ≡ o1 ++ (name_text task ++ codes "(" ++ expression_text (expression_of handle) ++ codes ")"))
+    → OnOk r (o2 ≡ o0 ++ spawn_text (spawn_of spawn))
+move_text_appended r o0 o1 o2 spawn at delay task handle is e1 h =
+    on_ok_weaker r _ _ (λ k. move_appended o0 o1 o2 (expression_text (expression_of delay)) (name_text task)
+    (expression_text (expression_of handle)) e1 k
     ∙ ap (λ (s : Spawn). o0 ++ spawn_text (spawn_of s)) (sym is)) h
 
 mono_appended : (o0 o1 o2 o3 o4 o5 x n : List ℕ) → o1 ≡ o0 ++ codes "monotonic(binds = " → o2 ≡ o1 ++ x → o3 ≡ o2 ++ codes ", priority = " → o4 ≡ o3 ++ n → o5 ≡ o4 ++ 41 ∷ 59 ∷ 10 ∷ []

@@ -4,14 +4,15 @@ use Rattle.std.specs.Prelude.{codes}
 use Rattle.std.specs.List.{AllByRecursion}
 use Rattle.rt_ids.specs.declared.limit.Limit.{Limit}
 use Rattle.rt_ast.specs.declared.ident.Ident.{Ident}
-use Rattle.rt_ast.specs.Tree.{Expression, Spawn, Soon, After, Value, Calc, Now, Call}
+use Rattle.rt_ast.specs.Tree.{Expression, Spawn, Soon, After, Cancel, Move, Value, Calc, Now, Call}
 use Rattle.rt_ast.specs.Bare.{bare_name, bare_expression, bare_spawn, bare_value}
 use Rattle.rt_ast.specs.CanonicalExpression.{separated, expression_text}
 use Rattle.rt_ast.specs.CanonicalBlock.{call_text, spawn_text, value_text}
 use Rattle.rt_ast.specs.PrintableBody.{IsPrintableExpression, IsPrintableSpawn, IsPrintableValue}
 use Rattle.rt_grammar.specs.Tokens.{free, name, sign, word, limited_word}
 use Rattle.rt_grammar.specs.Expression.{expression}
-use Rattle.rt_grammar.specs.Spawn.{arguments, soon, after, spawn, value}
+use Rattle.rt_grammar.specs.Language.{◌or◌}
+use Rattle.rt_grammar.specs.Spawn.{arguments, handle, soon, after, cancel, move, spawn, value}
 use Rattle.rt_print.proofs.Reading.{Reads, Any, read_gives, read_then, read_left, read_right, read_space, read_same}
 use Rattle.rt_print.proofs.Lexemes.{IsNamed, read_name, read_word, read_sign}
 use Rattle.rt_print.proofs.Expressions.{IsTree, expression_reads, plain_closing, plain_semicolon}
@@ -82,9 +83,83 @@ after_reads at delay task args most what Y h m w =
     read_then (arguments most) _ (AreTrees args) P Z Y Y (arguments_read args most Y h.2 m) (λ args' f.
     read_gives P (After at' delay' task' args') Y (same_after at at' delay delay' task task' args args' d n f)))))))))
 
+handle_reads : (e : Expression) (most : ℕ) (Y : List ℕ) → IsPrintableExpression e → 16 ≤ most
+    → Reads (handle most) (IsTree e) (40 ∷ (expression_text e ++ 41 ∷ Y)) Y
+handle_reads e most Y h m =
+    let P = IsTree e in
+    let E = expression_text e ++ 41 ∷ Y in
+    read_then (sign (codes "(")) _ Any P (40 ∷ E) E Y (read_sign (codes "(") free E refl refl) (λ b v.
+    read_then (expression most) _ P P E (41 ∷ Y) Y
+    (expression_reads e most (41 ∷ Y) h m refl (plain_closing Y)) (λ e' d.
+    read_then (sign (codes ")")) _ Any P (41 ∷ Y) Y Y (read_sign (codes ")") free Y refl refl) (λ c x.
+    read_gives P e' Y d)))
+
+same_cancel : (at at' : ℕ) (task task' : Ident) (e e' : Expression) → IsNamed task task' → IsTree e e'
+    → IsSpawn (Cancel at task e) (Cancel at' task' e')
+same_cancel at at' task task' e e' n t = rw (n, t) refl
+
+same_move : (at at' : ℕ) (delay delay' : Expression) (task task' : Ident) (e e' : Expression) → IsTree delay delay'
+    → IsNamed task task' → IsTree e e' → IsSpawn (Move at delay task e) (Move at' delay' task' e')
+same_move at at' delay delay' task task' e e' d n t = rw (d, n, t) refl
+
+cancel_append : (task : Ident) (e : Expression) (Y : List ℕ)
+    → spawn_text (Cancel 0 task e) ++ Y ≡ codes "cancel " ++ (task.name ++ 40 ∷ (expression_text e ++ 41 ∷ Y))
+cancel_append task e Y = simp append_assoc refl
+
+cancel_reads : (at : ℕ) (task : Ident) (e : Expression) (most : ℕ) (what : Option Limit) (Y : List ℕ)
+    → IsPrintableSpawn (Cancel at task e) → 16 ≤ most → what ≡ None
+    → Reads (cancel most what) (IsSpawn (Cancel at task e)) (spawn_text (Cancel at task e) ++ Y) Y
+cancel_reads at task e most what Y h m w =
+    let P = IsSpawn (Cancel at task e) in
+    let Z = 40 ∷ (expression_text e ++ 41 ∷ Y) in
+    let N = task.name ++ Z in
+    read_same (cancel most what) P (codes "cancel " ++ N) _ Y (cancel_append task e Y)
+    (read_then (limited_word (codes "cancel") what) _ Any P (codes "cancel " ++ N) (32 ∷ N) Y
+    (read_word (codes "cancel") what (32 ∷ N) w refl) (λ at' u.
+    read_space _ P N Y
+    (read_then name _ (IsNamed task) P N Z Y (read_name task free Z h.0 refl refl) (λ task' n.
+    read_then (handle most) _ (IsTree e) P Z Y Y (handle_reads e most Y h.1 m) (λ e' t.
+    read_gives P (Cancel at' task' e') Y (same_cancel at at' task task' e e' n t))))))
+
+move_append : (delay : Expression) (task : Ident) (e : Expression) (Y : List ℕ)
+    → spawn_text (Move 0 delay task e) ++ Y ≡ codes "reschedule_after("
+    ++ (expression_text delay ++ (41 ∷ 32 ∷ (task.name ++ 40 ∷ (expression_text e ++ 41 ∷ Y))))
+move_append delay task e Y = simp append_assoc refl
+
+move_reads : (at : ℕ) (delay : Expression) (task : Ident) (e : Expression) (most : ℕ) (what : Option Limit)
+    (Y : List ℕ) → IsPrintableSpawn (Move at delay task e) → 16 ≤ most → what ≡ None
+    → Reads (move most what) (IsSpawn (Move at delay task e)) (spawn_text (Move at delay task e) ++ Y) Y
+move_reads at delay task e most what Y h m w =
+    let P = IsSpawn (Move at delay task e) in
+    let Z = 40 ∷ (expression_text e ++ 41 ∷ Y) in
+    let N = task.name ++ Z in
+    let D = expression_text delay ++ (41 ∷ 32 ∷ N) in
+    read_same (move most what) P (codes "reschedule_after(" ++ D) _ Y (move_append delay task e Y)
+    (read_then (limited_word (codes "reschedule_after") what) _ Any P (codes "reschedule_after(" ++ D) (40 ∷ D) Y
+    (read_word (codes "reschedule_after") what (40 ∷ D) w refl) (λ at' u.
+    read_then (sign (codes "(")) _ Any P (40 ∷ D) D Y (read_sign (codes "(") free D refl refl) (λ b v.
+    read_then (expression most) _ (IsTree delay) P D (41 ∷ 32 ∷ N) Y
+    (expression_reads delay most (41 ∷ 32 ∷ N) h.0 m refl (plain_closing (32 ∷ N))) (λ delay' d.
+    read_then (sign (codes ")")) _ Any P (41 ∷ 32 ∷ N) (32 ∷ N) Y
+    (read_sign (codes ")") free (32 ∷ N) refl refl) (λ c x.
+    read_space _ P N Y
+    (read_then name _ (IsNamed task) P N Z Y (read_name task free Z h.1 refl refl) (λ task' n.
+    read_then (handle most) _ (IsTree e) P Z Y Y (handle_reads e most Y h.2 m) (λ e' t.
+    read_gives P (Move at' delay' task' e') Y (same_move at at' delay delay' task task' e e' d n t)))))))))
+
 pub spawn_reads : (s : Spawn) (most : ℕ) (what : Option Limit) (Y : List ℕ) → IsPrintableSpawn s → 16 ≤ most → what ≡ None → Reads (spawn most what) (IsSpawn s) (spawn_text s ++ Y) Y
-spawn_reads (Soon task args) most what Y h m w = read_left (soon most what) (after most what) _ _ Y (soon_reads task args most what Y h m w)
-spawn_reads (After at delay task args) most what Y h m w = read_right (soon most what) (after most what) _ _ Y (after_reads at delay task args most what Y h m w)
+spawn_reads (Soon task args) most what Y h m w =
+    read_left (soon most what) (after most what or cancel most what or move most what) _ _ Y
+    (soon_reads task args most what Y h m w)
+spawn_reads (After at delay task args) most what Y h m w =
+    read_right (soon most what) _ _ _ Y (read_left (after most what) (cancel most what or move most what) _ _ Y
+    (after_reads at delay task args most what Y h m w))
+spawn_reads (Cancel at task e) most what Y h m w =
+    read_right (soon most what) _ _ _ Y (read_right (after most what) _ _ _ Y
+    (read_left (cancel most what) (move most what) _ _ Y (cancel_reads at task e most what Y h m w)))
+spawn_reads (Move at delay task e) most what Y h m w =
+    read_right (soon most what) _ _ _ Y (read_right (after most what) _ _ _ Y
+    (read_right (cancel most what) (move most what) _ _ Y (move_reads at delay task e most what Y h m w)))
 
 abbrev pub IsValue : Value → Value → Type 0
 IsValue v u = bare_value u ≡ bare_value v

@@ -9,9 +9,9 @@ use crate::block::push_block;
 use crate::declarations::{push_head, push_irqs, push_locals, push_mono, push_shared};
 use crate::options::{push_body_options, push_task_options};
 use crate::separated::push_names;
-use crate::text::{push_bytes, push_name};
+use crate::text::push_name;
 use rt_ast::{AppTree, BodyTree, Ident, Stmt, TaskTree};
-use rt_ids::NoMemory;
+use rt_ids::{NoMemory, push_bytes};
 use std::alloc::Global;
 
 /// Appends a space, a body's block and the end of its line.

@@ -6,9 +6,9 @@ ghost use Rattle.rt_ast.specs.CanonicalBlock.{else_text, lines_text, branch_head
 
 use crate::expr::push_expression;
 use crate::separated::push_expressions;
-use crate::text::{push_bytes, push_name, push_number};
+use crate::text::push_name;
 use rt_ast::{Expr, Ident, Spawn, Stmt, Value};
-use rt_ids::NoMemory;
+use rt_ids::{NoMemory, push_bytes, push_number};
 use std::alloc::Global;
 
 /// Appends a task and its arguments.
@@ -21,7 +21,29 @@ fn push_call(out: &mut Vec<u8>, task: &Ident, args: &[Expr]) -> Result<(), NoMem
     push_bytes(out, b")")
 }
 
-/// Appends a spawn, without the semicolon.
+/// Appends a word with an open parenthesis, and a delay behind it.
+fn push_delay(out: &mut Vec<u8>, word: &[u8], delay: &Expr) -> Result<(), NoMemory>
+    ensures { OnOk result (out.new.items
+        ≡ out.old.items ++ (word.now ++ expression_text (expression_of delay.now) ++ codes ") ")) }
+{
+    push_bytes(out, word)?;
+    push_expression(out, delay)?;
+    push_bytes(out, b") ")
+}
+
+/// Appends a task and the handle of a message of it.
+fn push_handle(out: &mut Vec<u8>, task: &Ident, handle: &Expr) -> Result<(), NoMemory>
+    ensures { OnOk result (out.new.items
+        ≡ out.old.items ++ (name_text task.now ++ codes "(" ++ expression_text (expression_of handle.now)
+        ++ codes ")")) }
+{
+    push_name(out, task)?;
+    push_bytes(out, b"(")?;
+    push_expression(out, handle)?;
+    push_bytes(out, b")")
+}
+
+/// Appends a spawn, or what its handle takes back or puts off, without the semicolon.
 fn push_spawn(out: &mut Vec<u8>, spawn: &Spawn) -> Result<(), NoMemory>
     ensures { OnOk result (out.new.items ≡ out.old.items ++ spawn_text (spawn_of spawn.now)) }
 {
@@ -31,10 +53,16 @@ fn push_spawn(out: &mut Vec<u8>, spawn: &Spawn) -> Result<(), NoMemory>
             push_call(out, task, args)
         }
         Spawn::After(_at, delay, task, args) => {
-            push_bytes(out, b"spawn_after(")?;
-            push_expression(out, delay)?;
-            push_bytes(out, b") ")?;
+            push_delay(out, b"spawn_after(", delay)?;
             push_call(out, task, args)
+        }
+        Spawn::Cancel(_at, task, handle) => {
+            push_bytes(out, b"cancel ")?;
+            push_handle(out, task, handle)
+        }
+        Spawn::Move(_at, delay, task, handle) => {
+            push_delay(out, b"reschedule_after(", delay)?;
+            push_handle(out, task, handle)
         }
     }
 }

@@ -2,13 +2,14 @@ ghost use Rattle.std.specs.Prelude.{◌≡◌, ◌++◌, Some, OnOk};
 ghost use Rattle.rt_ast.specs.View.{app_of};
 ghost use Rattle.rt_ast.specs.CanonicalExpression.{further, name_text};
 ghost use Rattle.rt_ast.specs.CanonicalOptions.{bracketed};
-ghost use Rattle.rt_ast.specs.Canonical.{enclosed, dispatchers_text, head_text, irq_text, irqs_text, mono_text};
+ghost use Rattle.rt_ast.specs.Canonical.{enclosed, dispatchers_text, fpu_text, head_text, irq_text, irqs_text};
+ghost use Rattle.rt_ast.specs.Canonical.{mono_text};
 ghost use Rattle.rt_ast.specs.Canonical.{resource_text, shared_text, local_text, locals_text};
 
 use crate::separated::push_names;
-use crate::text::{push_bytes, push_name, push_number};
+use crate::text::push_name;
 use rt_ast::{AppTree, Ident, IrqTree, LocalTree, MonoTree, SharedTree};
-use rt_ids::NoMemory;
+use rt_ids::{NoMemory, push_bytes, push_number};
 
 /// Appends names in brackets.
 pub(crate) fn push_bracketed(out: &mut Vec<u8>, names: &[Ident]) -> Result<(), NoMemory>
@@ -30,6 +31,17 @@ fn push_dispatchers(out: &mut Vec<u8>, names: &[Ident]) -> Result<(), NoMemory>
     push_bracketed(out, names)
 }
 
+/// Appends that the core has the floating-point extension, where it has.
+fn push_fpu(out: &mut Vec<u8>, fpu: bool) -> Result<(), NoMemory>
+    ensures { OnOk result (out.new.items ≡ out.old.items ++ fpu_text fpu) }
+{
+    if fpu {
+        push_bytes(out, b", fpu = on")
+    } else {
+        Ok(())
+    }
+}
+
 /// Appends the line of the application's head.
 pub(crate) fn push_head(out: &mut Vec<u8>, tree: &AppTree) -> Result<(), NoMemory>
     ensures { OnOk result (out.new.items ≡ out.old.items ++ head_text (app_of tree.now)) }
@@ -39,6 +51,7 @@ pub(crate) fn push_head(out: &mut Vec<u8>, tree: &AppTree) -> Result<(), NoMemor
     push_bytes(out, b"(bits = ")?;
     push_number(out, tree.bits)?;
     push_dispatchers(out, &tree.dispatchers)?;
+    push_fpu(out, tree.fpu)?;
     push_bytes(out, b");\n")
 }
 

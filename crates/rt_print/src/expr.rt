@@ -2,9 +2,9 @@ ghost use Rattle.std.specs.Prelude.{◌≡◌, ◌++◌, codes, map, OnOk};
 ghost use Rattle.rt_ast.specs.View.{expression_of};
 ghost use Rattle.rt_ast.specs.CanonicalExpression.{separated, sign_text, operand_text, expression_text};
 
-use crate::text::{push_bytes, push_name, push_number};
+use crate::text::push_name;
 use rt_ast::Expr;
-use rt_ids::{NoMemory, Op};
+use rt_ids::{NoMemory, Op, push_bytes, push_number};
 
 /// The sign of an operation.
 fn sign(op: Op) -> &'static [u8]

@@ -6,9 +6,9 @@ ghost use Rattle.rt_ast.specs.CanonicalOptions.{shared_option, local_option, bod
 ghost use Rattle.rt_print.specs.Opened.{has_any, opening, opened_text, closing};
 
 use crate::declarations::push_bracketed;
-use crate::text::{push_bytes, push_name, push_number};
+use crate::text::push_name;
 use rt_ast::{BodyTree, Ident, ListedTree, Number, TaskTree};
-use rt_ids::NoMemory;
+use rt_ids::{NoMemory, push_bytes, push_number};
 
 /// Appends what stands before an option: an open parenthesis before the first.
 fn push_opening(out: &mut Vec<u8>, opened: bool) -> Result<(), NoMemory>

@@ -3,9 +3,9 @@ ghost use Rattle.rt_ast.specs.View.{expression_of};
 ghost use Rattle.rt_ast.specs.CanonicalExpression.{further, separated, name_text, names_text, expression_text};
 
 use crate::expr::push_expression;
-use crate::text::{push_bytes, push_name};
+use crate::text::push_name;
 use rt_ast::{Expr, Ident};
-use rt_ids::NoMemory;
+use rt_ids::{NoMemory, push_bytes};
 
 /// Appends names with a comma between each two.
 pub(crate) fn push_names(out: &mut Vec<u8>, names: &[Ident]) -> Result<(), NoMemory>
