@@ -62,6 +62,7 @@ module _ (plan : Plan) (made : Code) (words bytes : ℕ) (irqs : List IrqRow) (b
     (img : Image)
     (is : img ≡ record {
       bits = plan.app.now.bits;
+      fpu = plan.app.now.fpu;
       stack_bytes = bytes;
       thread_words = words;
       cells = plan.lay.cells;
@@ -81,6 +82,7 @@ module _ (plan : Plan) (made : Code) (words bytes : ℕ) (irqs : List IrqRow) (b
       → bodies ≡ rows_for at.task 0 app.tasks → names ≡ names_of app → HasTables app at img
   has_tables worded sized rowed called named = record {
     bits = ap (λ (i : Image). i.bits) is;
+    fpu = ap (λ (i : Image). i.fpu) is;
     names = ap (λ (i : Image). i.names) is ∙ named;
     stack = ap (λ (i : Image). i.stack_bytes) is ∙ sized;
     thread = ap (λ (i : Image). i.thread_words) is ∙ worded;

@@ -4,7 +4,9 @@ use Rattle.std.specs.List.{AllByRecursion}
 use Rattle.rt_lemmas.proofs.Lists.{append_none_left, append_none_right}
 use Rattle.rt_lemmas.proofs.Membership.{contains_here}
 use Rattle.rt_ast.specs.declared.ident.Ident.{Ident}
-use Rattle.rt_ast.specs.Tree.{App, Expression, Num, Read, Oper, Spawn, Soon, After, Value, Calc, Now, Call, Statement, Bind, Assign, Branch, Repeat, Locked, Emit, Pend, Spawns, Block, Empty, Then}
+use Rattle.rt_ast.specs.Tree.{App, Expression, Num, Read, Oper, Spawn, Soon, After, Cancel, Move, Value, Calc, Now}
+use Rattle.rt_ast.specs.Tree.{Call, Statement, Bind, Assign, Branch, Repeat, Locked, Emit, Pend, Spawns, Block}
+use Rattle.rt_ast.specs.Tree.{Empty, Then}
 use Rattle.rt_app.specs.declared.violation.Violation.{Violation}
 use Rattle.rt_app.specs.Variables.{variables, variables_in}
 use Rattle.rt_app.specs.Accepted as accepted
@@ -12,7 +14,8 @@ use Rattle.rt_app.specs.Accepted.{AreMeant, IsSpawnPlaced, IsValuePlaced, IsStat
 use Rattle.rt_resolve.specs.Scope.{task_named, shared_named, or_unknown, Names, inside, with_variable, meaning}
 use Rattle.rt_resolve.specs.Resolving.{expression, spawn, value, statement, block, binders_in, binders, behind, in_loop}
 use Rattle.rt_resolve.specs.Resolved.{resolved}
-use Rattle.rt_resolve.specs.Misnamed.{if_unknown, if_taken, expression_faults, call_faults, spawn_faults, value_faults, statement_faults, block_faults}
+use Rattle.rt_resolve.specs.Misnamed.{if_unknown, if_taken, expression_faults, call_faults, message_faults}
+use Rattle.rt_resolve.specs.Misnamed.{spawn_faults, value_faults, statement_faults, block_faults}
 use Rattle.rt_build.proofs.PlacedNames.{irq_placed, task_placed, shared_placed, AreSeen, seen_more, declared_seen, listed_by, listings, meant}
 
 module _ (names : Names) (visible : List ℕ) (seen : AreSeen visible names.scope.variables) where
@@ -37,11 +40,29 @@ module _ (names : Names) (visible : List ℕ) (seen : AreSeen visible names.scop
       arg_faults : List Violation
       arg_faults = flat_map (expression_faults names) args
 
+  message_placed : (t : Ident) (handle : Expression) → message_faults names t handle ≡ []
+      → (or_unknown (task_named names.app t.name) < length (resolved names.app).tasks)
+      × AreMeant (resolved names.app) (listings names) visible (expression names handle)
+  message_placed t handle fine = (
+    task_placed names.app t.name t.at
+        (append_none_left (if_unknown (task_named names.app t.name) t.at) (expression_faults names handle) fine),
+    expression_meant handle
+        (append_none_right (if_unknown (task_named names.app t.name) t.at) (expression_faults names handle) fine),
+  )
+
   pub spawn_placed : (s : Spawn) → spawn_faults names s ≡ [] → IsSpawnPlaced (resolved names.app) (listings names) visible (spawn names s)
   spawn_placed (Soon t args) fine = call_placed t args fine
   spawn_placed (After word delay t args) fine =
       let call = call_placed t args (append_none_right (expression_faults names delay) (call_faults names t args) fine) in
       (expression_meant delay (append_none_left (expression_faults names delay) (call_faults names t args) fine), call.0, call.1)
+  spawn_placed (Cancel word t handle) fine = message_placed t handle fine
+  spawn_placed (Move word delay t handle) fine =
+      let message = message_placed t handle
+      (append_none_right (expression_faults names delay) (message_faults names t handle) fine) in (
+        expression_meant delay (append_none_left (expression_faults names delay) (message_faults names t handle) fine),
+        message.0,
+        message.1,
+      )
 
   pub value_placed : (v : Value) → value_faults names v ≡ [] → IsValuePlaced (resolved names.app) (listings names) visible (value names v)
   value_placed (Calc e) fine = expression_meant e fine

@@ -42,6 +42,8 @@ module _ (app : App) (at : Entries) where
   -- what the application declares, and where its code is entered
   pub record HasTables (img : Image) : Type 0 where
     pub bits : img.bits ≡ app.bits
+    -- whether the core has the floating-point extension
+    pub fpu : img.fpu ≡ app.fpu
     pub names : img.names ≡ names_of app
     pub stack : img.stack_bytes ≡ stack_bytes app
     pub thread : img.thread_words ≡ thread_words app

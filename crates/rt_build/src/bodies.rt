@@ -40,7 +40,7 @@ pub(crate) fn body_rows(
 {
     let mut rows = Vec::new(alloc);
     for (number, task) in plan.app.tasks.iter().enumerate() {
-        if task.binds.is_none() {
+        if task.is_software() {
             rows.push(body_row(plan, code, number, task))?;
         }
     }

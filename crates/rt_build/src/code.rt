@@ -14,7 +14,7 @@ ghost use Rattle.rt_build.specs.Inside.Code.{Adds, is_of_kind, kind_size};
 ghost use Rattle.rt_build.specs.Inside.Code.{HasTasks, HasDispatchers, IsCodeOf};
 
 use rt_app::{Plan, Task};
-use rt_code::{Instr, Note};
+use rt_code::{Instr, Line};
 use rt_gen_body::gen_body;
 use rt_gen_disp::gen_dispatcher;
 use rt_gen_queue::next_entry;
@@ -22,9 +22,9 @@ use rt_ids::{BodyId, NoMemory, TaskId};
 use std::alloc::Global;
 
 /// The code of an application, and where its parts begin.
-#[derive(Debug, Drop)]
+#[derive(Drop)]
 pub(crate) struct Code {
-    pub(crate) lines: Vec<(Instr, Option<Note>)>,
+    pub(crate) lines: Vec<Line>,
     /// Where the thread goes on behind `init`, which begins at 0.
     pub(crate) idle: u32,
     /// Where the hardware tasks begin, by task, and 0 for any other.
@@ -36,7 +36,7 @@ pub(crate) struct Code {
 }
 
 /// A task binds an interrupt, or a dispatcher calls it.
-#[derive(Clone, Copy, Debug)]
+#[derive(Clone, Copy)]
 pub(crate) enum Kind {
     Hardware,
     Software,
@@ -47,13 +47,13 @@ fn is_of_kind(task: &Task, kind: Kind) -> bool
     ensures { result ≡ is_of_kind kind (task_of task.now) }
 {
     match kind {
-        Kind::Hardware => task.binds.is_some(),
-        Kind::Software => task.binds.is_none(),
+        Kind::Hardware => !task.is_software(),
+        Kind::Software => task.is_software(),
     }
 }
 
 /// Appends the line at which the thread waits for interrupts, and answers its address.
-fn push_wait(lines: &mut Vec<(Instr, Option<Note>)>) -> Result<u32, NoMemory>
+fn push_wait(lines: &mut Vec<Line>) -> Result<u32, NoMemory>
     ensures entry { IfOk result (λ entry. entry ≡ length lines.old.items) }
     ensures line { OnOk result (lines.new.items ≡ lines.old.items ++ (instr.Wait, None) ∷ []) }
 {
@@ -66,7 +66,7 @@ fn push_wait(lines: &mut Vec<(Instr, Option<Note>)>) -> Result<u32, NoMemory>
 fn push_idle(
     alloc: Global,
     plan: &Plan<'_>,
-    lines: &mut Vec<(Instr, Option<Note>)>,
+    lines: &mut Vec<Line>,
 ) -> Result<u32, NoMemory>
     requires { IsUntimedPlan plan.now }
     ensures entry { IfOk result (λ entry. entry ≡ length lines.old.items) }
@@ -87,7 +87,7 @@ fn push_task(
     plan: &Plan<'_>,
     kind: Kind,
     number: u8,
-    lines: &mut Vec<(Instr, Option<Note>)>,
+    lines: &mut Vec<Line>,
 ) -> Result<u32, NoMemory>
     requires plan { IsUntimedPlan plan.now }
     requires of_app { number < length (app_of plan.now.app.now).tasks }
@@ -110,7 +110,7 @@ fn push_tasks(
     alloc: Global,
     plan: &Plan<'_>,
     kind: Kind,
-    lines: &mut Vec<(Instr, Option<Note>)>,
+    lines: &mut Vec<Line>,
 ) -> Result<Vec<u32>, NoMemory>
     requires plan { IsUntimedPlan plan.now }
     ensures entries { IfOk result (λ entries. length entries.items ≡ length (app_of plan.now.app.now).tasks) }
@@ -130,7 +130,7 @@ fn push_tasks(
 fn push_dispatchers(
     alloc: Global,
     plan: &Plan<'_>,
-    lines: &mut Vec<(Instr, Option<Note>)>,
+    lines: &mut Vec<Line>,
 ) -> Result<Vec<u32>, NoMemory>
     requires plan { IsUntimedPlan plan.now }
     ensures entries { IfOk result (λ entries. length entries.items ≡ length (levels (app_of plan.now.app.now))) }

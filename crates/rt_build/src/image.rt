@@ -19,6 +19,7 @@ use std::alloc::Global;
 fn assemble(plan: Plan<'_>, code: Code, tables: Tables) -> Image
     ensures { result ≡ record {
       bits = plan.entry.app.now.bits;
+      fpu = plan.entry.app.now.fpu;
       stack_bytes = tables.stack.bytes;
       thread_words = tables.stack.thread_words;
       cells = plan.entry.lay.cells;
@@ -39,6 +40,7 @@ fn assemble(plan: Plan<'_>, code: Code, tables: Tables) -> Image
     } = tables;
     Image {
         bits: app.bits,
+        fpu: app.fpu,
         stack_bytes: stack.bytes,
         thread_words: stack.thread_words,
         cells,

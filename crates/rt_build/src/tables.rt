@@ -21,7 +21,7 @@ use rt_ids::{Name, Names, NoMemory, Prio};
 use std::alloc::Global;
 
 /// What stands beside the code and the cells of an image.
-#[derive(Debug, Drop)]
+#[derive(Drop)]
 pub(crate) struct Tables {
     pub(crate) stack: Stack,
     pub(crate) irqs: Vec<IrqRow>,
@@ -31,7 +31,7 @@ pub(crate) struct Tables {
 }
 
 /// What the stack of an application takes.
-#[derive(Clone, Copy, Debug)]
+#[derive(Clone, Copy)]
 pub(crate) struct Stack {
     /// The words of the thread's frame.
     pub(crate) thread_words: u32,

@@ -1,6 +1,4 @@
-use Rattle.std.proofs.Common.{◌≡◌, Bool, true, false, not, Option, Some, None, ℕ, List, ◌∷◌, [], ◌++◌, refl, sym}
-use Rattle.std.proofs.Common.{ap, ◌∙◌, arith}
-use Rattle.std.specs.Prelude.{is_some, is_none}
+use Rattle.std.proofs.Common.{List, ◌∷◌, [], ◌++◌, sym, ap, ◌∙◌, arith}
 use Rattle.std.proofs.lemmas.List.{length-map, take_all}
 use Rattle.rt_app.specs.View.{app_of, task_of}
 use Rattle.rt_code.specs.declared.image.BodyRow.{BodyRow}
@@ -9,13 +7,7 @@ use Rattle.rt_gen_queue.specs.Called.{row_for, rows_for}
 use Rattle.rt_build.specs.Inside.Code.{entries_of}
 use Rattle.rt_build.proofs.BodyRows.{next_row, no_row}
 use Rattle.rt_build.proofs.bodies.body_rows.Goals as goal
-use Rattle.rt_build.proofs.bodies.body_rows.Goals.{then-is_none+in_ok-push, else-is_none}
-
-none_is : (o : Option ℕ) (b : Bool) → is_some o ≡ not b → is_none o ≡ b
-none_is None true e = refl
-none_is None false e = absurd (cc)
-none_is (Some n) true e = absurd (cc)
-none_is (Some n) false e = refl
+use Rattle.rt_build.proofs.bodies.body_rows.Goals.{then-is_software+in_ok-push, else-is_software}
 
 pub loop-number-preserved : goal.loop-number-preserved
 loop-number-preserved c =
@@ -25,14 +17,14 @@ loop-number-preserved c =
     let t = task_of c.task-item.result in
     let there = task_there c.args.plan.now.app.now c.deref-task-items.result.now n c.task-item.result
     c.deref-task-items.ensures.value c.loop-number-test.true c.task-item.is in
-    let kind = none_is c.task-item.result.binds c.is_none.result c.is_none.ensures in
-    elim c.if-is_none.branch [
-      | then-is_none+in_ok-push w ↦ ap (λ rows. rows.items) w.rows-is ∙ (w.in_ok-push.ensures.items
+    let kind = sym c.is_software.ensures in
+    elim c.if-is_software.branch [
+      | then-is_software+in_ok-push w ↦ ap (λ rows. rows.items) w.rows-is ∙ (w.in_ok-push.ensures.items
           ∙ (ap (λ (row : BodyRow). c.loop-number.rows.items ++ row ∷ []) w.body_row.ensures
           ∙ (ap (λ (rows : List BodyRow). rows ++ row_for at.task n t ∷ []) c.loop-number.invariant
-          ∙ sym (next_row app at n t there (kind ∙ w.if-is_none.true)))))
-      | else-is_none w ↦ ap (λ rows. rows.items) w.rows-is ∙ (c.loop-number.invariant
-          ∙ sym (no_row app at n t there (kind ∙ w.if-is_none.false)))
+          ∙ sym (next_row app at n t there (kind ∙ w.if-is_software.true)))))
+      | else-is_software w ↦ ap (λ rows. rows.items) w.rows-is ∙ (c.loop-number.invariant
+          ∙ sym (no_row app at n t there (kind ∙ w.if-is_software.false)))
     ]
 
 pub returns : goal.returns
