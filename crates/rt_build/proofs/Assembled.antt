@@ -38,7 +38,7 @@ use Rattle.rt_build.specs.Inside.Plan.{IsUntimedPlan}
 use Rattle.rt_build.specs.Inside.Code.{HasDispatcher, IsCodeOf, entries_of}
 use Rattle.rt_build.specs.declared.code.Code.{Code}
 use Rattle.rt_build.proofs.Dispatched.{dispatcher_stands}
-use Rattle.rt_build.proofs.Entries.{hardware_entry, software_entry, dispatcher_entry}
+use Rattle.rt_build.proofs.Entries.{dispatcher_entry}
 use Rattle.rt_build.proofs.ImageCells.{resource_numbers}
 use Rattle.rt_build.proofs.ImageSizes.{runnable, lines}
 
@@ -104,13 +104,11 @@ module _ (plan : Plan) (made : Code) (words bytes : ℕ) (irqs : List IrqRow) (b
 
         by_kind : (b : Bool) → is_software t ≡ b → DeclaredStands app n img.code (at.task n)
         by_kind true software =
-            subst (DeclaredStands app n img.code) (software_entry app made n t there software)
-            (subst (λ (all : List Line). DeclaredStands app n all (slice_index made.software.items n)) whole_code
-            (coded.software n (omega (arith, within, coded.entries.of_software)) t there software []))
+            subst (λ (all : List Line). DeclaredStands app n all (at.task n)) whole_code
+            (coded.software n (omega (arith, within, coded.entries.of_tasks)) t there software [])
         by_kind false hardware =
-            subst (DeclaredStands app n img.code) (hardware_entry app made n t there hardware)
-            (subst (λ (all : List Line). DeclaredStands app n all (slice_index made.hardware.items n)) whole_code
-            (coded.hardware n (omega (arith, within, coded.entries.of_hardware)) t there (ap not hardware) []))
+            subst (λ (all : List Line). DeclaredStands app n all (at.task n)) whole_code
+            (coded.hardware n (omega (arith, within, coded.entries.of_tasks)) t there (ap not hardware) [])
 
     dispatchers_there : (p : ℕ) → Contains (levels app) p → HasDispatcher app p img.code (at.dispatcher p)
     dispatchers_there p is =

@@ -1,10 +1,10 @@
 -- Code that stands, stands in code that goes on.
-use Rattle.std.proofs.Common.{◌≡◌, ℕ, ◌+◌, ◌<◌, ◌≤◌, List, [], ◌∷◌, ◌++◌, length, take, drop, get_or, sum_by, Some}
-use Rattle.std.proofs.Common.{None, Bool, true, false, not, if◌then◌else◌, slice_get, slice_index, refl, sym, ap}
-use Rattle.std.proofs.Common.{subst, ◌∙◌, arith, append_assoc}
+use Rattle.std.proofs.Common.{◌≡◌, ◌≢◌, ◌==◌, ℕ, ◌+◌, ◌<◌, ◌≤◌, List, [], ◌∷◌, ◌++◌, length, take, drop, get_or, sum_by}
+use Rattle.std.proofs.Common.{Some, None, Bool, true, false, not, if◌then◌else◌, slice_get, slice_index, refl, sym, ap}
+use Rattle.std.proofs.Common.{subst, ◌∙◌, arith, append_assoc, append-nil}
 use Rattle.std.proofs.Common.{length-append, inl, inr}
 use Rattle.std.specs.List.{AllByRecursion}
-use Rattle.std.proofs.lemmas.Bool.{cases_lt}
+use Rattle.std.proofs.lemmas.Bool.{cases_lt, eqb-true, eqb-false}
 use Rattle.std.proofs.lemmas.Option.{get_or_from_slice_get, same_Some, slice_get_within}
 use Rattle.std.proofs.lemmas.List.Sums.{sum_by-append, sum_by-cons}
 use Rattle.std.proofs.lemmas.List.{take_more, take-append-drop, take_all, drop_all, drop_at, get_or_append_left}
@@ -30,8 +30,8 @@ use Rattle.rt_gen_body.specs.Bodies.{BodyStands, DeclaredStands}
 use Rattle.rt_gen_disp.specs.Code.{dispatcher_code}
 use Rattle.rt_gen_queue.proofs.Placing.{code_there}
 use Rattle.rt_build.specs.Image.{IdleStands}
-use Rattle.rt_build.specs.Inside.Code.{IsKept, Adds, is_of_kind, kind_size, HasThread, HasTasks}
-use Rattle.rt_build.specs.Inside.Code.{HasDispatcher, HasDispatchers}
+use Rattle.rt_build.specs.Inside.Code.{IsKept, Adds, is_of_kind, kind_size, HasThread, HasTasksBelow, HasTasks}
+use Rattle.rt_build.specs.Inside.Code.{TellsTask, LeavesOthers, HasDispatcher, HasDispatchers}
 use Rattle.rt_build.specs.declared.code.Kind.{Kind}
 use Rattle.rt_build.specs.declared.code.Kind.TheVariants.{Hardware, Software}
 
@@ -95,9 +95,9 @@ module _ (app : App) (before after : List Line) (goes : IsKept before after) whe
         (λ more. has.idle more bodies) more;
   }
 
-  pub tasks_kept : (kind : Kind) (entries : List ℕ) → HasTasks app before kind entries
-      → HasTasks app after kind entries
-  tasks_kept kind entries has n within t there of more =
+  pub tasks_kept : (count : ℕ) (kind : Kind) (entries : List ℕ) → HasTasksBelow app before count kind entries
+      → HasTasksBelow app after count kind entries
+  tasks_kept count kind entries has n within t there of more =
       further (λ lines. DeclaredStands app n lines (slice_index entries n)) before after goes (has n within t there of)
       more
 
@@ -106,14 +106,18 @@ module _ (app : App) (before after : List Line) (goes : IsKept before after) whe
       further (λ lines. HasDispatcher app p lines (slice_index entries k)) before after goes (has k within p there) more
 
   -- the next task
-  tasks_more : (kind : Kind) (entries : List ℕ) (entry : ℕ) → HasTasks app before kind entries
-      → ((t : Task) → slice_get app.tasks (length entries) ≡ Some t → is_of_kind kind t ≡ true
-      → (more : List Line) → DeclaredStands app (length entries) (after ++ more) entry)
-      → HasTasks app after kind (entries ++ entry ∷ [])
-  tasks_more kind entries entry has own n within =
-      one_more (λ n at. (t : Task) → slice_get app.tasks n ≡ Some t → is_of_kind kind t ≡ true
-      → (more : List Line) → DeclaredStands app n (after ++ more) at) entries entry (tasks_kept kind entries has) own n
-      within
+  tasks_more : (kind : Kind) (k : ℕ) (t : Task) (entries told : List ℕ) → slice_get app.tasks k ≡ Some t
+      → HasTasksBelow app before k kind entries → TellsTask app kind k t entries told after
+      → HasTasksBelow app after (k + 1) kind told
+  tasks_more kind k t entries told at_task has tells n within u there of more = elim (cases_lt n k) [
+    | inl less ↦ (let other : n ≢ k = omega arith in
+        subst (DeclaredStands app n (after ++ more)) (sym (tells.others n other))
+        (tasks_kept k kind entries has n less u there of more))
+    | inr last ↦ (let e : k ≡ n = omega arith in
+        let same : t ≡ u = same_Some t u (sym at_task ∙ (ap (slice_get app.tasks) e ∙ there)) in
+        subst (λ m. DeclaredStands app m (after ++ more) (slice_index told m)) e
+        (tells.stands (ap (is_of_kind kind) same ∙ of) more))
+  ]
 
   -- and the next dispatcher
   dispatchers_more : (entries : List ℕ) (entry : ℕ) → HasDispatchers app before entries
@@ -160,6 +164,21 @@ idle_absent app before lines entry is at grown more bodies =
     (ap (λ (all : List Line). slice_get (all ++ more) entry) grown
     ∙ (ap (λ (all : List Line). slice_get all entry) (append_assoc before ((instr.Wait, None) ∷ []) more)
     ∙ at_back before ((instr.Wait, None) ∷ more) entry 0 (omega arith)))
+
+-- what a slice of a whole vector is written with is the vector
+pub written : (size : ℕ) (before after : List ℕ) → length after ≡ length before → length before ≡ size
+    → take size (after ++ drop (length after) before) ≡ after
+written size before after long is =
+    ap (λ (back : List ℕ). take size (after ++ back)) (drop_all (length after) before (omega (arith, long)))
+    ∙ (ap (take size) (append-nil after) ∙ take_all size after (omega (arith, long, is)))
+
+-- a hardware task is no software task
+pub hardware_apart : (t : Task) → is_of_kind Hardware t ≡ true → is_of_kind Software t ≡ false
+hardware_apart t is = go (is_software t) is
+  where
+    go : (b : Bool) → not b ≡ true → b ≡ false
+    go true e = sym e
+    go false e = refl
 
 -- a sum over one more
 sum_more : {X : Type 0} (size : X → ℕ) (xs : List X) (k : ℕ) (x : X) → slice_get xs k ≡ Some x
@@ -247,26 +266,47 @@ module _ (app : App) where
       either true size = omega arith
       either false size = omega arith
 
+  -- the entries of the tasks of another kind are as before, one task more
+  others_more : (kind : Kind) (n : ℕ) (t : Task) (start entries told : List ℕ) (lines : List Line)
+      → slice_get app.tasks n ≡ Some t → LeavesOthers app kind start entries
+      → TellsTask app kind n t entries told lines → LeavesOthers app kind start told
+  others_more kind n t start entries told lines at_task leaves tells = record {
+    long = tells.long ∙ leaves.long;
+    others = λ k u there other. as_before k u there other (k == n) refl ∙ leaves.others k u there other;
+  }
+    where
+      as_before : (k : ℕ) (u : Task) → slice_get app.tasks k ≡ Some u → is_of_kind kind u ≡ false
+          → (b : Bool) → (k == n) ≡ b → slice_index told k ≡ slice_index entries k
+      as_before k u there other true is =
+          let e : n ≡ k = sym (eqb-true k n is) in
+          let same : t ≡ u = same_Some t u (sym at_task ∙ (ap (slice_get app.tasks) e ∙ there)) in
+          ap (λ es. slice_index es k) (tells.same (ap (is_of_kind kind) same ∙ other))
+      as_before k u there other false is = tells.others k (eqb-false k n is)
+
   -- the code of one task more, if it is of a kind
-  pub next_task : (kind : Kind) (n entry : ℕ) (t : Task) (first before after : List Line) (entries more : List ℕ)
-      → slice_get app.tasks n ≡ Some t → length entries ≡ n
+  pub next_task : (kind : Kind) (n : ℕ) (t : Task) (first before after : List Line) (start entries told : List ℕ)
+      → slice_get app.tasks n ≡ Some t
       → Adds app (sum_by (kind_size app kind) (take n app.tasks)) first before
-      → HasTasks app before kind entries
-      → more ≡ entries ++ entry ∷ []
+      → LeavesOthers app kind start entries
+      → HasTasksBelow app before n kind entries
       → Adds app (kind_size app kind t) before after
-      → ((u : Task) → slice_get app.tasks n ≡ Some u → is_of_kind kind u ≡ true
-      → (rest : List Line) → DeclaredStands app n (after ++ rest) entry)
-      → (length more ≡ n + 1) × Adds app (sum_by (kind_size app kind) (take (n + 1) app.tasks)) first after
-      × HasTasks app after kind more
-  next_task kind n entry t first before after entries more there counted adds has is own stands = (
-    omega (arith, ap (λ (es : List ℕ). length es) is, length_push entries entry),
+      → TellsTask app kind n t entries told after
+      → Adds app (sum_by (kind_size app kind) (take (n + 1) app.tasks)) first after
+      × LeavesOthers app kind start told × HasTasksBelow app after (n + 1) kind told
+  next_task kind n t first before after start entries told there adds leaves has own tells = (
     subst (λ size. Adds app size first after) (sum_more (kind_size app kind) app.tasks n t there)
         (adds_then (sum_by (kind_size app kind) (take n app.tasks)) (kind_size app kind t) first before after adds own),
-    subst (HasTasks app after kind) (sym is)
-        (tasks_more app before after own.kept kind entries entry has
-        (subst (λ m. (u : Task) → slice_get app.tasks m ≡ Some u → is_of_kind kind u ≡ true
-        → (rest : List Line) → DeclaredStands app m (after ++ rest) entry) (sym counted) stands)),
+    others_more kind n t start entries told after there leaves tells,
+    tasks_more app before after own.kept kind n t entries told there has tells,
   )
+
+  -- the tasks of a kind stand where they stood, with the entries of those of another
+  pub tasks_left : (kind other : Kind) (lines : List Line) (before after : List ℕ) → LeavesOthers app other before after
+      → ((t : Task) → is_of_kind kind t ≡ true → is_of_kind other t ≡ false)
+      → HasTasks app lines kind before → HasTasks app lines kind after
+  tasks_left kind other lines before after leaves apart has n within t there of more =
+      subst (DeclaredStands app n (lines ++ more)) (sym (leaves.others n t there (apart t of)))
+      (has n (omega (arith, leaves.long)) t there of more)
 
   -- the code of one dispatcher more
   pub next_level : (k p entry : ℕ) (first before after : List Line) (entries more : List ℕ)

@@ -21,7 +21,7 @@ fn body_row(plan: &Plan<'_>, code: &Code, number: usize, task: &Task) -> BodyRow
 {
     BodyRow {
         task: TaskId(number as u8),
-        entry: code.software[number],
+        entry: code.tasks[number],
         frame: plan.frames[number + 2],
         args: task.args,
     }

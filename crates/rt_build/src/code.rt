@@ -1,4 +1,4 @@
-ghost use Rattle.std.specs.Prelude.{◌≡◌, ◌<◌, ◌≤◌, List, [], ◌∷◌, ◌++◌, length, sum_by, slice_get, Some, None, true};
+ghost use Rattle.std.specs.Prelude.{◌≡◌, ◌<◌, ◌≤◌, List, [], ◌∷◌, ◌++◌, length, sum_by, slice_get, Some, None};
 ghost use Rattle.std.specs.Prelude.{IfOk, OnOk};
 ghost use Rattle.rt_app.specs.BodyCost.{size_measure, cost_of, dispatcher_size};
 ghost use Rattle.rt_app.specs.Level.{levels};
@@ -6,11 +6,10 @@ ghost use Rattle.rt_app.specs.Tree as tree;
 ghost use Rattle.rt_app.specs.View.{app_of, task_of};
 ghost use Rattle.rt_code.specs.declared.image.BodyRow.{BodyRow};
 ghost use Rattle.rt_code.specs.declared.instr.Instr.TheVariants as instr;
-ghost use Rattle.rt_gen_body.specs.Bodies.{DeclaredStands};
 ghost use Rattle.rt_gen_queue.specs.Line.{Line};
 ghost use Rattle.rt_build.specs.Image.{IdleStands};
 ghost use Rattle.rt_build.specs.Inside.Plan.{IsUntimedPlan};
-ghost use Rattle.rt_build.specs.Inside.Code.{Adds, is_of_kind, kind_size};
+ghost use Rattle.rt_build.specs.Inside.Code.{Adds, is_of_kind, kind_size, TellsTask, LeavesOthers};
 ghost use Rattle.rt_build.specs.Inside.Code.{HasTasks, HasDispatchers, IsCodeOf};
 
 use rt_app::{Plan, Task};
@@ -27,10 +26,8 @@ pub(crate) struct Code {
     pub(crate) lines: Vec<Line>,
     /// Where the thread goes on behind `init`, which begins at 0.
     pub(crate) idle: u32,
-    /// Where the hardware tasks begin, by task, and 0 for any other.
-    pub(crate) hardware: Vec<u32>,
-    /// Where the bodies of software tasks begin, by task, and 0 for any other.
-    pub(crate) software: Vec<u32>,
+    /// Where the tasks begin, by their numbers.
+    pub(crate) tasks: Vec<u32>,
     /// Where the dispatchers of the levels of software tasks begin, by rising level.
     pub(crate) dispatchers: Vec<u32>,
 }
@@ -63,11 +60,7 @@ fn push_wait(lines: &mut Vec<Line>) -> Result<u32, NoMemory>
 }
 
 /// Appends what the thread does behind `init`, and answers where it begins: `idle`, or a wait where it is not declared.
-fn push_idle(
-    alloc: Global,
-    plan: &Plan<'_>,
-    lines: &mut Vec<Line>,
-) -> Result<u32, NoMemory>
+fn push_idle(alloc: Global, plan: &Plan<'_>, lines: &mut Vec<Line>) -> Result<u32, NoMemory>
     requires { IsUntimedPlan plan.now }
     ensures entry { IfOk result (λ entry. entry ≡ length lines.old.items) }
     ensures adds { OnOk result (let app = app_of plan.now.app.now in
@@ -81,49 +74,51 @@ fn push_idle(
     }
 }
 
-/// Appends the code of a task of this kind, and answers where it begins; 0 for a task of the other.
+/// Appends the code of a task of this kind, and tells where it begins; nothing for a task of the other.
 fn push_task(
     alloc: Global,
     plan: &Plan<'_>,
     kind: Kind,
     number: u8,
+    entries: &mut [u32],
     lines: &mut Vec<Line>,
-) -> Result<u32, NoMemory>
+) -> Result<(), NoMemory>
     requires plan { IsUntimedPlan plan.now }
     requires of_app { number < length (app_of plan.now.app.now).tasks }
+    requires entries { length entries.old ≡ length (app_of plan.now.app.now).tasks }
     ensures adds { OnOk result (let app = app_of plan.now.app.now in
         (t : tree.Task) → slice_get app.tasks number ≡ Some t →
         Adds app (kind_size app kind t) lines.old.items lines.new.items) }
-    ensures stands { IfOk result (λ entry. let app = app_of plan.now.app.now in
-        (t : tree.Task) → slice_get app.tasks number ≡ Some t → is_of_kind kind t ≡ true → (more : List Line) →
-        DeclaredStands app number (lines.new.items ++ more) entry) }
+    ensures tells { OnOk result (let app = app_of plan.now.app.now in
+        (t : tree.Task) → slice_get app.tasks number ≡ Some t →
+        TellsTask app kind number t entries.old entries.new lines.new.items) }
 {
-    if is_of_kind(&plan.app.tasks[usize::from(number)], kind) {
-        gen_body(alloc, plan, BodyId::Task(TaskId(number)), lines)
-    } else {
-        Ok(0)
+    let place = usize::from(number);
+    if is_of_kind(&plan.app.tasks[place], kind) {
+        entries[place] = gen_body(alloc, plan, BodyId::Task(TaskId(number)), lines)?;
     }
+    Ok(())
 }
 
-/// Appends the code of the tasks of a kind, in order, and answers where they begin.
+/// Appends the code of the tasks of a kind, in order, and tells where they begin.
 fn push_tasks(
     alloc: Global,
     plan: &Plan<'_>,
     kind: Kind,
+    entries: &mut [u32],
     lines: &mut Vec<Line>,
-) -> Result<Vec<u32>, NoMemory>
+) -> Result<(), NoMemory>
     requires plan { IsUntimedPlan plan.now }
-    ensures entries { IfOk result (λ entries. length entries.items ≡ length (app_of plan.now.app.now).tasks) }
+    requires entries { length entries.old ≡ length (app_of plan.now.app.now).tasks }
     ensures adds { OnOk result (let app = app_of plan.now.app.now in
         Adds app (sum_by (kind_size app kind) app.tasks) lines.old.items lines.new.items) }
-    ensures stands { IfOk result (λ entries.
-        HasTasks (app_of plan.now.app.now) lines.new.items kind entries.items) }
+    ensures others { OnOk result (LeavesOthers (app_of plan.now.app.now) kind entries.old entries.new) }
+    ensures stands { OnOk result (HasTasks (app_of plan.now.app.now) lines.new.items kind entries.new) }
 {
-    let mut entries = Vec::new(alloc);
     for number in 0..plan.app.tasks.len() {
-        entries.push(push_task(alloc, plan, kind, number as u8, lines)?)?;
+        push_task(alloc, plan, kind, number as u8, entries, lines)?;
     }
-    Ok(entries)
+    Ok(())
 }
 
 /// Appends the code of the dispatchers, by rising level, and answers where they begin.
@@ -151,12 +146,25 @@ fn push_dispatchers(
 fn push_parts(alloc: Global, plan: &Plan<'_>, code: &mut Code) -> Result<(), NoMemory>
     requires plan { IsUntimedPlan plan.now }
     requires empty { code.old.lines.items ≡ [] }
+    requires entries { length code.old.tasks.items ≡ length (app_of plan.now.app.now).tasks }
     ensures { OnOk result (IsCodeOf (app_of plan.now.app.now) code.new) }
 {
     gen_body(alloc, plan, BodyId::Init, &mut code.lines)?;
     code.idle = push_idle(alloc, plan, &mut code.lines)?;
-    code.hardware = push_tasks(alloc, plan, Kind::Hardware, &mut code.lines)?;
-    code.software = push_tasks(alloc, plan, Kind::Software, &mut code.lines)?;
+    push_tasks(
+        alloc,
+        plan,
+        Kind::Hardware,
+        &mut code.tasks,
+        &mut code.lines,
+    )?;
+    push_tasks(
+        alloc,
+        plan,
+        Kind::Software,
+        &mut code.tasks,
+        &mut code.lines,
+    )?;
     code.dispatchers = push_dispatchers(alloc, plan, &mut code.lines)?;
     Ok(())
 }
@@ -169,8 +177,7 @@ pub(crate) fn generate(alloc: Global, plan: &Plan<'_>) -> Result<Code, NoMemory>
     let mut code = Code {
         lines: Vec::new(alloc),
         idle: 0,
-        hardware: Vec::new(alloc),
-        software: Vec::new(alloc),
+        tasks: vec![in alloc; 0; plan.app.tasks.len()]?,
         dispatchers: Vec::new(alloc),
     };
     push_parts(alloc, plan, &mut code)?;

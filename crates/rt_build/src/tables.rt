@@ -62,7 +62,7 @@ fn handler(plan: &Plan<'_>, code: &Code, number: usize, task: &Task) -> Handler
 {
     Handler {
         value: Prio(task.priority).hw(plan.app.bits),
-        entry: code.hardware[number],
+        entry: code.tasks[number],
         frame: plan.frames[number + 2],
     }
 }

@@ -1,8 +1,8 @@
 -- What stands in the code of an application while it grows, whatever code is put behind it.
-use Rattle.std.specs.Prelude.{◌≡◌, ◌==◌, ℕ, ◌+◌, ◌<◌, ◌≤◌, Bool, true, not, List, ◌++◌, length, take, drop, slice_get}
-use Rattle.std.specs.Prelude.{slice_index, Some, position, if◌then◌else◌}
+use Rattle.std.specs.Prelude.{◌≡◌, ◌≢◌, ◌==◌, ℕ, ◌+◌, ◌<◌, ◌≤◌, Bool, true, false, not, List, ◌++◌, length, take, drop}
+use Rattle.std.specs.Prelude.{slice_get, slice_index, Some, position, if◌then◌else◌}
 use Rattle.std.specs.List.{AllByRecursion}
-use Rattle.rt_ids.specs.Lists.{is_some_and, or_zero}
+use Rattle.rt_ids.specs.Lists.{or_zero}
 use Rattle.rt_ids.specs.Storage.{Starting}
 use Rattle.rt_ids.specs.declared.limits.TheConstants.{CODE_SIZE}
 use Rattle.rt_app.specs.Tree.{Task, App}
@@ -55,11 +55,14 @@ module _ (app : App) (lines : List Line) where
         (cost_of (cost_measure app) app.init) (init_doing app)
     pub idle : (more : List Line) (bodies : List BodyRow) → IdleStands app (lines ++ more) bodies entry app.idle
 
-  -- that of the tasks of a kind, which begin at these addresses
-  abbrev pub HasTasks : Kind → List ℕ → Type 0
-  HasTasks kind entries =
-      (n : ℕ) → n < length entries → (t : Task) → slice_get app.tasks n ≡ Some t → is_of_kind kind t ≡ true
+  -- that of the tasks of a kind, which begin at these addresses: of those below a number, and of all
+  abbrev pub HasTasksBelow : ℕ → Kind → List ℕ → Type 0
+  HasTasksBelow count kind entries =
+      (n : ℕ) → n < count → (t : Task) → slice_get app.tasks n ≡ Some t → is_of_kind kind t ≡ true
       → (more : List Line) → DeclaredStands app n (lines ++ more) (slice_index entries n)
+
+  abbrev pub HasTasks : Kind → List ℕ → Type 0
+  HasTasks kind entries = HasTasksBelow (length entries) kind entries
 
   -- that of the dispatchers of levels, rising, that begin at these addresses
   abbrev pub HasDispatchers : List ℕ → Type 0
@@ -67,29 +70,43 @@ module _ (app : App) (lines : List Line) where
       (k : ℕ) → k < length entries → (p : ℕ) → slice_get (levels app) k ≡ Some p
       → (more : List Line) → HasDispatcher app p (lines ++ more) (slice_index entries k)
 
--- there is an address for each task, of both kinds, and one for each level
+-- The entries differ from earlier ones in that of the task of a number at most, and only if the task is of a kind; then
+-- its code stands there.
+pub record TellsTask (app : App) (kind : Kind) (n : ℕ) (t : Task) (before after : List ℕ) (lines : List Line) : Type 0
+  where
+    pub long : length after ≡ length before
+    pub stands : is_of_kind kind t ≡ true → (more : List Line)
+        → DeclaredStands app n (lines ++ more) (slice_index after n)
+    pub same : is_of_kind kind t ≡ false → after ≡ before
+    pub others : (k : ℕ) → k ≢ n → slice_index after k ≡ slice_index before k
+
+-- the entries of tasks of another kind are as they were
+pub record LeavesOthers (app : App) (kind : Kind) (before after : List ℕ) : Type 0 where
+  pub long : length after ≡ length before
+  pub others : (k : ℕ) (t : Task) → slice_get app.tasks k ≡ Some t → is_of_kind kind t ≡ false
+      → slice_index after k ≡ slice_index before k
+
+-- there is an address for each task, and one for each level
 pub record HasEntries (app : App) (code : Code) : Type 0 where
-  pub of_hardware : length code.hardware.items ≡ length app.tasks
-  pub of_software : length code.software.items ≡ length app.tasks
+  pub of_tasks : length code.tasks.items ≡ length app.tasks
   pub of_levels : length code.dispatchers.items ≡ length (levels app)
 
 -- all code, which names only what is declared, and of which there is no more than an image may have
 pub record IsCodeOf (app : App) (code : Code) : Type 0 where
   pub entries : HasEntries app code
   pub thread : HasThread app code.lines.items code.idle
-  pub hardware : HasTasks app code.lines.items Hardware code.hardware.items
-  pub software : HasTasks app code.lines.items Software code.software.items
+  pub hardware : HasTasks app code.lines.items Hardware code.tasks.items
+  pub software : HasTasks app code.lines.items Software code.tasks.items
   pub dispatchers : HasDispatchers app code.lines.items code.dispatchers.items
   pub named : AllByRecursion (IsNameable (names_of app)) code.lines.items
   pub short : length code.lines.items ≤ CODE_SIZE
 
--- Where the parts of code begin: a task at the address of its kind, the dispatcher of a level at that at the level's
+-- Where the parts of code begin: a task at the address at its number, the dispatcher of a level at that at the level's
 -- place. There is no timer handler.
 abbrev pub entries_of : App → Code → Entries
 entries_of app code = record {
   idle = code.idle;
-  task = λ n. slice_index
-      (if is_some_and is_software (slice_get app.tasks n) then code.software.items else code.hardware.items) n;
+  task = λ n. slice_index code.tasks.items n;
   dispatcher = λ p. slice_index code.dispatchers.items (or_zero (position (λ q. q == p) (levels app)));
   timer = 0;
 }

@@ -4,7 +4,6 @@ use Rattle.std.proofs.lemmas.Option.{slice_get_within}
 use Rattle.rt_app.specs.View.{app_of, task_of}
 use Rattle.rt_app.specs.Frame.{frame_words}
 use Rattle.rt_build.specs.Inside.Code.{entries_of}
-use Rattle.rt_build.proofs.Entries.{software_entry}
 use Rattle.rt_build.proofs.Served.{body_row_is, frame_at}
 use Rattle.rt_build.proofs.bodies.body_row.Goals as goal
 
@@ -12,7 +11,7 @@ pub index-requires : goal.index-requires
 index-requires c =
     let within = slice_get_within (app_of c.args.plan.now.app.now).tasks c.args.number (task_of c.args.task.now)
     c.requires.task in
-    omega (arith, c.requires.entries.of_software, c.args.code.now.software.ok.0)
+    omega (arith, c.requires.entries.of_tasks, c.args.code.now.tasks.ok.0)
 
 pub overflow_add-number : goal.overflow_add-number
 overflow_add-number c =
@@ -36,10 +35,9 @@ returns c =
     let app = app_of c.args.plan.now.app.now in
     let t = task_of c.args.task.now in
     let within = slice_get_within app.tasks c.args.number t c.requires.task in
-    let long : c.args.number < length c.args.code.now.software.items = omega (arith, c.requires.entries.of_software) in
+    let long : c.args.number < length c.args.code.now.tasks.items = omega (arith, c.requires.entries.of_tasks) in
     body_row_is (entries_of app c.args.code.now) c.args.number t c.index.result.now c.index-2.result.now
-    (get_or_read c.args.code.now.software.items c.args.number c.index.result.now long c.index.ensures 0
-    ∙ software_entry app c.args.code.now c.args.number t c.requires.task c.requires.software)
+    (get_or_read c.args.code.now.tasks.items c.args.number c.index.result.now long c.index.ensures 0)
     (frame_at app c.args.number t c.index-2.result.now c.requires.task
     (c.index-2.ensures ∙ ap (λ (fs : List ℕ). get_or fs (c.args.number + 2) c.index-2.result.now)
     c.requires.plan.planned.frames))

@@ -1,12 +1,13 @@
-use Rattle.std.proofs.Common.{List, ◌+◌, length, sum_by, ap, ◌∙◌, arith}
+use Rattle.std.proofs.Common.{◌≡◌, ℕ, ◌+◌, List, ◌++◌, length, take, drop, sum_by, sym, ap, subst, ◌∙◌, arith}
 use Rattle.rt_app.specs.BodyCost.{size_measure, cost_of, dispatcher_size}
 use Rattle.rt_app.specs.Level.{levels}
 use Rattle.rt_app.specs.View.{app_of}
 use Rattle.rt_app.proofs.Sound.{accepted_are_sound}
 use Rattle.rt_gen_queue.specs.Line.{Line}
-use Rattle.rt_build.specs.Inside.Code.{kind_size}
+use Rattle.rt_build.specs.Inside.Code.{kind_size, HasTasks, LeavesOthers}
 use Rattle.rt_build.specs.declared.code.Kind.TheVariants.{Hardware, Software}
-use Rattle.rt_build.proofs.Grown.{thread_kept, thread_made, tasks_kept, kinds_sum, adds_then, all_named, adds_behind}
+use Rattle.rt_build.proofs.Grown.{thread_kept, thread_made, tasks_kept, tasks_left, hardware_apart, kinds_sum}
+use Rattle.rt_build.proofs.Grown.{adds_then, all_named, adds_behind, kept_then, written}
 use Rattle.rt_build.proofs.ImageSizes.{all_code}
 use Rattle.rt_build.proofs.code.push_parts.Goals as goal
 
@@ -27,9 +28,9 @@ returns c =
     let f = sum_by (dispatcher_size app) (levels app) in
     let begin = adds_behind app a c.in_ok-gen_body.field-0 none first c.in_ok-gen_body.ensures.entry
     c.in_ok-gen_body.ensures.kept c.in_ok-gen_body.ensures.lines c.in_ok-gen_body.ensures.size in
-    let hardware = c.in_ok-code-2.ensures.adds in
-    let software = c.in_ok-code-3.ensures.adds in
-    let last = c.in_ok-code-4.ensures.adds in
+    let hardware = c.in_ok-push_tasks.ensures.adds in
+    let software = c.in_ok-push_tasks-2.ensures.adds in
+    let last = c.in_ok-code-2.ensures.adds in
     let all = all_named app (a + (b + (d + (e + f)))) none fifth c.requires.empty
     (adds_then app a (b + (d + (e + f))) none first fifth begin
     (adds_then app b (d + (e + f)) first second fifth c.in_ok-code.ensures.adds
@@ -39,20 +40,38 @@ returns c =
     (c.in_ok-gen_body.ensures.entry ∙ ap (λ (lines : List Line). length lines) c.requires.empty)
     (c.in_ok-gen_body.ensures.stands c.requires.plan.monotonic) c.in_ok-code.ensures.stands in
     let idle = c.in_ok-code.field-0 in
+    let size = c.args.code.now.tasks.len in
+    let start = c.args.code.now.tasks.items in
+    let one = c.push_tasks.new.entries in
+    let two = c.push_tasks-2.new.entries in
+    let others_one = c.in_ok-push_tasks.ensures.others in
+    let others_two = c.in_ok-push_tasks-2.ensures.others in
+    let long : length start ≡ size =
+    ap (λ (es : List ℕ). length es) (sym c.deref_mut.ensures.value) ∙ c.deref_mut.ensures.len in
+    let long_one : length one ≡ length start =
+    others_one.long ∙ ap (λ (es : List ℕ). length es) c.deref_mut.ensures.value in
+    let first_pass = written size start one long_one long in
+    let begin_two : c.deref_mut-2.result.now ≡ one = c.deref_mut-2.ensures.value ∙ first_pass in
+    let long_two : length two ≡ length one = others_two.long ∙ ap (λ (es : List ℕ). length es) begin_two in
+    let left : LeavesOthers app Software one two =
+    subst (λ (es : List ℕ). LeavesOthers app Software es two) begin_two others_two in
+    let second_pass = written size (take size (one ++ drop (length one) start)) two
+    (long_two ∙ ap (λ (es : List ℕ). length es) (sym first_pass))
+    (ap (λ (es : List ℕ). length es) first_pass ∙ (long_one ∙ long)) in
     record {
       entries = record {
-        of_hardware = c.in_ok-code-2.ensures.entries;
-        of_software = c.in_ok-code-3.ensures.entries;
-        of_levels = c.in_ok-code-4.ensures.entries;
+        of_tasks = ap (λ (es : List ℕ). length es) second_pass ∙ (long_two ∙ (long_one ∙ c.requires.entries));
+        of_levels = c.in_ok-code-2.ensures.entries;
       };
       thread = thread_kept app fourth fifth last.kept idle (thread_kept app third fourth software.kept idle
           (thread_kept app second third hardware.kept idle made));
-      hardware = tasks_kept app fourth fifth last.kept Hardware c.in_ok-code-2.field-0.items
-          (tasks_kept app third fourth software.kept Hardware c.in_ok-code-2.field-0.items
-          c.in_ok-code-2.ensures.stands);
-      software = tasks_kept app fourth fifth last.kept Software c.in_ok-code-3.field-0.items
-          c.in_ok-code-3.ensures.stands;
-      dispatchers = c.in_ok-code-4.ensures.stands;
+      hardware = subst (HasTasks app fifth Hardware) (sym second_pass)
+          (tasks_left app Hardware Software fifth one two left hardware_apart
+          (tasks_kept app third fifth (kept_then third fourth fifth software.kept last.kept) (length one) Hardware one
+          c.in_ok-push_tasks.ensures.stands));
+      software = subst (HasTasks app fifth Software) (sym second_pass)
+          (tasks_kept app fourth fifth last.kept (length two) Software two c.in_ok-push_tasks-2.ensures.stands);
+      dispatchers = c.in_ok-code-2.ensures.stands;
       named = all.0;
       short = omega (arith, all.1, all_code app (accepted_are_sound app c.requires.plan.accepted), kinds_sum app app.tasks);
     }

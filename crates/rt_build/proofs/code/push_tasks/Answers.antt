@@ -10,8 +10,8 @@ loop-number-preserved c =
     let app = app_of c.args.plan.now.app.now in
     let n = c.loop-number.number in
     let one = there_is app.tasks n (omega (arith, length-map c.args.plan.now.app.now.tasks.items task_of)) in
-    let next = next_task app c.args.kind n c.in_ok-push_task.field-0 one.0 c.args.lines.now.items
-    c.loop-number.lines.items c.push_task.new.lines.items c.loop-number.entries.items c.push.new.self.items one.1
-    c.loop-number.invariant.counted c.loop-number.invariant.adds c.loop-number.invariant.stands
-    c.in_ok-push.ensures.items (c.in_ok-push_task.ensures.adds one.0 one.1) c.in_ok-push_task.ensures.stands in
-    record { counted = next.0; adds = next.1; stands = next.2 }
+    let next = next_task app c.args.kind n one.0 c.args.lines.now.items c.loop-number.lines.items
+    c.push_task.new.lines.items c.args.entries.now c.loop-number.entries c.push_task.new.entries one.1
+    c.loop-number.invariant.adds c.loop-number.invariant.others c.loop-number.invariant.stands
+    (c.in_ok-push_task.ensures.adds one.0 one.1) (c.in_ok-push_task.ensures.tells one.0 one.1) in
+    record { adds = next.0; others = next.1; stands = next.2 }

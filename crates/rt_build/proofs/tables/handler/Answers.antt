@@ -4,7 +4,6 @@ use Rattle.std.proofs.lemmas.Option.{slice_get_within}
 use Rattle.rt_app.specs.View.{app_of, task_of}
 use Rattle.rt_app.specs.Frame.{frame_words}
 use Rattle.rt_build.specs.Inside.Code.{entries_of}
-use Rattle.rt_build.proofs.Entries.{hardware_entry}
 use Rattle.rt_build.proofs.Served.{row_is, priority_of, frame_at}
 use Rattle.rt_build.proofs.tables.handler.Goals as goal
 
@@ -21,7 +20,7 @@ pub index-requires : goal.index-requires
 index-requires c =
     let within = slice_get_within (app_of c.args.plan.now.app.now).tasks c.args.number (task_of c.args.task.now)
     c.requires.task in
-    omega (arith, c.requires.entries.of_hardware, c.args.code.now.hardware.ok.0)
+    omega (arith, c.requires.entries.of_tasks, c.args.code.now.tasks.ok.0)
 
 pub overflow_add-number : goal.overflow_add-number
 overflow_add-number c =
@@ -44,11 +43,10 @@ pub returns : goal.returns
 returns c =
     let app = app_of c.args.plan.now.app.now in
     let within = slice_get_within app.tasks c.args.number (task_of c.args.task.now) c.requires.task in
-    let long : c.args.number < length c.args.code.now.hardware.items = omega (arith, c.requires.entries.of_hardware) in
+    let long : c.args.number < length c.args.code.now.tasks.items = omega (arith, c.requires.entries.of_tasks) in
     row_is app (entries_of app c.args.code.now) c.args.number (task_of c.args.task.now) c.hw.result c.index.result.now
     c.index-2.result.now c.requires.task c.hw.ensures
-    (get_or_read c.args.code.now.hardware.items c.args.number c.index.result.now long c.index.ensures 0
-    ∙ hardware_entry app c.args.code.now c.args.number (task_of c.args.task.now) c.requires.task c.requires.hardware)
+    (get_or_read c.args.code.now.tasks.items c.args.number c.index.result.now long c.index.ensures 0)
     (frame_at app c.args.number (task_of c.args.task.now) c.index-2.result.now c.requires.task
     (c.index-2.ensures ∙ ap (λ (fs : List ℕ). get_or fs (c.args.number + 2) c.index-2.result.now)
     c.requires.plan.planned.frames))
