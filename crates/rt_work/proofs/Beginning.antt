@@ -1,10 +1,11 @@
 -- Bodies that begin, and messages that start.
-use Rattle.std.proofs.Common.{◌≡◌, ℕ, ◌<◌, ◌==◌, ◌≢◌, Bool, true, false, List, [], ◌∷◌, ◌++◌, get_or, length, map}
-use Rattle.std.proofs.Common.{replicate, Option, Some, Bor, refl, ap, ◌∙◌, sym, arith, append_assoc}
+use Rattle.std.proofs.Common.{◌≡◌, ℕ, zero, suc, ◌==◌, ◌≢◌, Bool, true, false, List, [], ◌∷◌, ◌++◌, length, map}
+use Rattle.std.proofs.Common.{replicate, Option, Some, None, Bor, refl, ap, ◌∙◌, sym, arith, append_assoc}
 use Rattle.std.proofs.Common.{if◌then◌else◌}
 use Rattle.std.specs.List.{slice_get}
 use Rattle.std.proofs.lemmas.Bool.Decides.{nat_tests}
-use Rattle.rt_lemmas.proofs.Lists.{mapped_read}
+use Rattle.std.specs.Option.{option_copied}
+use Rattle.std.proofs.lemmas.Option.{same_Some, none-some}
 use Rattle.rt_ids.specs.Lists.{is_empty, then_from}
 use Rattle.rt_ids.specs.Holder.{Guarded}
 use Rattle.rt_ids.specs.Content.{Message, Values, messages}
@@ -29,13 +30,37 @@ use Rattle.rt_work.specs.Inside.Pushes.{Pushes}
 use Rattle.rt_work.proofs.Walks.{made, with_todos, grown, pushed}
 use Rattle.rt_work.proofs.Pushing.{all_pushed}
 
-pub task_found : (all xs : List code.Task) (i n : ℕ) (t : code.Task) → xs ≡ all → i ≡ n → i < length xs
-    → t ≡ get_or xs i t
+body_at : (all : List code.Task) (n : ℕ) (t : code.Task) → slice_get all n ≡ Some t
     → then_from (slice_get (map task_of all) n) (λ (u : Task). Some u.body) ≡ Some (body_of t.body)
-task_found all xs i n t alike same within at =
-    ap (λ (ys : List code.Task). then_from (slice_get (map task_of ys) n) (λ (u : Task). Some u.body)) (sym alike)
-    ∙ ap (λ (k : ℕ). then_from (slice_get (map task_of xs) k) (λ (u : Task). Some u.body)) (sym same)
-    ∙ ap (λ (o : Option Task). then_from o (λ (u : Task). Some u.body)) (mapped_read task_of xs i t within at)
+body_at [] n t at = absurd (none-some t at)
+body_at (u ∷ us) zero t at = ap (λ (v : code.Task). Some (body_of v.body)) (same_Some u t at)
+body_at (u ∷ us) (suc n) t at = body_at us n t at
+
+no_body_at : (all : List code.Task) (n : ℕ) → slice_get all n ≡ None
+    → then_from (slice_get (map task_of all) n) (λ (u : Task). Some u.body) ≡ None
+no_body_at [] n at = refl
+no_body_at (u ∷ us) zero at = absurd (none-some u (sym at))
+no_body_at (u ∷ us) (suc n) at = no_body_at us n at
+
+pub task_found : (all : List code.Task) (o : Option (Bor code.Task)) (i n : ℕ) (t : Bor code.Task)
+    → option_copied o ≡ slice_get all i → i ≡ n → o ≡ Some t
+    → then_from (slice_get (map task_of all) n) (λ (u : Task). Some u.body) ≡ Some (body_of t.now.body)
+task_found all o i n t read same is =
+    body_at all n t.now (ap (slice_get all) (sym same) ∙ sym read
+    ∙ ap (λ (p : Option (Bor code.Task)). option_copied p) is)
+
+pub none_found : (all : List code.Task) (o : Option (Bor code.Task)) (i n : ℕ)
+    → option_copied o ≡ slice_get all i → i ≡ n → o ≡ None
+    → then_from (slice_get (map task_of all) n) (λ (u : Task). Some u.body) ≡ None
+none_found all o i n read same is =
+    no_body_at all n (ap (slice_get all) (sym same) ∙ sym read
+    ∙ ap (λ (p : Option (Bor code.Task)). option_copied p) is)
+
+pub not_begun : (app : App) (m : Message) (w : Work) → task_body app m.task ≡ None
+    → (s : Store) → Becomes app (entered app (task_body app m.task) m.args) w s w s
+not_begun app m w none s = record {
+  same = λ later. ap (λ (o : Option Body). entered app o m.args (behind app w.todos later) w.vars (contents s)) none;
+}
 
 pub begun : (app : App) (m : Message) (b : Body) (block : Bor (List Stmt)) (old new : Work)
     → task_body app m.task ≡ Some b → b.block ≡ block_of block.now
@@ -116,11 +141,10 @@ pub empty_by_length : {X : Type 0} (xs : List X) (n : ℕ) → n ≡ length xs �
 empty_by_length [] n h = rw h refl
 empty_by_length (x ∷ xs) n h = let e : n ≢ 0 = omega (arith, h) in grind (arith, nat_tests)
 
-pub begun_as : (app : App) (t : Todo) (m : Message) (old new : Work) (s : Store) → t ≡ todo.Begin m
-    → Becomes app (entered app (task_body app m.task) m.args) old s new s
+pub done_as : (app : App) (t u : Todo) (old new : Work) (s : Store) → t ≡ u → Becomes app (meaning app u) old s new s
     → Becomes app (meaning app t) old s new s
-begun_as app t m old new s is h = record {
-  same = λ later. ap (λ (u : Todo). meaning app u (behind app old.todos later) old.vars (contents s)) is ∙ h.same later;
+done_as app t u old new s is h = record {
+  same = λ later. ap (λ (v : Todo). meaning app v (behind app old.todos later) old.vars (contents s)) is ∙ h.same later;
 }
 
 -- a thing to do that stays the next

@@ -1,7 +1,7 @@
 -- What is left to do behind a reading of the clock.
 use Rattle.std.proofs.Common.{◌≡◌, ℕ, ◌+◌, min, [], ◌∷◌, refl, ap, sym, subst}
 use Rattle.rt_ids.specs.Content.{Message}
-use Rattle.rt_ids.specs.Action.{Arms}
+use Rattle.rt_ids.specs.Action.{Arms, Moves}
 use Rattle.rt_ids.specs.declared.limits.TheConstants.{LONGEST_DELAY}
 use Rattle.rt_app.specs.Tree.{App}
 use Rattle.rt_app.specs.Sending.{act}
@@ -21,6 +21,14 @@ unfolding behind
 time_armed app delay m i time old new same is s =
     pushed app (clocked app (reading.Arm delay m) time) old new s _ is
     (λ later. ap (λ (k : ℕ). act (Arms k m) (later old.vars) (contents s)) (sym same))
+
+pub time_moved : (app : App) (delay n h i time : ℕ) (old new : Work) → i ≡ time + min delay LONGEST_DELAY
+    → new ≡ with_todos old (todo.Act (action.Move n h i) ∷ [])
+    → (s : Store) → Becomes app (clocked app (reading.Move delay n h) time) old s new s
+unfolding behind
+time_moved app delay n h i time old new same is s =
+    pushed app (clocked app (reading.Move delay n h) time) old new s _ is
+    (λ later. ap (λ (k : ℕ). act (Moves n h k) (later old.vars) (contents s)) (sym same))
 
 pub time_told : (app : App) (time : ℕ) (old new : Work) → new ≡ with_todos old (todo.Due time ∷ [])
     → (s : Store) → Becomes app (clocked app reading.Fire time) old s new s

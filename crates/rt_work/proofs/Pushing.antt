@@ -1,15 +1,18 @@
 -- Things to do that come on top, some and then others.
 use Rattle.std.proofs.Common.{◌≡◌, ℕ, ◌<◌, ◌≤◌, nat_lt, Bool, true, false, List, [], ◌∷◌, Option, Some}
-use Rattle.std.proofs.Common.{None, refl, ap, ◌∙◌, sym, arith, if◌then◌else◌, append_assoc}
+use Rattle.std.proofs.Common.{None, refl, ap, ◌∙◌, sym, arith, if◌then◌else◌, append_assoc, is_some, set}
 use Rattle.std.proofs.lemmas.Bool.Decides.{nat_tests}
 use Rattle.rt_ids.specs.Holder.{Guarded}
-use Rattle.rt_ids.specs.Content.{Message, Values, number}
+use Rattle.rt_ids.specs.Content.{Message, Values, number, timed, delays, armed_as}
+use Rattle.rt_ids.specs.Action.{Enters, Leaves, Clocks, Cancels, Frees}
+use Rattle.rt_ids.specs.Doing.{does}
 use Rattle.rt_ids.specs.declared.ids.Section.TheVariants as section
-use Rattle.rt_app.specs.declared.costs.TheConstants.{READY_COST}
+use Rattle.rt_app.specs.declared.costs.TheConstants.{READY_COST, FREE_COST}
 use Rattle.rt_app.specs.Tree.{App}
 use Rattle.rt_app.specs.Bodies.{task_priority}
 use Rattle.rt_app.specs.BodyCost.{timer_section_cost}
-use Rattle.rt_app.specs.Sending.{act_all, arm_actions, capacity_of, dispatcher_number, ready_actions}
+use Rattle.rt_app.specs.Sending.{act, act_all, leave_timer, arm_actions, capacity_of, dispatcher_number}
+use Rattle.rt_app.specs.Sending.{ready_actions}
 use Rattle.rt_app.specs.Meaning.{Later}
 use Rattle.rt_work.specs.declared.action.Action.TheVariants as action
 use Rattle.rt_work.specs.declared.todo.Todo.{Todo}
@@ -17,10 +20,10 @@ use Rattle.rt_work.specs.declared.todo.Todo.TheVariants as todo
 use Rattle.rt_work.specs.declared.todo.Reading.TheVariants as reading
 use Rattle.rt_work.specs.Actions.{action_of}
 use Rattle.rt_work.specs.Store.{Store, contents}
-use Rattle.rt_work.specs.Todo.{given, sent, placed, behind}
+use Rattle.rt_work.specs.Todo.{given, handed, sent, placed, clocked, cancelled, moved, behind}
 use Rattle.rt_work.specs.Work.{Work, Becomes}
 use Rattle.rt_work.specs.Inside.Pushes.{Pushes}
-use Rattle.rt_work.proofs.Walks.{made, with_todos, behind_more, three_more}
+use Rattle.rt_work.proofs.Walks.{made, with_todos, behind_more, three_more, variable_set}
 
 pub all_pushed : (app : App) (f : Later → Later) (old new : Work) (ts : List Todo) → new ≡ with_todos old ts
     → ((later : Later) (vars : List ℕ) (vs : Values) → f later vars vs ≡ behind app ts later vars vs)
@@ -95,39 +98,81 @@ readied app m p d old new level served grown =
     (action.Ready p m) ∷ todo.Act (action.Enter (section.Ready p) READY_COST) ∷ []) later vars vs)
     (sym served))
 
--- a message that is sent at once, or behind a delay
-pub sent_soon : (app : App) (delay : Option ℕ) (m : Message) (old new : Work) → delay ≡ None
-    → Pushes app (λ later vars. act_all (ready_actions app (task_priority app m.task) m) (later vars)) old new
-    → Pushes app (λ later vars. sent app delay m (later vars)) old new
-sent_soon app delay m old new is p = as_pushes app _ _ old new (λ later vars vs. ap (λ (o : Option ℕ). sent app o m
-    (later vars) vs) is) p
+-- a variable that is told the handle, or none
+pub handed_none : (v : Option ℕ) (w : Work) → v ≡ None → (app : App) → Pushes app (handed v) w w
+handed_none v w is app = record {
+  vars = refl;
+  same = λ later vars vs. ap (λ (o : Option ℕ). handed o (behind app w.todos later) vars vs) is;
+}
 
-pub armed : (app : App) (ticks cost : ℕ) (m : Message) (old new : Work) → cost ≡ timer_section_cost app
-    → new ≡ with_todos old (todo.Act (action.Leave section.Timer) ∷ todo.Act action.SetAlarm ∷ todo.Clock
-    (reading.Arm ticks m) ∷ todo.Act (action.Enter section.Timer cost) ∷ [])
-    → Pushes app (λ later vars. arm_actions app ticks m (later vars)) old new
+pub handed_some : (v : Option ℕ) (x : ℕ) (old new : Work) → v ≡ Some x → new ≡ with_todos old (todo.Handle x ∷ [])
+    → (app : App) → Pushes app (handed v) old new
 unfolding behind
-armed app ticks cost m old new takes grown =
-    all_pushed app _ old new _ grown
-    (λ later vars vs.
-    ap (λ (k : ℕ). behind app (todo.Act (action.Leave section.Timer) ∷ todo.Act action.SetAlarm ∷ todo.Clock
-    (reading.Arm ticks m) ∷ todo.Act (action.Enter section.Timer k) ∷ []) later vars vs) (sym takes))
+handed_some v x old new is grown app =
+    all_pushed app (handed v) old new (todo.Handle x ∷ []) grown
+    (λ later vars vs. ap (λ (o : Option ℕ). handed o later vars vs) is)
 
-pub sent_after : (app : App) (delay : Option ℕ) (ticks : ℕ) (m : Message) (old new : Work) → delay ≡ Some ticks
-    → Pushes app (λ later vars. arm_actions app ticks m (later vars)) old new
-    → Pushes app (λ later vars. sent app delay m (later vars)) old new
-sent_after app delay ticks m old new is p = as_pushes app _ _ old new (λ later vars vs. ap (λ (o : Option ℕ). sent
-    app o m (later vars) vs) is) p
+-- a message that is sent at once, or behind a delay
+pub sent_soon : (app : App) (variable delay : Option ℕ) (m : Message) (old mid new : Work) → delay ≡ None
+    → Pushes app (given variable 1) old mid
+    → Pushes app (λ later vars. act_all (ready_actions app (task_priority app m.task) m) (later vars)) mid new
+    → Pushes app (λ later vars. sent app delay m (λ value. given variable value later vars)) old new
+sent_soon app variable delay m old mid new is told p =
+    as_pushes app _ _ old new
+    (λ later vars vs. ap (λ (o : Option ℕ). sent app o m (λ value. given variable value later vars) vs) is)
+    (then_pushed app (given variable 1)
+    (λ later vars. act_all (ready_actions app (task_priority app m.task) m) (later vars)) old mid new told p)
+
+pub armed : (app : App) (variable : Option ℕ) (ticks cost : ℕ) (m : Message) (old a b new : Work)
+    → cost ≡ timer_section_cost app
+    → a ≡ with_todos old (todo.Act (action.Leave section.Timer) ∷ todo.Act action.SetAlarm ∷ [])
+    → Pushes app (handed variable) a b
+    → new ≡ with_todos b (todo.Clock (reading.Arm ticks m) ∷ todo.Act (action.Enter section.Timer cost) ∷ [])
+    → Pushes app (λ later vars. arm_actions app (timer_section_cost app) ticks m (λ value. given variable value later
+    vars)) old new
+unfolding behind
+armed app variable ticks cost m old a b new takes closes hands grown =
+    let p = all_pushed app leave old a _ closes (λ later vars vs. refl) in
+    let q = all_pushed app enter b new _ grown
+    (λ later vars vs.
+    ap (λ (k : ℕ). behind app (todo.Clock (reading.Arm ticks m) ∷ todo.Act (action.Enter section.Timer k) ∷ []) later
+    vars vs) (sym takes)) in
+    as_pushes app _ _ old new (same variable)
+    (then_pushed app (λ later. handed variable (leave later)) enter old b new
+    (then_pushed app leave (handed variable) old a b p hands) q)
+  where
+    leave : Later → Later
+    leave later vars vs = leave_timer app (later vars) vs
+
+    enter : Later → Later
+    enter later vars vs =
+        behind app (todo.Clock (reading.Arm ticks m) ∷ todo.Act (action.Enter section.Timer (timer_section_cost app))
+        ∷ []) later vars vs
+
+    same : (v : Option ℕ) (later : Later) (vars : List ℕ) (vs : Values)
+        → arm_actions app (timer_section_cost app) ticks m (λ value. given v value later vars) vs
+        ≡ enter (handed v (leave later)) vars vs
+    same None later vars vs = refl
+    same (Some x) later vars vs = refl
+
+pub sent_after : (app : App) (variable delay : Option ℕ) (ticks : ℕ) (m : Message) (old new : Work)
+    → delay ≡ Some ticks
+    → Pushes app (λ later vars. arm_actions app (timer_section_cost app) ticks m (λ value. given variable value later
+    vars)) old new
+    → Pushes app (λ later vars. sent app delay m (λ value. given variable value later vars)) old new
+sent_after app variable delay ticks m old new is p =
+    as_pushes app _ _ old new
+    (λ later vars vs. ap (λ (o : Option ℕ). sent app o m (λ value. given variable value later vars) vs) is) p
 
 -- a place is taken where one is left
-pub place_taken : (app : App) (variable delay : Option ℕ) (m : Message) (n : ℕ) (old a b new : Work) (s : Store)
+pub place_taken : (app : App) (variable delay : Option ℕ) (m : Message) (n : ℕ) (old b new : Work) (s : Store)
     (out capacity : ℕ)
     → n ≡ m.task → out ≡ number (contents s (Guarded (section.Free n))) → capacity ≡ capacity_of app n → out < capacity
-    → Pushes app (given variable 1) old a → Pushes app (λ later vars. sent app delay m (later vars)) a b
+    → Pushes app (λ later vars. sent app delay m (λ value. given variable value later vars)) old b
     → new ≡ with_todos b (todo.Act (action.Leave (section.Free n)) ∷ todo.Act (action.Place n) ∷ [])
     → Becomes app (placed app variable delay m) old s new s
 unfolding behind
-place_taken app variable delay m n old a b new s out capacity task counted has room told sends grown =
+place_taken app variable delay m n old b new s out capacity task counted has room sends grown =
     let is : nat_lt (number (contents s (Guarded (section.Free n)))) (capacity_of app n) ≡ true = rw (
       ← counted,
       ←
@@ -136,17 +181,18 @@ place_taken app variable delay m n old a b new s out capacity task counted has r
     let p : Pushes app _ b new =
     all_pushed app (λ later vars vs. act_all (action_of (action.Place n) ∷ action_of (action.Leave (section.Free
     n)) ∷ []) (later vars) vs) b new _ grown (λ later vars vs. refl) in
-    let q = then_pushed app _ _ old b new (then_pushed app _ _ old a b told sends) p in
+    let q = then_pushed app _ _ old b new sends p in
     pushes_become app _ (placed app variable delay m) old new s
     (λ later.
     ap (λ (k : ℕ). placed app variable delay (record { task = k; args = m.args }) later old.vars (contents s)) (sym
     task)
     ∙ ap (λ (b : Bool). (if b then act_all (action_of (action.Place n) ∷ action_of (action.Leave (section.Free n))
-    ∷ []) (sent app delay (record { task = n; args = m.args }) (given variable 1 later old.vars)) (contents s)
+    ∷ []) (sent app delay (record { task = n; args = m.args }) (λ value. given variable value later old.vars)) (contents
+    s)
     else act_all (action_of (action.Refuse n) ∷ action_of (action.Leave (section.Free n)) ∷ []) (given variable 0
     later old.vars) (contents s))) is
     ∙ ap (λ (k : ℕ). act_all (action_of (action.Place n) ∷ action_of (action.Leave (section.Free n)) ∷ []) (sent
-    app delay (record { task = k; args = m.args }) (given variable 1 later old.vars)) (contents s)) task) q
+    app delay (record { task = k; args = m.args }) (λ value. given variable value later old.vars)) (contents s)) task) q
 
 pub place_refused : (app : App) (variable delay : Option ℕ) (m : Message) (n : ℕ) (old a new : Work) (s : Store)
     (out capacity : ℕ)
@@ -170,6 +216,97 @@ place_refused app variable delay m n old a new s out capacity task counted has f
     ap (λ (k : ℕ). placed app variable delay (record { task = k; args = m.args }) later old.vars (contents s)) (sym
     task)
     ∙ ap (λ (b : Bool). (if b then act_all (action_of (action.Place n) ∷ action_of (action.Leave (section.Free n))
-    ∷ []) (sent app delay (record { task = n; args = m.args }) (given variable 1 later old.vars)) (contents s)
+    ∷ []) (sent app delay (record { task = n; args = m.args }) (λ value. given variable value later old.vars)) (contents
+    s)
     else act_all (action_of (action.Refuse n) ∷ action_of (action.Leave (section.Free n)) ∷ []) (given variable 0
     later old.vars) (contents s))) is) q
+
+-- a variable holds the handle that was given last
+pub handle_told : (app : App) (x h : ℕ) (old new : Work) (s : Store)
+    → h ≡ (timed (contents s (Guarded section.Timer))).given → new ≡ made old.todos (set old.vars x h)
+    → Becomes app (handed (Some x)) old s new s
+handle_told app x h old new s is written =
+    variable_set app (handed (Some x)) old new s x h written
+    (λ later. ap (λ (k : ℕ). later (set old.vars x k) (contents s)) (sym is))
+
+-- no message has the handle
+pub missed : (app : App) (variable : Option ℕ) (old a new : Work) → Pushes app (given variable 1) old a
+    → new ≡ with_todos a (todo.Act (action.Leave section.Timer) ∷ [])
+    → Pushes app (λ later vars. act (Leaves section.Timer) (given variable 1 later vars)) old new
+unfolding behind
+missed app variable old a new told grown =
+    then_pushed app (given variable 1) (λ later vars. act (Leaves section.Timer) (later vars)) old a new told
+    (all_pushed app _ a new _ grown (λ later vars vs. refl))
+
+abbrev armed_in : ℕ → ℕ → Store → Bool
+armed_in n h s = is_some (armed_as n h (delays (contents s (Guarded section.Timer))))
+
+-- the message of a handle is taken back, where there is one
+abbrev chosen_cancel : App → Option ℕ → ℕ → ℕ → Bool → Later → Later
+chosen_cancel app variable n h found later vars vs =
+    if found then act (Cancels n h) (leave_timer app
+    (act_all (Enters (section.Free n) FREE_COST ∷ Frees n ∷ Leaves (section.Free n) ∷ []) (given variable 0 later
+    vars))) vs
+    else act (Leaves section.Timer) (given variable 1 later vars) vs
+
+pub cancel_missed : (app : App) (variable : Option ℕ) (n h : ℕ) (old new : Work) (s : Store) (test : Bool)
+    → test ≡ armed_in n h s → test ≡ false
+    → Pushes app (λ later vars. act (Leaves section.Timer) (given variable 1 later vars)) old new
+    → Becomes app (cancelled app variable n h) old s new s
+cancel_missed app variable n h old new s test is unknown p =
+    pushes_become app _ (cancelled app variable n h) old new s
+    (λ later. ap (λ (b : Bool). chosen_cancel app variable n h b later old.vars (contents s)) (sym is ∙ unknown)) p
+
+pub cancel_found : (app : App) (variable : Option ℕ) (n h : ℕ) (old a b new : Work) (s : Store) (test : Bool)
+    → test ≡ armed_in n h s → test ≡ true → Pushes app (given variable 0) old a
+    → b ≡ with_todos a (todo.Act (action.Leave (section.Free n)) ∷ todo.Act (action.Free n) ∷ todo.Act (action.Enter
+    (section.Free n) FREE_COST) ∷ [])
+    → new ≡ with_todos b (todo.Act (action.Leave section.Timer) ∷ todo.Act action.SetAlarm ∷ todo.Act (action.Cancel
+    n h) ∷ [])
+    → Becomes app (cancelled app variable n h) old s new s
+unfolding behind
+cancel_found app variable n h old a b new s test is known told frees grown =
+    let p = all_pushed app back a b _ frees (λ later vars vs. refl) in
+    let q = all_pushed app out b new _ grown (λ later vars vs. refl) in
+    pushes_become app _ (cancelled app variable n h) old new s
+    (λ later. ap (λ (b : Bool). chosen_cancel app variable n h b later old.vars (contents s)) (sym is ∙ known))
+    (then_pushed app (λ later. back (given variable 0 later)) out old b new
+    (then_pushed app (given variable 0) back old a b told p) q)
+  where
+    back : Later → Later
+    back later vars vs =
+        act_all (Enters (section.Free n) FREE_COST ∷ Frees n ∷ Leaves (section.Free n) ∷ []) (later vars) vs
+
+    out : Later → Later
+    out later vars vs = act (Cancels n h) (leave_timer app (later vars)) vs
+
+-- it is put off, where there is one
+abbrev chosen_move : App → Option ℕ → ℕ → ℕ → ℕ → Bool → Later → Later
+chosen_move app variable delay n h found later vars vs =
+    if found then does Clocks vs (λ time. clocked app (reading.Move delay n h) time
+    (λ vars. leave_timer app (given variable 0 later vars)) vars)
+    else act (Leaves section.Timer) (given variable 1 later vars) vs
+
+pub move_missed : (app : App) (variable : Option ℕ) (delay n h : ℕ) (old new : Work) (s : Store) (test : Bool)
+    → test ≡ armed_in n h s → test ≡ false
+    → Pushes app (λ later vars. act (Leaves section.Timer) (given variable 1 later vars)) old new
+    → Becomes app (moved app variable delay n h) old s new s
+move_missed app variable delay n h old new s test is unknown p =
+    pushes_become app _ (moved app variable delay n h) old new s
+    (λ later. ap (λ (b : Bool). chosen_move app variable delay n h b later old.vars (contents s)) (sym is ∙ unknown)) p
+
+pub move_found : (app : App) (variable : Option ℕ) (delay n h : ℕ) (old a new : Work) (s : Store) (test : Bool)
+    → test ≡ armed_in n h s → test ≡ true → Pushes app (given variable 0) old a
+    → new ≡ with_todos a (todo.Act (action.Leave section.Timer) ∷ todo.Act action.SetAlarm ∷ todo.Clock (reading.Move
+    delay n h) ∷ [])
+    → Becomes app (moved app variable delay n h) old s new s
+unfolding behind
+move_found app variable delay n h old a new s test is known told grown =
+    let p = all_pushed app out a new _ grown (λ later vars vs. refl) in
+    pushes_become app _ (moved app variable delay n h) old new s
+    (λ later. ap (λ (b : Bool). chosen_move app variable delay n h b later old.vars (contents s)) (sym is ∙ known))
+    (then_pushed app (given variable 0) out old a new told p)
+  where
+    out : Later → Later
+    out later vars vs = does Clocks vs (λ time. clocked app (reading.Move delay n h) time
+        (λ vars. leave_timer app (later vars)) vars)

@@ -12,12 +12,13 @@ use Rattle.rt_app.specs.declared.expr.Atom.{Atom}
 use Rattle.rt_app.specs.declared.expr.Atom.TheVariants as atom
 use Rattle.rt_app.specs.declared.expr.Expr.{Expr}
 use Rattle.rt_app.specs.declared.stmt.Stmt.{Stmt}
-use Rattle.rt_app.specs.Tree.{Expression, Spawn, Soon, After, Value, Calc, Now, Call, Statement, Bind, Assign}
+use Rattle.rt_app.specs.Tree.{Expression, Spawn, Soon, After, Cancel, Move, Value, Calc, Now, Call, Statement}
+use Rattle.rt_app.specs.Tree.{Bind, Assign}
 use Rattle.rt_app.specs.Tree.{Branch, Repeat, Locked, Emit, Pend, Spawns, Block, App}
 use Rattle.rt_ids.specs.Lists.{or_zero}
 use Rattle.rt_app.specs.Handlers.{irq_number}
 use Rattle.rt_app.specs.Cost.{Measure, lock_cost, block_cost, statement_cost}
-use Rattle.rt_app.specs.BodyCost.{cost_measure}
+use Rattle.rt_app.specs.BodyCost.{cost_measure, handle_section_cost}
 use Rattle.rt_app.specs.View.{expression_of, statement_of, block_of}
 use Rattle.rt_app.specs.Meaning.{Later, value_in, bind, assign, turns_from, run, run_block}
 use Rattle.rt_work.specs.declared.action.Action.TheVariants as action
@@ -89,6 +90,40 @@ after_asked app variable s word n at ticks delay args m old new st is late carri
     todo.Act (action.Enter (section.Free k.task) FREE_COST) ∷ []) later old.vars (contents st)) (sym carried)
     ∙ ap (λ (d : ℕ). behind app (todo.Place variable (Some d) m ∷ todo.Act (action.Enter (section.Free m.task)
     FREE_COST) ∷ []) later old.vars (contents st)) (sym late))
+
+-- a cancel and a move enter the section of the armed messages
+pub cancel_asked : (app : App) (variable : Option ℕ) (s : Spawn) (word n at h cost : ℕ) (handle : Expression)
+    (old new : Work) (st : Store)
+    → s ≡ Cancel word n handle at → h ≡ value_in old.vars (contents st) handle → cost ≡ handle_section_cost app
+    → new ≡ with_todos old (todo.Cancel variable n h ∷ todo.Act (action.Enter section.Timer cost) ∷ [])
+    → Becomes app (spawned app variable s) old st new st
+unfolding behind
+cancel_asked app variable s word n at h cost handle old new st is told takes grown =
+    pushed app (spawned app variable s) old new st _ grown
+    (λ later.
+    ap (λ (x : Spawn). spawned app variable x later old.vars (contents st)) is
+    ∙ ap (λ (k : ℕ). behind app (todo.Cancel variable n k ∷ todo.Act (action.Enter section.Timer
+    (handle_section_cost app)) ∷ []) later old.vars (contents st)) (sym told)
+    ∙ ap (λ (k : ℕ). behind app (todo.Cancel variable n h ∷ todo.Act (action.Enter section.Timer k) ∷ []) later
+    old.vars (contents st)) (sym takes))
+
+pub move_asked : (app : App) (variable : Option ℕ) (s : Spawn) (word n at ticks h cost : ℕ)
+    (delay handle : Expression) (old new : Work) (st : Store)
+    → s ≡ Move word delay n handle at → ticks ≡ value_in old.vars (contents st) delay
+    → h ≡ value_in old.vars (contents st) handle → cost ≡ handle_section_cost app
+    → new ≡ with_todos old (todo.Move variable ticks n h ∷ todo.Act (action.Enter section.Timer cost) ∷ [])
+    → Becomes app (spawned app variable s) old st new st
+unfolding behind
+move_asked app variable s word n at ticks h cost delay handle old new st is late told takes grown =
+    pushed app (spawned app variable s) old new st _ grown
+    (λ later.
+    ap (λ (x : Spawn). spawned app variable x later old.vars (contents st)) is
+    ∙ ap (λ (k : ℕ). behind app (todo.Move variable k n (value_in old.vars (contents st) handle) ∷ todo.Act
+    (action.Enter section.Timer (handle_section_cost app)) ∷ []) later old.vars (contents st)) (sym late)
+    ∙ ap (λ (k : ℕ). behind app (todo.Move variable ticks n k ∷ todo.Act (action.Enter section.Timer
+    (handle_section_cost app)) ∷ []) later old.vars (contents st)) (sym told)
+    ∙ ap (λ (k : ℕ). behind app (todo.Move variable ticks n h ∷ todo.Act (action.Enter section.Timer k) ∷ []) later
+    old.vars (contents st)) (sym takes))
 
 -- a binding
 pub bound_calc : (app : App) (x : ℕ) (v : Value) (e : Expression) (n : ℕ) (old new : Work) (s : Store)

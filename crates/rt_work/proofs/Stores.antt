@@ -1,17 +1,19 @@
 -- A place of an auditor's lists that changes is a content that changes.
 use Rattle.std.proofs.Common.{◌≡◌, ◌≢◌, ℕ, zero, suc, ◌+◌, ◌-◌, ◌<◌, ◌≤◌, ◌==◌, nat_lt, Bool, true, false, cond}
 use Rattle.std.proofs.Common.{Option, Some, None, List, [], ◌∷◌, ◌++◌, length, drop, map, get_or, set, refl, sym}
-use Rattle.std.proofs.Common.{ap, ◌∙◌, subst, arith, position, if◌then◌else◌}
+use Rattle.std.proofs.Common.{ap, ◌∙◌, subst, append-nil, arith, position, find, is_some, if◌then◌else◌}
 use Rattle.std.proofs.lemmas.Bool.Decides.{nat_tests}
 use Rattle.std.proofs.lemmas.List.{get_or-set_other}
 use Rattle.std.proofs.lemmas.Grind.{get_or-set_at}
-use Rattle.std.proofs.lemmas.Option.{get_or_from_slice_get, same_Some, none-some}
-use Rattle.std.specs.List.{position_or_len, remove}
+use Rattle.std.proofs.lemmas.Option.{get_or_from_slice_get, slice_get_read, same_Some, none-some}
+use Rattle.std.specs.List.{position_or_len, remove, slice_get}
+use Rattle.std.specs.Option.{option_and_then}
+use Rattle.rt_ids.proofs.Lists.{find_by_position}
 use Rattle.rt_lemmas.proofs.Lists.{mapped_read}
 use Rattle.rt_ids.specs.Holder.{Holder, Guarded, Own}
-use Rattle.rt_ids.specs.Content.{Message, Armed, Content, Number, Messages, Delays, put_at, has_instant}
-use Rattle.rt_ids.specs.Content.{least_instant, without_least}
-use Rattle.rt_ids.specs.Action.{effect, Takes, Frees, Readies, Starts, Arms, Fires}
+use Rattle.rt_ids.specs.Content.{Message, Armed, Timed, Content, Number, Messages, Delays, put_at}
+use Rattle.rt_ids.specs.Content.{without_least, has_handle, without_handle, postponed, armed_as}
+use Rattle.rt_ids.specs.Action.{effect, Takes, Frees, Readies, Starts, Arms, Fires, Cancels, Moves}
 use Rattle.rt_ids.specs.declared.ids.Section.TheVariants as section
 use Rattle.rt_work.specs.Store.{Store, contents}
 
@@ -97,13 +99,13 @@ set_ready s p ms within = λ i h. each h i
     each (Guarded section.Timer) = refl
     each (Own a) = refl
 
-pub set_armed : (s : Store) (list : List Armed)
-    → contents (record s { armed = list }) ≡ put_at (contents s) (Guarded section.Timer) (Delays list)
+pub set_timed : (s : Store) (t : Timed)
+    → contents (record s { timed = t }) ≡ put_at (contents s) (Guarded section.Timer) (Delays t)
 unfolding contents
-set_armed s list = λ i h. each h i
+set_timed s t = λ i h. each h i
   where
-    each : (h : Holder) → contents (record s { armed = list }) h ≡ put_at (contents s) (Guarded section.Timer)
-        (Delays list) h
+    each : (h : Holder) → contents (record s { timed = t }) h ≡ put_at (contents s) (Guarded section.Timer)
+        (Delays t) h
     each (Guarded (section.Res a)) = refl
     each (Guarded (section.Free a)) = refl
     each (Guarded (section.Ready a)) = refl
@@ -143,20 +145,49 @@ started s t i p m ms ns e f within were is =
     ks)) (is ∙ ap (λ (ks : List Message). drop 1 ks) were)
     ∙ ap (λ (k : ℕ). effect (Starts k m) (contents s)) f ∙ ap (λ (u : Store). effect (Starts p m) (contents u)) e
 
-pub armed : (s t : Store) (i : ℕ) (m : Message) (list : List Armed) → s ≡ t
-    → list ≡ s.armed ++ record { instant = i; message = m } ∷ []
-    → contents (record s { armed = list }) ≡ effect (Arms i m) (contents t)
+-- the timer queue with these
+abbrev pub timed_as : ℕ → ℕ → List Armed → Timed
+timed_as given moved list = record { given = given; moved = moved; armed = list }
+
+pub armed : (s t : Store) (i n : ℕ) (m : Message) (list : List Armed) → s ≡ t → n ≡ s.timed.given + 1
+    → list ≡ s.timed.armed ++ record { instant = i; message = m; handle = n } ∷ []
+    → contents (record s { timed = timed_as n s.timed.moved list }) ≡ effect (Arms i m) (contents t)
 unfolding contents
-armed s t i m list e is =
-    set_armed s list ∙ ap (λ (ks : List Armed). put_at (contents s) (Guarded section.Timer) (Delays ks)) is
+armed s t i n m list e next is =
+    set_timed s (timed_as n s.timed.moved list)
+    ∙ ap (λ (ks : List Armed). put_at (contents s) (Guarded section.Timer) (Delays (timed_as n s.timed.moved ks))) is
+    ∙ ap (λ (k : ℕ). put_at (contents s) (Guarded section.Timer) (Delays (timed_as k s.timed.moved (s.timed.armed
+    ++ record { instant = i; message = m; handle = k } ∷ [])))) next
     ∙ ap (λ (u : Store). effect (Arms i m) (contents u)) e
 
-pub fired : (s t : Store) (m : Message) (list : List Armed) → s ≡ t → list ≡ without_least s.armed
-    → contents (record s { armed = list }) ≡ effect (Fires m) (contents t)
+pub fired : (s t : Store) (m : Message) (list : List Armed) → s ≡ t → list ≡ without_least s.timed.armed
+    → contents (record s { timed = timed_as s.timed.given s.timed.moved list }) ≡ effect (Fires m) (contents t)
 unfolding contents
 fired s t m list e is =
-    set_armed s list ∙ ap (λ (ks : List Armed). put_at (contents s) (Guarded section.Timer) (Delays ks)) is
+    set_timed s (timed_as s.timed.given s.timed.moved list)
+    ∙ ap (λ (ks : List Armed). put_at (contents s) (Guarded section.Timer) (Delays (timed_as s.timed.given
+    s.timed.moved ks))) is
     ∙ ap (λ (u : Store). effect (Fires m) (contents u)) e
+
+pub taken_back : (s t : Store) (n h : ℕ) (list : List Armed) → s ≡ t → list ≡ without_handle n h s.timed.armed
+    → contents (record s { timed = timed_as s.timed.given s.timed.moved list }) ≡ effect (Cancels n h) (contents t)
+unfolding contents
+taken_back s t n h list e is =
+    set_timed s (timed_as s.timed.given s.timed.moved list)
+    ∙ ap (λ (ks : List Armed). put_at (contents s) (Guarded section.Timer) (Delays (timed_as s.timed.given
+    s.timed.moved ks))) is
+    ∙ ap (λ (u : Store). effect (Cancels n h) (contents u)) e
+
+pub put_off : (s t : Store) (n h i k : ℕ) (list : List Armed) → s ≡ t → k ≡ s.timed.moved + 1
+    → list ≡ without_handle n h s.timed.armed ++ postponed i (armed_as n h s.timed.armed)
+    → contents (record s { timed = timed_as s.timed.given k list }) ≡ effect (Moves n h i) (contents t)
+unfolding contents
+put_off s t n h i k list e next is =
+    set_timed s (timed_as s.timed.given k list)
+    ∙ ap (λ (ks : List Armed). put_at (contents s) (Guarded section.Timer) (Delays (timed_as s.timed.given k ks))) is
+    ∙ ap (λ (j : ℕ). put_at (contents s) (Guarded section.Timer) (Delays (timed_as s.timed.given j (without_handle n
+    h s.timed.armed ++ postponed i (armed_as n h s.timed.armed))))) next
+    ∙ ap (λ (u : Store). effect (Moves n h i) (contents u)) e
 
 map_set : {X Y : Type 0} (f : X → Y) (xs : List X) (i : ℕ) (x : X) → map f (set xs i x) ≡ set (map f xs) i (f x)
 map_set f [] i x = refl
@@ -197,12 +228,11 @@ place_of : (n k : ℕ) (b : Bool) → cond b (Some n) None ≡ Some k → n ≡ 
 place_of n k true is = same_Some n k is
 place_of n k false is = absurd (none-some k is)
 
-pub least_removed : (xs ys : List Armed) (o : Option ℕ) (k : ℕ)
-    → o ≡ position (has_instant (least_instant xs)) xs → o ≡ Some k → ys ≡ remove xs k → ys ≡ without_least xs
-least_removed xs ys o k found at is =
+pub one_removed : (P : Armed → Bool) (xs ys : List Armed) (o : Option ℕ) (k : ℕ) → o ≡ position P xs → o ≡ Some k
+    → ys ≡ remove xs k → ys ≡ remove xs (position_or_len P xs)
+one_removed P xs ys o k found at is =
     is ∙ ap (remove xs)
-    (sym (place_of (position_or_len (has_instant (least_instant xs)) xs) k (nat_lt (position_or_len (has_instant
-    (least_instant xs)) xs) (length xs)) (sym found ∙ at)))
+    (sym (place_of (position_or_len P xs) k (nat_lt (position_or_len P xs) (length xs)) (sym found ∙ at)))
 
 past_of : (n k : ℕ) → cond (nat_lt n k) (Some n) None ≡ None → k ≤ n
 past_of n k is = go (nat_lt n k) refl is
@@ -217,8 +247,60 @@ removed_past [] (suc n) past = refl
 removed_past (x ∷ xs) zero past = absurd (omega (arith, past))
 removed_past (x ∷ xs) (suc n) past = ap (λ (ys : List Armed). x ∷ ys) (removed_past xs n (omega (arith, past)))
 
-pub none_removed : (xs : List Armed) (o : Option ℕ) → o ≡ position (has_instant (least_instant xs)) xs → o ≡ None
-    → xs ≡ without_least xs
-none_removed xs o found none =
-    sym (removed_past xs (position_or_len (has_instant (least_instant xs)) xs) (past_of (position_or_len
-    (has_instant (least_instant xs)) xs) (length xs) (sym found ∙ none)))
+pub none_removed : (P : Armed → Bool) (xs : List Armed) (o : Option ℕ) → o ≡ position P xs → o ≡ None
+    → xs ≡ remove xs (position_or_len P xs)
+none_removed P xs o found none =
+    sym (removed_past xs (position_or_len P xs) (past_of (position_or_len P xs) (length xs) (sym found ∙ none)))
+
+-- whether there is one, and which, by the place that was found
+within_of : (n k len : ℕ) → cond (nat_lt n len) (Some n) None ≡ Some k → k < len
+within_of n k len is = go (nat_lt n len) refl is
+  where
+    go : (b : Bool) → nat_lt n len ≡ b → cond b (Some n) None ≡ Some k → k < len
+    go true test is = let same : n ≡ k = same_Some n k is in grind (arith, nat_tests)
+    go false test is = absurd (none-some k is)
+
+there : (xs : List Armed) (k : ℕ) → k < length xs → is_some (slice_get xs k) ≡ true
+there [] k within = absurd (omega (arith, within))
+there (x ∷ xs) zero within = refl
+there (x ∷ xs) (suc k) within = there xs k (omega (arith, within))
+
+pub found_as : (P : Armed → Bool) (xs : List Armed) (o : Option ℕ) → o ≡ position P xs
+    → is_some o ≡ is_some (find P xs)
+found_as P xs None found =
+    sym (ap is_some (find_by_position P xs ∙ ap (option_and_then (slice_get xs)) (sym found)))
+found_as P xs (Some k) found =
+    sym (ap is_some (find_by_position P xs ∙ ap (option_and_then (slice_get xs)) (sym found))
+    ∙ there xs k (within_of (position_or_len P xs) k (length xs) (sym found)))
+
+pub none_found : (P : Armed → Bool) (xs : List Armed) (o : Option ℕ) → o ≡ position P xs → o ≡ None
+    → find P xs ≡ None
+none_found P xs o found none =
+    find_by_position P xs ∙ ap (option_and_then (slice_get xs)) (sym found ∙ none)
+
+pub one_found : (P : Armed → Bool) (xs : List Armed) (o : Option ℕ) (k : ℕ) (a : Armed) → o ≡ position P xs
+    → o ≡ Some k → k < length xs → a ≡ get_or xs k a → find P xs ≡ Some a
+one_found P xs o k a found at within reads =
+    find_by_position P xs ∙ ap (option_and_then (slice_get xs)) (sym found ∙ at)
+    ∙ slice_get_read xs (length xs) k a refl within reads
+
+-- one that goes last, or none
+pub gone_last : (n h i : ℕ) (xs mid ys : List Armed) (o : Option ℕ) (k : ℕ) (a : Armed)
+    → o ≡ position (has_handle n h) xs → o ≡ Some k → a ≡ get_or xs k a → mid ≡ remove xs k
+    → ys ≡ mid ++ record { instant = i; message = a.message; handle = a.handle } ∷ []
+    → ys ≡ without_handle n h xs ++ postponed i (armed_as n h xs)
+gone_last n h i xs mid ys o k a found at reads less is =
+    let within = within_of (position_or_len (has_handle n h) xs) k (length xs) (sym found ∙ at) in
+    is
+    ∙ ap (λ (l : List Armed). l ++ record { instant = i; message = a.message; handle = a.handle } ∷ [])
+    (one_removed (has_handle n h) xs mid o k found at less)
+    ∙ ap (λ (p : Option Armed). without_handle n h xs ++ postponed i p)
+    (sym (one_found (has_handle n h) xs o k a found at within reads))
+
+pub none_last : (n h i : ℕ) (xs : List Armed) (o : Option ℕ) → o ≡ position (has_handle n h) xs → o ≡ None
+    → xs ≡ without_handle n h xs ++ postponed i (armed_as n h xs)
+none_last n h i xs o found none =
+    none_removed (has_handle n h) xs o found none
+    ∙ sym (append-nil (without_handle n h xs))
+    ∙ ap (λ (p : Option Armed). without_handle n h xs ++ postponed i p)
+    (sym (none_found (has_handle n h) xs o found none))

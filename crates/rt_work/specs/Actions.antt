@@ -17,5 +17,7 @@ action_of (code.Start p m) = action.Starts p m
 action_of (code.Free n) = action.Frees n
 action_of (code.Arm i m) = action.Arms i m
 action_of (code.Fire m) = action.Fires m
+action_of (code.Cancel n h) = action.Cancels n h
+action_of (code.Move n h i) = action.Moves n h i
 action_of code.SetAlarm = action.SetsAlarm
 action_of (code.End n) = action.Ends (body.Task n)

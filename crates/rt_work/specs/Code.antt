@@ -3,7 +3,7 @@
 use Rattle.std.specs.Prelude.{◌≡◌, ℕ, ◌<◌, slice_index}
 use Rattle.rt_app.specs.View.{app_of}
 use Rattle.rt_app.specs.Accepted.{IsAccepted}
-use Rattle.rt_app.specs.BodyCost.{cost_measure, timer_section_cost}
+use Rattle.rt_app.specs.BodyCost.{cost_measure, timer_section_cost, handle_section_cost}
 use Rattle.rt_app.specs.Handlers as handlers
 use Rattle.rt_app.specs.Sending.{dispatcher_number}
 use Rattle.rt_work.specs.declared.code.Handler.{Handler}
@@ -21,5 +21,6 @@ pub record IsCode (code : Code) : Type 0 where
   pub measured : code.measure ≡ cost_measure (app_of code.app.now)
   -- the dispatchers of levels, by number
   pub dispatched : (p : ℕ) → p < 256 → slice_index code.dispatchers.now p ≡ dispatcher_number (app_of code.app.now) p
-  -- the cost of a section of the armed messages
+  -- the cost of a section of the armed messages, and of one where a message is told by its handle
   pub timed : code.timer_section ≡ timer_section_cost (app_of code.app.now)
+  pub addressed : code.handle_section ≡ handle_section_cost (app_of code.app.now)

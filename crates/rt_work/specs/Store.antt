@@ -3,7 +3,7 @@
 -- software tasks and the monotonic).
 use Rattle.std.specs.Prelude.{ℕ, List, [], slice_index, slice_index_or}
 use Rattle.rt_ids.specs.Holder.{Guarded, Own}
-use Rattle.rt_ids.specs.Content.{Message, Armed, Number, Messages, Delays, Values}
+use Rattle.rt_ids.specs.Content.{Message, Timed, Number, Messages, Delays, Values}
 use Rattle.rt_ids.specs.declared.ids.Section.TheVariants as section
 
 pub record Store : Type 0 where
@@ -14,13 +14,13 @@ pub record Store : Type 0 where
   pub out : List ℕ
   -- the ready messages of each level, the oldest first
   pub ready : List (List Message)
-  -- the armed messages, in order of arming
-  pub armed : List Armed
+  -- the armed messages, and the counts of the timer queue
+  pub timed : Timed
 
 -- the contents that it stands for
 unfoldable pub contents : Store → Values
 contents s (Guarded (section.Res r)) = Number (slice_index s.shared r)
 contents s (Guarded (section.Free t)) = Number (slice_index s.out t)
 contents s (Guarded (section.Ready p)) = Messages (slice_index_or s.ready p [])
-contents s (Guarded section.Timer) = Delays s.armed
+contents s (Guarded section.Timer) = Delays s.timed
 contents s (Own l) = Number (slice_index s.locals l)

@@ -1,23 +1,24 @@
 -- What a thing on an auditor's list of things to do comes to: the actions of what it stands for, and then those of what
 -- is left behind it. The definitions run a body on its tree, with what is left as a function (`rt_app`; the RTIC 1
 -- book, resources, software tasks and the monotonic).
-use Rattle.std.specs.Prelude.{ℕ, ◌+◌, ◌-◌, min, List, [], ◌∷◌, ◌++◌, replicate, slice_get, slice_set, Option, Some}
+use Rattle.std.specs.Prelude.{ℕ, ◌-◌, List, [], ◌∷◌, ◌++◌, replicate, slice_get, slice_set, Option, Some}
 use Rattle.std.specs.Prelude.{None, if◌then◌else◌}
 use Rattle.rt_ids.specs.Lists.{is_empty, then_from}
 use Rattle.rt_ids.specs.Holder.{Guarded}
-use Rattle.rt_ids.specs.Content.{Message, Armed, messages, delays}
+use Rattle.rt_ids.specs.Content.{Message, Armed, messages, timed, delays}
 use Rattle.rt_ids.specs.Action.{Enters, Leaves, Posts, Clocks, Takes, Refuses, Starts, Frees, Arms, Fires}
-use Rattle.rt_ids.specs.Action.{SetsAlarm, Ends}
+use Rattle.rt_ids.specs.Action.{Cancels, Moves, SetsAlarm, Ends}
 use Rattle.rt_ids.specs.Doing.{does}
 use Rattle.rt_ids.specs.declared.ids.BodyId.TheVariants as body
 use Rattle.rt_ids.specs.declared.ids.Section.TheVariants as section
-use Rattle.rt_ids.specs.declared.limits.TheConstants.{LONGEST_DELAY}
 use Rattle.rt_app.specs.declared.costs.TheConstants.{FREE_COST}
 use Rattle.rt_app.specs.Tree.{Body, App}
 use Rattle.rt_app.specs.View.{block_of}
 use Rattle.rt_app.specs.Variables.{variables}
 use Rattle.rt_app.specs.Bodies.{task_priority}
-use Rattle.rt_app.specs.Sending.{Rest, act, act_all, has_place, dispatcher_number, ready_actions, arm_actions}
+use Rattle.rt_app.specs.BodyCost.{timer_section_cost}
+use Rattle.rt_app.specs.Sending.{Rest, act, act_all, has_place, dispatcher_number, ready_actions, instant_after}
+use Rattle.rt_app.specs.Sending.{leave_timer, arm_actions, is_armed_as}
 use Rattle.rt_app.specs.Meaning.{Later, turns_from, run_block}
 use Rattle.rt_app.specs.Doings.{due}
 use Rattle.rt_work.specs.declared.todo.Todo.{Todo}
@@ -31,17 +32,23 @@ abbrev pub given : Option ℕ → ℕ → Later → Later
 given None n later vars = later vars
 given (Some x) n later vars = later (slice_set vars x n)
 
+-- a variable, where there is one, comes to hold the handle that was given last
+abbrev pub handed : Option ℕ → Later → Later
+handed None later vars vs = later vars vs
+handed (Some x) later vars vs = later (slice_set vars x (timed (vs (Guarded section.Timer))).given) vs
+
 module _ (app : App) where
-  -- a message that has a place goes to its queue, at once or behind a delay
-  abbrev pub sent : Option ℕ → Message → Rest → Rest
-  sent None m rest = act_all (ready_actions app (task_priority app m.task) m) rest
-  sent (Some delay) m rest = arm_actions app delay m rest
+  -- A message that has a place goes to its queue, at once or behind a delay. The rest goes by what the spawn gives.
+  abbrev pub sent : Option ℕ → Message → (ℕ → Rest) → Rest
+  sent None m rest = act_all (ready_actions app (task_priority app m.task) m) (rest 1)
+  sent (Some delay) m rest = arm_actions app (timer_section_cost app) delay m rest
 
   -- a place of the task is taken where one is left, inside its section
   abbrev pub placed : Option ℕ → Option ℕ → Message → Later → Later
   placed variable delay m later vars vs =
       if has_place app m.task vs
-      then act_all (Takes m.task ∷ Leaves (section.Free m.task) ∷ []) (sent delay m (given variable 1 later vars)) vs
+      then act_all (Takes m.task ∷ Leaves (section.Free m.task) ∷ [])
+      (sent delay m (λ value. given variable value later vars)) vs
       else act_all (Refuses m.task ∷ Leaves (section.Free m.task) ∷ []) (given variable 0 later vars) vs
 
   -- a body begins, where it is declared
@@ -72,8 +79,27 @@ module _ (app : App) where
   -- the clock is read, for this
   abbrev pub clocked : Reading → ℕ → Later → Later
   clocked (reading.Bind x) time later vars vs = later (slice_set vars x time) vs
-  clocked (reading.Arm delay m) time later vars vs = act (Arms (time + min delay LONGEST_DELAY) m) (later vars) vs
+  clocked (reading.Arm delay m) time later vars vs = act (Arms (instant_after app time delay) m) (later vars) vs
+  clocked (reading.Move delay n handle) time later vars vs =
+      act (Moves n handle (instant_after app time delay)) (later vars) vs
   clocked reading.Fire time later vars vs = fired (due app time (delays (vs (Guarded section.Timer)))) (later vars) vs
+
+  -- inside the section of the armed messages one of them is taken back, where it has the handle
+  abbrev pub cancelled : Option ℕ → ℕ → ℕ → Later → Later
+  cancelled variable n handle later vars vs =
+      if is_armed_as app n handle vs
+      then act (Cancels n handle) (leave_timer app
+      (act_all (Enters (section.Free n) FREE_COST ∷ Frees n ∷ Leaves (section.Free n) ∷ [])
+      (given variable 0 later vars))) vs
+      else act (Leaves section.Timer) (given variable 1 later vars) vs
+
+  -- likewise it is put off
+  abbrev pub moved : Option ℕ → ℕ → ℕ → ℕ → Later → Later
+  moved variable delay n handle later vars vs =
+      if is_armed_as app n handle vs
+      then does Clocks vs (λ time. clocked (reading.Move delay n handle) time
+      (λ vars. leave_timer app (given variable 0 later vars)) vars)
+      else act (Leaves section.Timer) (given variable 1 later vars) vs
 
   abbrev pub meaning : Todo → Later → Later
   meaning (todo.Run stmts) later vars vs = run_block app (block_of stmts.now) later vars vs
@@ -84,6 +110,9 @@ module _ (app : App) where
   meaning (todo.Dispatch p) later vars vs = started p (messages (vs (Guarded (section.Ready p)))) later vars vs
   meaning (todo.Begin m) later vars vs = entered (task_body m.task) m.args later vars vs
   meaning (todo.Due time) later vars vs = clocked reading.Fire time later vars vs
+  meaning (todo.Handle x) later vars vs = handed (Some x) later vars vs
+  meaning (todo.Cancel variable n handle) later vars vs = cancelled variable n handle later vars vs
+  meaning (todo.Move variable delay n handle) later vars vs = moved variable delay n handle later vars vs
   meaning (todo.Act a) later vars vs = act (action_of a) (later vars) vs
   meaning (todo.Clock r) later vars vs = does Clocks vs (λ time. clocked r time later vars)
 

@@ -24,6 +24,10 @@ pub enum Action {
     Arm(u64, Message),
     /// Takes the least armed message.
     Fire(Message),
+    /// Takes back the armed message of a task that has a handle.
+    Cancel(TaskId, u32),
+    /// Puts the armed message of a task that has a handle to another instant.
+    Move(TaskId, u32, u64),
     /// Sets the alarm to the least armed instant.
     SetAlarm,
     /// Ends the body of a software task.

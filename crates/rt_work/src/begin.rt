@@ -61,7 +61,7 @@ pub(crate) fn begin<'a>(app: &'a App, message: Message, work: &mut Work<'a>) -> 
         work.old s work.new s) }
 {
     let number = message.task();
-    match app.tasks.get(usize::from(number.0)) {
+    match app.task(number) {
         None => Ok(()),
         Some(task) => {
             work.begin(task.body.block.as_slice(), message.into_args())?;

@@ -1,4 +1,5 @@
-ghost use Rattle.std.specs.Prelude.{OnOk};
+ghost use Rattle.std.specs.Prelude.{◌≡◌, ◌+◌, min, OnOk, IfOk};
+ghost use Rattle.rt_ids.specs.declared.limits.TheConstants.{LONGEST_DELAY};
 ghost use Rattle.rt_app.specs.Tree.{App};
 ghost use Rattle.rt_work.specs.Store as store;
 ghost use Rattle.rt_work.specs.Todo.{clocked};
@@ -8,8 +9,8 @@ use crate::action::Action;
 use crate::message::Message;
 use crate::todo::{Reading, Todo};
 use crate::work::Work;
-use rt_ids::NoMemory;
 use rt_ids::limits::LONGEST_DELAY;
+use rt_ids::{NoMemory, TaskId};
 
 /// A variable comes to hold the time, which there is room for below 2^32.
 fn bind<'a>(variable: u16, time: u64, work: &mut Work<'a>) -> Result<(), NoMemory>
@@ -25,18 +26,40 @@ fn bind<'a>(variable: u16, time: u64, work: &mut Work<'a>) -> Result<(), NoMemor
     }
 }
 
+/// The instant so many ticks from a time.
+fn instant_after(time: u64, delay: u32) -> Result<u64, NoMemory>
+    ensures { IfOk result (λ instant. instant ≡ time + min delay LONGEST_DELAY) }
+{
+    match time.checked_add(u64::from(delay.min(LONGEST_DELAY))) {
+        None => Err(NoMemory),
+        Some(instant) => Ok(instant),
+    }
+}
+
 /// A message is armed, so many ticks from this time.
 fn arm<'a>(delay: u32, message: Message, time: u64, work: &mut Work<'a>) -> Result<(), NoMemory>
     ensures { OnOk result ((app : App) (s : store.Store) → Becomes app (clocked app (Reading.Arm delay message) time)
         work.old s work.new s) }
 {
-    match time.checked_add(u64::from(delay.min(LONGEST_DELAY))) {
-        None => Err(NoMemory),
-        Some(instant) => {
-            work.push(Todo::Act(Action::Arm(instant, message)))?;
-            Ok(())
-        }
-    }
+    let instant = instant_after(time, delay)?;
+    work.push(Todo::Act(Action::Arm(instant, message)))?;
+    Ok(())
+}
+
+/// The message of a handle is put off, to so many ticks from this time.
+fn put_off<'a>(
+    delay: u32,
+    task: TaskId,
+    handle: u32,
+    time: u64,
+    work: &mut Work<'a>,
+) -> Result<(), NoMemory>
+    ensures { OnOk result ((app : App) (s : store.Store) → Becomes app (clocked app (Reading.Move delay task handle)
+        time) work.old s work.new s) }
+{
+    let instant = instant_after(time, delay)?;
+    work.push(Todo::Act(Action::Move(task, handle, instant)))?;
+    Ok(())
 }
 
 /// The clock, which was read for this, answers the time.
@@ -51,6 +74,10 @@ pub fn answer<'a>(reading: Reading, time: u64, work: &mut Work<'a>) -> Result<()
         }
         Reading::Arm(delay, message) => {
             arm(delay, message, time, work)?;
+            Ok(())
+        }
+        Reading::Move(delay, task, handle) => {
+            put_off(delay, task, handle, time, work)?;
             Ok(())
         }
         Reading::Fire => {

@@ -22,7 +22,7 @@ use rt_ids::{NoMemory, Prio, Section, TaskId};
 use std::alloc::Global;
 
 /// A place of a task is given back.
-fn free_place<'a>(task: TaskId, work: &mut Work<'a>) -> Result<(), NoMemory>
+pub(crate) fn free_place<'a>(task: TaskId, work: &mut Work<'a>) -> Result<(), NoMemory>
     ensures { OnOk result (work.new ≡ record work.old {
       todos = work.old.todos ++ Todo.Act (Action.Leave (section.Free task)) ∷ Todo.Act (Action.Free task)
           ∷ Todo.Act (Action.Enter (section.Free task) FREE_COST) ∷ [];

@@ -8,6 +8,7 @@ pub mod clock;
 pub mod code;
 mod dispatch;
 pub mod handler;
+mod handles;
 pub mod lookup;
 pub mod message;
 mod sending;

@@ -12,7 +12,7 @@ use rt_ids::TaskId;
 pub(crate) fn capacity(app: &App, task: TaskId) -> u8
     ensures { result ≡ capacity_of (app_of app.now) task }
 {
-    match app.tasks.get(usize::from(task.0)) {
+    match app.task(task) {
         None => 0,
         Some(task) => task.capacity,
     }
@@ -22,7 +22,7 @@ pub(crate) fn capacity(app: &App, task: TaskId) -> u8
 pub fn priority(app: &App, task: TaskId) -> u8
     ensures { result ≡ task_priority (app_of app.now) task }
 {
-    match app.tasks.get(usize::from(task.0)) {
+    match app.task(task) {
         None => 0,
         Some(task) => task.priority,
     }

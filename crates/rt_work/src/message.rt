@@ -54,11 +54,12 @@ impl Message {
     }
 }
 
-/// A message that waits for its instant, in ticks.
+/// A message that waits for its instant, in ticks, and its handle.
 #[derive(Drop)]
 pub struct Armed {
     pub(crate) instant: u64,
     pub(crate) message: Message,
+    pub(crate) handle: u64,
 }
 
 impl Model for Armed {
@@ -66,5 +67,5 @@ impl Model for Armed {
 
     ghost Value = { Armed };
 
-    ghost view = { λ a. record { instant = a.instant; message = a.message } };
+    ghost view = { λ a. record { instant = a.instant; message = a.message; handle = a.handle } };
 }

@@ -2,9 +2,10 @@ ghost use Rattle.std.specs.Prelude.{◌≡◌, OnOk};
 ghost use Rattle.rt_app.specs.Tree.{App};
 ghost use Rattle.rt_app.specs.View.{app_of};
 ghost use Rattle.rt_app.specs.Bodies.{task_priority};
+ghost use Rattle.rt_app.specs.BodyCost.{timer_section_cost};
 ghost use Rattle.rt_app.specs.Sending.{act_all, arm_actions, dispatcher_number, ready_actions};
 ghost use Rattle.rt_work.specs.Code.{IsCode};
-ghost use Rattle.rt_work.specs.Todo.{given, sent, placed};
+ghost use Rattle.rt_work.specs.Todo.{given, handed, sent, placed};
 ghost use Rattle.rt_work.specs.Work.{Becomes};
 ghost use Rattle.rt_work.specs.Inside.Pushes.{Pushes};
 
@@ -28,13 +29,30 @@ pub(crate) fn dispatcher<'a>(code: &Code<'a>, level: u8) -> u16
 }
 
 /// A variable, where there is one, comes to hold what a spawn gave.
-fn tell<'a>(variable: Option<u16>, value: u32, work: &mut Work<'a>) -> Result<(), NoMemory>
+pub(crate) fn tell<'a>(
+    variable: Option<u16>,
+    value: u32,
+    work: &mut Work<'a>,
+) -> Result<(), NoMemory>
     ensures { OnOk result ((app : App) → Pushes app (given variable value) work.old work.new) }
 {
     match variable {
         None => Ok(()),
         Some(variable) => {
             work.push(Todo::Set(variable, value))?;
+            Ok(())
+        }
+    }
+}
+
+/// A variable, where there is one, comes to hold the handle that was given last.
+fn tell_handle<'a>(variable: Option<u16>, work: &mut Work<'a>) -> Result<(), NoMemory>
+    ensures { OnOk result ((app : App) → Pushes app (handed variable) work.old work.new) }
+{
+    match variable {
+        None => Ok(()),
+        Some(variable) => {
+            work.push(Todo::Handle(variable))?;
             Ok(())
         }
     }
@@ -59,42 +77,48 @@ pub(crate) fn make_ready<'a>(
     Ok(())
 }
 
-/// A message is armed, so many ticks from the time that is then.
+/// A message is armed, so many ticks from the time that is then. A variable is told its handle.
 fn arm<'a>(
     code: &Code<'a>,
+    variable: Option<u16>,
     ticks: u32,
     message: Message,
     work: &mut Work<'a>,
 ) -> Result<(), NoMemory>
     requires { IsCode code.now }
     ensures { let app = app_of code.now.app.now in
-        OnOk result (Pushes app (λ later vars. arm_actions app ticks message (later vars)) work.old work.new) }
+        OnOk result (Pushes app (λ later vars. arm_actions app (timer_section_cost app) ticks message (λ handle.
+        given variable handle later vars)) work.old work.new) }
 {
     work.push(Todo::Act(Action::Leave(Section::Timer)))?;
     work.push(Todo::Act(Action::SetAlarm))?;
+    tell_handle(variable, work)?;
     work.push(Todo::Clock(Reading::Arm(ticks, message)))?;
     work.push(Todo::Act(Action::Enter(Section::Timer, code.timer_section)))?;
     Ok(())
 }
 
-/// A message goes to its queue, at once or behind a delay.
+/// A message goes to its queue, at once or behind a delay. A variable is told that it has a place, or its handle.
 fn send<'a>(
     code: &Code<'a>,
+    variable: Option<u16>,
     delay: Option<u32>,
     message: Message,
     work: &mut Work<'a>,
 ) -> Result<(), NoMemory>
     requires { IsCode code.now }
     ensures { let app = app_of code.now.app.now in
-        OnOk result (Pushes app (λ later vars. sent app delay message (later vars)) work.old work.new) }
+        OnOk result (Pushes app (λ later vars. sent app delay message (λ value. given variable value later vars))
+        work.old work.new) }
 {
     match delay {
         None => {
+            tell(variable, 1, work)?;
             make_ready(code, message, work)?;
             Ok(())
         }
         Some(ticks) => {
-            arm(code, ticks, message, work)?;
+            arm(code, variable, ticks, message, work)?;
             Ok(())
         }
     }
@@ -120,8 +144,7 @@ pub(crate) fn place<'a>(
         work.push(Todo::Act(Action::Refuse(task)))?;
         return Ok(());
     }
-    tell(variable, 1, work)?;
-    send(code, delay, message, work)?;
+    send(code, variable, delay, message, work)?;
     work.push(Todo::Act(Action::Leave(Section::Free(task))))?;
     work.push(Todo::Act(Action::Place(task)))?;
     Ok(())

@@ -157,6 +157,39 @@ pub fn is_fire(what: &What, task: TaskId) -> bool
     }
 }
 
+/// Whether an item shows that the message of a task that has this handle is taken back.
+pub fn is_cancel(what: &What, task: TaskId, handle: u32) -> bool
+    ensures { IsTrue result ↔ (what.now ≡ What.Cancel task handle) }
+{
+    match what {
+        What::Cancel(cancelled, told) => {
+            if *cancelled != task {
+                return false;
+            }
+            *told == handle
+        }
+        _other => false,
+    }
+}
+
+/// Whether an item shows that the message of a task that has this handle is put to this instant.
+pub fn is_move(what: &What, task: TaskId, handle: u32, instant: u64) -> bool
+    ensures { IsTrue result ↔ (what.now ≡ What.Move task handle instant) }
+{
+    match what {
+        What::Move(moved, told, at) => {
+            if *moved != task {
+                return false;
+            }
+            if *told != handle {
+                return false;
+            }
+            u64::from(*at) == instant
+        }
+        _other => false,
+    }
+}
+
 /// Whether an item shows that the alarm comes.
 pub fn is_alarm(what: &What) -> bool
     ensures { IsTrue result ↔ (what.now ≡ What.Alarm) }

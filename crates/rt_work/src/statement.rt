@@ -71,7 +71,18 @@ fn ask<'a>(
     Ok(())
 }
 
-/// A spawn begins. A variable is told whether it found a place, where there is one.
+/// The section of the armed messages is entered, to do this there by a handle.
+fn address<'a>(code: &Code<'a>, todo: Todo<'a>, work: &mut Work<'a>) -> Result<(), NoMemory>
+    ensures { OnOk result (work.new ≡ record work.old {
+      todos = work.old.todos ++ todo.entry ∷ Todo.Act (Action.Enter section.Timer code.now.handle_section) ∷ [];
+    }) }
+{
+    work.push(todo)?;
+    work.push(Todo::Act(Action::Enter(Section::Timer, code.handle_section)))?;
+    Ok(())
+}
+
+/// A spawn begins. A variable, where there is one, is told what it gives.
 fn spawn<'a>(
     code: &Code<'a>,
     spawn: &'a Spawn,
@@ -79,6 +90,7 @@ fn spawn<'a>(
     work: &mut Work<'a>,
     store: &Store,
 ) -> Result<(), NoMemory>
+    requires { IsCode code.now }
     ensures { OnOk result (Becomes (app_of code.now.app.now) (spawned (app_of code.now.app.now) variable (spawn_of
         spawn.now)) work.old store.now work.new store.now) }
 {
@@ -94,6 +106,17 @@ fn spawn<'a>(
             ask(variable, Some(ticks), sent, work)?;
             Ok(())
         }
+        Spawn::Cancel(_word, task, handle, _at) => {
+            let told = value(handle, work.vars(), store);
+            address(code, Todo::Cancel(variable, *task, told), work)?;
+            Ok(())
+        }
+        Spawn::Move(_word, delay, task, handle, _at) => {
+            let ticks = value(delay, work.vars(), store);
+            let told = value(handle, work.vars(), store);
+            address(code, Todo::Move(variable, ticks, *task, told), work)?;
+            Ok(())
+        }
     }
 }
 
@@ -105,6 +128,7 @@ fn bind<'a>(
     work: &mut Work<'a>,
     store: &Store,
 ) -> Result<(), NoMemory>
+    requires { IsCode code.now }
     ensures { OnOk result (Becomes (app_of code.now.app.now) (bind (app_of code.now.app.now) variable (value_of
         bound.now)) work.old store.now work.new store.now) }
 {

@@ -1,15 +1,16 @@
-ghost use Rattle.std.specs.Prelude.{◌≡◌, ◌≤◌, [], OnOk, drop, length, map, slice_index};
-ghost use Rattle.rt_ids.specs.Action.{effect, Takes, Frees, Readies, Starts, Arms, Fires};
+ghost use Rattle.std.specs.Prelude.{◌≡◌, ◌≤◌, ◌++◌, OnOk, drop, is_some, length, map, slice_index};
+ghost use Rattle.rt_ids.specs.Action.{effect, Takes, Frees, Readies, Starts, Arms, Fires, Cancels, Moves};
 ghost use Rattle.rt_ids.specs.Content as content;
 ghost use Rattle.rt_ids.specs.Holder.{Guarded, Own};
-ghost use Rattle.rt_ids.specs.Content.{Number, number, messages, delays, put_at};
+ghost use Rattle.rt_ids.specs.Content.{Number, number, messages, timed, delays, nothing_armed, put_at};
+ghost use Rattle.rt_ids.specs.Content.{armed_as, postponed, without_handle};
 ghost use Rattle.rt_ids.specs.declared.ids.Section.TheVariants as section;
 ghost use Rattle.rt_work.specs.Actions.{action_of};
 ghost use Rattle.rt_work.specs.Store.{contents};
 
 use crate::action::Action;
 use crate::message::{Armed, Message};
-use crate::timer::least;
+use crate::timer::{by_handle, least};
 use rt_ids::{NoMemory, ResId, TaskId};
 use std::alloc::Global;
 use std::marker::Model;
@@ -21,6 +22,8 @@ pub struct Store {
     locals: Vec<u32>,
     out: Vec<u32>,
     ready: Vec<Vec<Message>>,
+    given: u64,
+    moved: u64,
     armed: Vec<Armed>,
 }
 
@@ -35,7 +38,7 @@ impl Model for Store {
       locals = s.locals.items;
       out = s.out.items;
       ready = map (λ q. q.items) s.ready.items;
-      armed = s.armed.items;
+      timed = record { given = s.given; moved = s.moved; armed = s.armed.items };
     } };
 
     ghost invariant = { λ s.
@@ -59,6 +62,22 @@ pub fn drop_first<T: Drop>(items: &mut Vec<T>)
     }
 }
 
+/// The armed message of a task that has a handle, where there is one, goes last for another instant.
+fn postpone(armed: &mut Vec<Armed>, task: TaskId, handle: u32, instant: u64) -> Result<(), NoMemory>
+    ensures { OnOk result (armed.new.items ≡ without_handle task handle armed.old.items ++ postponed instant (armed_as
+        task handle armed.old.items)) }
+{
+    if let Some(place) = by_handle(armed, task, handle) {
+        let message = armed.remove(place);
+        armed.push(Armed {
+            instant,
+            message: message.message,
+            handle: message.handle,
+        })?;
+    }
+    Ok(())
+}
+
 impl Store {
     /// What these lists hold, by number, where nothing is armed. Each has room for every number of a byte.
     pub fn new(
@@ -77,7 +96,7 @@ impl Store {
           locals = locals.items;
           out = out.items;
           ready = map (λ q. q.items) ready.items;
-          armed = [];
+          timed = nothing_armed;
         } }
     {
         Store {
@@ -85,6 +104,8 @@ impl Store {
             locals,
             out,
             ready,
+            given: 0,
+            moved: 0,
             armed: Vec::new(alloc),
         }
     }
@@ -117,11 +138,25 @@ impl Store {
         self.ready[usize::from(level)].as_slice()
     }
 
-    /// The armed messages, in order of arming.
+    /// The armed messages, in order of their last arming.
     pub fn armed(&self) -> &[Armed]
         ensures { result.now ≡ delays (contents self.now (Guarded section.Timer)) }
     {
         self.armed.as_slice()
+    }
+
+    /// The handle that was given last, and 0 before the first.
+    pub(crate) fn given(&self) -> u64
+        ensures { result ≡ (timed (contents self.now (Guarded section.Timer))).given }
+    {
+        self.given
+    }
+
+    /// Whether some armed message of a task has a handle.
+    pub(crate) fn is_armed_as(&self, task: TaskId, handle: u32) -> bool
+        ensures { result ≡ is_some (armed_as task handle (delays (contents self.now (Guarded section.Timer)))) }
+    {
+        by_handle(&self.armed, task, handle).is_some()
     }
 
     /// A shared resource has another value.
@@ -177,12 +212,22 @@ impl Store {
         drop_first(&mut self.ready[usize::from(level)]);
     }
 
-    /// A message is armed.
+    /// A message is armed, with the next handle.
     pub(crate) fn arm(&mut self, instant: u64, message: Message) -> Result<(), NoMemory>
         ensures { OnOk result (contents self.new ≡ effect (Arms instant message) (contents self.old)) }
     {
-        self.armed.push(Armed { instant, message })?;
-        Ok(())
+        match self.given.checked_add(1) {
+            None => Err(NoMemory),
+            Some(handle) => {
+                self.armed.push(Armed {
+                    instant,
+                    message,
+                    handle,
+                })?;
+                self.given = handle;
+                Ok(())
+            }
+        }
     }
 
     /// The least armed message is taken.
@@ -191,6 +236,34 @@ impl Store {
     {
         if let Some(place) = least(&self.armed) {
             self.armed.remove(place);
+        }
+    }
+
+    /// The armed message of a task that has a handle is taken back.
+    pub(crate) fn cancel(&mut self, task: TaskId, handle: u32)
+        ensures { contents self.new ≡ effect (Cancels task handle) (contents self.old) }
+    {
+        if let Some(place) = by_handle(&self.armed, task, handle) {
+            self.armed.remove(place);
+        }
+    }
+
+    /// The armed message of a task that has a handle waits for another instant, behind all others.
+    pub(crate) fn put_off(
+        &mut self,
+        task: TaskId,
+        handle: u32,
+        instant: u64,
+    ) -> Result<(), NoMemory>
+        ensures { OnOk result (contents self.new ≡ effect (Moves task handle instant) (contents self.old)) }
+    {
+        match self.moved.checked_add(1) {
+            None => Err(NoMemory),
+            Some(moved) => {
+                postpone(&mut self.armed, task, handle, instant)?;
+                self.moved = moved;
+                Ok(())
+            }
         }
     }
 
@@ -226,6 +299,14 @@ impl Store {
             }
             Action::Fire(_message) => {
                 self.fire();
+                Ok(())
+            }
+            Action::Cancel(task, handle) => {
+                self.cancel(task, handle);
+                Ok(())
+            }
+            Action::Move(task, handle, instant) => {
+                self.put_off(task, handle, instant)?;
                 Ok(())
             }
             Action::SetAlarm => Ok(()),

@@ -1,5 +1,5 @@
 ghost use Rattle.std.specs.Prelude.{◌≡◌, OnOk, None, Some, option_map, position};
-ghost use Rattle.rt_ids.specs.Content.{least_instant, lesser, has_instant};
+ghost use Rattle.rt_ids.specs.Content.{least_instant, lesser, has_instant, has_handle};
 ghost use Rattle.rt_app.specs.Tree as tree;
 ghost use Rattle.rt_app.specs.View.{app_of};
 ghost use Rattle.rt_app.specs.Doings.{due};
@@ -14,7 +14,7 @@ use crate::sending::make_ready;
 use crate::store::Store;
 use crate::todo::Todo;
 use crate::work::Work;
-use rt_ids::{NoMemory, Section};
+use rt_ids::{NoMemory, Section, TaskId};
 
 /// The lesser of an instant and of another, where there is one.
 fn lesser(instant: u64, other: Option<u64>) -> u64
@@ -45,6 +45,22 @@ pub(crate) fn least(armed: &[Armed]) -> Option<usize>
         None => None,
         Some(instant) => armed.iter().position(|message| message.instant == instant),
     }
+}
+
+/// Whether it is a message of a task, and has a handle.
+fn has_handle(armed: &Armed, task: TaskId, handle: u32) -> bool
+    ensures { result ≡ has_handle task handle armed.now }
+{
+    armed.message.task == task && armed.handle == u64::from(handle)
+}
+
+/// The place of the armed message of a task that has a handle.
+pub(crate) fn by_handle(armed: &[Armed], task: TaskId, handle: u32) -> Option<usize>
+    ensures { result ≡ position (has_handle task handle) armed.now }
+{
+    armed
+        .iter()
+        .position(|message| has_handle(message, task, handle))
 }
 
 /// The least armed message, where its instant is not later than the time.

@@ -4,6 +4,7 @@ ghost use Rattle.rt_work.specs.Work.{is_seen};
 use crate::action::Action;
 use crate::message::Message;
 use rt_app::Stmt;
+use rt_ids::TaskId;
 
 /// What the clock is read for.
 #[derive(Drop)]
@@ -12,6 +13,8 @@ pub enum Reading {
     Bind(u16),
     /// The instant of a message, so many ticks later.
     Arm(u32, Message),
+    /// The instant of a task's message that has a handle, so many ticks later.
+    Move(u32, TaskId, u32),
     /// The choice of the message that the timer handler makes ready.
     Fire,
 }
@@ -34,6 +37,13 @@ pub enum Todo<'a> {
     Begin(Message),
     /// Inside the section of the armed messages, one that is due at this time becomes ready.
     Due(u64),
+    /// A variable comes to hold the handle that was given last.
+    Handle(u16),
+    /// Inside the section of the armed messages, the message of a task that has a handle is taken back, where there is
+    /// one: the variable that is told, the task, and the handle.
+    Cancel(Option<u16>, TaskId, u32),
+    /// Likewise it is put off: the variable that is told, the delay, the task, and the handle.
+    Move(Option<u16>, u32, TaskId, u32),
     Act(Action),
     Clock(Reading),
 }
@@ -51,6 +61,9 @@ impl<'a> Todo<'a> {
             Todo::Dispatch(_level) => false,
             Todo::Begin(_message) => false,
             Todo::Due(_time) => false,
+            Todo::Handle(_variable) => false,
+            Todo::Cancel(_variable, _task, _handle) => false,
+            Todo::Move(_variable, _delay, _task, _handle) => false,
             Todo::Act(_action) => true,
             Todo::Clock(_reading) => true,
         }

@@ -8,6 +8,7 @@ ghost use Rattle.rt_work.specs.Work.{Becomes, IsSettled};
 use crate::begin::begin;
 use crate::code::Code;
 use crate::dispatch::dispatch;
+use crate::handles::{cancel, put_off, told_handle};
 use crate::sending::place;
 use crate::statement::{statement, turn};
 use crate::store::Store;
@@ -76,6 +77,18 @@ fn take_up<'a>(
         }
         Todo::Due(time) => {
             fire(code, time, work, store)?;
+            Ok(())
+        }
+        Todo::Handle(variable) => {
+            told_handle(variable, work, store)?;
+            Ok(())
+        }
+        Todo::Cancel(variable, task, handle) => {
+            cancel(variable, task, handle, work, store)?;
+            Ok(())
+        }
+        Todo::Move(variable, delay, task, handle) => {
+            put_off(variable, delay, task, handle, work, store)?;
             Ok(())
         }
         Todo::Act(action) => {

@@ -3,16 +3,21 @@ use Rattle.rt_app.specs.View.{block_of, body_of, app_of}
 use Rattle.rt_app.specs.Variables.{variables}
 use Rattle.rt_work.specs.declared.todo.Todo.TheVariants as todo
 use Rattle.rt_work.proofs.Walks.{made}
-use Rattle.rt_work.proofs.Beginning.{begun, task_found}
+use Rattle.rt_work.proofs.Beginning.{begun, not_begun, task_found, none_found}
 use Rattle.rt_work.proofs.begin.begin.Goals as goal
+
+pub returns-in-None : goal.returns-in-None
+returns-in-None c =
+    not_begun (app_of c.args.app.now) c.args.message c.args.work.now
+    (none_found c.args.app.now.tasks.items c.task.result c.task-number.result c.args.message.task c.task.ensures
+    c.task-number.ensures c.in-None.is)
 
 pub returns-in_ok-begin-in-Some : goal.returns-in_ok-begin-in-Some
 returns-in_ok-begin-in-Some c =
     begun (app_of c.args.app.now) c.args.message (body_of c.in-Some.task.now.body) c.as_slice.result
     c.args.work.now c.begin.new.self
-    (task_found c.args.app.now.tasks.items c.deref.result.now c.from.result c.args.message.task c.in-Some.task.now
-    c.deref.ensures.value (c.from.ensures ∙ c.number.view_is ∙ c.task-number.ensures)
-    c.in-Some.ensures.lookup.3.0 c.in-Some.ensures.lookup.1)
+    (task_found c.args.app.now.tasks.items c.task.result c.task-number.result c.args.message.task c.in-Some.task
+    c.task.ensures c.task-number.ensures c.in-Some.is)
     (sym (ap block_of c.as_slice.ensures.value))
     (c.in_ok-begin-in-Some.ensures
     ∙ ap (λ (xs : List ℕ). made (c.args.work.now.todos ++ todo.Run c.as_slice.result ∷ []) (xs ++ replicate

@@ -14,6 +14,12 @@ returns-in_ok-arm-in-Arm c =
     answered_as app c.args.reading (reading.Arm c.in-Arm.delay c.in-Arm.message) c.args.time c.args.work.now
     c.arm.new.work s c.in-Arm.is (c.in_ok-arm-in-Arm.ensures app s)
 
+pub returns-in_ok-put_off-in-Move : goal.returns-in_ok-put_off-in-Move
+returns-in_ok-put_off-in-Move c =
+    λ app s.
+    answered_as app c.args.reading (reading.Move c.in-Move.delay c.in-Move.task c.in-Move.handle) c.args.time
+    c.args.work.now c.put_off.new.work s c.in-Move.is (c.in_ok-put_off-in-Move.ensures app s)
+
 pub returns-in_ok-push-in-Fire : goal.returns-in_ok-push-in-Fire
 returns-in_ok-push-in-Fire c =
     λ app s.

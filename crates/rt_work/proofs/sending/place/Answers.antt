@@ -19,7 +19,7 @@ pub returns : goal.returns
 returns c =
     let app = app_of c.args.code.now.app.now in
     place_taken app c.args.variable c.args.delay c.args.message c.message.inside.task c.args.work.now
-    c.tell-2.new.work c.send.new.work c.push-3.new.self c.args.store.now c.places_out.result c.capacity.result
+    c.send.new.work c.push-3.new.self c.args.store.now c.places_out.result c.capacity.result
     (ap (λ (m : Message). m.task) c.message.view_is) c.places_out.ensures c.capacity.ensures (omega arith)
-    (c.in_ok-tell-2.ensures app) c.in_ok-send.ensures
+    c.in_ok-send.ensures
     (two_more c.send.new.work c.push-2.new.self c.push-3.new.self _ _ c.in_ok-push-3.ensures c.in_ok-push-4.ensures)

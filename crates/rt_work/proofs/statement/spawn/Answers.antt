@@ -1,6 +1,6 @@
 use Rattle.std.proofs.Common.{map, ap}
 use Rattle.rt_app.specs.View.{expression_of, spawn_of, app_of}
-use Rattle.rt_work.proofs.Statements.{value_told, message_told, soon_asked, after_asked}
+use Rattle.rt_work.proofs.Statements.{value_told, message_told, soon_asked, after_asked, cancel_asked, move_asked}
 use Rattle.rt_work.proofs.statement.spawn.Goals as goal
 
 pub returns-in_ok-ask-in-Soon : goal.returns-in_ok-ask-in-Soon
@@ -26,3 +26,26 @@ returns-in_ok-ask-in-After c =
     c.in-After.args.items c.in-After.task c.in_ok-sent-in-After.sent c.vars-in-After-2.ensures
     c.as_slice-in-After.ensures.value c.in_ok-sent-in-After.ensures)
     c.in_ok-ask-in-After.ensures
+
+pub returns-in_ok-address-in-Cancel : goal.returns-in_ok-address-in-Cancel
+returns-in_ok-address-in-Cancel c =
+    let app = app_of c.args.code.now.app.now in
+    cancel_asked app c.args.variable (spawn_of c.args.spawn.now) c.in-Cancel._word c.in-Cancel.task c.in-Cancel._at
+    c.value-told.result c.args.code.now.handle_section (expression_of c.in-Cancel.handle) c.args.work.now
+    c.address.new.work c.args.store.now (ap spawn_of c.in-Cancel.is)
+    (value_told c.vars-in-Cancel.result.now c.args.work.now.vars c.args.store.now (expression_of c.in-Cancel.handle)
+    c.value-told.result c.vars-in-Cancel.ensures c.value-told.ensures) c.requires.addressed
+    c.in_ok-address-in-Cancel.ensures
+
+pub returns-in_ok-address-in-Move : goal.returns-in_ok-address-in-Move
+returns-in_ok-address-in-Move c =
+    let app = app_of c.args.code.now.app.now in
+    move_asked app c.args.variable (spawn_of c.args.spawn.now) c.in-Move._word c.in-Move.task c.in-Move._at
+    c.value-ticks-in-Move.result c.value-told-in-Move.result c.args.code.now.handle_section
+    (expression_of c.in-Move.delay) (expression_of c.in-Move.handle) c.args.work.now c.address-in-Move.new.work
+    c.args.store.now (ap spawn_of c.in-Move.is)
+    (value_told c.vars-in-Move.result.now c.args.work.now.vars c.args.store.now (expression_of c.in-Move.delay)
+    c.value-ticks-in-Move.result c.vars-in-Move.ensures c.value-ticks-in-Move.ensures)
+    (value_told c.vars-in-Move-2.result.now c.args.work.now.vars c.args.store.now (expression_of c.in-Move.handle)
+    c.value-told-in-Move.result c.vars-in-Move-2.ensures c.value-told-in-Move.ensures) c.requires.addressed
+    c.in_ok-address-in-Move.ensures

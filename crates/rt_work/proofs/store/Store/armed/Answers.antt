@@ -4,4 +4,4 @@ use Rattle.rt_work.proofs.store.Store.armed.Goals as goal
 
 pub returns : goal.returns
 unfolding contents
-returns c = c.as_slice.ensures.value ∙ ap (λ (s : Store). s.armed) c.self.view_is
+returns c = c.as_slice.ensures.value ∙ ap (λ (s : Store). s.timed.armed) c.self.view_is
