@@ -4,7 +4,7 @@ ghost use Rattle.rt_script.specs.Script as spec;
 use rt_ids::Irq;
 
 /// What a line of a script asks for.
-#[derive(Clone, Copy, Debug, PartialEq, Eq)]
+#[derive(Clone, Copy, PartialEq, Eq)]
 pub enum Line {
     /// So many core steps.
     Steps(u32),

@@ -10,7 +10,7 @@ use std::marker::Model;
 
 /// A script: lines that are at most 1,000,000 events once they are expanded. The numbers of its devices are 0 to
 /// 15. Contracts see the list of lines.
-#[derive(Debug, Drop)]
+#[derive(Drop)]
 pub struct Script {
     lines: Vec<Line>,
     /// The events of the lines.

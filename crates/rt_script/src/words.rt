@@ -9,7 +9,7 @@ use rt_ids::{Irq, Names, is_identifier};
 use rt_lines::{next_spaced_word, short_number};
 
 /// What is wrong with a line.
-#[derive(Clone, Copy, Debug, PartialEq, Eq)]
+#[derive(Clone, Copy, PartialEq, Eq)]
 pub enum Wrong {
     /// It is of no form.
     Form,
