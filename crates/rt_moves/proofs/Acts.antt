@@ -5,7 +5,7 @@ use Rattle.rt_ids.specs.Holder.{Guarded}
 use Rattle.rt_ids.specs.Content.{Values, delays, least_instant}
 use Rattle.rt_ids.specs.declared.ids.Section.TheVariants as section
 use Rattle.rt_ids.specs.Action.{Action, Enters, Leaves, Emits, Posts, Clocks, Takes, Refuses, Readies, Starts}
-use Rattle.rt_ids.specs.Action.{Frees, Arms, Fires, SetsAlarm, Ends, Returns, effect}
+use Rattle.rt_ids.specs.Action.{Frees, Arms, Fires, Cancels, Moves, SetsAlarm, Ends, Returns, effect}
 use Rattle.rt_ids.specs.Doing.{Doing, over}
 use Rattle.rt_ids.specs.declared.ids.BodyId.TheVariants as body
 use Rattle.rt_app.specs.Tree.{App}
@@ -48,6 +48,9 @@ seen_reaches app (todo.Set x n) later vars vs us seen = absurd cc
 seen_reaches app (todo.Place x delay m) later vars vs us seen = absurd cc
 seen_reaches app (todo.Dispatch p) later vars vs us seen = absurd cc
 seen_reaches app (todo.Begin m) later vars vs us seen = absurd cc
+seen_reaches app (todo.Handle x) later vars vs us seen = absurd cc
+seen_reaches app (todo.Cancel x n h) later vars vs us seen = absurd cc
+seen_reaches app (todo.Move x delay n h) later vars vs us seen = absurd cc
 seen_reaches app (todo.Due time) later vars vs us seen = absurd cc
 
 pub finish_reaches : (r : laws.Role) (vars : List ℕ) (vs us : Values) → r ≢ laws.Waiting
@@ -108,6 +111,8 @@ plain_changes (Starts p m) plain app t j old ks vs rest = refl
 plain_changes (Frees n) plain app t j old ks vs rest = refl
 plain_changes (Arms i m) plain app t j old ks vs rest = refl
 plain_changes (Fires m) plain app t j old ks vs rest = refl
+plain_changes (Cancels n h) plain app t j old ks vs rest = refl
+plain_changes (Moves n h i) plain app t j old ks vs rest = refl
 plain_changes SetsAlarm plain app t j old ks vs rest = refl
 plain_changes (Ends body.Init) plain app t j old ks vs rest = absurd plain
 plain_changes (Ends body.Idle) plain app t j old ks vs rest = absurd plain
@@ -279,6 +284,8 @@ is_plain (act.Start p m) = tt
 is_plain (act.Free n) = tt
 is_plain (act.Arm i m) = tt
 is_plain (act.Fire m) = tt
+is_plain (act.Cancel n h) = tt
+is_plain (act.Move n h i) = tt
 is_plain act.SetAlarm = tt
 is_plain (act.End n) = tt
 
@@ -296,6 +303,8 @@ nothing_beyond app (act.Start p m) i s posts sets = refl
 nothing_beyond app (act.Free n) i s posts sets = refl
 nothing_beyond app (act.Arm instant m) i s posts sets = refl
 nothing_beyond app (act.Fire m) i s posts sets = refl
+nothing_beyond app (act.Cancel n h) i s posts sets = refl
+nothing_beyond app (act.Move n h instant) i s posts sets = refl
 nothing_beyond app act.SetAlarm i s posts sets = absurd (sets refl)
 nothing_beyond app (act.End n) i s posts sets = refl
 

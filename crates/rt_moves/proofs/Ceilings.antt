@@ -1,5 +1,5 @@
 -- Ceilings read off the tables are the ceilings, of any section.
-use Rattle.std.proofs.Common.{◌≡◌, ℕ, zero, suc, ◌+◌, ◌<◌, ◌==◌, Bool, true, false, not, ◌&&◌}
+use Rattle.std.proofs.Common.{◌≡◌, ℕ, zero, suc, ◌+◌, ◌<◌, ◌==◌, Bool, true, false, ◌&&◌}
 use Rattle.std.proofs.Common.{if◌then◌else◌, cond, List, [], ◌∷◌, length, map, find, get_or, slice_get, Option}
 use Rattle.std.proofs.Common.{Some, None, option_map, refl, sym, ap, ◌∙◌, arith, add-zero, ⊎_elim}
 use Rattle.std.specs.List.{AllByRecursion, list_any}
@@ -16,7 +16,7 @@ use Rattle.rt_app.specs.declared.ceilings.ReadyCeiling.{ReadyCeiling}
 use Rattle.rt_app.specs.declared.costs.TheConstants.{PRIORITIES}
 use Rattle.rt_app.specs.Tree.{Spawn, Task, App}
 use Rattle.rt_app.specs.Bodies.{Member, members, task_priority}
-use Rattle.rt_app.specs.Spawned.{is_soon, target, spawns}
+use Rattle.rt_app.specs.Spawned.{makes_ready, arms_message, uses_timer, target, spawns}
 use Rattle.rt_app.specs.Level.{is_software, is_of_level, levels, holds}
 use Rattle.rt_app.specs.Ceiling.{greatest_priority, resource_ceiling, free_ceiling, free_ceilings, readies, arms_level}
 use Rattle.rt_app.specs.Ceiling.{mover_priority, ready_ceiling, timer_ceiling, ceiling, ceilings}
@@ -114,14 +114,14 @@ module _ (app : App) (p : ℕ) (none : list_any (is_of_level p) app.tasks ≡ fa
   not_readied : greatest_priority (holds (readies app p)) app ≡ 0
   not_readied =
       greatest_none (holds (readies app p)) (members app) (all_members (holds (readies app p)) (members app)
-      (no_holder (readies app p) (λ s. and_not (is_soon s) (is_some_and (is_of_level p) (slice_get app.tasks (target
+      (no_holder (readies app p) (λ s. and_not (makes_ready s) (is_some_and (is_of_level p) (slice_get app.tasks (target
       s))) (not_at (target s)))))
 
   not_moved : (o : Option Mono) → mover_priority app p o ≡ 0
   not_moved None = refl
   not_moved (Some mono) =
       ap (λ (b : Bool). if b then mono.priority else 0) (none_any (holds (arms_level app p)) (members app)
-      (no_holder (arms_level app p) (λ s. and_not (not (is_soon s)) (is_some_and (is_of_level p) (slice_get app.tasks
+      (no_holder (arms_level app p) (λ s. and_not (arms_message s) (is_some_and (is_of_level p) (slice_get app.tasks
       (target s))) (not_at (target s)))))
 
   level_alone : ready_ceiling app p ≡ p
@@ -140,14 +140,11 @@ ready_is app p within = row_or (ready_ceiling app) p (levels app)
 pub timer_is : (app : App) → IsAccepted app → or_zero (ceilings app).timer ≡ ceiling app section.Timer
 timer_is app accepted = go app.mono refl
   where
-    at_once : (b : Bool) → b ≡ true → not b ≡ false
-    at_once b h = rw h refl
-
     go : (o : Option Mono) → app.mono ≡ o → or_zero (option_map (λ mono. timer_ceiling app) o) ≡ timer_ceiling app
     go (Some mono) is = refl
     go None is =
-        let unarmed : greatest_priority (holds (λ s. not (is_soon s))) app ≡ 0 =
-        unsent app accepted (λ s. not (is_soon s)) (λ s sent. at_once (is_soon s) (sent.timed is)) in
+        let unarmed : greatest_priority (holds uses_timer) app ≡ 0 =
+        unsent app accepted uses_timer (λ s sent. sent.timed is) in
         let none : or_zero (option_map (λ (m : Mono). m.priority) app.mono) ≡ 0 =
         ap (λ (o : Option Mono). or_zero (option_map (λ (m : Mono). m.priority) o)) is in
         omega arith

@@ -4,7 +4,7 @@ use Rattle.std.proofs.Common.{refl, ap, ◌∙◌}
 use Rattle.std.specs.List.{slice_get}
 use Rattle.rt_ids.specs.Lists.{or_zero}
 use Rattle.rt_ids.specs.Holder.{Holder, Guarded, Own}
-use Rattle.rt_ids.specs.Content.{Message, Number, Messages, Delays}
+use Rattle.rt_ids.specs.Content.{Message, Number, Messages, Delays, nothing_armed}
 use Rattle.rt_ids.specs.declared.ids.Section.TheVariants as section
 use Rattle.rt_app.specs.Tree.{App}
 use Rattle.rt_laws.specs.State.{first_values}
@@ -26,9 +26,9 @@ padded_read f (x ∷ xs) n (suc i) = padded_read f xs n i
 pub reset_contents : (app : App) (s : Store) (n : ℕ)
     → s.shared ≡ map (λ r. r.first) app.shared ++ replicate n 0
     → s.locals ≡ map (λ r. r.first) app.locals ++ replicate n 0 → s.out ≡ replicate n 0
-    → s.ready ≡ replicate n [] → s.armed ≡ [] → contents s ≡ first_values app
+    → s.ready ≡ replicate n [] → s.timed ≡ nothing_armed → contents s ≡ first_values app
 unfolding contents
-reset_contents app s n shared locals out ready armed = λ i h. each h i
+reset_contents app s n shared locals out ready timed = λ i h. each h i
   where
     each : (h : Holder) → contents s h ≡ first_values app h
     each (Guarded (section.Res r)) =
@@ -36,6 +36,6 @@ reset_contents app s n shared locals out ready armed = λ i h. each h i
     each (Guarded (section.Free t)) = ap Number (ap (λ (l : List ℕ). get_or l t 0) out ∙ copies_read 0 n t)
     each (Guarded (section.Ready p)) =
         ap Messages (ap (λ (l : List (List Message)). get_or l p []) ready ∙ copies_read [] n p)
-    each (Guarded section.Timer) = ap Delays armed
+    each (Guarded section.Timer) = ap Delays timed
     each (Own l) =
         ap Number (ap (λ (ns : List ℕ). get_or ns l 0) locals ∙ padded_read (λ r. r.first) app.locals n l)

@@ -43,6 +43,8 @@ module _ (app : App) (s : Held) (js : List laws.Job) (r : laws.Role) where
   item_alike (act.Free n) = refl
   item_alike (act.Arm i m) = refl
   item_alike (act.Fire m) = refl
+  item_alike (act.Cancel n h) = refl
+  item_alike (act.Move n h i) = refl
   item_alike act.SetAlarm = refl
   item_alike (act.End n) = refl
 
@@ -56,6 +58,9 @@ module _ (app : App) (s : Held) (js : List laws.Job) (r : laws.Role) where
   seen_item (todo.Place x delay m) later vars vs seen = absurd cc
   seen_item (todo.Dispatch p) later vars vs seen = absurd cc
   seen_item (todo.Begin m) later vars vs seen = absurd cc
+  seen_item (todo.Handle x) later vars vs seen = absurd cc
+  seen_item (todo.Cancel x n h) later vars vs seen = absurd cc
+  seen_item (todo.Move x delay n h) later vars vs seen = absurd cc
   seen_item (todo.Due time) later vars vs seen = absurd cc
 
   any_item : (t : Todo) (ts : List Todo) (later : Later) (vars : List ℕ) (vs : Values) → IsSettled (t ∷ ts)

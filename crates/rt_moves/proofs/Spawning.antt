@@ -1,5 +1,6 @@
 -- What the bodies of an accepted application list is declared, and what they spawn is a software task.
-use Rattle.std.proofs.Common.{◌≡◌, ℕ, ◌<◌, ◌≤◌, ◌==◌, Bool, true, false, List, [], ◌∷◌, length, map, filter, Option}
+use Rattle.std.proofs.Common.{◌≡◌, ℕ, ◌<◌, ◌≤◌, ◌==◌, ◌&&◌, Bool, true}
+use Rattle.std.proofs.Common.{false, List, [], ◌∷◌, length, map, filter, Option}
 use Rattle.std.proofs.Common.{Some, None, slice_get, refl, sym, ap, ◌∙◌, arith, if◌then◌else◌}
 use Rattle.std.specs.List.{AllByRecursion, list_any}
 use Rattle.std.proofs.lemmas.Bool.{eqb-true}
@@ -8,21 +9,22 @@ use Rattle.rt_lemmas.proofs.Bools.{or_neither, true_and_false}
 use Rattle.rt_lemmas.proofs.Lists.{all_append}
 use Rattle.rt_ids.specs.Lists.{is_some_and, greatest}
 use Rattle.rt_app.specs.declared.body.Listed.{Listed}
-use Rattle.rt_app.specs.Tree.{Spawn, Soon, After, Value, Calc, Now, Call, Statement, Bind, Assign, Branch, Repeat}
+use Rattle.rt_app.specs.Tree.{Spawn, Soon, After, Cancel, Move, Value, Calc}
+use Rattle.rt_app.specs.Tree.{Now, Call, Statement, Bind, Assign, Branch, Repeat}
 use Rattle.rt_app.specs.Tree.{Locked, Emit, Pend, Spawns, Block, Empty, Then, Task, App}
 use Rattle.rt_app.specs.Bodies.{Member, members}
-use Rattle.rt_app.specs.Spawned.{value_spawns, statement_spawns, spawns, is_soon, target}
+use Rattle.rt_app.specs.Spawned.{value_spawns, statement_spawns, spawns, uses_places, uses_timer, target}
 use Rattle.rt_app.specs.Level.{is_software, holds}
-use Rattle.rt_app.specs.Ceiling.{lists, greatest_priority}
+use Rattle.rt_app.specs.Ceiling.{lists, greatest_priority, uses_places_of}
 use Rattle.rt_app.specs.Sound.{IsSoundSpawn, IsSoundValue, IsSoundStatement, IsSoundBlock}
 use Rattle.rt_app.specs.Accepted.{IsAccepted}
 use Rattle.rt_app.proofs.Members.{has_body, members_all}
 use Rattle.rt_app.proofs.Sound.{accepted_are_sound}
 
--- it is of a software task, and after a delay alone where there is a monotonic
+-- it is of a software task, and uses the timer queue alone where there is a monotonic
 pub record IsSent (app : App) (s : Spawn) : Type 0 where
   pub software : is_some_and is_software (slice_get app.tasks (target s)) ≡ true
-  pub timed : app.mono ≡ None → is_soon s ≡ true
+  pub timed : app.mono ≡ None → uses_timer s ≡ false
 
 module _ (app : App) where
   found_software : (n : ℕ) (t : Task) → slice_get app.tasks n ≡ Some t → is_software t ≡ true
@@ -38,6 +40,14 @@ module _ (app : App) where
     spawn_sent locked (After word delay n args at) h = record {
       software = found_software n h.0 h.1.is_there h.1.software;
       timed = λ none. absurd (none-some h.4.0 (sym none ∙ h.4.1));
+    }
+    spawn_sent locked (Cancel word n handle at) h = record {
+      software = found_software n h.0 h.1.is_there h.1.software;
+      timed = λ none. absurd (none-some h.1.timed.0 (sym none ∙ h.1.timed.1));
+    }
+    spawn_sent locked (Move word delay n handle at) h = record {
+      software = found_software n h.0 h.1.is_there h.1.software;
+      timed = λ none. absurd (none-some h.1.timed.0 (sym none ∙ h.1.timed.1));
     }
 
     value_sent : (locked : List ℕ) (v : Value) → IsSoundValue app m locked v
@@ -97,9 +107,14 @@ module _ (app : App) (accepted : IsAccepted app) where
 
   -- nobody spawns a hardware task, or one that is not declared
   pub unspawned : (n : ℕ) → is_some_and is_software (slice_get app.tasks n) ≡ false
-      → greatest_priority (holds (λ s. target s == n)) app ≡ 0
-  unspawned n hard = unsent (λ s. target s == n) (λ s sent. go s sent (target s == n) refl)
+      → greatest_priority (holds (uses_places_of n)) app ≡ 0
+  unspawned n hard =
+      unsent (uses_places_of n) (λ s sent. not_both (uses_places s) (target s == n) (go s sent (target s == n) refl))
     where
+      not_both : (a b : Bool) → b ≡ false → (a && b) ≡ false
+      not_both true b h = h
+      not_both false b h = refl
+
       go : (s : Spawn) → IsSent app s → (b : Bool) → (target s == n) ≡ b → (target s == n) ≡ false
       go s sent true e =
           absurd (true_and_false (is_some_and is_software (slice_get app.tasks n))

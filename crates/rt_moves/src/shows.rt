@@ -13,8 +13,9 @@ use crate::state::{State, is_due};
 use rt_ids::Section;
 use rt_trace::What;
 use rt_work::shown::{
-    is_alarm, is_arm, is_clock, is_emit, is_enter, is_fire, is_free, is_full, is_idle_end,
-    is_init_end, is_leave, is_placed, is_post, is_ready, is_return, is_set, is_start, is_task_end,
+    is_alarm, is_arm, is_cancel, is_clock, is_emit, is_enter, is_fire, is_free, is_full,
+    is_idle_end, is_init_end, is_leave, is_move, is_placed, is_post, is_ready, is_return, is_set,
+    is_start, is_task_end,
 };
 use rt_work::timer::least_instant;
 use rt_work::{Action, Todo};
@@ -71,6 +72,8 @@ impl<'a> State<'a> {
             Action::Free(task) => is_free(what, *task),
             Action::Arm(instant, message) => is_arm(what, message.task(), *instant),
             Action::Fire(message) => is_fire(what, message.task()),
+            Action::Cancel(task, handle) => is_cancel(what, *task, *handle),
+            Action::Move(task, handle, instant) => is_move(what, *task, *handle, *instant),
             Action::SetAlarm => self.sets_alarm(what),
             Action::End(task) => is_task_end(what, *task),
         }

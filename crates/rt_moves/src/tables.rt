@@ -1,6 +1,6 @@
 ghost use Rattle.std.specs.Prelude.{◌≡◌, ◌<◌, ℕ, slice_index, IfOk};
 ghost use Rattle.rt_app.specs.Accepted.{IsAccepted};
-ghost use Rattle.rt_app.specs.BodyCost.{cost_measure, timer_section_cost};
+ghost use Rattle.rt_app.specs.BodyCost.{cost_measure, timer_section_cost, handle_section_cost};
 ghost use Rattle.rt_app.specs.Level.{levels};
 ghost use Rattle.rt_app.specs.Sending.{dispatcher_number};
 ghost use Rattle.rt_app.specs.Tree as tree;
@@ -12,7 +12,9 @@ ghost use Rattle.rt_moves.specs.Inside.Serving.{levels_of};
 
 use crate::machine::{Machine, Served};
 use crate::served::{dispatcher, services};
-use rt_app::costs::{MESSAGE_COST, PRIORITIES, TIMER_SECTION_COST};
+use rt_app::costs::{
+    HANDLE_MESSAGE_COST, HANDLE_SECTION_COST, MESSAGE_COST, PRIORITIES, TIMER_SECTION_COST,
+};
 use rt_app::{App, Ceilings, ReadyCeiling};
 use rt_ceil::ceilings;
 use rt_frames::Measure;
@@ -29,6 +31,8 @@ pub struct Tables {
     dispatchers: Vec<u16>,
     /// Core steps of a section of the armed messages.
     timer_section: u32,
+    /// Core steps of such a section where a message is told by its handle.
+    handle_section: u32,
     /// What serves each interrupt, by its number.
     served: Vec<Option<Served>>,
     /// The ceilings of sections.
@@ -55,6 +59,13 @@ fn timer_section(measure: &Measure) -> u32
     TIMER_SECTION_COST + MESSAGE_COST * measure.messages()
 }
 
+/// Core steps of such a section where a message is told by its handle.
+fn handle_section(measure: &Measure) -> u32
+    ensures { (app : tree.App) → measure.now ≡ cost_measure app → result ≡ handle_section_cost app }
+{
+    HANDLE_SECTION_COST + HANDLE_MESSAGE_COST * measure.messages()
+}
+
 impl Tables {
     /// The tables of an accepted application.
     pub fn new(alloc: Global, app: &App) -> Result<Tables, NoMemory>
@@ -67,6 +78,7 @@ impl Tables {
         let served = services(alloc, app, &measure, &guards.ready)?;
         Ok(Tables {
             timer_section: timer_section(&measure),
+            handle_section: handle_section(&measure),
             measure,
             dispatchers,
             served,
@@ -87,6 +99,7 @@ impl Tables {
             measure: self.measure,
             dispatchers: self.dispatchers.as_slice(),
             timer_section: self.timer_section,
+            handle_section: self.handle_section,
         }
     }
 

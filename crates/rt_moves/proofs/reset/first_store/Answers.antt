@@ -15,4 +15,4 @@ returns c =
     (ap (λ (s : Store). s.locals) c.new.ensures ∙ c.in_ok-locals.ensures
     ∙ ap (λ (xs : List Local). map (λ r. r.first) xs ++ replicate NUMBERS 0) c.deref-2.ensures.value)
     (ap (λ (s : Store). s.out) c.new.ensures ∙ c.in_ok-out.ensures)
-    (ap (λ (s : Store). s.ready) c.new.ensures ∙ c.in_ok-ready.ensures) (ap (λ (s : Store). s.armed) c.new.ensures)
+    (ap (λ (s : Store). s.ready) c.new.ensures ∙ c.in_ok-ready.ensures) (ap (λ (s : Store). s.timed) c.new.ensures)

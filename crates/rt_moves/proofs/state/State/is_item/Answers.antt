@@ -73,6 +73,18 @@ returns-in-Fire c =
     (what.Fire c.task-in-Fire.result) c.args.what.now c.is_fire.result c.in-Fire.is
     (ap (λ (n : ℕ). Some (what.Fire n)) (sym c.task-in-Fire.ensures)) c.is_fire.ensures
 
+pub returns-in-Cancel : goal.returns-in-Cancel
+returns-in-Cancel c =
+    shown_by c.args.self.now c.args.action.now (act.Cancel c.in-Cancel.task c.in-Cancel.handle)
+    (what.Cancel c.in-Cancel.task c.in-Cancel.handle) c.args.what.now c.is_cancel.result c.in-Cancel.is
+    refl c.is_cancel.ensures
+
+pub returns-in-Move : goal.returns-in-Move
+returns-in-Move c =
+    shown_by c.args.self.now c.args.action.now (act.Move c.in-Move.task c.in-Move.handle c.in-Move.instant)
+    (what.Move c.in-Move.task c.in-Move.handle c.in-Move.instant) c.args.what.now c.is_move.result c.in-Move.is
+    refl c.is_move.ensures
+
 pub returns-in-SetAlarm : goal.returns-in-SetAlarm
 returns-in-SetAlarm c =
     shown_by c.args.self.now c.args.action.now act.SetAlarm
