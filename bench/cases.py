@@ -4,13 +4,13 @@
     python3 cases.py REFERENCE CRATE
 
 REFERENCE is the folder that has the package `rticref`, an implementation of the core in Python; CRATE, which is
-crates/machine_cases, takes data/cores, and the stdout that is wanted of all tables in data/. The images are those of cases.txt
-beside this file, one for each way to miss a slot, and some made by chance.
+crates/machine_cases, takes data/cores, and the stdout that is wanted of all tables in data/. The images are those of
+cases.txt beside this file, one for each way to miss a slot, and some made by chance.
 
-An image of cases.txt is a line `= NAME`, lines of its parts, and a line `script:`. A part is `bits N`, `stack N` (bytes),
-`thread N` (words), `cell VALUE NAME`, `iN -` for an interrupt that is not enabled, or a block of code: `main:` for the
-thread, `iN VALUE FRAME:` for a handler, `tN FRAME ARGS:` for a body. Instructions and script lines stand between slashes. In a
-jump `.N` is the N-th instruction of its own block.
+An image of cases.txt is a line `= NAME`, lines of its parts, and a line `script:`. A part is `bits N`, `fpu` for a core
+with extended frames, `stack N` (bytes), `thread N` (words), `cell VALUE NAME`, `iN -` for an interrupt that is not
+enabled, or a block of code: `main:` for the thread, `iN VALUE FRAME:` for a handler, `tN FRAME ARGS:` for a body.
+Instructions and script lines stand between slashes. In a jump `.N` is the N-th instruction of its own block.
 """
 
 import random
@@ -21,19 +21,22 @@ sys.path.insert(0, sys.argv[1])
 from rticref import core, script, trace  # noqa: E402
 from rticref.app import Names  # noqa: E402
 
-NAMES = Names([(b"i%d" % n, n) for n in range(240)], [b"t%d" % n for n in range(4)], [b"r%d" % n for n in range(3)])
+NAMES = Names([(b"i%d" % n, n) for n in range(496)], [b"t%d" % n for n in range(4)], [b"r%d" % n for n in range(3)])
 TABLES = core.Tables.of(NAMES)
+NOTES = core.NOTE_FORM | core.NOTE_FORM_R17
 MAIN = ["serve ; end init", "wait"]
-# each names slot 1 of a frame that has one word
+# each names slot 1 of a frame that has one word, the last ones in their notes
 NO_SLOT = [
     "set 1 0", "copy 1 0", "copy 0 1", "add 1 0 0", "sub 0 1 0", "mul 0 0 1", "load 1 0", "store 0 1", "loadat 1 0 0",
     "storeat 0 0 1", "jumpz 1 .0", "emit 1", "clock 1", "alarm 1 i0", "raise 1 0", "restore 1", "mask 1", "unmask 1",
+    "mark ; cancel t1 1", "mark ; move t1 1 0", "mark ; move t1 0 1",
 ]
 
 
 def made_image(parts):
     """The image of parts, each a pair of its words and its instructions."""
     at = {"bits": 4, "thread": 0}
+    fpu = (["fpu"], []) in parts
     cells, irqs, bodies, code = [], [], [], []
     main = [part for part in parts if part[0] == ["main"]] or [(["main"], MAIN)]
     for words, lines in main + [part for part in parts if part[0] != ["main"]]:
@@ -50,10 +53,11 @@ def made_image(parts):
             bodies.append((int(head[1:]), start, int(numbers[0]), int(numbers[1])))
         for line in lines:
             words = [str(start + int(w[1:])) if w[0] == "." else w for w in line.split()]
-            code.append(core._read_code(" ".join(words).encode(), TABLES, core.NOTE_FORM))
-    frames = at["thread"] + sum(8 + row[2] for _, _, row in irqs if row) + sum(row[2] for row in bodies)
+            code.append(core._read_code(" ".join(words).encode(), TABLES, NOTES))
+    entry = 26 if fpu else 8
+    frames = at["thread"] + sum(entry + row[2] for _, _, row in irqs if row) + sum(row[2] for row in bodies)
     stack = at.get("stack", (4 * frames + 7) // 8 * 8)
-    return core.Image(at["bits"], stack, at["thread"], cells, irqs, bodies, code, NAMES)
+    return core.Image(at["bits"], stack, at["thread"], cells, irqs, bodies, code, NAMES, fpu)
 
 
 def read_cases(text):
@@ -78,10 +82,13 @@ def no_slot_cases():
 
 
 class Chance:
-    """Images and scripts made by chance."""
+    """Images and scripts made by chance, some of them with extended frames, great numbers and the notes of handles."""
 
-    def __init__(self, seed):
+    def __init__(self, seed, extended):
         self.r = random.Random(seed)
+        self.extended = extended
+        small, great = [0, 1, 7, 31, 32, 63, 64, 200, 224, 239], [0, 31, 239, 240, 255, 256, 287, 288, 494, 495]
+        self.numbers = great if extended else small
 
     def instruction(self, frame, irqs, cells, rows, size):
         """An instruction that mostly finds its slots and cells."""
@@ -110,6 +117,9 @@ class Chance:
         made += [f"leave r{r.randrange(min(cells, 3))}"] * 3 if cells else []
         made += [f"start t{r.choice(tasks)} 0"] * 2 if rows else []
         made += [f"arm t{r.randrange(4)} {r.randrange(frame)}"] if frame else []
+        if self.extended and frame:
+            slot = lambda: r.randrange(frame + (r.random() < 0.05))
+            made += [f"cancel t{r.randrange(4)} {slot()}", f"move t{r.randrange(4)} {slot()} {slot()}"] * 6
         return r.choice(made)
 
     def block(self, frame, irqs, cells, rows, last):
@@ -121,9 +131,9 @@ class Chance:
     def case(self):
         r = self.r
         bits = r.randrange(3, 8)
-        irqs = r.sample([0, 1, 7, 31, 32, 63, 64, 200, 224, 239], r.randrange(1, 5))
+        irqs = r.sample(self.numbers, r.randrange(1, 5))
         cells, rows, thread = r.randrange(4), r.choice([0, 0, 1, 2]), r.randrange(1, 4)
-        parts = [(["bits", str(bits)], []), (["thread", str(thread)], [])]
+        parts = [(["bits", str(bits)], []), (["thread", str(thread)], [])] + [(["fpu"], [])] * self.extended
         parts += [(["cell", str(r.randrange(10)), f"r{n}"], []) for n in range(cells)]
         main = self.block(thread, irqs, cells, 0, "wait")
         parts.append((["main"], ["serve ; end init"] + main))
@@ -151,7 +161,8 @@ def outcome(image, orders):
 def describe(items):
     """What the items of a run made by chance show of: the words of their kinds that not every run has."""
     kinds = {what[0] for _, what in items}
-    words = [word for word in ("alarm", "trap", "start", "leave", "clock", "post", "emit") if word in kinds]
+    seldom = ("alarm", "trap", "start", "leave", "clock", "post", "emit", "cancel", "move")
+    words = [word for word in seldom if word in kinds]
     took = [(step, what[0]) for step, what in items if what[0] in ("take", "ret")]
     pairs = list(zip(took, took[1:]))
     if any((a[1], b[1]) == ("take", "take") for a, b in pairs):
@@ -161,17 +172,18 @@ def describe(items):
     return ", ".join(words)
 
 
-def chance_cases(count):
-    number, seed = 0, 0
+def chance_cases(count, extended):
+    number, seed, kind = 0, 0, "extended frames, " * extended
     while number < count:
         seed += 1
-        image, orders = Chance(seed).case()
+        image, orders = Chance(seed, extended).case()
         items, _, _ = outcome(image, orders)
         taken = sum(what[0] == "take" for _, what in items)
         kinds = len({what[0] for _, what in items})
-        if len(image.code) <= 25 and 10 <= len(items) <= 30 and taken >= 2 and kinds >= 6:
+        handled = not extended or any(what[0] in ("cancel", "move") for _, what in items)
+        if len(image.code) <= 25 and 10 <= len(items) <= 30 and taken >= 2 and kinds >= 6 and handled:
             number += 1
-            yield f"by chance, seed {seed}: {describe(items)}", image, orders
+            yield f"by chance, {kind}seed {seed}: {describe(items)}", image, orders
 
 
 def part(name, text):
@@ -192,12 +204,13 @@ def written(name, image, orders):
 def main():
     crate = Path(sys.argv[2])
     text = Path(__file__).with_name("cases.txt").read_text()
-    cases = list(read_cases("\n" + text)) + list(no_slot_cases()) + list(chance_cases(48))
+    cases = list(read_cases("\n" + text)) + list(no_slot_cases())
+    cases += list(chance_cases(48, False)) + list(chance_cases(12, True))
     assert len({name for name, _, _ in cases}) == len(cases)
     head = "; Written by bench/cases.py: images with scripts, and what an independent core makes of them.\n\n"
     (crate / "data" / "cores").write_text(head + "".join(written(*case) for case in cases))
     told = "".join(f"{name}: ok\n" for name, _, _ in cases)
-    for table in ("instructions", "conditions", "listings", "programs"):
+    for table in ("instructions", "conditions", "listings", "programs", "traces", "scripts"):
         lines = (crate / "data" / table).read_text().splitlines()
         told += "".join(f"{line[2:]}: ok\n" for line in lines if line.startswith("= "))
     (crate / "stdout").write_text(told)

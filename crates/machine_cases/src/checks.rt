@@ -6,6 +6,7 @@ use crate::execution::executed;
 use crate::held::Held;
 use crate::image::image;
 use crate::play::{play, script};
+use crate::texts::{script_told, trace_told};
 use anyhow::Result;
 use rt_cases::Case;
 use rt_code::Image;
@@ -31,6 +32,10 @@ pub enum Table {
     Listings,
     /// Images with what their programs answer by number.
     Programs,
+    /// Trace texts: each is read and written again.
+    Traces,
+    /// Scripts.
+    Scripts,
 }
 
 impl Table {
@@ -42,6 +47,8 @@ impl Table {
             Table::Conditions => "conditions",
             Table::Listings => "listings",
             Table::Programs => "programs",
+            Table::Traces => "traces",
+            Table::Scripts => "scripts",
         }
     }
 }
@@ -207,6 +214,25 @@ fn program_case(alloc: Global, case: &Case) -> Result<&'static str> {
     both_differences(alloc, &program.value, case)
 }
 
+/// What differs of what is told of a text.
+fn told_difference(told: &[u8], case: &Case) -> &'static str {
+    if told == case.bytes("told") {
+        OK
+    } else {
+        "what is told of it differs"
+    }
+}
+
+fn trace_case(alloc: Global, case: &Case) -> Result<&'static str> {
+    let told = trace_told(alloc, case)?;
+    Ok(told_difference(told.as_slice(), case))
+}
+
+fn script_case(alloc: Global, case: &Case) -> Result<&'static str> {
+    let told = script_told(alloc, case)?;
+    Ok(told_difference(told.as_slice(), case))
+}
+
 /// What is told of a case of a table: `ok`, or what differs.
 pub fn verdict(alloc: Global, table: Table, case: &Case) -> Result<&'static str> {
     match table {
@@ -215,5 +241,7 @@ pub fn verdict(alloc: Global, table: Table, case: &Case) -> Result<&'static str>
         Table::Conditions => condition_case(alloc, case),
         Table::Listings => listing_case(alloc, case),
         Table::Programs => program_case(alloc, case),
+        Table::Traces => trace_case(alloc, case),
+        Table::Scripts => script_case(alloc, case),
     }
 }

@@ -1,7 +1,7 @@
 use crate::instr::{instr, note};
 use crate::part::{push, words_of};
 use anyhow::{Result, bail};
-use rt_code::{Instr, Note};
+use rt_code::{Instr, Line, Note};
 use rt_ids::Names;
 use std::alloc::Global;
 
@@ -40,12 +40,7 @@ fn read_note(alloc: Global, names: &Names, line: &str) -> Result<Note> {
 }
 
 /// Appends the instruction of a line behind its address, with the note that stands behind a semicolon, if one does.
-pub fn take_code(
-    alloc: Global,
-    code: &mut Vec<(Instr, Option<Note>)>,
-    names: &Names,
-    line: &str,
-) -> Result<()> {
+pub fn take_code(alloc: Global, code: &mut Vec<Line>, names: &Names, line: &str) -> Result<()> {
     match line.split_once(" ; ") {
         Some((line, words)) => {
             let note = read_note(alloc, names, words)?;

@@ -9,11 +9,12 @@ use rt_code::{BodyRow, Handler, Image, IrqRow};
 use rt_ids::{CellRow, Irq, Name, Names};
 use std::alloc::Global;
 
-/// Takes the sizes that the first line says.
+/// Takes the sizes that the first line says, whose form 2 is that of the floating-point extension.
 fn take_sizes(image: &mut Image, words: &[&str]) -> Option<()> {
-    let [_version, bits, stack, thread, _code, _cells] = words else {
+    let [form, bits, stack, thread, _code, _cells] = words else {
         return None;
     };
+    image.fpu = *form == "2";
     image.bits = bits.parse::<u8>().ok()?;
     image.stack_bytes = number(stack)?;
     image.thread_words = number(thread)?;
@@ -143,6 +144,7 @@ fn take_case(alloc: Global, image: &mut Image, case: &Case) -> Result<()> {
 fn empty(alloc: Global) -> Image {
     Image {
         bits: 0,
+        fpu: false,
         stack_bytes: 0,
         thread_words: 0,
         cells: Vec::new(alloc),

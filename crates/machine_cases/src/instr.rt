@@ -132,6 +132,7 @@ fn numbered_note(word: &str, task: TaskId, number: u32) -> Option<Note> {
     match word {
         "start" => Some(Note::Start(task, number)),
         "arm" => Some(Note::Arm(task, number)),
+        "cancel" => Some(Note::Cancel(task, number)),
         _ => None,
     }
 }
@@ -151,6 +152,11 @@ pub fn note(names: &Names, word: &str, operands: &[&str]) -> Option<Note> {
     match operands {
         [name] => named_note(names, word, name),
         [name, slot] => numbered_note(word, task(names, name)?, number(slot)?),
+        [name, slot, from] if word == "move" => Some(Note::Move(
+            task(names, name)?,
+            number(slot)?,
+            number(from)?,
+        )),
         _ => None,
     }
 }

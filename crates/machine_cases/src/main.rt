@@ -1,5 +1,6 @@
-// Runs the tables of cases of the machine that stand in data/, and prints a line for each case: its name, and `ok` or
-// what differs. What cores are to show comes from an independent implementation.
+// Runs the tables of cases of the machine that stand in data/, and of the texts of traces and scripts, and prints a line
+// for each case: its name, and `ok` or what differs. What cores are to show, and what texts are to be read as, comes from
+// an independent implementation.
 #![tactic(auto)]
 
 mod answers;
@@ -12,6 +13,7 @@ mod instr;
 mod names;
 mod part;
 mod play;
+mod texts;
 
 use anyhow::Result;
 use checks::{Table, verdict};
@@ -51,5 +53,7 @@ fn main(rt: HostRuntime) -> Result<()> {
     run_file(&rt, Table::Instructions)?;
     run_file(&rt, Table::Conditions)?;
     run_file(&rt, Table::Listings)?;
-    run_file(&rt, Table::Programs)
+    run_file(&rt, Table::Programs)?;
+    run_file(&rt, Table::Traces)?;
+    run_file(&rt, Table::Scripts)
 }

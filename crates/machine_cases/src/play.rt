@@ -38,14 +38,17 @@ fn happening_of(line: &Line) -> Option<(Happening, u32)> {
 }
 
 /// Writes the line of an item.
-fn show(core: &Core, trace: &mut Vec<u8>, step: u64, what: What) -> Result<()> {
-    let item = Item { step, what };
-    let names = &core.image().names;
-    if !has_line(&item, names) {
+pub fn write_item(trace: &mut Vec<u8>, item: &Item, names: &Names) -> Result<()> {
+    if !has_line(item, names) {
         bail!("an item without a line");
     }
-    trace.extend_from_slice(line(&item, names).as_slice())?;
+    trace.extend_from_slice(line(item, names).as_slice())?;
     Ok(())
+}
+
+/// Writes the line of what a core shows.
+fn show(core: &Core, trace: &mut Vec<u8>, step: u64, what: What) -> Result<()> {
+    write_item(trace, &Item { step, what }, &core.image().names)
 }
 
 /// One core step.
