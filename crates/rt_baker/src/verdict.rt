@@ -1,5 +1,5 @@
 /// What an audit says of a trace.
-#[derive(Clone, Copy, Debug, PartialEq, Eq)]
+#[derive(Clone, Copy, PartialEq, Eq)]
 pub enum Verdict {
     /// It is a run of Baker's machine, within the stack bound.
     Yes,
