@@ -14,6 +14,7 @@ use Rattle.rt_app.specs.Layout.{resource_at}
 use Rattle.rt_app.specs.Listing.{is_lock_free}
 use Rattle.rt_app.proofs.Laid.{resource_is_home}
 use Rattle.rt_code.specs.Access.{Access, Loads, Stores}
+use Rattle.rt_code.specs.Cells.{resource_cell}
 use Rattle.rt_code.specs.Image.{Image}
 use Rattle.rt_code.specs.Owning.{Held, owns, reads, is_open, MayLoad, MayStore, MayAccess}
 use Rattle.rt_code.specs.Standing.{Stands}
@@ -44,7 +45,9 @@ open_in (h ∷ held) x is = by (is_same_section h.section x) refl is (open_in he
     by true same is later = (zero, ap (λ y. Some y) (one_section h.section x same))
     by false same is later = let there = later is in (suc there.0, there.1)
 
-module _ (app : App) (img : Image) (thread : ℕ) (m : Moment) (fits : Fits app img thread m) where
+module _ (app : App) (img : Image) (thread : ℕ)
+    (named : (r cell : ℕ) → resource_cell img r ≡ Some cell → (r < length app.shared) × (cell ≡ resource_at app r))
+    (m : Moment) (fits : Fits app img thread m) where
   -- as the running job is seen
   inside_seen : (vs : List Seen) → StackWell app (state_of m).jobs vs → (r : ℕ)
       → is_open m.running.held (section.Res r) ≡ true → IsInside vs r
@@ -96,20 +99,21 @@ module _ (app : App) (img : Image) (thread : ℕ) (m : Moment) (fits : Fits app 
       by Starting constant = absurd (cc (constant))
       by (AtLevel p) constant = inr constant
 
-  home_is : (cell r : ℕ) → r < length app.shared → cell ≡ resource_at app r
-      → (storage app).home cell ≡ At (Guarded (section.Res r))
+  home_is : (cell r : ℕ) → resource_cell img r ≡ Some cell → (storage app).home cell ≡ At (Guarded (section.Res r))
   unfolding storage
-  home_is cell r within same = ap (storage app).home same ∙ resource_is_home app r within
+  home_is cell r is =
+      let one = named r cell is in
+      ap (storage app).home one.1 ∙ resource_is_home app r one.0
 
   may_is_guarded : (v : Sight) → StateWell app (state_of m) v → (a : Option Access)
-      → MayAccess (storage app) (who m.running) (spot_of m.cells m.queues m.running) a → IsGuarded app v.jobs a
+      → MayAccess (storage app) (who m.running) (spot_of m.cells m.queues m.running) a → IsGuarded app img v.jobs a
   may_is_guarded v well None may = tt
-  may_is_guarded v well (Some (Loads cell)) may = λ r within same.
+  may_is_guarded v well (Some (Loads cell)) may = λ r is.
       read_seen v well r (subst (λ home. MayLoad (storage app) (who m.running)
-      (spot_of m.cells m.queues m.running) home) (home_is cell r within same) may)
-  may_is_guarded v well (Some (Stores cell)) may = λ r within same.
+      (spot_of m.cells m.queues m.running) home) (home_is cell r is) may)
+  may_is_guarded v well (Some (Stores cell)) may = λ r is.
       owned_seen v well r (subst (λ home. MayStore (storage app) (who m.running)
-      (spot_of m.cells m.queues m.running) home) (home_is cell r within same) may)
+      (spot_of m.cells m.queues m.running) home) (home_is cell r is) may)
 
   no_steps : Stands (storage app) img.code m.running.rows thread (who m.running) zero
       (spot_of m.cells m.queues m.running)
@@ -119,12 +123,12 @@ module _ (app : App) (img : Image) (thread : ℕ) (m : Moment) (fits : Fits app 
 
   -- the access of the next step is guarded
   pub access_is_guarded : (v : Sight) → StateWell app (state_of m) v → m.time < 2 ^ 31
-      → IsGuarded app v.jobs (access img (core_of app.bits m))
+      → IsGuarded app img v.jobs (access img (core_of app.bits m))
   access_is_guarded v well early = by_pick (pick img (core_of app.bits m)) refl
     where
       working : IsWorking m.running.role → pick img (core_of app.bits m) ≡ None → (n : ℕ)
           → Stands (storage app) img.code m.running.rows thread (who m.running) n (spot_of m.cells m.queues m.running)
-          → IsGuarded app v.jobs (access img (core_of app.bits m))
+          → IsGuarded app img v.jobs (access img (core_of app.bits m))
       working works picked zero stands = absurd (no_steps stands)
       working works picked (suc n) stands =
           may_is_guarded v well (access img (core_of app.bits m))
@@ -134,16 +138,16 @@ module _ (app : App) (img : Image) (thread : ℕ) (m : Moment) (fits : Fits app 
 
       by_role : (role : Role) → m.running.role ≡ role → pick img (core_of app.bits m) ≡ None
           → StandsBy app img thread role m.cells m.queues m.running
-          → IsGuarded app v.jobs (access img (core_of app.bits m))
+          → IsGuarded app img v.jobs (access img (core_of app.bits m))
       by_role Init is picked stands = working (subst IsWorking (sym is) tt) picked m.running.steps stands
       by_role Idle is picked stands = working (subst IsWorking (sym is) tt) picked m.running.steps stands
       by_role Waiting is picked waits =
-          subst (λ a. IsGuarded app v.jobs a) (sym
+          subst (λ a. IsGuarded app img v.jobs a) (sym
           (ap (access_by img (core_of app.bits m)) picked ∙ ap (access_by_line (core_of app.bits m)) waits.code)) tt
       by_role (Serving irq) is picked stands = working (subst IsWorking (sym is) tt) picked m.running.steps stands
 
       by_pick : (o : Option IrqRow) → pick img (core_of app.bits m) ≡ o
-          → IsGuarded app v.jobs (access img (core_of app.bits m))
+          → IsGuarded app img v.jobs (access img (core_of app.bits m))
       by_pick None picked = by_role m.running.role refl picked fits.parts.0.stands
-      by_pick (Some row) picked = subst (λ a. IsGuarded app v.jobs a) (sym
+      by_pick (Some row) picked = subst (λ a. IsGuarded app img v.jobs a) (sym
           (ap (access_by img (core_of app.bits m)) picked)) tt

@@ -1,9 +1,8 @@
 -- Runs that go on where others ended, and the three events that a run is made of.
-use Rattle.std.proofs.Common.{◌≡◌, ℕ, zero, suc, ◌+◌, ◌<◌, ◌≤◌, ◌^◌, List, [], ◌∷◌, ◌++◌, length, flat_map, replicate, take, Option, Some, None, Bool, true, false, if◌then◌else◌, nat_le, refl, ap, sym, subst, ◌∙◌, append_assoc, get_or, sum_by, arith}
+use Rattle.std.proofs.Common.{◌≡◌, ℕ, zero, suc, ◌+◌, ◌≤◌, List, [], ◌∷◌, ◌++◌, flat_map, replicate, Option, Some, None, Bool, true, false, if◌then◌else◌, nat_le, refl, ap, sym, subst, ◌∙◌, append_assoc, arith}
 use Rattle.std.proofs.lemmas.Grind.{flat_map-append}
-use Rattle.std.proofs.lemmas.List.{append-nil, take_more, length-append, replicate_more}
+use Rattle.std.proofs.lemmas.List.{append-nil, length-append, replicate_more}
 use Rattle.rt_ids.specs.Event.{Event, Arrive, Tick, Step, steps}
-use Rattle.rt_ids.specs.Names.{Names}
 use Rattle.rt_code.specs.Image.{Image}
 use Rattle.rt_code.specs.Lines.{HasLines}
 use Rattle.rt_core.specs.Core.{Core}

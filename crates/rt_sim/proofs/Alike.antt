@@ -1,6 +1,6 @@
 -- A core step is the same beside other rows of bodies, where the row that it calls by is the same, and rows of tasks
 -- have as many arguments.
-use Rattle.std.proofs.Common.{◌≡◌, ℕ, zero, suc, ◌^◌, ◌<◌, false, if◌then◌else◌, List, [], ◌∷◌, length, slice_get}
+use Rattle.std.proofs.Common.{◌≡◌, ℕ, zero, suc, false, if◌then◌else◌, List, [], ◌∷◌, length, slice_get}
 use Rattle.std.proofs.Common.{Option, Some, None, option_map, refl, sym, ap, subst, ◌∙◌}
 use Rattle.rt_ids.specs.Storage.{Storage, Runner}
 use Rattle.rt_ids.specs.declared.ids.Section.{Section}
@@ -50,6 +50,8 @@ module _ (img : Image) (rows : List BodyRow)
   shown_alike c (note.Free t) = refl
   shown_alike c (note.Arm t slot) = refl
   shown_alike c (note.Fire t) = refl
+  shown_alike c (note.Cancel t slot) = refl
+  shown_alike c (note.Move t slot from) = refl
   shown_alike c (note.End b) = refl
 
   with_note_alike : (told : Option Note) (o : Outcome) → with_note (with_rows img rows) told o ≡ with_note img told o

@@ -1,6 +1,6 @@
 -- A dispatcher calls the body of a task, which runs in a frame of its own on the dispatcher's, and the body's end leads
 -- back. Baker's machine sees no call: it is a silent step of the job, and the end is the end of the body.
-use Rattle.std.proofs.Common.{◌≡◌, ℕ, suc, ◌+◌, ◌-◌, ◌*◌, ◌/◌, ◌<◌, ◌≤◌, ◌==◌, ◌&&◌, ◌||◌, inl, inr, nat_le, true}
+use Rattle.std.proofs.Common.{◌≡◌, ℕ, suc, ◌+◌, ◌-◌, ◌≤◌, ◌==◌, ◌&&◌, ◌||◌, inl, inr, nat_le, true}
 use Rattle.std.proofs.Common.{false}
 use Rattle.std.proofs.Common.{List, [], ◌∷◌, ◌++◌, length, map, take, drop, replicate, slice_index, Option, Some, None}
 use Rattle.std.proofs.Common.{refl, sym, ap, subst, ◌∙◌, arith, length-set, length-append}
@@ -148,7 +148,7 @@ module _ (app : App) (img : Image) (thread : ℕ) where
     | inr one ↦ one
   ]
 
-  module _ (many : app.bits ≤ 7) (sized : img.stack_bytes ≡ stack_bytes app) (m : Moment)
+  module _ (many : app.bits ≤ 7) (fpu : img.fpu ≡ app.fpu) (sized : img.stack_bytes ≡ stack_bytes app) (m : Moment)
       (fits : Fits app img thread m) (works : IsWorking m.running.role) (n : ℕ)
       (none : candidate app (state_of m) ≡ None)
       (left : HaveLeft (m.running.lefts ++ m.running.left ∷ [])) where
@@ -200,7 +200,7 @@ module _ (app : App) (img : Image) (thread : ℕ) where
 
       room : has_room img (core_of app.bits m) calls.called.frame ≡ true
       room =
-          let deep = depth_within app img thread many (record m { running = Called }) fits_called in
+          let deep = depth_within app img thread fpu many (record m { running = Called }) fits_called in
           let after = used_is app img thread (record m { running = Called }) fits_called in
           let before = used_is app img thread m fits in
           let alone : length (words_of m.running.caller) ≡ 0 = ap (λ c. length (words_of c)) calls.may_call.0 in

@@ -6,9 +6,10 @@ use Rattle.std.proofs.Common.{[], ◌∷◌, length, sum_by, refl, ap, subst, �
 use Rattle.std.proofs.Math.Pow.{pow_mono}
 use Rattle.std.proofs.lemmas.Bool.{cases_lt, le-leb}
 use Rattle.std.proofs.lemmas.List.Sums.{sum_by-cons}
+use Rattle.rt_ids.specs.Exception as exception
 use Rattle.rt_ids.specs.Priority.{hardware}
 use Rattle.rt_app.specs.Tree.{App}
-use Rattle.rt_app.specs.declared.costs.TheConstants.{PRIORITIES, ENTRY_BYTES}
+use Rattle.rt_app.specs.declared.costs.TheConstants.{PRIORITIES}
 use Rattle.rt_app.specs.Stack.{thread_words, has_handler, need, level_bytes, bytes_below, stack_bytes}
 use Rattle.rt_code.specs.Image.{Image, entry_words}
 use Rattle.rt_code.specs.Stack as stack
@@ -58,8 +59,14 @@ module _ (app : App) (img : Image) (thread : ℕ) where
           subst (λ n. bytes_below app a ≤ bytes_below app n) same (omega arith)
       by (inr low) before = omega (arith, before low, level_counts b)
 
-  level_is : (p : ℕ) → has_handler app p ≡ true → level_bytes app p ≡ ENTRY_BYTES + 4 * need app p
-  level_is p has = ap (λ b. if b then ENTRY_BYTES + 4 * need app p else 0) has
+  level_is : (p : ℕ) → has_handler app p ≡ true
+      → level_bytes app p ≡ 4 * (exception.entry_words app.fpu + need app p)
+  level_is p has = ap (λ b. if b then 4 * (exception.entry_words app.fpu + need app p) else 0) has
+
+module _ (app : App) (img : Image) (thread : ℕ) (fpu : img.fpu ≡ app.fpu) where
+  -- the image's core pushes what the bound counts
+  entry_is : entry_words img ≡ exception.entry_words app.fpu
+  entry_is = ap exception.entry_words fpu
 
   stack_within : (p : Part) (ps : List Part) → IsStacked app img thread p ps
       → 4 * (length (stack.words_of p.caller) + length p.slots + words_under (entry_words img) ps)
@@ -69,12 +76,20 @@ module _ (app : App) (img : Image) (thread : ℕ) where
       omega (arith, is.frame, none)
   stack_within p (q ∷ ps) is =
       let before = stack_within q ps is.1 in
-      let rise = bytes_rise (suc q.priority) p.priority (omega (arith, is.0.above)) in
-      omega (arith, before, rise, level_counts p.priority, level_is p.priority is.0.handled, is.0.frame)
+      let rise = bytes_rise app img thread (suc q.priority) p.priority (omega (arith, is.0.above)) in
+      omega (
+        arith,
+        before,
+        rise,
+        entry_is,
+        level_counts app img thread p.priority,
+        level_is app img thread p.priority is.0.handled,
+        is.0.frame,
+      )
 
   pub depth_within : app.bits ≤ 7 → (m : Moment) → Fits app img thread m
       → depth img (core_of app.bits m) ≤ stack_bytes app
-  depth_within many m fits = by m.below fits.stack (used_is m fits)
+  depth_within many m fits = by m.below fits.stack (used_is app img thread m fits)
     where
       by : (ps : List Part) → IsStacked app img thread m.running ps
           → used img (core_of app.bits m)
@@ -86,5 +101,5 @@ module _ (app : App) (img : Image) (thread : ℕ) where
           omega (arith, is.frame, used, none)
       by (q ∷ ps) is used =
           let small : 2 ^ app.bits ≤ 128 = top_small app.bits many in
-          let rise = bytes_rise (suc m.running.priority) PRIORITIES (omega (arith, is.0.most, small)) in
+          let rise = bytes_rise app img thread (suc m.running.priority) PRIORITIES (omega (arith, is.0.most, small)) in
           omega (arith, used, rise, stack_within m.running (q ∷ ps) is)

@@ -9,7 +9,7 @@ use Rattle.rt_lemmas.proofs.Lists.{all_map}
 use Rattle.rt_lemmas.proofs.Membership.{contains_here, contains_there, all_weaker}
 use Rattle.rt_ids.specs.Holder.{Guarded}
 use Rattle.rt_ids.specs.Lists.{is_some_and}
-use Rattle.rt_ids.specs.Content.{Content, Values, messages}
+use Rattle.rt_ids.specs.Content.{Content, Values, messages, MayArm}
 use Rattle.rt_ids.specs.Action.{Enters}
 use Rattle.rt_ids.specs.Doing.{Doing}
 use Rattle.rt_ids.specs.Operation.{number_of}
@@ -121,6 +121,17 @@ entered_well app m (section.Ready p) cost spells =
     (λ m. is_some_and (is_of_level p) (slice_get app.tasks m.task) ≡ true) (λ e is. is.0)
     (m.queues (Guarded (section.Ready p))) spells.1.places)
 
+-- what the cells of a section spell is no timer queue, where there is no monotonic
+no_timer_queue : (app : App) (m : Moment) (x : Section) → (IsHeld app (Guarded section.Timer) → ⊥)
+    → (storage app).Spells (Guarded x) (slice_index m.cells) (m.queues (Guarded x)) (m.values (Guarded x))
+    → MayArm (m.values (Guarded x))
+unfolding storage
+no_timer_queue app m (section.Res r) no_monotonic spells = subst (λ content. MayArm content) (sym spells.1) tt
+no_timer_queue app m (section.Free n) no_monotonic spells = subst (λ content. MayArm content) (sym spells.1.out) tt
+no_timer_queue app m (section.Ready p) no_monotonic spells =
+    subst (λ content. MayArm content) (sym spells.1.messages) tt
+no_timer_queue app m section.Timer no_monotonic spells = absurd (no_monotonic spells.0)
+
 module _ (app : App) (img : Image) (thread : ℕ) where
   -- the running job inside a section more
   abbrev pub with_section : Part → Section → Kind → ℕ → ℕ → ℕ → Doing Values → Part
@@ -183,7 +194,8 @@ module _ (app : App) (img : Image) (thread : ℕ) where
     stack.1,
   )
 
-  module _ (m : Moment) (fits : Fits app img thread m) (works : IsWorking m.running.role) (n : ℕ)
+  module _ (no_monotonic : IsHeld app (Guarded section.Timer) → ⊥) (m : Moment) (fits : Fits app img thread m)
+      (works : IsWorking m.running.role) (n : ℕ)
       (none : candidate app (state_of m) ≡ None)
       (left : HaveLeft (m.running.lefts ++ m.running.left ∷ [])) (x : Section) (i : Instr)
       (goes : GoesIn (storage app) (who m.running) x i (passed (spot_of m.cells m.queues m.running))
@@ -218,17 +230,21 @@ module _ (app : App) (img : Image) (thread : ℕ) where
     is_held : IsHeld app (Guarded x)
     is_held = (spared app img thread m fits works (Enters x goes.cost) goes.values goes.follows goes.is).0
 
+    spells : (storage app).Spells (Guarded x) (slice_index m.cells) (m.queues (Guarded x)) (m.values (Guarded x))
+    spells = fits.spelled (Guarded x) is_held (
+      not_mine,
+      all_weaker (λ o. Reads app img thread o (Guarded x) ≡ false)
+          (λ o. Owns app img thread o (Guarded x) ≡ false)
+          (λ o f. left_of_none (Owns app img thread o (Guarded x)) _ f) m.below free,
+    )
+
     takes : TakesOver (storage app) (who m.running) x
         (passed (spot_of m.cells m.queues m.running)) goes.values m.values m.cells m.queues
     takes = record {
       agree = agreed app img thread m fits works (Enters x goes.cost) goes.values goes.follows goes.is;
       same = record { long = refl; touched = λ cell may. refl; queued = λ h o. refl };
-      spelled = fits.spelled (Guarded x) is_held (
-        not_mine,
-        all_weaker (λ o. Reads app img thread o (Guarded x) ≡ false)
-            (λ o. Owns app img thread o (Guarded x) ≡ false)
-            (λ o f. left_of_none (Owns app img thread o (Guarded x)) _ f) m.below free,
-      );
+      spelled = spells;
+      few = no_timer_queue app m x no_monotonic spells;
       once = λ e.
           let all = open_once m.queues (hands (m.running ∷ m.below)) fits.once e x m.running.held fits.parts.0.once
           goes.once in

@@ -1,7 +1,7 @@
 -- After reset each place of a task stands once in its list of free places, and in no other queue.
 use Rattle.std.proofs.Common.{◌≡◌, ℕ, zero, suc, ◌+◌, ◌-◌, ◌<◌, ◌≤◌, ◌==◌, ◌&&◌, ◌⊎◌, inl, inr, Bool, true, false}
-use Rattle.std.proofs.Common.{List, []}
-use Rattle.std.proofs.Common.{◌∷◌, map, refl, sym, ap, ◌∙◌, arith}
+use Rattle.std.proofs.Common.{List}
+use Rattle.std.proofs.Common.{map, refl, sym, ap, ◌∙◌, arith}
 use Rattle.std.specs.Prelude.{cond}
 use Rattle.std.specs.List.{range_with_len}
 use Rattle.std.proofs.lemmas.Bool.{eqb-true, eq-eqb}

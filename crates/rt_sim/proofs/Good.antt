@@ -1,11 +1,13 @@
 -- Every image of an accepted application without a monotonic is good.
 use Rattle.std.proofs.Common.{◌≡◌, ℕ, zero, suc, ◌^◌, ◌<◌, ◌≤◌, Bool, true, false, if◌then◌else◌, List, [], ◌∷◌}
-use Rattle.std.proofs.Common.{length, take, Some, None, refl, sym, ap, subst, arith}
+use Rattle.std.proofs.Common.{length, take, slice_get, Option, Some, None, refl, sym, ap, subst, ◌∙◌, arith}
 use Rattle.std.specs.List.{AllByRecursion}
-use Rattle.std.proofs.lemmas.Option.{none-some}
+use Rattle.std.proofs.lemmas.List.{length-map}
+use Rattle.std.proofs.lemmas.Option.{none-some, same_Some, slice_get_within}
+use Rattle.rt_ids.specs.Lists.{then_from}
 use Rattle.rt_ids.specs.Event.{Event, Arrive, Tick, Step}
 use Rattle.rt_ids.specs.Action.{Action, Enters, Leaves, Emits, Posts, Clocks, Takes, Refuses, Readies, Starts, Frees}
-use Rattle.rt_ids.specs.Action.{Arms, Fires, SetsAlarm, Ends, Returns}
+use Rattle.rt_ids.specs.Action.{Arms, Fires, Cancels, Moves, SetsAlarm, Ends, Returns}
 use Rattle.rt_ids.specs.Content.{Values}
 use Rattle.rt_ids.specs.Doing.{Doing, over, does}
 use Rattle.rt_trace.specs.Label.{Label, Arrived, Ticked, Rang, Stepped, items_of}
@@ -15,10 +17,12 @@ use Rattle.rt_app.specs.Tree.{App}
 use Rattle.rt_app.specs.Accepted.{IsAccepted}
 use Rattle.rt_app.specs.Acceptance.{IsSound}
 use Rattle.rt_app.specs.Handlers.{has_no_monotonic}
+use Rattle.rt_app.specs.Layout.{resource_at}
 use Rattle.rt_app.specs.Stack.{stack_bytes}
 use Rattle.rt_app.proofs.Sound.{accepted_are_sound}
 use Rattle.rt_build.specs.Image.{IsImageOf}
 use Rattle.rt_build.proofs.ImageCells.{resource_numbers}
+use Rattle.rt_code.specs.Cells.{cell_named, resource_cell}
 use Rattle.rt_code.specs.Image.{Image}
 use Rattle.rt_core.specs.Access.{access}
 use Rattle.rt_core.specs.Core.{Core, reset, depth}
@@ -74,6 +78,8 @@ not_trap s role (does action made next) k is = by action is
     by (Frees n) is = cc (is)
     by (Arms i m) is = cc (is)
     by (Fires m) is = cc (is)
+    by (Cancels n h) is = cc (is)
+    by (Moves n h i) is = cc (is)
     by SetsAlarm is = set (is_due s.time (next_instant s)) is
     by (Ends b) is = cc (is)
     by Returns is = returned role is
@@ -134,6 +140,20 @@ module _ (app : App) (img : Image) (accepted : IsAccepted app)
       (task_sparing app accepted sound no_monotonic)
       (dispatcher_sparing app accepted sound no_monotonic)
 
+  -- the cell that the image names as a resource is the one that has it
+  cell_is : (r cell : ℕ) → resource_cell img r ≡ Some cell → (r < length app.shared) × (cell ≡ resource_at app r)
+  cell_is r cell is =
+      let within : r < length app.shared = named_within (slice_get img.names.shared r) refl is in
+      (within, same_Some _ _ (sym is ∙ resource_numbers app is_image.at img is_image.tables sound r within))
+    where
+      declared : length img.names.shared ≡ length app.shared
+      declared = ap (λ names. length names.shared) is_image.tables.names ∙ length-map app.shared (λ r. r.name)
+
+      named_within : (o : Option (List ℕ)) → slice_get img.names.shared r ≡ o
+          → then_from o (cell_named img.cells) ≡ Some cell → r < length app.shared
+      named_within None at is = absurd (none-some cell is)
+      named_within (Some name) at is = omega (arith, declared, slice_get_within img.names.shared r name at)
+
   reached_by : (events : List Event) → length events < 2 ^ 31 → AreDeclared app events
       → Reaches app img is_image.at.idle steps_both (reset img) (first app) events
   reached_by events few declared =
@@ -158,7 +178,8 @@ module _ (app : App) (img : Image) (accepted : IsAccepted app)
             let part = reached_by (take n events) (omega (arith, few, front_short events n))
             (front_declared app events n declared) in
             subst (λ (c : Core). depth img c ≤ stack_bytes app) (sym part.agrees.core)
-            (depth_within app img is_image.at.idle accepted.limits.most_bits part.agrees.moment part.agrees.fits);
+            (depth_within app img is_image.at.idle is_image.tables.fpu accepted.limits.most_bits part.agrees.moment
+            part.agrees.fits);
         no_trap = no_traps app (labels img (reset img) events) (first app) 0 whole.runs;
         guarded = λ n.
             let front : List Event = take n events in
@@ -170,8 +191,8 @@ module _ (app : App) (img : Image) (accepted : IsAccepted app)
             let early : part.agrees.moment.time < 2 ^ 31 =
             let same : (core_after img (reset img) front).time ≡ part.agrees.moment.time =
             ap (λ (c : Core). c.time) part.agrees.core in omega (arith, same, part.time, short) in
-            subst (λ (c : Core). IsGuarded app v.jobs (access img c)) (sym part.agrees.core)
-            (access_is_guarded app img is_image.at.idle part.agrees.moment part.agrees.fits v
+            subst (λ (c : Core). IsGuarded app img v.jobs (access img c)) (sym part.agrees.core)
+            (access_is_guarded app img is_image.at.idle cell_is part.agrees.moment part.agrees.fits v
             (subst (λ s. StateWell app s v) part.agrees.state well) early);
       }
 

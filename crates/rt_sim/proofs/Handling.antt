@@ -1,6 +1,6 @@
 -- Each interrupt that is enabled has its handler in an image: a hardware task, or the dispatcher of a level. Without a
 -- monotonic there is no other.
-use Rattle.std.proofs.Common.{◌≡◌, ℕ, suc, ◌+◌, ◌^◌, ◌<◌, ◌≤◌, ◌==◌, true, false, not, List, [], ◌∷◌, ◌++◌, length}
+use Rattle.std.proofs.Common.{◌≡◌, ℕ, suc, ◌+◌, ◌^◌, ◌≤◌, ◌==◌, true, false, not, List, [], ◌∷◌, length}
 use Rattle.std.proofs.Common.{flat_map, slice_get, Option, Some, None, option_map, is_none, Contains, refl, sym, ap}
 use Rattle.std.proofs.Common.{subst, ◌∙◌}
 use Rattle.std.proofs.Common.{arith, eq-eqb}

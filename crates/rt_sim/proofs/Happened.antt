@@ -1,26 +1,25 @@
 -- One event: the core after it is known, and its items' lines were written.
-use Rattle.std.proofs.Common.{◌≡◌, ℕ, zero, suc, ◌+◌, ◌*◌, ◌/◌, ◌%◌, ◌==◌, ◌<◌, ◌≤◌, ◌≢◌, ◌^◌, inl, inr, List, [], ◌∷◌, ◌++◌, map, filter, flat_map, Option, Some, None, Bool, true, false, if◌then◌else◌, nat_le, refl, ap, sym, subst, ◌∙◌, arith, eq-eqb}
+use Rattle.std.proofs.Common.{◌≡◌, ℕ, zero, suc, ◌+◌, ◌*◌, ◌/◌, ◌%◌, ◌==◌, ◌<◌, ◌≤◌, ◌≢◌, ◌^◌, inl, inr, List, [], ◌∷◌, ◌++◌, map, filter, flat_map, Option, Some, None, Bool, true, false, if◌then◌else◌, nat_le, refl, ap, sym, subst, ◌∙◌, arith}
 use Rattle.std.specs.Int.{bit_at}
-use Rattle.std.proofs.lemmas.Bool.{cases_lt, false_from_ne_true, eqb-true}
+use Rattle.std.proofs.lemmas.Bool.{cases_lt}
 use Rattle.std.proofs.lemmas.List.{append-nil, length-map}
 use Rattle.std.proofs.lemmas.List.Elements.{filter-append}
 use Rattle.std.proofs.lemmas.Nat.{one_shl}
 use Rattle.std.proofs.lemmas.Nat.Bits.{bit_at-pow_same, bit_at-pow_other}
 use Rattle.rt_ids.specs.Arrivals.{arrivals}
-use Rattle.rt_ids.specs.Event.{Event, Arrive, Tick, Step, steps}
+use Rattle.rt_ids.specs.Event.{Arrive, Tick, Step}
 use Rattle.rt_ids.specs.Lists.{numbers_below}
 use Rattle.rt_ids.specs.Names.{Names}
 use Rattle.rt_code.specs.Image.{Image}
-use Rattle.rt_core.specs.Core.{Core, reset}
+use Rattle.rt_core.specs.Core.{Core}
 use Rattle.rt_core.specs.Machine.{Machine, IsFresh}
 use Rattle.rt_core.specs.Stepping.{step}
-use Rattle.rt_core.specs.Trace.{ring, tick, happen, core_after, labels}
+use Rattle.rt_core.specs.Trace.{ring, happen, core_after, labels}
 use Rattle.rt_core.specs.Transfer.{pended}
 use Rattle.rt_core.specs.declared.alarm.Alarm.{Alarm}
-use Rattle.rt_core.proofs.Keeping.{step_keeps_time, tick_adds_one, arrivals_keep_time}
+use Rattle.rt_core.proofs.Keeping.{step_keeps_time, tick_adds_one}
 use Rattle.rt_trace.specs.Label.{Label, Arrived, Ticked, Rang, Stepped, items_of}
 use Rattle.rt_trace.specs.Text.{text}
-use Rattle.rt_trace.specs.declared.item.Item.{Item}
 use Rattle.rt_trace.specs.declared.item.What.{What}
 use Rattle.rt_sim.specs.Inside.Writing.{IsKnown, IsWritable, Writes}
 use Rattle.rt_sim.proofs.Worded.{step_known}

@@ -1,6 +1,6 @@
 -- What a body may change it owns: the resources of its locks, those that it reaches without one, and its local ones;
 -- and the queues that it sends messages to are there.
-use Rattle.std.proofs.Common.{◌≡◌, ℕ, zero, suc, ◌+◌, ◌^◌, ◌<◌, ◌≤◌, ◌==◌, ◌&&◌, ◌||◌, inl, inr, not, Bool, true, false}
+use Rattle.std.proofs.Common.{◌≡◌, ℕ, zero, suc, ◌^◌, ◌<◌, ◌≤◌, ◌==◌, ◌&&◌, ◌||◌, inl, inr, not, Bool, true, false}
 use Rattle.std.proofs.Common.{if◌then◌else◌, List, [], ◌∷◌, ◌++◌, length, map, find, slice_get, Some, Contains, refl}
 use Rattle.std.proofs.Common.{ap}
 use Rattle.std.proofs.Common.{sym, ◌∙◌, arith, eq-eqb}

@@ -1,6 +1,6 @@
 -- A job ends: it gives back what it keeps, what it interrupted runs on, and Baker's machine lets it return.
 use Rattle.std.proofs.Common.{◌≡◌, ℕ, Bool, true, false, List, [], ◌∷◌, ◌++◌, slice_index, Some, None, refl, sym, ap}
-use Rattle.std.proofs.Common.{subst, ◌∙◌, ◌+◌, ◌≤◌, arith}
+use Rattle.std.proofs.Common.{subst, ◌∙◌, arith}
 use Rattle.std.specs.List.{AllByRecursion}
 use Rattle.rt_ids.specs.Holder.{Holder, Guarded, Own}
 use Rattle.rt_ids.specs.Action.{Action, Returns}

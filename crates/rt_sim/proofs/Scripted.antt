@@ -1,6 +1,5 @@
 -- A run line by line of a script, from a fresh core to the text of the whole trace.
-use Rattle.std.proofs.Common.{◌≡◌, ℕ, zero, suc, ◌+◌, ◌<◌, ◌≤◌, ◌^◌, List, [], ◌∷◌, ◌++◌, length, flat_map, replicate, take, Some, option_to_list, refl, ap, sym, subst, ◌∙◌, get_or, sum_by, arith}
-use Rattle.std.specs.List.{AllByRecursion}
+use Rattle.std.proofs.Common.{◌≡◌, ℕ, ◌+◌, ◌<◌, ◌≤◌, List, [], ◌∷◌, ◌++◌, length, flat_map, take, refl, ap, sym, subst, ◌∙◌, get_or, arith}
 use Rattle.std.proofs.lemmas.Grind.{flat_map-append}
 use Rattle.std.proofs.lemmas.List.{append-nil, take_more, length-append, length-replicate}
 use Rattle.std.proofs.lemmas.List.Sums.{sum_by-cons, sum_by-take-le}
@@ -9,15 +8,15 @@ use Rattle.rt_ids.specs.declared.limits.TheConstants.{SCRIPT_EVENTS}
 use Rattle.rt_code.specs.Image.{Image}
 use Rattle.rt_core.specs.Core.{Core, reset}
 use Rattle.rt_core.specs.Machine.{Machine, IsFresh}
-use Rattle.rt_core.specs.Trace.{core_after, labels}
+use Rattle.rt_core.specs.Trace.{labels}
 use Rattle.rt_script.specs.Script.{IsScript, count, count_of, events, line_events}
 use Rattle.rt_script.specs.declared.line.Line.{Line}
 use Rattle.rt_script.specs.declared.line.Line.TheVariants.{Steps, Ticks, Pends, Device}
 use Rattle.rt_trace.specs.Label.{items_of}
 use Rattle.rt_trace.specs.Text.{text, total_text}
-use Rattle.rt_sim.specs.Inside.Writing.{IsKnown, Writes}
+use Rattle.rt_sim.specs.Inside.Writing.{Writes}
 use Rattle.rt_sim.specs.Written.{text_of}
-use Rattle.rt_sim.proofs.Advancing.{goes_on, steps-append}
+use Rattle.rt_sim.proofs.Advancing.{goes_on}
 
 line_length : (line : Line) → length (line_events line) ≡ count_of line
 line_length (Steps n) = length-replicate n Step

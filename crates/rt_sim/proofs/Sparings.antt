@@ -15,8 +15,8 @@ use Rattle.rt_ids.specs.declared.ids.Section.TheVariants as section
 use Rattle.rt_app.specs.declared.expr.Atom.{Atom}
 use Rattle.rt_app.specs.declared.expr.Atom.TheVariants as atom
 use Rattle.rt_app.specs.declared.costs.TheConstants.{FREE_COST, READY_COST}
-use Rattle.rt_app.specs.Tree.{Expression, Spawn, Soon, After, Calc, Now, Call, Statement, Bind, Assign, Branch}
-use Rattle.rt_app.specs.Tree.{Repeat, Locked, Emit, Pend}
+use Rattle.rt_app.specs.Tree.{Expression, Spawn, Soon, After, Cancel, Move, Calc, Now, Call, Statement, Bind, Assign}
+use Rattle.rt_app.specs.Tree.{Branch, Repeat, Locked, Emit, Pend}
 use Rattle.rt_app.specs.Tree.{Spawns, Block, Empty, Then, Body}
 use Rattle.rt_app.specs.Tree.{Task, App}
 use Rattle.rt_app.specs.Variables.{variables, variables_in}
@@ -126,7 +126,7 @@ module _ (app : App) (who : Runner) (handles : Bool) (m : Member)
       (act_sparing (section.Ready p ∷ held) (Leaves (section.Ready p)) rest tt fine)))
 
   spawn_sparing : (held : List Section) (locked : List ℕ) (value : Expression → ℕ) (s : Spawn) (rest : ℕ → Rest)
-      → IsSoundSpawn app m locked s → ((granted : ℕ) → SparesAlways app who handles held (rest granted))
+      → IsSoundSpawn app m locked s → ((answer : ℕ) → SparesAlways app who handles held (rest answer))
       → SparesAlways app who handles held (spawn_actions app value s rest)
   spawn_sparing held locked value (Soon n args at) rest sound fine =
       let t : Task = sound.0 in
@@ -138,6 +138,10 @@ module _ (app : App) (who : Runner) (handles : Bool) (m : Member)
       (fine 0)
   spawn_sparing held locked value (After word delay n args at) rest sound fine =
       absurd (let mono = sound.4 in cc (mono.1, no_monotonic))
+  spawn_sparing held locked value (Cancel word n handle at) rest sound fine =
+      absurd (let mono = sound.1.timed in cc (mono.1, no_monotonic))
+  spawn_sparing held locked value (Move word delay n handle at) rest sound fine =
+      absurd (let mono = sound.1.timed in cc (mono.1, no_monotonic))
 
   mutual
     statement_sparing : (s : Statement) (n : ℕ) (locked fixed : List ℕ) (later : Later)
@@ -147,8 +151,8 @@ module _ (app : App) (who : Runner) (handles : Bool) (m : Member)
     statement_sparing (Bind x (Now at)) n locked fixed later sound fine =
         λ vars vs. (λ h away. refl, (tt, λ time ws entered. fine (slice_set vars x time) ws))
     statement_sparing (Bind x (Call s)) n locked fixed later sound fine = λ vars vs.
-        spawn_sparing (sections_locked locked) locked (value_in vars vs) s (λ granted. later (slice_set vars x granted))
-        sound.1 (λ granted. fine (slice_set vars x granted)) vs
+        spawn_sparing (sections_locked locked) locked (value_in vars vs) s (λ answer. later (slice_set vars x answer))
+        sound.1 (λ answer. fine (slice_set vars x answer)) vs
     statement_sparing (Assign x e at) n locked fixed later sound fine =
         λ vars vs. assign_sparing locked fixed x (value_in vars vs e) later sound.0 sound.1 fine vars vs
     statement_sparing (Branch e first second) n locked fixed later sound fine = λ vars vs.
@@ -173,8 +177,8 @@ module _ (app : App) (who : Runner) (handles : Bool) (m : Member)
     statement_sparing (Pend i) n locked fixed later sound fine =
         λ vars. act_sparing (sections_locked locked) (Posts (or_zero (irq_number app i))) (later vars) tt (fine vars)
     statement_sparing (Spawns s) n locked fixed later sound fine = λ vars vs.
-        spawn_sparing (sections_locked locked) locked (value_in vars vs) s (λ granted. later vars) sound
-        (λ granted. fine vars) vs
+        spawn_sparing (sections_locked locked) locked (value_in vars vs) s (λ answer. later vars) sound
+        (λ answer. fine vars) vs
 
     pub block_sparing : (b : Block) (n : ℕ) (locked fixed : List ℕ) (later : Later)
         → IsSoundBlock app m n locked fixed b → SparingLater locked later → SparingLater locked (run_block app b later)

@@ -1,6 +1,5 @@
 -- A core step is a step of Baker's machine, from every moment that fits: an interrupt is taken, the thread waits, or
--- the
--- running job goes on.
+-- the running job goes on.
 use Rattle.std.proofs.Common.{◌≡◌, ℕ, ◌-◌, ◌+◌, ◌*◌, ◌^◌, ◌<◌, ◌≤◌, true, false, if◌then◌else◌, List, [], ◌∷◌}
 use Rattle.std.proofs.Common.{length, map, replicate, slice_get, Option, Some, None, option_map, is_none, IsSome}
 use Rattle.std.proofs.Common.{Contains}
@@ -203,7 +202,7 @@ module _ (app : App) (img : Image) (accepted : IsAccepted app) (sound : IsSound 
       let c : Core = core_of app.bits m in
       let fit = fits_taken app img at.idle at few many (keepers_apart app accepted sound)
       (kept_is_held app accepted sound) r.number v serves has m fits above in
-      let deep = depth_within app img at.idle many _ fit in
+      let deep = depth_within app img at.idle is_image.tables.fpu many _ fit in
       let words = used_is app img at.idle _ fit in
       let before = used_is app img at.idle m fits in
       let zeros : List ℕ = replicate (handler_words app v.handler) 0 in
@@ -230,8 +229,8 @@ module _ (app : App) (img : Image) (accepted : IsAccepted app) (sound : IsSound 
       on_with : IsWorking m.running.role → pick img (core_of app.bits m) ≡ None → candidate app (state_of m) ≡ None
           → StepsBoth app img at.idle (core_of app.bits m) (state_of m)
       on_with works picked none =
-          working app img at.idle many is_image.tables.stack no_timer no_timer_queue named is_image.code.idle
-          (kept_is_held app accepted sound) sparing_idle m fits works picked none early
+          working app img at.idle many is_image.tables.fpu is_image.tables.stack no_timer no_timer_queue named
+          is_image.code.idle (kept_is_held app accepted sound) sparing_idle m fits works picked none early
 
       goes_on : (role : Role) → m.running.role ≡ role → pick img (core_of app.bits m) ≡ None
           → candidate app (state_of m) ≡ None → StepsBoth app img at.idle (core_of app.bits m) (state_of m)

@@ -1,6 +1,6 @@
 -- An interrupt is taken: its handler starts as a job above all others, in a frame of its own, with what its level
 -- keeps.
-use Rattle.std.proofs.Common.{◌≡◌, ℕ, ◌^◌, ◌<◌, ◌≤◌, ◌==◌, ◌||◌, ◌⊎◌, inl, inr, min, Bool, true, false}
+use Rattle.std.proofs.Common.{◌≡◌, ℕ, ◌^◌, ◌<◌, ◌≤◌, ◌||◌, ◌⊎◌, inl, inr, min, Bool, true, false}
 use Rattle.std.proofs.Common.{List, [], ◌∷◌, length, replicate, slice_set, slice_index, Some, None}
 use Rattle.std.proofs.Common.{refl, sym, ap, subst, ◌∙◌, arith, length-set}
 use Rattle.std.specs.List.{AllByRecursion}

@@ -1,5 +1,5 @@
 -- Each item that a core of an image with lines shows has its names in the tables, and the core stays known.
-use Rattle.std.proofs.Common.{◌≡◌, ℕ, ◌+◌, ◌<◌, ◌==◌, Bool, true, false, if◌then◌else◌, nat_le, List, [], ◌∷◌, length, Option, Some, None, option_map, slice_get, IsSome, IfSome, is_some, find, position, bytes_eq, Contains, refl, sym, ap, subst, ◌∙◌, arith, eq-eqb}
+use Rattle.std.proofs.Common.{◌≡◌, ℕ, ◌+◌, ◌<◌, ◌==◌, Bool, true, false, if◌then◌else◌, nat_le, List, [], ◌∷◌, length, Option, Some, None, option_map, slice_get, IsSome, IfSome, is_some, bytes_eq, Contains, refl, sym, ap, subst, ◌∙◌, arith, eq-eqb}
 use Rattle.std.specs.List.{AllByRecursion}
 use Rattle.std.proofs.lemmas.Option.{slice_get-get_or}
 use Rattle.rt_lemmas.proofs.Lists.{position_within, found}
@@ -7,12 +7,11 @@ use Rattle.rt_lemmas.proofs.Membership.{all_at, contains_at}
 use Rattle.rt_ids.specs.Choice.{IsIn}
 use Rattle.rt_ids.specs.Lists.{then_from}
 use Rattle.rt_ids.specs.Names.{Names}
-use Rattle.rt_ids.specs.Naming.{irq_named}
 use Rattle.rt_ids.specs.declared.ids.BodyId.{BodyId}
 use Rattle.rt_ids.specs.declared.ids.BodyId.TheVariants as body
 use Rattle.rt_ids.specs.declared.ids.Section.{Section}
 use Rattle.rt_ids.specs.declared.ids.Section.TheVariants as section
-use Rattle.rt_code.specs.Cells.{resource_cell, resource_value, cell_named}
+use Rattle.rt_code.specs.Cells.{resource_cell, cell_named}
 use Rattle.rt_code.specs.Effect.{effect, done, next, slot}
 use Rattle.rt_code.specs.Image.{Image, entry_words}
 use Rattle.rt_code.specs.Lines.{HasLines, HasCell}
@@ -84,6 +83,8 @@ operands names (what.Post i) h n = h
 operands names (what.Clock v) h n = n
 operands names (what.Arm t v) h n = (h, n)
 operands names (what.Fire t) h n = h
+operands names (what.Cancel t handle) h n = (h, n)
+operands names (what.Move t handle v) h n = (h, n.0, n.1)
 operands names (what.End b) h n = is_body names b h
 operands names (what.Trap k) h n = n
 
@@ -152,6 +153,17 @@ module _ (img : Image) (c : Core) (known : IsKnown img c) where
   arm_known t None h = known
   arm_known t (Some instant) h = (known, h)
 
+  cancel_known : (t : ℕ) (handle : Option ℕ) → HasTask img.names t
+      → IsKnownAfter img (stepping.noted c (option_map (what.Cancel t) handle))
+  cancel_known t None h = known
+  cancel_known t (Some handle) h = (known, h)
+
+  move_known : (t : ℕ) (handle instant : Option ℕ) → HasTask img.names t
+      → IsKnownAfter img (stepping.noted c (then_from handle (λ n. option_map (what.Move t n) instant)))
+  move_known t None instant h = known
+  move_known t (Some handle) None h = known
+  move_known t (Some handle) (Some instant) h = (known, h)
+
   value_there : (cell : Option ℕ) → IfSome cell (λ k. k < length img.cells) → IsSome cell → IsSome (then_from cell (slice_get c.processor.cells))
   value_there None within is = cc
   value_there (Some k) within is =
@@ -171,6 +183,8 @@ module _ (img : Image) (c : Core) (known : IsKnown img c) where
   noted_known : (n : Note) → HasNote img.names (Some n) → HasCell img (Some n) → IsKnownAfter img (stepping.noted c (shown_by img c n))
   noted_known (note.Start t from) h k = start_known t (slots_from c from (argument_count img t)) h
   noted_known (note.Arm t s) h k = arm_known t (slice_get c.processor.slots s) h
+  noted_known (note.Cancel t s) h k = cancel_known t (slice_get c.processor.slots s) h
+  noted_known (note.Move t s a) h k = move_known t (slice_get c.processor.slots s) (slice_get c.processor.slots a) h
   noted_known (note.Enter s) h k = (known, h)
   noted_known (note.Leave s) h k = (known, (h, left_known s k))
   noted_known (note.Placed t) h k = (known, h)

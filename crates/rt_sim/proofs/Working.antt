@@ -58,7 +58,8 @@ use Rattle.rt_sim.proofs.Leaves.{leaves_at}
 use Rattle.rt_sim.proofs.Returns.{returns_to}
 use Rattle.rt_sim.proofs.EndsOfThread.{ends_init, ends_idle}
 
-module _ (app : App) (img : Image) (thread : ℕ) (many : app.bits ≤ 7) (sized : img.stack_bytes ≡ stack_bytes app)
+module _ (app : App) (img : Image) (thread : ℕ) (many : app.bits ≤ 7) (fpu : img.fpu ≡ app.fpu)
+    (sized : img.stack_bytes ≡ stack_bytes app)
     (no_timer : (storage app).timer ≡ None) (no_monotonic : IsHeld app (Guarded section.Timer) → ⊥)
     (named : (r : ℕ) → r < length app.shared → resource_cell img r ≡ Some r)
     (idle : (bodies : List BodyRow) → IdleStands app img.code bodies thread app.idle)
@@ -118,6 +119,8 @@ module _ (app : App) (img : Image) (thread : ℕ) (many : app.bits ≤ 7) (sized
         gives_back app img thread m fits works n none left may p plain t gives noted
     by_note p plain (note.Arm t slot) noted gives = absurd (timer_closed noted.inside)
     by_note p plain (note.Fire t) noted gives = absurd (timer_closed noted.inside)
+    by_note p plain (note.Cancel t slot) noted gives = absurd (timer_closed noted.inside)
+    by_note p plain (note.Move t slot from) noted gives = absurd (timer_closed noted.inside)
     by_note p plain (note.Enter x) noted gives = absurd noted
     by_note p plain (note.Leave x) noted gives = absurd noted
     by_note p plain (note.End b) noted gives = absurd noted
@@ -182,7 +185,8 @@ module _ (app : App) (img : Image) (thread : ℕ) (many : app.bits ≤ 7) (sized
     by same (ByAlarm p plain instant irq timer gives sets) = absurd (cc (timer, no_timer))
     by same (ByNoAlarm p plain gives sets) =
         sets_none app img thread m fits works n none left may p plain (sym same ∙ gives) sets
-    by same (ByEnter x i goes gives) = enters app img thread m fits works n none left x i goes (sym same ∙ gives)
+    by same (ByEnter x i goes gives) =
+        enters app img thread no_monotonic m fits works n none left x i goes (sym same ∙ gives)
     by same (ByLeave x i comes gives) =
         subst (λ held. Fits app img thread (record m { running = record m.running { held = held } })
         → candidate app (state_of (record m { running = record m.running { held = held } })) ≡ None
@@ -195,10 +199,10 @@ module _ (app : App) (img : Image) (thread : ℕ) (many : app.bits ≤ 7) (sized
           Some (what.Leave x v),
         )) (left_alike img m.running.rows fits.parts.0.calls.arguments (core_of app.bits m) x))) fits none
     by same (ByCall row from calls gives) =
-        calls_body app img thread many sized m fits works n none left row from calls
+        calls_body app img thread many fpu sized m fits works n none left row from calls
         (λ deep room. sym same ∙ gives deep room)
     by same (ByBack t back gives) =
-        comes_back app img thread many sized m fits works n none left t back (sym same ∙ gives)
+        comes_back app img thread many fpu sized m fits works n none left t back (sym same ∙ gives)
     by same (ByEndOfInit starts ends gives) = of_init starts ends m.below fits none (sym same ∙ gives)
     by same (ByEndOfIdle low ends gives) = of_idle low ends m.below fits none (sym same ∙ gives)
     by same (ByReturn ends gives) = of_return ends m.below fits none (λ x others is. sym same ∙ gives x others is)

@@ -1,17 +1,17 @@
 -- Guarded accesses: a shared resource is touched by a job that is inside it, by `init`, or without a section where RTIC
 -- allows it (the RTIC 1 book, resources: `lock_free`, and `&name`, which is read alone). Who is inside what is read
--- from
--- the labels before the step; what the step touches is the core's.
-use Rattle.std.specs.Prelude.{◌≡◌, ℕ, ◌==◌, ◌^◌, ◌<◌, ◌⊎◌, Bool, true, ◌&&◌, List, [], ◌∷◌, length, Option, Some, None}
+-- from the labels before the step; what the step touches is the core's. Which cell is that of a resource the image says
+-- by the cell's name.
+use Rattle.std.specs.Prelude.{◌≡◌, ℕ, ◌==◌, ◌^◌, ◌⊎◌, Bool, true, ◌&&◌, List, [], ◌∷◌, Option, Some, None}
 use Rattle.std.specs.List.{list_any}
 use Rattle.rt_ids.specs.Choice.{IsIn}
 use Rattle.rt_ids.specs.Event.{Event}
 use Rattle.rt_ids.specs.declared.ids.Section.TheVariants as section
 use Rattle.rt_trace.specs.Label.{Label}
 use Rattle.rt_app.specs.Tree.{App}
-use Rattle.rt_app.specs.Layout.{resource_at}
 use Rattle.rt_app.specs.Listing.{is_lock_free, listings}
 use Rattle.rt_code.specs.Access.{Access, Loads, Stores}
+use Rattle.rt_code.specs.Cells.{resource_cell}
 use Rattle.rt_code.specs.Image.{Image}
 use Rattle.rt_core.specs.Access.{access}
 use Rattle.rt_core.specs.Core.{reset}
@@ -27,11 +27,12 @@ sees_all app v (label ∷ more) = sees_all app (sees app v label) more
 abbrev pub is_read_alone : App → ℕ → Bool
 is_read_alone app r = list_any (λ l. (l.listed.resource == r) && l.listed.by_ref) (listings app)
 
--- the running job is inside the resource; or it is `init`, the thread alone with the greatest priority, until that ends
+-- the running job is inside the resource
 abbrev pub IsInside : List Seen → ℕ → Type 0
 IsInside [] r = ⊥
 IsInside (job ∷ others) r = IsIn job.inside (section.Res r)
 
+-- the running job is `init`, the thread alone with the greatest priority, until that ends
 abbrev pub IsInit : App → List Seen → Type 0
 IsInit app (job ∷ []) = job.priority ≡ 2 ^ app.bits
 IsInit app jobs = ⊥
@@ -40,16 +41,16 @@ IsInit app jobs = ⊥
 abbrev pub MayStore : App → List Seen → ℕ → Type 0
 MayStore app jobs r = IsInside jobs r ⊎ (IsInit app jobs ⊎ (is_lock_free app r ≡ true))
 
--- of the access of a step
-abbrev pub IsGuarded : App → List Seen → Option Access → Type 0
-IsGuarded app jobs None = Unit {0}
-IsGuarded app jobs (Some (Loads cell)) =
-    (r : ℕ) → r < length app.shared → cell ≡ resource_at app r → MayStore app jobs r ⊎ (is_read_alone app r ≡ true)
-IsGuarded app jobs (Some (Stores cell)) = (r : ℕ) → r < length app.shared → cell ≡ resource_at app r
-    → MayStore app jobs r
+-- of the access of a step: a store to the cell of a resource is one that it may do, and a load too, or the resource is
+-- read alone
+abbrev pub IsGuarded : App → Image → List Seen → Option Access → Type 0
+IsGuarded app img jobs None = Unit {0}
+IsGuarded app img jobs (Some (Loads cell)) =
+    (r : ℕ) → resource_cell img r ≡ Some cell → MayStore app jobs r ⊎ (is_read_alone app r ≡ true)
+IsGuarded app img jobs (Some (Stores cell)) = (r : ℕ) → resource_cell img r ≡ Some cell → MayStore app jobs r
 
 -- the access of the next step behind these events
 abbrev pub AccessesAreGuarded : App → Image → List Event → Type 0
 AccessesAreGuarded app img events =
-    IsGuarded app (sees_all app (first_sight app) (labels img (reset img) events)).jobs
+    IsGuarded app img (sees_all app (first_sight app) (labels img (reset img) events)).jobs
     (access img (core_after img (reset img) events))

@@ -21,6 +21,11 @@ pub(crate) fn numbers_fit(what: &What)
             let _values = args.values();
         }
         What::Arm(_, instant) => word_fits(*instant),
+        What::Cancel(_, handle) => word_fits(*handle),
+        What::Move(_, handle, instant) => {
+            word_fits(*handle);
+            word_fits(*instant);
+        }
         What::Trap(reason) => byte_fits(*reason),
         _ => {}
     }

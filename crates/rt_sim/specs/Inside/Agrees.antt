@@ -14,6 +14,7 @@ use Rattle.rt_sim.specs.Inside.States.{core_of, state_of}
 use Rattle.rt_sim.specs.Inside.Fits.{Fits}
 
 module _ (app : App) (img : Image) (thread : ℕ) where
+  -- the moment, and that both are its states
   pub record Agrees (c : Core) (s : State) : Type 0 where
     pub moment : Moment
     pub core : c ≡ core_of app.bits moment

@@ -9,6 +9,7 @@ use Rattle.rt_code.specs.Owning.{Kind, Marked, Raised, Masked, Held}
 use Rattle.rt_laws.specs.State.{Role, Init}
 use Rattle.rt_sim.specs.Inside.Moment.{Part}
 
+-- the thread before the end of `init`
 abbrev pub is_init : Role → Bool
 is_init Init = true
 is_init role = false
@@ -18,6 +19,7 @@ abbrev pub base_by : Kind → ℕ → ℕ → ℕ
 base_by (Raised slot) value before = value
 base_by kind value before = before
 
+-- and PRIMASK likewise
 abbrev pub mask_by : Kind → Bool → Bool
 mask_by (Masked slot) before = true
 mask_by kind before = before
@@ -29,6 +31,7 @@ module _ (app : App) where
   base_inside (h ∷ outer) before =
       base_by h.kind (hardware app.bits (ceiling app h.section)) (base_inside outer before)
 
+  -- and PRIMASK likewise
   abbrev pub mask_inside : List Held → Bool → Bool
   mask_inside [] before = before
   mask_inside (h ∷ outer) before = mask_by h.kind (mask_inside outer before)
@@ -38,16 +41,20 @@ module _ (app : App) where
   base_under [] = 0
   base_under (q ∷ ps) = base_inside q.held (base_under ps)
 
+  -- and PRIMASK, from the role of the job that they are under
   abbrev pub mask_under : Role → List Part → Bool
   mask_under role [] = is_init role
   mask_under role (q ∷ ps) = mask_inside q.held (mask_under q.role ps)
 
+  -- as a running job on others has them
   abbrev pub base_of : Part → List Part → ℕ
   base_of p ps = base_inside p.held (base_under ps)
 
+  -- and PRIMASK likewise
   abbrev pub mask_of : Part → List Part → Bool
   mask_of p ps = mask_inside p.held (mask_under p.role ps)
 
+  -- a section of this kind keeps these in its slot
   abbrev pub SavesBy : List ℕ → Kind → ℕ → Bool → Type 0
   SavesBy slots Marked base mask = Unit {0}
   SavesBy slots (Raised slot) base mask = (slot < length slots) × (slice_index slots slot ≡ base)

@@ -41,6 +41,7 @@ module _ (app : App) (img : Image) (thread : ℕ) where
     pub frame : length (words_of p.caller) + length p.slots ≤ need app p.priority
     pub saves : Saves app p.slots p.held (base_of app q ps) (mask_of app q ps)
 
+  -- the thread, and each handler on what it interrupted
   abbrev pub IsStacked : Part → List Part → Type 0
   IsStacked p [] = IsThread p
   IsStacked p (q ∷ ps) = IsOn p q ps × IsStacked q ps
@@ -51,6 +52,7 @@ module _ (app : App) (img : Image) (thread : ℕ) where
       (h : Holder) → IsHeld app h → AllByRecursion (λ p. Owns app img thread p h ≡ false) parts
       → (storage app).Spells h (slice_index cells) (queues h) (values h)
 
+  -- all of it
   pub record Fits (m : Moment) : Type 0 where
     pub stack : IsStacked m.running m.below
     pub parts : AllByRecursion (PartFits app img thread m.cells m.queues m.values) (m.running ∷ m.below)

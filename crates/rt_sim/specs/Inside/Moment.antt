@@ -33,6 +33,7 @@ pub record Part : Type 0 where
   -- the words of its own frame, on which a called body has another
   pub own : ℕ
 
+-- both machines between two events
 pub record Moment : Type 0 where
   pub running : Part
   -- what it interrupted, the last started first, the thread last
@@ -46,6 +47,7 @@ pub record Moment : Type 0 where
   pub queues : Holder → List Entry
   pub values : Values
 
+-- who runs a job's code, as code that stands knows it
 abbrev pub runner_of : Role → ℕ → Runner
 runner_of Init priority = Starting
 runner_of role priority = AtLevel priority
@@ -55,9 +57,11 @@ abbrev pub irq_of : Role → ℕ
 irq_of (Serving irq) = irq
 irq_of role = 0
 
+-- the sections alone, innermost first
 abbrev pub sections_of : List Held → List Section
 sections_of held = map (λ h. h.section) held
 
+-- what Baker's machine has of it
 abbrev pub job_of : Part → Job
 job_of p = record {
   role = p.role;
@@ -68,6 +72,7 @@ job_of p = record {
   lefts = p.lefts;
 }
 
+-- what code that stands has of it, in this memory
 abbrev pub spot_of : List ℕ → (Holder → List Entry) → Part → Spot
 spot_of cells queues p = record {
   held = p.held;
@@ -81,5 +86,6 @@ spot_of cells queues p = record {
   rest = p.rest;
 }
 
+-- a running job on those that it interrupted
 abbrev pub jobs_of : Part → List Part → List Job
 jobs_of p ps = job_of p ∷ map job_of ps

@@ -20,6 +20,7 @@ use Rattle.rt_sim.specs.Inside.Moment.{Part, runner_of, sections_of, spot_of}
 use Rattle.rt_sim.specs.Inside.Sparing.{IsSparing}
 use Rattle.rt_sim.specs.Inside.Calling.{handles, own_slots, CallsWithin}
 
+-- who runs its code
 abbrev pub who : Part → Runner
 who p = runner_of p.role p.priority
 
@@ -29,9 +30,11 @@ AreOnce [] = Unit {0}
 AreOnce (h ∷ outer) = (is_open outer h.section ≡ false) × AreOnce outer
 
 module _ (app : App) (img : Image) (thread : ℕ) where
+  -- what it owns in its open sections
   abbrev pub Owns : Part → Holder → Bool
   Owns p h = owns (storage app) (who p) p.held h
 
+  -- what it reads in them
   abbrev pub Reads : Part → Holder → Bool
   Reads p h = reads (storage app) (who p) p.held h
 
@@ -39,6 +42,7 @@ module _ (app : App) (img : Image) (thread : ℕ) where
   abbrev pub SparesTheOther : Part → Part → Type 0
   SparesTheOther p q = (h : Holder) → Owns p h ≡ true → Reads q h ≡ true → ⊥
 
+  -- and the other way round
   abbrev pub AreApart : Part → Part → Type 0
   AreApart p q = SparesTheOther p q × SparesTheOther q p
 
@@ -72,6 +76,7 @@ module _ (app : App) (img : Image) (thread : ℕ) where
   AgreesWith runner held values over = Unit {0}
   AgreesWith runner held values (does action made next) = Agree (storage app) runner held values made
 
+  -- all of it
   pub record PartFits (cells : List ℕ) (queues : Holder → List Entry) (values : Values) (p : Part) : Type 0 where
     pub stands : StandsBy p.role cells queues p
     pub agrees : AgreesWith (who p) p.held values p.rest

@@ -29,11 +29,13 @@ module _ (app : App) (who : Runner) (handles : Bool) where
   owns_in held (Guarded x) = list_any (λ y. is_same_section y x) held || is_kept app who (Guarded x)
   owns_in held (Own n) = is_kept app who (Own n)
 
+  -- the sections that are open behind an action
   abbrev pub held_after : List Section → Action → List Section
   held_after held (Enters x cost) = x ∷ held
   held_after held (Leaves x) = drop 1 held
   held_after held action = held
 
+  -- it enters sections of things that there are, and only a handler returns
   abbrev pub IsActionOf : Action → Type 0
   IsActionOf (Enters x cost) = IsHeld app (Guarded x)
   IsActionOf Returns = handles ≡ true
@@ -43,6 +45,7 @@ module _ (app : App) (who : Runner) (handles : Bool) where
   abbrev pub Spares : List Section → Values → Doing Values → Type 0
   Spares held vs rest = (h : Holder) → owns_in held h ≡ false → reached rest vs h ≡ vs h
 
+  -- what is left to do is sparing, where these sections are open
   abbrev pub IsSparing : List Section → Doing Values → Type 0
   IsSparing held over = Unit {0}
   IsSparing held (does action made next) =
@@ -50,5 +53,6 @@ module _ (app : App) (who : Runner) (handles : Bool) where
       × ((n : ℕ) (vs : Values) → IsEntered app action vs → Spares (held_after held action) vs (next n vs)
       × IsSparing (held_after held action) (next n vs))
 
+  -- from whatever values
   abbrev pub SparesAlways : List Section → Rest → Type 0
   SparesAlways held rest = (vs : Values) → Spares held vs (rest vs) × IsSparing held (rest vs)

@@ -13,9 +13,11 @@ contexts bits irq value (q ∷ ps) =
     record { irq = irq; value = value; address = q.address; slots = q.slots; caller = q.caller }
     ∷ contexts bits (irq_of q.role) (hardware bits q.priority) ps
 
+-- that of a running job on others
 abbrev pub contexts_of : ℕ → Part → List Part → List Context
 contexts_of bits p ps = contexts bits (irq_of p.role) (hardware bits p.priority) ps
 
+-- the core, with so many priority bits
 abbrev pub core_of : ℕ → Moment → Core
 core_of bits m = record {
   time = m.time;
@@ -33,6 +35,7 @@ core_of bits m = record {
   stopped = false;
 }
 
+-- Baker's machine
 abbrev pub state_of : Moment → State
 state_of m = record {
   jobs = jobs_of m.running m.below;

@@ -19,10 +19,12 @@ use Rattle.rt_trace.specs.Text.{text}
 use Rattle.rt_trace.specs.declared.item.What.{What}
 use Rattle.rt_trace.specs.declared.item.What.TheVariants as what
 
+-- a level is in the range of a priority
 abbrev pub HasLevel : Section → Type 0
 HasLevel (section.Ready p) = p < 2 ^ 8
 HasLevel s = Unit {0}
 
+-- a number, where there is one, is of 32 bits
 abbrev pub IsWordIf : Option ℕ → Type 0
 IsWordIf None = Unit {0}
 IsWordIf (Some n) = IsWord n
@@ -36,6 +38,8 @@ HasNumbers (what.Emit v) = IsWord v
 HasNumbers (what.Start t args) = (length args ≤ 4) × AllByRecursion IsWord args
 HasNumbers (what.Clock v) = IsWord v
 HasNumbers (what.Arm t v) = IsWord v
+HasNumbers (what.Cancel t h) = IsWord h
+HasNumbers (what.Move t h v) = IsWord h × IsWord v
 HasNumbers (what.Trap k) = k < 2 ^ 8
 HasNumbers w = Unit {0}
 
@@ -59,9 +63,12 @@ HasWords names (what.Start t args) = HasTask names t
 HasWords names (what.Free t) = HasTask names t
 HasWords names (what.Arm t v) = HasTask names t
 HasWords names (what.Fire t) = HasTask names t
+HasWords names (what.Cancel t h) = HasTask names t
+HasWords names (what.Move t h v) = HasTask names t
 HasWords names (what.End b) = HasBody names b
 HasWords names w = Unit {0}
 
+-- where there is an item
 abbrev pub ShowsWords : Names → Option What → Type 0
 ShowsWords names None = Unit {0}
 ShowsWords names (Some w) = HasWords names w
@@ -71,6 +78,7 @@ pub record IsKnown (img : Image) (c : Core) : Type 0 where
   pub cells : length c.processor.cells ≡ length img.cells
   pub below : AllByRecursion (λ x. IsDeclared img.names x.irq) c.below
 
+-- a machine of which the lines of items can be written
 pub record IsWritable (m : Machine) : Type 0 where
   pub lines : HasLines m.image
   pub known : IsKnown m.image m.core

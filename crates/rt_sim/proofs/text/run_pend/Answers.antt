@@ -1,11 +1,9 @@
-use Rattle.std.proofs.Common.{◌≡◌, ℕ, ◌*◌, ◌/◌, ◌%◌, ◌<◌, ◌^◌, [], ◌∷◌, ◌++◌, ap, sym, subst, ◌∙◌, arith}
-use Rattle.std.specs.Int.{bit_at}
+use Rattle.std.proofs.Common.{◌≡◌, ◌*◌, ◌/◌, ◌%◌, ◌^◌, [], ◌∷◌, ◌++◌, ap, sym, ◌∙◌, arith}
 use Rattle.std.proofs.lemmas.List.{append-nil}
 use Rattle.rt_ids.specs.Arrivals.{arrivals}
 use Rattle.rt_code.specs.Image.{Image}
 use Rattle.rt_core.specs.Machine.{Machine}
 use Rattle.rt_trace.specs.Label.{Arrived}
-use Rattle.rt_trace.specs.Lined.{IsDeclared}
 use Rattle.rt_sim.proofs.Happened.{said, pend_writes, one_arrival, only_bit}
 use Rattle.rt_sim.proofs.text.run_pend.Goals as goal
 

@@ -1,7 +1,5 @@
-use Rattle.std.proofs.Common.{◌<◌, ◌^◌, List, [], ◌++◌, length, arith, ap, sym, subst, ◌∙◌}
+use Rattle.std.proofs.Common.{List, [], ◌++◌, arith, ap, sym, subst, ◌∙◌}
 use Rattle.rt_ids.specs.Event.{steps}
-use Rattle.rt_ids.specs.declared.limits.TheConstants.{SCRIPT_EVENTS}
-use Rattle.rt_core.specs.Machine.{Machine}
 use Rattle.rt_script.specs.Script.{IsScript, HasNames, events}
 use Rattle.rt_script.specs.declared.line.Line.{Line}
 use Rattle.rt_trace.specs.Text.{total_text}
