@@ -1,11 +1,11 @@
 -- A text is refused or is read, not both, and the status that is due is one.
-use Rattle.std.proofs.Common.{◌≡◌, ℕ, ◌⊎◌, Bool, true, false, List, Option, Some, None, inl, inr, refl, sym, ap, subst, ◌∙◌, arith}
+use Rattle.std.proofs.Common.{◌≡◌, ℕ, ◌⊎◌, Bool, true, false, List, Option, Some, inl, inr, refl, sym, ap, subst, ◌∙◌, arith}
 use Rattle.rt_ids.specs.Names.{Names}
 use Rattle.rt_ids.specs.declared.status.Status.{Status}
-use Rattle.rt_ids.specs.declared.status.Status.TheVariants as status
 use Rattle.rt_ast.specs.Tree as tree
 use Rattle.rt_grammar.specs.Text.{IsText}
 use Rattle.rt_parse.proofs.WholeOnly.{text_only}
+use Rattle.rt_app.specs.Handlers.{has_no_handles}
 use Rattle.rt_app.specs.Names.{names_of}
 use Rattle.rt_app.specs.Tree.{App}
 use Rattle.rt_app.specs.Violation.{IsFirst}
@@ -29,7 +29,7 @@ use Rattle.rt_trace.specs.declared.refusal.TraceRefused.{TraceRefused}
 use Rattle.rt_trace.specs.declared.refusal.TraceRefused.TheVariants as in_trace
 use Rattle.rt_trace.proofs.OneWay as traces
 use Rattle.rt_top.specs.Words.{Command, Run, Check, Fmt, Build, Audit, Live, Soak, Demo}
-use Rattle.rt_top.specs.Refusal.{RefusesText, RefusesApplication, RefusesBuilding}
+use Rattle.rt_top.specs.Refusal.{RefusesText, RefusesApplication, RefusesOther}
 use Rattle.rt_top.specs.SecondRefusal.{SaysScript, SaysTrace, RefusesScript, RefusesTrace}
 use Rattle.rt_top.specs.Outputs.{IsRun, Says, IsAudited}
 use Rattle.rt_top.specs.Defined.{Inputs, RefusesFirst, RefusesSecond, Writes, Defined, refused, faulty, output, IsTold, IsFirstRefused, AreTold}
@@ -50,10 +50,11 @@ application_only : (text : List ℕ) (a b : App) → IsApplication text a → Is
 application_only text a b one other =
     one.kept.same ∙ (ap resolved (text_only text one.tree other.tree one.text other.text) ∙ sym other.kept.same)
 
-pub image_passes : (text line : List ℕ) (app : App) → IsApplication text app → has_image app ≡ true → RefusesBuilding text line → ⊥
-image_passes text line app is made (inl r) = application_passes text line app is r
-image_passes text line app is made (inr r) =
-    not_made (has_image app) made (subst (λ a. has_image a ≡ false) (application_only text r.app app r.of_text is) r.none)
+pub form_passes : (form : App → Bool) (text line : List ℕ) (app : App) → IsApplication text app → form app ≡ true
+    → RefusesOther form text line → ⊥
+form_passes form text line app is made (inl r) = application_passes text line app is r
+form_passes form text line app is made (inr r) =
+    not_made (form app) made (subst (λ a. form a ≡ false) (application_only text r.app app r.of_text is) r.none)
   where
     not_made : (b : Bool) → b ≡ true → b ≡ false → ⊥
     not_made b one other = cc
@@ -113,26 +114,29 @@ some_same : (o : Option (List ℕ)) (a b : List ℕ) → o ≡ Some a → o ≡ 
 some_same o a b e f = cc
 
 refused_no_second : (c : Command) (text more line other : List ℕ) → RefusesFirst c text line → RefusesSecond c text more other → ⊥
-refused_no_second Run text more line other r s = image_passes text line s.app s.of_text s.made r
+refused_no_second Run text more line other r s = form_passes has_image text line s.app s.of_text s.made r
 refused_no_second Check text more line other r s = s
 refused_no_second Fmt text more line other r s = s
 refused_no_second Build text more line other r s = s
-refused_no_second Audit text more line other r s = application_passes text line s.app s.of_text r
+refused_no_second Audit text more line other r s = form_passes has_no_handles text line s.app s.of_text s.plain r
 refused_no_second Live text more line other r s = s
 refused_no_second (Soak number count workers) text more line other r s = s
 refused_no_second (Demo n) text more line other r s = s
 
 refused_no_output : (c : Command) (t : Inputs) (text line : List ℕ) (ended : Status) (bytes : List ℕ) → t.first ≡ Some text → RefusesFirst c text line → Writes c t ended bytes → ⊥
 refused_no_output Run t text line ended bytes e r (is, text', more, e', h, run) =
-    image_passes text' line run.app run.is.of_text run.is.made (subst (λ s. RefusesFirst Run s line) (some_same t.first text text' e e') r)
+    form_passes has_image text' line run.app run.is.of_text run.is.made
+    (subst (λ s. RefusesFirst Run s line) (some_same t.first text text' e e') r)
 refused_no_output Check t text line ended bytes e r (is, text', e', (app, accepted, says)) =
     application_passes text' line app accepted (subst (λ s. RefusesApplication s line) (some_same t.first text text' e e') r)
 refused_no_output Fmt t text line ended bytes e r (is, text', e', (a, spelled, says)) =
     tree_passes text' line a spelled (subst (λ s. RefusesText s line) (some_same t.first text text' e e') r)
 refused_no_output Build t text line ended bytes e r (is, text', e', w) =
-    image_passes text' line w.app w.is.of_text w.is.made (subst (λ s. RefusesFirst Build s line) (some_same t.first text text' e e') r)
+    form_passes has_image text' line w.app w.is.of_text w.is.made
+    (subst (λ s. RefusesFirst Build s line) (some_same t.first text text' e e') r)
 refused_no_output Audit t text line ended bytes e r (text', more, e', h, audited) =
-    application_passes text' line audited.app audited.of_text (subst (λ s. RefusesApplication s line) (some_same t.first text text' e e') r)
+    form_passes has_no_handles text' line audited.app audited.of_text audited.plain
+    (subst (λ s. RefusesFirst Audit s line) (some_same t.first text text' e e') r)
 refused_no_output Live t text line ended bytes e r w = w
 refused_no_output (Soak number count workers) t text line ended bytes e r w = w
 refused_no_output (Demo n) t text line ended bytes e r w = w

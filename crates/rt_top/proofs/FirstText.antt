@@ -1,5 +1,6 @@
 -- From a source that tells to its text, and from the tree of a text to what is said of the text.
-use Rattle.std.proofs.Common.{◌≡◌, ℕ, ◌≤◌, false, List, ◌++◌, length, Option, Some, None, Result, Ok, Err, IfOk, IfErr, inl, inr, ap, subst, ◌∙◌, arith}
+use Rattle.std.proofs.Common.{◌≡◌, ℕ, ◌≤◌, Bool, false, List, ◌++◌, length, Option, Some, None, Result, Ok, Err, IfOk}
+use Rattle.std.proofs.Common.{IfErr, inl, inr, ap, subst, ◌∙◌, arith}
 use Rattle.std.proofs.lemmas.List.{length-append}
 use Rattle.rt_ids.specs.declared.refusal.Fault.{Fault}
 use Rattle.rt_ids.specs.declared.status.Status.TheVariants as status
@@ -10,8 +11,7 @@ use Rattle.rt_app.specs.declared.app.App as code
 use Rattle.rt_app.specs.Tree.{App}
 use Rattle.rt_app.specs.View.{app_of}
 use Rattle.rt_build.specs.Accepted.{KeepsRules, IsApplication}
-use Rattle.rt_build.specs.Form.{has_image}
-use Rattle.rt_top.specs.Refusal.{refusal_line, unbuilt_line, RefusesText, RefusesApplication, RefusesBuilding}
+use Rattle.rt_top.specs.Refusal.{refusal_line, unbuilt_line, RefusesText, RefusesApplication, RefusesOther}
 use Rattle.rt_top.specs.Inside.Decides.{Tells, Halts, IsBrokenBy}
 use Rattle.rt_top.specs.declared.reply.Reply.{Reply}
 use Rattle.rt_top.specs.declared.reply.Reply.TheVariants as reply
@@ -67,9 +67,11 @@ module _ (told : Option (List ℕ)) (failed : Type 0) (a : tree.App) (own : List
   accepted_result (Ok app) kept text e = record { tree = a; text = subst (λ t. IsText t a) (same text e) spelled; kept = kept }
   accepted_result (Err r) kept text e = tt
 
--- an application of which no image is made
-pub unbuilt_halts : (told : Option (List ℕ)) (failed : Type 0) (app : App) → ((text : List ℕ) → told ≡ Some text → IsApplication text app) → has_image app ≡ false
-    → (r : Reply) → Tells status.App (λ line. line ≡ unbuilt_line) r → Halts told RefusesBuilding failed r
-unbuilt_halts told failed app accepted none r tells =
-    tells_halts told RefusesBuilding failed (λ line. line ≡ unbuilt_line)
+-- an application that is not of a form
+pub unbuilt_halts : (told : Option (List ℕ)) (failed : Type 0) (form : App → Bool) (app : App)
+    → ((text : List ℕ) → told ≡ Some text → IsApplication text app) → form app ≡ false
+    → (r : Reply) → Tells status.App (λ line. line ≡ unbuilt_line) r
+    → Halts told (λ text line. RefusesOther form text line) failed r
+unbuilt_halts told failed form app accepted none r tells =
+    tells_halts told (λ text line. RefusesOther form text line) failed (λ line. line ≡ unbuilt_line)
     (λ text line e says. inr (record { app = app; of_text = accepted text e; none = none; says = says })) r tells

@@ -8,3 +8,4 @@ mod Refused
 mod Listed
 mod Ran
 mod Audited
+pub mod ByHandle

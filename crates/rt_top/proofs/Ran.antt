@@ -1,6 +1,5 @@
 -- The answer of a run.
 use Rattle.std.proofs.Common.{◌≡◌, ℕ, List, ◌++◌, codes, ap, sym, subst, ◌∙◌}
-use Rattle.rt_ids.specs.Names.{Names}
 use Rattle.rt_ids.specs.declared.status.Status.{Status}
 use Rattle.rt_ids.specs.declared.status.Status.TheVariants as status
 use Rattle.rt_app.specs.Names.{names_of}

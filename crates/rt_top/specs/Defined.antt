@@ -5,7 +5,7 @@ use Rattle.rt_ids.specs.declared.status.Status.{Status}
 use Rattle.rt_ids.specs.declared.status.Status.TheVariants as status
 use Rattle.rt_outside.specs.Bytes.{Took, TookPrefix}
 use Rattle.rt_top.specs.Words.{Command, Run, Check, Fmt, Build, Audit, Names, IsBuilt, reads}
-use Rattle.rt_top.specs.Refusal.{RefusesText, RefusesApplication, RefusesBuilding}
+use Rattle.rt_top.specs.Refusal.{RefusesText, RefusesApplication, RefusesBuilding, RefusesJudging}
 use Rattle.rt_top.specs.SecondRefusal.{RefusesScript, RefusesTrace}
 use Rattle.rt_top.specs.Outputs.{IsFormatted, IsChecked, IsListed, IsRun, IsAudited}
 
@@ -15,6 +15,7 @@ pub record Inputs : Type 0 where
   pub second : Option (List ℕ)
   pub third : Option (List ℕ)
 
+-- these three
 abbrev pub inputs : Option (List ℕ) → Option (List ℕ) → Option (List ℕ) → Inputs
 inputs first second third = record { first = first; second = second; third = third }
 
@@ -24,7 +25,7 @@ RefusesFirst Run text line = RefusesBuilding text line
 RefusesFirst Check text line = RefusesApplication text line
 RefusesFirst Fmt text line = RefusesText text line
 RefusesFirst Build text line = RefusesBuilding text line
-RefusesFirst Audit text line = RefusesApplication text line
+RefusesFirst Audit text line = RefusesJudging text line
 RefusesFirst other text line = ⊥
 
 -- the line refuses the second text, where the first is not refused
@@ -45,6 +46,7 @@ Writes Audit t ended bytes =
     (text more : List ℕ) × (t.first ≡ Some text) × (t.second ≡ Some more) × IsAudited text more ended bytes
 Writes other t ended bytes = ⊥
 
+-- the status and the bytes that are due: the refusal of the first text, that of the second, or the output
 pub data Defined (c : Command) (t : Inputs) : Status → List ℕ → Type 0 where
   refused : (text line : List ℕ) → t.first ≡ Some text → RefusesFirst c text line → Defined c t status.App line
   faulty : (text more line : List ℕ) → t.first ≡ Some text → t.second ≡ Some more → RefusesSecond c text more line
@@ -62,6 +64,7 @@ IsAnswer status.Write = ⊥
 IsAnswer status.Memory = ⊥
 IsAnswer other = Unit {0}
 
+-- the source tells
 abbrev pub IsTold : Option (List ℕ) → Type 0
 IsTold None = ⊥
 IsTold (Some text) = Unit {0}
@@ -79,17 +82,19 @@ abbrev pub AreReadTold : Command → Inputs → Status → Type 0
 AreReadTold c t status.App = 1 ≤ reads c → IsTold t.first
 AreReadTold c t ended = AreTold c t
 
--- the words name no command that comes to the first source; none that comes to the second
+-- the words name no command that comes to the first source
 abbrev pub SkipsFirst : List (List ℕ) → Type 0
 SkipsFirst words = (c : Command) → IsBuilt c → Names words c → reads c ≡ 0
 
+-- they name none that comes to the second
 abbrev pub SkipsSecond : List (List ℕ) → Inputs → Type 0
 SkipsSecond words t = (c : Command) → IsBuilt c → Names words c → (reads c ≤ 1) ⊎ IsFirstRefused c t
 
--- the sink took all that is defined, or a beginning of it
+-- the sink took all that is defined
 abbrev pub WroteAll : Command → Inputs → Status → Option (List ℕ) → Option (List ℕ) → Type 0
 WroteAll c t ended before after = (bytes : List ℕ) × Defined c t ended bytes × Took before after bytes
 
+-- it took a beginning of it
 abbrev pub WrotePart : Command → Inputs → Option (List ℕ) → Option (List ℕ) → Type 0
 WrotePart c t before after =
     (ended : Status) × (bytes : List ℕ) × Defined c t ended bytes × TookPrefix before after bytes

@@ -1,5 +1,5 @@
 -- The line that refuses an application text: where it stands, its number, and what is wrong.
-use Rattle.std.specs.Prelude.{◌≡◌, ◌⊎◌, ℕ, false, List, ◌++◌, codes, decimal}
+use Rattle.std.specs.Prelude.{◌≡◌, ◌⊎◌, ℕ, Bool, false, List, ◌++◌, codes, decimal}
 use Rattle.rt_ids.specs.declared.limit.Limit.{Limit}
 use Rattle.rt_ids.specs.declared.limit.Limit.TheVariants as limit
 use Rattle.rt_ids.specs.declared.refusal.Fault.{Fault}
@@ -8,10 +8,12 @@ use Rattle.rt_ids.specs.declared.refusal.Refusal.TheVariants as refusal
 use Rattle.rt_ids.specs.declared.rule.Rule.{Rule}
 use Rattle.rt_ids.specs.declared.rule.Rule.TheVariants as rule
 use Rattle.rt_grammar.specs.Text.{IsRefused}
+use Rattle.rt_app.specs.Handlers.{has_no_handles}
 use Rattle.rt_app.specs.Tree.{App}
 use Rattle.rt_build.specs.Accepted.{IsApplication, IsRefusedText}
 use Rattle.rt_build.specs.Form.{has_image}
 
+-- the word for a limit
 abbrev pub limit_word : Limit → List ℕ
 limit_word limit.Tasks = codes "tasks"
 limit_word limit.Shared = codes "shared"
@@ -29,6 +31,7 @@ limit_word limit.Depth = codes "depth"
 limit_word limit.Statements = codes "statements"
 limit_word limit.Turns = codes "turns"
 
+-- the number of the refusal by a rule, and its words
 abbrev pub rule_words : Rule → List ℕ
 rule_words rule.UnknownName = codes "E05 unknown name"
 rule_words rule.DeclaredTwice = codes "E06 name declared twice"
@@ -53,12 +56,13 @@ refusal_words refusal.Syntax = codes "E03 syntax"
 refusal_words (refusal.Limit what) = codes "E04 limit " ++ limit_word what
 refusal_words (refusal.Rule what) = rule_words what
 
+-- the line of a fault
 abbrev pub refusal_line : Fault → List ℕ
 refusal_line fault =
     decimal fault.place.line ++ codes ":" ++ decimal fault.place.col ++ codes " "
     ++ refusal_words fault.refusal ++ codes "\n"
 
--- the line for an application of which no image is made: one with a monotonic
+-- the line for an application of a form that the command does not take yet
 abbrev pub unbuilt_line : List ℕ
 unbuilt_line = codes "1:1 E00 not built\n"
 
@@ -70,13 +74,21 @@ RefusesText text line = (fault : Fault) × IsRefused text fault × (line ≡ ref
 abbrev pub RefusesApplication : List ℕ → List ℕ → Type 0
 RefusesApplication text line = (fault : Fault) × IsRefusedText text fault × (line ≡ refusal_line fault)
 
--- or an application of which no image is made
-pub record RefusesImage (text line : List ℕ) : Type 0 where
+-- or an application that is not of a form
+pub record RefusesForm (form : App → Bool) (text line : List ℕ) : Type 0 where
   pub app : App
   pub of_text : IsApplication text app
-  pub none : has_image app ≡ false
+  pub none : form app ≡ false
   pub says : line ≡ unbuilt_line
 
--- the line refuses a text where an image is wanted
+-- the line refuses a text where an application of a form is wanted
+abbrev pub RefusesOther : (App → Bool) → List ℕ → List ℕ → Type 0
+RefusesOther form text line = RefusesApplication text line ⊎ RefusesForm form text line
+
+-- where an image is wanted: one is made of each application without a monotonic
 abbrev pub RefusesBuilding : List ℕ → List ℕ → Type 0
-RefusesBuilding text line = RefusesApplication text line ⊎ RefusesImage text line
+RefusesBuilding text line = RefusesOther has_image text line
+
+-- where traces are judged: those of applications that take no message back and put none off
+abbrev pub RefusesJudging : List ℕ → List ℕ → Type 0
+RefusesJudging text line = RefusesOther has_no_handles text line

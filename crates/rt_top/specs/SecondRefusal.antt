@@ -2,6 +2,7 @@
 -- first wrong line, and what is wrong there. A text that is too long is refused at its first line. Want of memory
 -- refuses nothing.
 use Rattle.std.specs.Prelude.{◌≡◌, ℕ, true, List, ◌++◌, codes, decimal}
+use Rattle.rt_app.specs.Handlers.{has_no_handles}
 use Rattle.rt_app.specs.Names.{names_of}
 use Rattle.rt_app.specs.Tree.{App}
 use Rattle.rt_build.specs.Accepted.{IsApplication}
@@ -13,6 +14,7 @@ use Rattle.rt_trace.specs.Reading as trace
 use Rattle.rt_trace.specs.declared.refusal.TraceRefused.{TraceRefused}
 use Rattle.rt_trace.specs.declared.refusal.TraceRefused.TheVariants as in_trace
 
+-- the line of a script's line with a number
 abbrev pub script_line : ℕ → List ℕ → List ℕ
 script_line number words = codes "script:" ++ decimal number ++ words
 
@@ -25,6 +27,7 @@ SaysScript (in_script.TooManyEvents n) line = line ≡ script_line n (codes " 4 
 SaysScript (in_script.TooManyDevices n) line = line ≡ script_line n (codes " 5 too many devices\n")
 SaysScript in_script.NoMemory line = ⊥
 
+-- the line of a trace's line with a number
 abbrev pub trace_line : ℕ → List ℕ → List ℕ
 trace_line number words = codes "trace:" ++ decimal number ++ words
 
@@ -44,10 +47,11 @@ pub record RefusesScript (text more line : List ℕ) : Type 0 where
   pub refused : script.IsRefused (names_of app) more refusal
   pub says : SaysScript refusal line
 
--- the line refuses a text that is no trace over the names of an application
+-- the line refuses a text that is no trace over the names of an application of which traces are judged
 pub record RefusesTrace (text more line : List ℕ) : Type 0 where
   pub app : App
   pub of_text : IsApplication text app
+  pub plain : has_no_handles app ≡ true
   pub refusal : TraceRefused
   pub refused : trace.IsRefused (names_of app) more refusal
   pub says : SaysTrace refusal line

@@ -9,6 +9,7 @@ use Rattle.rt_lex.specs.Number.{value_of}
 abbrev pub texts : List (Bor (List ℕ)) → List (List ℕ)
 texts words = map (λ word. word.now) words
 
+-- a command, with its numbers
 pub data Command : Type 0 where
   Run : Command
   Check : Command

@@ -6,9 +6,9 @@ ghost use Rattle.rt_top.specs.Words as word;
 ghost use Rattle.rt_top.specs.Ends.{IsKept};
 ghost use Rattle.rt_top.specs.Defined.{inputs, IsFirstRefused};
 ghost use Rattle.rt_top.specs.Inside.Decides.{Decides};
-ghost use Rattle.rt_top.specs.Inside.Replies.{Replies, AnswersAudit, AnswersVerdict};
+ghost use Rattle.rt_top.specs.Inside.Replies.{Replies, IsHeard, AnswersAudit, AnswersVerdict};
 
-use crate::reading::{read_accepted, read_second};
+use crate::reading::{read_plain, read_second};
 use crate::reply::{Reply, numbered, refuse_trace};
 use rt_app::App;
 use rt_baker::Verdict;
@@ -27,8 +27,10 @@ pub(crate) fn audit<A: Source, B: Source>(alloc: Global, app: &mut A, second: &m
     ensures kept { (third : Option (List ℕ)) →
         IsFirstRefused word.Audit (inputs (A.left app.old) (B.left second.old) third) →
         IsKept B.left B.faults second.old second.new }
+    ensures first_heard { IsHeard (A.faults app.old) (A.faults app.new) result }
+    ensures second_heard { IsHeard (B.faults second.old) (B.faults second.new) result }
 {
-    let accepted = match read_accepted(alloc, app) {
+    let accepted = match read_plain(alloc, app) {
         Ok(accepted) => accepted,
         Err(reply) => return reply,
     };

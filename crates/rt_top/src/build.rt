@@ -6,6 +6,7 @@ ghost use Rattle.rt_top.specs.Words as word;
 ghost use Rattle.rt_build.specs.Form.{has_image};
 ghost use Rattle.rt_top.specs.Defined.{inputs};
 ghost use Rattle.rt_top.specs.Inside.Decides.{Decides, Lists};
+ghost use Rattle.rt_top.specs.Inside.Replies.{IsHeard};
 
 use crate::reading::read_imaged;
 use crate::reply::{Reply, text};
@@ -17,8 +18,9 @@ use std::alloc::Global;
 
 /// `build APP`: the listing of the application's image.
 pub(crate) fn build<A: Source>(alloc: Global, app: &mut A) -> Reply
-    ensures { (second third : Option (List ℕ)) → Decides word.Build (inputs (A.left app.old) second third)
+    ensures decides { (second third : Option (List ℕ)) → Decides word.Build (inputs (A.left app.old) second third)
         (Rose (A.faults app.old) (A.faults app.new)) ⊥ result }
+    ensures heard { IsHeard (A.faults app.old) (A.faults app.new) result }
 {
     let accepted = match read_imaged(alloc, app) {
         Ok(accepted) => accepted,

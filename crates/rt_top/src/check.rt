@@ -6,6 +6,7 @@ ghost use Rattle.rt_top.specs.Words as word;
 ghost use Rattle.rt_top.specs.Outputs.{check_report};
 ghost use Rattle.rt_top.specs.Defined.{inputs};
 ghost use Rattle.rt_top.specs.Inside.Decides.{Decides};
+ghost use Rattle.rt_top.specs.Inside.Replies.{IsHeard};
 
 use crate::reading::read_accepted;
 use crate::reply::{Reply, text};
@@ -19,8 +20,9 @@ use std::alloc::Global;
 
 /// `check APP`: the ceilings, frames, costs, waiting bounds and the stack bound of the application.
 pub(crate) fn check<A: Source>(alloc: Global, app: &mut A) -> Reply
-    ensures { (second third : Option (List ℕ)) → Decides word.Check (inputs (A.left app.old) second third)
+    ensures decides { (second third : Option (List ℕ)) → Decides word.Check (inputs (A.left app.old) second third)
         (Rose (A.faults app.old) (A.faults app.new)) ⊥ result }
+    ensures heard { IsHeard (A.faults app.old) (A.faults app.new) result }
 {
     let accepted = match read_accepted(alloc, app) {
         Ok(accepted) => accepted,

@@ -4,7 +4,7 @@ ghost use Rattle.rt_top.specs.Words.{texts, Names, IsCommand};
 ghost use Rattle.rt_top.specs.Inside.Decides.{meant};
 
 /// A command that is built.
-#[derive(Clone, Copy, Debug, PartialEq, Eq)]
+#[derive(Clone, Copy, PartialEq, Eq)]
 pub(crate) enum Command {
     /// `run APP SCRIPT`
     Run,

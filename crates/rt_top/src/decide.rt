@@ -4,6 +4,7 @@ ghost use Rattle.rt_top.specs.Words.{reads};
 ghost use Rattle.rt_top.specs.Ends.{IsKept};
 ghost use Rattle.rt_top.specs.Defined.{inputs, IsFirstRefused};
 ghost use Rattle.rt_top.specs.Inside.Decides.{meant, Decides};
+ghost use Rattle.rt_top.specs.Inside.Replies.{IsHeard};
 
 use crate::audit::audit;
 use crate::build::build;
@@ -28,6 +29,8 @@ pub(crate) fn decide<A: Source, B: Source>(
         (Rose (B.faults second.old) (B.faults second.new)) result }
     ensures kept { (third : Option (List ℕ)) → let t = inputs (A.left app.old) (B.left second.old) third in
         (reads (meant command) ≤ 1) ⊎ IsFirstRefused (meant command) t → IsKept B.left B.faults second.old second.new }
+    ensures first_heard { IsHeard (A.faults app.old) (A.faults app.new) result }
+    ensures second_heard { IsHeard (B.faults second.old) (B.faults second.new) result }
 {
     match command {
         Command::Run => run(alloc, app, second),

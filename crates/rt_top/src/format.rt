@@ -3,6 +3,7 @@ ghost use Rattle.rt_outside.specs.Faults.{Rose};
 ghost use Rattle.rt_top.specs.Words as word;
 ghost use Rattle.rt_top.specs.Defined.{inputs};
 ghost use Rattle.rt_top.specs.Inside.Decides.{Decides};
+ghost use Rattle.rt_top.specs.Inside.Replies.{IsHeard};
 
 use crate::reading::read_tree;
 use crate::reply::{Reply, text};
@@ -13,8 +14,9 @@ use std::alloc::Global;
 
 /// `fmt APP`: the canonical text of the application.
 pub(crate) fn fmt<A: Source>(alloc: Global, app: &mut A) -> Reply
-    ensures { (second third : Option (List ℕ)) → Decides word.Fmt (inputs (A.left app.old) second third)
+    ensures decides { (second third : Option (List ℕ)) → Decides word.Fmt (inputs (A.left app.old) second third)
         (Rose (A.faults app.old) (A.faults app.new)) ⊥ result }
+    ensures heard { IsHeard (A.faults app.old) (A.faults app.new) result }
 {
     let written = match read_tree(alloc, app) {
         Ok(written) => written,

@@ -8,6 +8,7 @@ mod command;
 mod decide;
 mod format;
 pub mod gate;
+mod handles;
 mod reading;
 mod refusal;
 mod reply;

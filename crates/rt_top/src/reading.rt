@@ -1,15 +1,19 @@
-ghost use Rattle.std.specs.Prelude.{◌≡◌, ◌<◌, ◌-◌, ◌^◌, ℕ, List, Some, true, length, IfOk, IfErr, IfSome, IfNone};
+ghost use Rattle.std.specs.Prelude.{◌≡◌, ◌<◌, ◌-◌, ◌^◌, ◌⊎◌, ℕ, List, Some, true, length, IfOk, IfErr, IfSome};
+ghost use Rattle.std.specs.Prelude.{IfNone, IsErrOf};
 ghost use Rattle.rt_ids.specs.declared.status.Status.TheVariants as status;
 ghost use Rattle.rt_outside.specs.Faults.{Rose};
 ghost use Rattle.rt_ast.specs.View.{app_of};
 ghost use Rattle.rt_grammar.specs.Text.{IsText};
 ghost use Rattle.rt_app.specs.View as resolved;
 ghost use Rattle.rt_app.specs.Accepted.{IsAccepted};
+ghost use Rattle.rt_app.specs.Handlers.{has_no_handles};
 ghost use Rattle.rt_build.specs.Accepted.{KeepsRules, IsApplication};
 ghost use Rattle.rt_build.specs.Form.{has_image};
-ghost use Rattle.rt_top.specs.Refusal.{RefusesText, RefusesApplication, RefusesBuilding};
+ghost use Rattle.rt_top.specs.Refusal.{RefusesText, RefusesApplication, RefusesBuilding, RefusesJudging};
 ghost use Rattle.rt_top.specs.Inside.Decides.{Tells, Stops, Halts, IsBrokenBy};
+ghost use Rattle.rt_top.specs.Inside.Replies.{IsHeardIn};
 
+use crate::handles::has_no_handles;
 use crate::reply::{Reply, line, refuse};
 use rt_app::App;
 use rt_ast::AppTree;
@@ -20,7 +24,7 @@ use rt_outside::{ReadFail, Source, read_text};
 use rt_parse::parse;
 use std::alloc::Global;
 
-/// The line for an application of which no image is made: one with a monotonic.
+/// The line for an application of a form that the command does not take yet.
 const UNBUILT: &[u8] = b"1:1 E00 not built\n";
 
 /// A text that is too long is refused at its first byte.
@@ -42,6 +46,7 @@ pub(crate) fn read_tree<A: Source>(alloc: Global, app: &mut A) -> Result<Written
     ensures same { (text : List ℕ) → A.left app.old ≡ Some text → IfOk result (λ read. read.text.items ≡ text) }
     ensures text { (text : List ℕ) → A.left app.old ≡ Some text → IfOk result (λ read. IsText text (app_of read.tree)) }
     ensures halts { IfErr result (Halts (A.left app.old) RefusesText (Rose (A.faults app.old) (A.faults app.new))) }
+    ensures heard { IsHeardIn (A.faults app.old) (A.faults app.new) result }
 {
     let text = match read_text(alloc, app, TEXT_BYTES) {
         Ok(text) => text,
@@ -77,6 +82,7 @@ pub(crate) fn read_accepted<A: Source>(alloc: Global, app: &mut A) -> Result<App
     ensures kept { IfOk result (λ app. IsAccepted (resolved.app_of app)) }
     ensures halts { IfErr result (Halts (A.left app.old) RefusesApplication
         (Rose (A.faults app.old) (A.faults app.new))) }
+    ensures heard { IsHeardIn (A.faults app.old) (A.faults app.new) result }
 {
     match read_tree(alloc, app) {
         Ok(written) => judged(alloc, &written),
@@ -92,12 +98,34 @@ pub(crate) fn read_imaged<A: Source>(alloc: Global, app: &mut A) -> Result<App, 
     ensures image { IfOk result (λ app. has_image (resolved.app_of app) ≡ true) }
     ensures halts { IfErr result (Halts (A.left app.old) RefusesBuilding
         (Rose (A.faults app.old) (A.faults app.new))) }
+    ensures heard { IsHeardIn (A.faults app.old) (A.faults app.new) result }
 {
     let accepted = match read_accepted(alloc, app) {
         Ok(accepted) => accepted,
         Err(reply) => return Err(reply),
     };
     if has_image(&accepted) {
+        Ok(accepted)
+    } else {
+        Err(line(alloc, Status::App, UNBUILT))
+    }
+}
+
+/// Reads the application, where it breaks no rule and has no handles, so that its traces are judged.
+pub(crate) fn read_plain<A: Source>(alloc: Global, app: &mut A) -> Result<App, Reply>
+    ensures accepted { (text : List ℕ) → A.left app.old ≡ Some text →
+        IfOk result (λ app. IsApplication text (resolved.app_of app)) }
+    ensures kept { IfOk result (λ app. IsAccepted (resolved.app_of app)) }
+    ensures plain { IfOk result (λ app. has_no_handles (resolved.app_of app) ≡ true) }
+    ensures halts { IfErr result (Halts (A.left app.old) RefusesJudging
+        (Rose (A.faults app.old) (A.faults app.new))) }
+    ensures heard { IsHeardIn (A.faults app.old) (A.faults app.new) result }
+{
+    let accepted = match read_accepted(alloc, app) {
+        Ok(accepted) => accepted,
+        Err(reply) => return Err(reply),
+    };
+    if has_no_handles(&accepted) {
         Ok(accepted)
     } else {
         Err(line(alloc, Status::App, UNBUILT))
@@ -116,6 +144,7 @@ pub(crate) fn read_second<B: Source>(
     ensures long { (text : List ℕ) → B.left second.old ≡ Some text →
         IfOk result (λ read. IfNone read (limit < length text)) }
     ensures err { IfErr result (Stops (Rose (B.faults second.old) (B.faults second.new))) }
+    ensures heard { (B.faults second.new ≡ B.faults second.old) ⊎ IsErrOf result Status.Read }
 {
     match read_text(alloc, second, limit) {
         Ok(text) => Ok(Some(text)),

@@ -1,4 +1,4 @@
-ghost use Rattle.std.specs.Prelude.{◌≡◌, ◌++◌, decimal, IfOk};
+ghost use Rattle.std.specs.Prelude.{◌≡◌, ◌⊎◌, ◌++◌, decimal, IfOk};
 ghost use Rattle.rt_top.specs.Refusal.{refusal_line};
 ghost use Rattle.rt_top.specs.SecondRefusal.{script_line, SaysScript, trace_line, SaysTrace};
 ghost use Rattle.rt_top.specs.Ends.{Wrote};
@@ -14,7 +14,7 @@ use rt_trace::TraceRefused;
 use std::alloc::Global;
 
 /// What a command replies. Nothing is written yet.
-#[derive(Debug, Drop)]
+#[derive(Drop)]
 pub(crate) enum Reply {
     /// Two pieces of text, and the status once both are written.
     Write {
@@ -131,7 +131,9 @@ fn trace_line(alloc: Global, line: u32, words: &[u8]) -> Reply
 
 /// Writes a reply, and answers the status that the program ends with.
 pub(crate) fn finish<K: Sink>(out: &mut K, reply: &Reply) -> Status
-    ensures { Finishes (K.taken out.old) (K.taken out.new) (K.faults out.old) (K.faults out.new) reply.now result }
+    ensures finished { Finishes (K.taken out.old) (K.taken out.new) (K.faults out.old) (K.faults out.new)
+        reply.now result }
+    ensures heard { (K.faults out.new ≡ K.faults out.old) ⊎ (result ≡ Status.Write) }
 {
     match reply {
         Reply::Write {
@@ -148,7 +150,9 @@ pub(crate) fn finish<K: Sink>(out: &mut K, reply: &Reply) -> Status
 
 /// Writes one text, with its status.
 pub(crate) fn answer<K: Sink>(out: &mut K, bytes: &[u8], status: Status) -> Status
-    ensures { Wrote (K.taken out.old) (K.taken out.new) (K.faults out.old) (K.faults out.new) status result bytes.now }
+    ensures wrote { Wrote (K.taken out.old) (K.taken out.new) (K.faults out.old) (K.faults out.new)
+        status result bytes.now }
+    ensures heard { (K.faults out.new ≡ K.faults out.old) ⊎ (result ≡ Status.Write) }
 {
     match put_all(out, bytes) {
         Ok(()) => status,

@@ -13,7 +13,7 @@ ghost use Rattle.rt_top.specs.Words as word;
 ghost use Rattle.rt_top.specs.Ends.{IsKept};
 ghost use Rattle.rt_top.specs.Defined.{inputs, IsFirstRefused};
 ghost use Rattle.rt_top.specs.Inside.Decides.{Decides, Tells};
-ghost use Rattle.rt_top.specs.Inside.Replies.{Replies, AnswersRun, run_text};
+ghost use Rattle.rt_top.specs.Inside.Replies.{Replies, IsHeard, AnswersRun, run_text};
 
 use crate::reading::{read_imaged, read_second};
 use crate::reply::{Reply, refuse_script};
@@ -35,6 +35,8 @@ pub(crate) fn run<A: Source, B: Source>(alloc: Global, app: &mut A, second: &mut
     ensures kept { (third : Option (List ℕ)) →
         IsFirstRefused word.Run (inputs (A.left app.old) (B.left second.old) third) →
         IsKept B.left B.faults second.old second.new }
+    ensures first_heard { IsHeard (A.faults app.old) (A.faults app.new) result }
+    ensures second_heard { IsHeard (B.faults second.old) (B.faults second.new) result }
 {
     let accepted = match read_imaged(alloc, app) {
         Ok(accepted) => accepted,

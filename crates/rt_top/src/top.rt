@@ -43,7 +43,8 @@ pub fn rtic<R: Threads + Sync, A: Source, B: Source, C: Source, K: Sink + Send, 
     // `audit` judges a trace, whatever made it. With `yes N` and `Done` the trace, of N items, is a run of Baker's
     // machine on the application with each depth within the stack bound, so sections were exclusive, no lock was found
     // taken, and waiting kept within its bound. With `no N` and `No` it is none, and N is the number of the first item
-    // that is wrong, from 1, or one more than there are items where only the total is.
+    // that is wrong, from 1, or one more than there are items where only the total is. It takes applications that take
+    // no message back by its handle and put none off.
     ensures answered { (c : Command) → IsBuilt c → Names (texts words.now) c → IsAnswer result →
         let t = inputs (A.left app.old) (B.left second.old) (C.left third.old) in
         AreReadTold c t result → WroteAll c t result (K.taken out.old) (K.taken out.new) }
@@ -72,6 +73,11 @@ pub fn rtic<R: Threads + Sync, A: Source, B: Source, C: Source, K: Sink + Send, 
         × (((1 ≤ reads c) × Rose (A.faults app.old) (A.faults app.new) × IsKept B.left B.faults second.old second.new)
         ⊎ ((2 ≤ reads c) × Rose (B.faults second.old) (B.faults second.new))) }
     ensures silent { (result ≡ Status.Read) ⊎ (result ≡ Status.Memory) → Took (K.taken out.old) (K.taken out.new) [] }
+
+    // A fault is told: where one came, the status says so.
+    ensures first_heard { (A.faults app.new ≡ A.faults app.old) ⊎ (result ≡ Status.Read) }
+    ensures second_heard { (B.faults second.new ≡ B.faults second.old) ⊎ (result ≡ Status.Read) }
+    ensures sink_heard { (K.faults out.new ≡ K.faults out.old) ⊎ (result ≡ Status.Write) }
 
     // The sink failed, having taken a beginning of what is defined.
     ensures write { result ≡ Status.Write → Rose (K.faults out.old) (K.faults out.new) }

@@ -1,5 +1,5 @@
 -- What a command replies of its texts alone, said before anything is written.
-use Rattle.std.specs.Prelude.{◌≡◌, ℕ, List, ◌++◌, codes}
+use Rattle.std.specs.Prelude.{◌≡◌, ℕ, ◌⊎◌, List, ◌++◌, codes, Result, IsErrOf}
 use Rattle.rt_ids.specs.declared.status.Status.{Status}
 use Rattle.rt_ids.specs.declared.status.Status.TheVariants as status
 use Rattle.rt_app.specs.Names.{names_of}
@@ -28,6 +28,14 @@ abbrev pub Replies : (Status → List ℕ → Type 0) → Reply → Type 0
 Replies P (reply.Write ended first second) = P ended (first.items ++ second.items)
 Replies P (reply.Stop ended) = ended ≡ status.Memory
 
+-- a count of faults stands still, or the reply is that a source failed
+abbrev pub IsHeard : ℕ → ℕ → Reply → Type 0
+IsHeard before after r = (after ≡ before) ⊎ (r ≡ reply.Stop status.Read)
+
+-- likewise where something was read, or there is a reply at once
+abbrev pub IsHeardIn : {T : Type 0} → ℕ → ℕ → Result T Reply → Type 0
+IsHeardIn before after r = (after ≡ before) ⊎ IsErrOf r (reply.Stop status.Read)
+
 -- the listing of the image, and its trace under the script
 abbrev pub run_text : Image → List Line → List ℕ
 run_text image asked = listing image ++ codes "trace\n" ++ text_of image asked
@@ -46,11 +54,12 @@ pub data AnswersRun (app : App) (more : List ℕ) : Status → List ℕ → Type
   refused : (refusal : ScriptRefused) (line : List ℕ) → script.IsRefused (names_of app) more refusal
       → SaysScript refusal line → AnswersRun app more status.Text line
 
--- what `audit` answers to a trace, and to a trace's text
+-- what `audit` answers to a trace
 abbrev pub AnswersVerdict : App → Trace → Status → List ℕ → Type 0
 AnswersVerdict app shown ended bytes =
     (verdict : Verdict) × IsVerdict app shown verdict × Says shown verdict ended bytes
 
+-- and to a trace's text
 pub data AnswersAudit (app : App) (more : List ℕ) : Status → List ℕ → Type 0 where
   judged : (shown : Trace) (ended : Status) (bytes : List ℕ) → trace.IsTraceText (names_of app) more shown
       → AnswersVerdict app shown ended bytes → AnswersAudit app more ended bytes

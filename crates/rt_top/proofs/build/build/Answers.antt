@@ -1,4 +1,4 @@
-use Rattle.std.proofs.Common.{◌≡◌, ◌∙◌, arith}
+use Rattle.std.proofs.Common.{◌≡◌, arith}
 use Rattle.rt_ids.specs.declared.status.Status.TheVariants as status
 use Rattle.rt_outside.specs.Faults.{Rose}
 use Rattle.rt_app.specs.View.{app_of}
@@ -8,15 +8,15 @@ use Rattle.rt_top.specs.Defined.{inputs}
 use Rattle.rt_top.proofs.Deciding.{halts_decides, tells_decides, listed_decided}
 use Rattle.rt_top.proofs.build.build.Goals as goal
 
-pub returns-in-Err : goal.returns-in-Err
-returns-in-Err g c second third =
+pub returns-in-Err-clause-decides : goal.returns-in-Err-clause-decides
+returns-in-Err-clause-decides g c second third =
     halts_decides Build (inputs (g.A.Source.left c.args.app.now) second third) (omega arith) RefusesBuilding
     (λ text line r. r) (Rose (g.A.Source.faults c.args.app.now) (g.A.Source.faults c.read_imaged.new.app))
     (Rose (g.A.Source.faults c.args.app.now) (g.A.Source.faults c.read_imaged.new.app)) ⊥ (λ h. h)
     c.in-Err.reply c.in-Err.ensures.halts
 
-pub returns-in-Ok-listed : goal.returns-in-Ok-listed
-returns-in-Ok-listed g c second third =
+pub returns-in-Ok-listed-clause-decides : goal.returns-in-Ok-listed-clause-decides
+returns-in-Ok-listed-clause-decides g c second third =
     tells_decides Build (inputs (g.A.Source.left c.args.app.now) second third)
     (Rose (g.A.Source.faults c.args.app.now) (g.A.Source.faults c.read_imaged.new.app)) ⊥ status.Done
     (λ bytes. bytes ≡ c.in-Ok-listed.bytes.items)

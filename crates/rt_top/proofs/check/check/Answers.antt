@@ -8,14 +8,14 @@ use Rattle.rt_top.specs.Defined.{inputs}
 use Rattle.rt_top.proofs.Deciding.{halts_decides, tells_decides, checked_decided}
 use Rattle.rt_top.proofs.check.check.Goals as goal
 
-pub returns-in-Err : goal.returns-in-Err
-returns-in-Err g c second third =
+pub returns-in-Err-clause-decides : goal.returns-in-Err-clause-decides
+returns-in-Err-clause-decides g c second third =
     halts_decides Check (inputs (g.A.Source.left c.args.app.now) second third) (omega arith) RefusesApplication (λ text line r. r)
     (Rose (g.A.Source.faults c.args.app.now) (g.A.Source.faults c.read_accepted.new.app)) (Rose (g.A.Source.faults c.args.app.now) (g.A.Source.faults c.read_accepted.new.app)) ⊥ (λ h. h)
     c.in-Err.reply c.in-Err.ensures.halts
 
-pub returns-in-Ok-checked : goal.returns-in-Ok-checked
-returns-in-Ok-checked g c second third =
+pub returns-in-Ok-checked-clause-decides : goal.returns-in-Ok-checked-clause-decides
+returns-in-Ok-checked-clause-decides g c second third =
     tells_decides Check (inputs (g.A.Source.left c.args.app.now) second third)
     (Rose (g.A.Source.faults c.args.app.now) (g.A.Source.faults c.read_accepted.new.app)) ⊥ status.Done (λ bytes. bytes ≡ c.in-Ok-checked.bytes.items)
     (λ bytes e. checked_decided (g.A.Source.left c.args.app.now) second third (app_of c.in-Ok.accepted) (λ text told. c.in-Ok.ensures.accepted text told) bytes (e ∙ c.in-Ok-checked.ensures))

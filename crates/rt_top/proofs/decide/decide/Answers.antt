@@ -29,7 +29,7 @@ returns-in-Check-clause-decides g c third =
     (Rose (g.A.Source.faults c.args.app.now) (g.A.Source.faults c.check.new.app))
     (Rose (g.A.Source.faults c.args.app.now) (g.A.Source.faults c.check.new.app) × IsKept g.B.Source.left g.B.Source.faults c.args.second.now c.args.second.now)
     (Rose (g.B.Source.faults c.args.second.now) (g.B.Source.faults c.args.second.now))
-    (λ h. (h, record { has_all = refl; no_fault = refl })) c.check.result (c.check.ensures (g.B.Source.left c.args.second.now) third))
+    (λ h. (h, record { has_all = refl; no_fault = refl })) c.check.result (c.check.ensures.decides (g.B.Source.left c.args.second.now) third))
 
 pub returns-in-Fmt-clause-decides : goal.returns-in-Fmt-clause-decides
 returns-in-Fmt-clause-decides g c third =
@@ -40,7 +40,7 @@ returns-in-Fmt-clause-decides g c third =
     (Rose (g.A.Source.faults c.args.app.now) (g.A.Source.faults c.fmt.new.app))
     (Rose (g.A.Source.faults c.args.app.now) (g.A.Source.faults c.fmt.new.app) × IsKept g.B.Source.left g.B.Source.faults c.args.second.now c.args.second.now)
     (Rose (g.B.Source.faults c.args.second.now) (g.B.Source.faults c.args.second.now))
-    (λ h. (h, record { has_all = refl; no_fault = refl })) c.fmt.result (c.fmt.ensures (g.B.Source.left c.args.second.now) third))
+    (λ h. (h, record { has_all = refl; no_fault = refl })) c.fmt.result (c.fmt.ensures.decides (g.B.Source.left c.args.second.now) third))
 
 pub returns-in-Build-clause-decides : goal.returns-in-Build-clause-decides
 returns-in-Build-clause-decides g c third =
@@ -51,7 +51,7 @@ returns-in-Build-clause-decides g c third =
     (Rose (g.A.Source.faults c.args.app.now) (g.A.Source.faults c.build.new.app))
     (Rose (g.A.Source.faults c.args.app.now) (g.A.Source.faults c.build.new.app) × IsKept g.B.Source.left g.B.Source.faults c.args.second.now c.args.second.now)
     (Rose (g.B.Source.faults c.args.second.now) (g.B.Source.faults c.args.second.now))
-    (λ h. (h, record { has_all = refl; no_fault = refl })) c.build.result (c.build.ensures (g.B.Source.left c.args.second.now) third))
+    (λ h. (h, record { has_all = refl; no_fault = refl })) c.build.result (c.build.ensures.decides (g.B.Source.left c.args.second.now) third))
 
 pub returns-in-Audit-clause-decides : goal.returns-in-Audit-clause-decides
 returns-in-Audit-clause-decides g c third =

@@ -8,14 +8,14 @@ use Rattle.rt_top.specs.Defined.{inputs}
 use Rattle.rt_top.proofs.Deciding.{halts_decides, tells_decides, formatted_decided}
 use Rattle.rt_top.proofs.format.fmt.Goals as goal
 
-pub returns-in-Err : goal.returns-in-Err
-returns-in-Err g c second third =
+pub returns-in-Err-clause-decides : goal.returns-in-Err-clause-decides
+returns-in-Err-clause-decides g c second third =
     halts_decides Fmt (inputs (g.A.Source.left c.args.app.now) second third) (omega arith) RefusesText (λ text line r. r)
     (Rose (g.A.Source.faults c.args.app.now) (g.A.Source.faults c.read_tree.new.app)) (Rose (g.A.Source.faults c.args.app.now) (g.A.Source.faults c.read_tree.new.app)) ⊥ (λ h. h)
     c.in-Err.reply c.in-Err.ensures.halts
 
-pub returns-in-Ok-canonical : goal.returns-in-Ok-canonical
-returns-in-Ok-canonical g c second third =
+pub returns-in-Ok-canonical-clause-decides : goal.returns-in-Ok-canonical-clause-decides
+returns-in-Ok-canonical-clause-decides g c second third =
     tells_decides Fmt (inputs (g.A.Source.left c.args.app.now) second third)
     (Rose (g.A.Source.faults c.args.app.now) (g.A.Source.faults c.read_tree.new.app)) ⊥ status.Done (λ bytes. bytes ≡ c.in-Ok-canonical.bytes.items)
     (λ bytes e. formatted_decided (g.A.Source.left c.args.app.now) second third (app_of c.in-Ok.written.tree) (λ text told. c.in-Ok.ensures.text text told) bytes (e ∙ c.in-Ok-canonical.ensures))

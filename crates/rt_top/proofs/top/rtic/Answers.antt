@@ -13,7 +13,8 @@ returns-in-Some-clause-answered g c command is named is_answer told =
     (IsKept g.B.Source.left g.B.Source.faults c.args.second.now c.decide.new.second)
     (Rose (g.B.Source.faults c.args.second.now) (g.B.Source.faults c.decide.new.second))
     c.decide.result (c.decide.ensures.decides (g.C.Source.left c.args.third.now))
-    (g.K.Sink.taken c.args.out.now) (g.K.Sink.taken c.finish.new.out) (g.K.Sink.faults c.args.out.now) (g.K.Sink.faults c.finish.new.out) c.finish.result c.finish.ensures
+    (g.K.Sink.taken c.args.out.now) (g.K.Sink.taken c.finish.new.out) (g.K.Sink.faults c.args.out.now)
+    (g.K.Sink.faults c.finish.new.out) c.finish.result c.finish.ensures.finished
     command is named is_answer told
 
 pub returns-in-Some-clause-complete : goal.returns-in-Some-clause-complete
@@ -24,7 +25,8 @@ returns-in-Some-clause-complete g c command due is named is_due no_first no_seco
     (IsKept g.B.Source.left g.B.Source.faults c.args.second.now c.decide.new.second)
     (Rose (g.B.Source.faults c.args.second.now) (g.B.Source.faults c.decide.new.second))
     c.decide.result (c.decide.ensures.decides (g.C.Source.left c.args.third.now))
-    (g.K.Sink.taken c.args.out.now) (g.K.Sink.taken c.finish.new.out) (g.K.Sink.faults c.args.out.now) (g.K.Sink.faults c.finish.new.out) c.finish.result c.finish.ensures
+    (g.K.Sink.taken c.args.out.now) (g.K.Sink.taken c.finish.new.out) (g.K.Sink.faults c.args.out.now)
+    (g.K.Sink.faults c.finish.new.out) c.finish.result c.finish.ensures.finished
     command due is named is_due no_first no_second no_sink
 
 pub returns-in-Some-clause-usage : goal.returns-in-Some-clause-usage
@@ -39,7 +41,8 @@ returns-in-Some-clause-no_usage g c is_usage =
     (IsKept g.B.Source.left g.B.Source.faults c.args.second.now c.decide.new.second)
     (Rose (g.B.Source.faults c.args.second.now) (g.B.Source.faults c.decide.new.second))
     c.decide.result (c.decide.ensures.decides (g.C.Source.left c.args.third.now))
-    (g.K.Sink.taken c.args.out.now) (g.K.Sink.taken c.finish.new.out) (g.K.Sink.faults c.args.out.now) (g.K.Sink.faults c.finish.new.out) c.finish.result c.finish.ensures
+    (g.K.Sink.taken c.args.out.now) (g.K.Sink.taken c.finish.new.out) (g.K.Sink.faults c.args.out.now)
+    (g.K.Sink.faults c.finish.new.out) c.finish.result c.finish.ensures.finished
     is_usage
 
 pub returns-in-Some-clause-first_unread : goal.returns-in-Some-clause-first_unread
@@ -54,7 +57,8 @@ returns-in-Some-clause-second_unread g c skips =
     (IsKept g.B.Source.left g.B.Source.faults c.args.second.now c.decide.new.second)
     (Rose (g.B.Source.faults c.args.second.now) (g.B.Source.faults c.decide.new.second))
     c.decide.result (c.decide.ensures.decides (g.C.Source.left c.args.third.now))
-    (g.K.Sink.taken c.args.out.now) (g.K.Sink.taken c.finish.new.out) (g.K.Sink.faults c.args.out.now) (g.K.Sink.faults c.finish.new.out) c.finish.result c.finish.ensures
+    (g.K.Sink.taken c.args.out.now) (g.K.Sink.taken c.finish.new.out) (g.K.Sink.faults c.args.out.now)
+    (g.K.Sink.faults c.finish.new.out) c.finish.result c.finish.ensures.finished
     (c.decide.ensures.kept (g.C.Source.left c.args.third.now)) skips
 
 pub returns-in-Some-clause-read : goal.returns-in-Some-clause-read
@@ -65,7 +69,8 @@ returns-in-Some-clause-read g c is_read =
     (IsKept g.B.Source.left g.B.Source.faults c.args.second.now c.decide.new.second)
     (Rose (g.B.Source.faults c.args.second.now) (g.B.Source.faults c.decide.new.second))
     c.decide.result (c.decide.ensures.decides (g.C.Source.left c.args.third.now))
-    (g.K.Sink.taken c.args.out.now) (g.K.Sink.taken c.finish.new.out) (g.K.Sink.faults c.args.out.now) (g.K.Sink.faults c.finish.new.out) c.finish.result c.finish.ensures
+    (g.K.Sink.taken c.args.out.now) (g.K.Sink.taken c.finish.new.out) (g.K.Sink.faults c.args.out.now)
+    (g.K.Sink.faults c.finish.new.out) c.finish.result c.finish.ensures.finished
     is_read
 
 pub returns-in-Some-clause-silent : goal.returns-in-Some-clause-silent
@@ -76,7 +81,8 @@ returns-in-Some-clause-silent g c quiet =
     (IsKept g.B.Source.left g.B.Source.faults c.args.second.now c.decide.new.second)
     (Rose (g.B.Source.faults c.args.second.now) (g.B.Source.faults c.decide.new.second))
     c.decide.result (c.decide.ensures.decides (g.C.Source.left c.args.third.now))
-    (g.K.Sink.taken c.args.out.now) (g.K.Sink.taken c.finish.new.out) (g.K.Sink.faults c.args.out.now) (g.K.Sink.faults c.finish.new.out) c.finish.result c.finish.ensures
+    (g.K.Sink.taken c.args.out.now) (g.K.Sink.taken c.finish.new.out) (g.K.Sink.faults c.args.out.now)
+    (g.K.Sink.faults c.finish.new.out) c.finish.result c.finish.ensures.finished
     quiet
 
 pub returns-in-Some-clause-write : goal.returns-in-Some-clause-write
@@ -87,7 +93,8 @@ returns-in-Some-clause-write g c is_write =
     (IsKept g.B.Source.left g.B.Source.faults c.args.second.now c.decide.new.second)
     (Rose (g.B.Source.faults c.args.second.now) (g.B.Source.faults c.decide.new.second))
     c.decide.result (c.decide.ensures.decides (g.C.Source.left c.args.third.now))
-    (g.K.Sink.taken c.args.out.now) (g.K.Sink.taken c.finish.new.out) (g.K.Sink.faults c.args.out.now) (g.K.Sink.faults c.finish.new.out) c.finish.result c.finish.ensures
+    (g.K.Sink.taken c.args.out.now) (g.K.Sink.taken c.finish.new.out) (g.K.Sink.faults c.args.out.now)
+    (g.K.Sink.faults c.finish.new.out) c.finish.result c.finish.ensures.finished
     is_write
 
 pub returns-in-Some-clause-part : goal.returns-in-Some-clause-part
@@ -98,7 +105,8 @@ returns-in-Some-clause-part g c command is named is_write told =
     (IsKept g.B.Source.left g.B.Source.faults c.args.second.now c.decide.new.second)
     (Rose (g.B.Source.faults c.args.second.now) (g.B.Source.faults c.decide.new.second))
     c.decide.result (c.decide.ensures.decides (g.C.Source.left c.args.third.now))
-    (g.K.Sink.taken c.args.out.now) (g.K.Sink.taken c.finish.new.out) (g.K.Sink.faults c.args.out.now) (g.K.Sink.faults c.finish.new.out) c.finish.result c.finish.ensures
+    (g.K.Sink.taken c.args.out.now) (g.K.Sink.taken c.finish.new.out) (g.K.Sink.faults c.args.out.now)
+    (g.K.Sink.faults c.finish.new.out) c.finish.result c.finish.ensures.finished
     command is named is_write told
 
 pub returns-in-None-clause-answered : goal.returns-in-None-clause-answered
@@ -111,4 +119,4 @@ pub returns-in-None-clause-part : goal.returns-in-None-clause-part
 returns-in-None-clause-part g c command is named is_write told = no_words (texts c.args.words.now) c.in-None.ensures.none command is named
 
 pub returns-in-None-clause-usage : goal.returns-in-None-clause-usage
-returns-in-None-clause-usage g c none = c.answer.ensures
+returns-in-None-clause-usage g c none = c.answer.ensures.wrote
