@@ -1,6 +1,6 @@
-// Runs the tables of cases of the machine that stand in data/, and of the texts of traces and scripts, and prints a line
-// for each case: its name, and `ok` or what differs. What cores are to show, and what texts are to be read as, comes from
-// an independent implementation.
+// Runs the tables of cases of the machine that stand in data/, and of the texts of traces and scripts, and prints a
+// line for each case: its name, and `ok` or what differs. What cores are to show, and what texts are to be read as,
+// comes from an independent implementation.
 #![tactic(auto)]
 
 mod answers;

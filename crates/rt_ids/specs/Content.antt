@@ -1,7 +1,7 @@
 -- What resources and queues hold while code runs. A queue is no different from a resource: a section has a content. The
--- places of a software task that are out are a number, ready messages are a list, and the timer queue is a list of armed
--- messages with the counts that its handles and its order go by (the RTIC 1 book, software tasks and the monotonic; its
--- handles of scheduled messages). The code keeps cells of memory and rings.
+-- places of a software task that are out are a number, ready messages are a list, and the timer queue is a list of
+-- armed messages with the counts that its handles and its order go by (the RTIC 1 book, software tasks and the
+-- monotonic, with the handles of scheduled messages). The code keeps cells of memory and rings.
 use Rattle.std.specs.Prelude.{ℕ, ◌+◌, ◌^◌, ◌<◌, Bool, false, ◌==◌, ◌&&◌, min, List, [], ◌∷◌, ◌++◌, Option, Some, None}
 use Rattle.std.specs.Prelude.{if◌then◌else◌, find, remove}
 use Rattle.std.specs.List.{position_or_len}
