@@ -18,7 +18,10 @@ from pathlib import Path
 
 EXAMPLES = Path(__file__).resolve().parent.parent / "examples"
 # the tables in the order in which the crate runs them
-TABLES = ("reports", "refusals", "runs", "builds", "messages", "scripts", "audits", "commands")
+TABLES = (
+    "tokens", "canonical", "syntax", "limits", "reports", "refusals", "runs", "builds", "messages", "scripts", "audits",
+    "commands",
+)
 SECTIONS = "enter leave"
 
 HIGHER = """\
@@ -137,6 +140,8 @@ CASES = [
         "end init | take A 104 | ok t | ready t | ok t | ready t | full t | ret A | take D 96 | start t 1 | free t"
         " | emit 1 | ok t | ready t | end t | ret D | take D 96 | start t 2 | free t | emit 2 | end t | ret D"
         " | take D 96 | start t 4 | free t | emit 4 | end t | ret D")),
+    ("two places and three messages, with the extended frame", CAPACITY.replace("]);", "], fpu = on);"),
+     "pend A\nstep 2000\n", SECTIONS, None),
     ("a message from a higher task", LATE, "pend A\nstep 500\n", "", None),
     ("a dispatcher that finds nothing ready", LATE, "pend D\nstep 200\n", "", (
         "pend D | end init | take D 96 | enter ready.1 | leave ready.1 | ret D")),

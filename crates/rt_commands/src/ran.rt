@@ -5,12 +5,22 @@ use std::alloc::Global;
 use std::thread::Threads;
 
 /// The sources of a command and its sink. No command reads the third source.
-#[derive(Drop)]
 pub struct Outside {
     pub app: MemSource,
     pub second: MemSource,
     pub third: MemSource,
     pub out: MemSink,
+}
+
+impl Drop for Outside {
+    fn drop(self) {
+        let Outside {
+            app: _,
+            second: _,
+            third: _,
+            out: _,
+        } = self;
+    }
 }
 
 /// How a command ended, and what is left outside.

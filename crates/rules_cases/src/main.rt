@@ -1,8 +1,10 @@
 // Runs the tables of commands that stand in data/, and prints a line for each case: its name, and `ok` or what differs.
-// What reports, refusals, listings, traces and verdicts are to be comes from an independent implementation.
+// What tokens, canonical texts, reports, refusals, listings, traces and verdicts are to be comes from an independent
+// implementation.
 #![tactic(auto)]
 
 mod messages;
+mod tokens;
 
 use anyhow::Result;
 use rt_cases::cases;
@@ -42,7 +44,20 @@ fn run_messages<R: Threads + Sync + Files + Print + AllocGlobal>(rt: &R, file: &
     Ok(())
 }
 
+/// Prints a line for each case of the table of tokens.
+fn run_tokens<R: Files + Print + AllocGlobal>(rt: &R, file: &str) -> Result<()> {
+    let text = fs::read_to_string(rt, file)?;
+    for case in &cases(rt.alloc(), text.as_str())? {
+        println!(rt; "{}: {}", case.name(), tokens::verdict(rt.alloc(), case)?)?;
+    }
+    Ok(())
+}
+
 fn main(rt: HostRuntime) -> Result<()> {
+    run_tokens(&rt, "tokens")?;
+    run(&rt, "canonical", "fmt app")?;
+    run(&rt, "syntax", "fmt app")?;
+    run(&rt, "limits", "fmt app")?;
     run(&rt, "reports", "check app")?;
     run(&rt, "refusals", "check app")?;
     run(&rt, "runs", "run app script")?;

@@ -7,11 +7,15 @@ use rt_ids::limits::TEXT_BYTES;
 use rt_lex::{Kind, Token, Tokens, place};
 use std::alloc::Global;
 
-/// Whether a token is just the word or the sign that it is.
+/// Whether a token is just the word, the name or the sign that it is.
 fn knows_itself(token: &Token<'_>) -> bool {
     let word = token.kind == Kind::Word;
+    let name = token.kind == Kind::Name;
     let sign = token.kind == Kind::Sign;
-    token.is_word(token.text) == word && token.is_sign(token.text) == sign && !token.is_word(b"tas")
+    token.is_word(token.text) == word
+        && token.is_name(token.text) == name
+        && token.is_sign(token.text) == sign
+        && !token.is_word(b"tas")
 }
 
 /// The value of a token, where it is a number within 32 bits.
