@@ -18,5 +18,9 @@ pub fn entry_words(fpu: bool) -> u32
     ensures basic { BASIC_FRAME_WORDS ≤ result }
     ensures extended { result ≤ EXTENDED_FRAME_WORDS }
 {
-    if fpu { EXTENDED_FRAME_WORDS } else { BASIC_FRAME_WORDS }
+    if fpu {
+        EXTENDED_FRAME_WORDS
+    } else {
+        BASIC_FRAME_WORDS
+    }
 }
