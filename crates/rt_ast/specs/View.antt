@@ -21,7 +21,8 @@ abbrev pub spawn_of : Spawn → tree.Spawn
 spawn_of (spawn.Soon task args) = tree.Soon task (map expression_of args.items)
 spawn_of (spawn.After at delay task args) = tree.After at (expression_of delay) task (map expression_of args.items)
 spawn_of (spawn.Cancel at task handle) = tree.Cancel at task (expression_of handle)
-spawn_of (spawn.Move at delay task handle) = tree.Move at (expression_of delay) task (expression_of handle)
+spawn_of (spawn.Move at delay task handle) =
+    tree.Move at (expression_of delay.value) task (expression_of handle)
 
 abbrev pub value_of : Value → tree.Value
 value_of (value.Calc e) = tree.Calc (expression_of e)

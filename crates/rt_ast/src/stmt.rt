@@ -14,8 +14,9 @@ pub enum Spawn {
     After(u32, Expr, Ident, Vec<Expr>),
     /// A message is taken back: the offset of the word, the task, and the handle.
     Cancel(u32, Ident, Expr),
-    /// A message is put off by a delay in ticks: the offset of the word, the delay, the task, and the handle.
-    Move(u32, Expr, Ident, Expr),
+    /// A message is put off by a delay in ticks: the offset of the word, the delay, the task, and the handle. The delay
+    /// is in a box, because no statement is to be wider for the sake of this form.
+    Move(u32, Box<Expr>, Ident, Expr),
 }
 
 /// What a variable is bound to.

@@ -141,6 +141,7 @@ fn reschedule<'a>(
     let (at, tokens) = limited_word(tokens, b"reschedule_after", limit)?;
     let ((delay, task), tokens) = delayed(alloc, tokens)?;
     let (handle, tokens) = enclosed(alloc, tokens)?;
+    let delay = Box::new(alloc, delay)?;
     Ok((Spawn::Move(at, delay, task, handle), tokens))
 }
 
