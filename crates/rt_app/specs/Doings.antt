@@ -55,6 +55,7 @@ module _ (app : App) where
       ∷ [])
       (task_doing m.task m.args (act_all (Ends (body.Task m.task) ∷ Returns ∷ []) nothing))
 
+  -- The dispatcher of a level: inside the section of its ready messages it starts the oldest, where there is one.
   abbrev pub dispatcher_doing : ℕ → Rest
   dispatcher_doing p =
       act (Enters (section.Ready p) (dispatcher_section_cost app p))
@@ -71,12 +72,13 @@ module _ (app : App) where
       act_all (Fires a.message ∷ SetsAlarm ∷ Leaves section.Timer
       ∷ ready_actions app (task_priority app a.message.task) a.message ++ Returns ∷ []) nothing
 
-  -- with a section of this cost
+  -- The timer handler, with a section of this cost: by the clock it makes the least armed message ready, where it is due.
   abbrev pub timer_doing_in : ℕ → Rest
   timer_doing_in cost =
       act (Enters section.Timer cost)
       (λ vs. does Clocks vs (λ time vs. fire_doing (due time (delays (vs (Guarded section.Timer)))) vs))
 
+  -- with the section's own cost
   abbrev pub timer_doing : Rest
   timer_doing = timer_doing_in (timer_section_cost app)
 

@@ -94,11 +94,14 @@ even n = n + n % 2
 abbrev pub first_expression_slot : ℕ → Body → ℕ
 first_expression_slot args b = args + variables b.block
 
+-- the first word that keeps a mask
 abbrev pub first_lock_slot : ℕ → Body → ℕ
 first_lock_slot args b = first_expression_slot args b + expression_words b.block
 
+-- the first word of a spawn
 abbrev pub first_spawn_slot : ℕ → Body → ℕ
 first_spawn_slot args b = first_lock_slot args b + locks b.block
 
+-- all words, as an even number
 abbrev pub frame_words : ℕ → Body → ℕ
 frame_words args b = even (first_spawn_slot args b + greatest (map spawn_words (spawns b.block)))

@@ -1,14 +1,11 @@
 -- Which interrupt serves what (the RTIC 1 book, hardware tasks, software tasks and the monotonic): a hardware task runs
 -- in the interrupt that it binds, the software tasks of a level share a dispatcher, and the monotonic has an interrupt
 -- of its own. That the highest level takes the dispatcher that is named first is this project's own.
-use Rattle.std.specs.Prelude.{ℕ, ◌+◌, ◌==◌, Bool, not, nat_lt, List, [], ◌∷◌, ◌++◌, length, filter, flat_map}
-use Rattle.std.specs.Prelude.{slice_get, Option, Some, None, option_map, is_none}
-use Rattle.std.specs.List.{list_any}
+use Rattle.std.specs.Prelude.{ℕ, ◌+◌, ◌==◌, Bool, nat_lt, List, [], ◌∷◌, ◌++◌, length, filter, flat_map, slice_get}
+use Rattle.std.specs.Prelude.{Option, Some, None, option_map, is_none}
 use Rattle.rt_app.specs.declared.app.Mono.{Mono}
 use Rattle.rt_app.specs.Tree.{Task, App}
-use Rattle.rt_app.specs.Bodies.{members}
-use Rattle.rt_app.specs.Level.{levels, holds}
-use Rattle.rt_app.specs.Spawned.{goes_by_handle}
+use Rattle.rt_app.specs.Level.{levels}
 
 -- what serves an interrupt
 pub data Handler : Type 0 where
@@ -62,9 +59,6 @@ service_of app irq = filter (λ s. s.irq == irq) (services app)
 abbrev pub irq_number : App → ℕ → Option ℕ
 irq_number app irq = option_map (λ d. d.number) (slice_get app.irqs irq)
 
--- forms of applications: there is no monotonic; no body takes a message back or puts it off
+-- a form of applications: there is no monotonic
 abbrev pub has_no_monotonic : App → Bool
 has_no_monotonic app = is_none app.mono
-
-abbrev pub has_no_handles : App → Bool
-has_no_handles app = not (list_any (holds goes_by_handle) (members app))

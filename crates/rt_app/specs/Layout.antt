@@ -85,15 +85,19 @@ memory app =
 abbrev pub resource_at : App → ℕ → ℕ
 resource_at app r = r
 
+-- behind the shared resources
 abbrev pub local_at : App → ℕ → ℕ
 local_at app n = length app.shared + n
 
+-- behind all resources, and the cells of the tasks before it
 abbrev pub free_at : App → ℕ → ℕ
 free_at app n = length app.shared + length app.locals + length (task_cells 0 (take n app.tasks))
 
+-- behind how many free places there are, and their numbers
 abbrev pub inputs_at : App → ℕ → ℕ
 inputs_at app n = free_at app n + 1 + capacity_of app n
 
+-- behind all of that, and the ready queues of lower levels
 abbrev pub ready_at : App → ℕ → ℕ
 ready_at app p =
     length app.shared + length app.locals + length (task_cells 0 app.tasks)
@@ -125,6 +129,7 @@ abbrev pub numbers_of : (Task → Bool) → (ℕ → ℕ) → ℕ → List Task 
 numbers_of test at n [] = []
 numbers_of test at n (t ∷ more) = (if test t then at n else 0) ∷ numbers_of test at (n + 1) more
 
+-- of an application
 abbrev pub layout : App → Layout
 layout app = record {
   cells = map row_of (memory app);

@@ -32,6 +32,7 @@ act_all [] rest = rest
 act_all (action ∷ actions) rest = act action (act_all actions rest)
 
 module _ (app : App) where
+  -- the places that a task has for its messages, and 0 where it is not declared
   abbrev pub capacity_of : ℕ → ℕ
   capacity_of n = or_zero (option_map (λ t. t.capacity) (slice_get app.tasks n))
 

@@ -36,6 +36,7 @@ module _ (app : App) (m : Member) where
   IsChangeable fixed (atom.Shared r) = (is_init m.id ≡ true) ⊎ (is_some_and (λ l. l.by_ref) (listing_in m r) ≡ false)
   IsChangeable fixed (atom.Local n) = Unit {0}
 
+  -- of an expression: it may read all that its names stand for, and its literals are of 32 bits
   abbrev pub AreReached : List ℕ → Expression → Type 0
   AreReached locked (Num n) = n < 2 ^ 32
   AreReached locked (Read x at) = IsReached locked x
@@ -71,6 +72,7 @@ module _ (app : App) (m : Member) where
   IsSoundSpawn locked (Move word delay n handle at) =
       (t : Task) × AddressesMessage locked n handle t × AreReached locked delay
 
+  -- of what a variable is bound to: `now` wants a monotonic
   abbrev pub IsSoundValue : List ℕ → Value → Type 0
   IsSoundValue locked (Calc e) = AreReached locked e
   IsSoundValue locked (Now at) = (mono : Mono) × (app.mono ≡ Some mono)

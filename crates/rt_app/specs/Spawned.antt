@@ -54,13 +54,6 @@ uses_timer (After word delay task args at) = true
 uses_timer (Cancel word task handle at) = true
 uses_timer (Move word delay task handle at) = true
 
--- whether the message is told by its handle
-abbrev pub goes_by_handle : Spawn → Bool
-goes_by_handle (Soon task args at) = false
-goes_by_handle (After word delay task args at) = false
-goes_by_handle (Cancel word task handle at) = true
-goes_by_handle (Move word delay task handle at) = true
-
 -- the task whose message it is
 abbrev pub target : Spawn → ℕ
 target (Soon task args at) = task

@@ -12,6 +12,7 @@ use Rattle.rt_app.specs.declared.app.Mono.{Mono}
 use Rattle.rt_app.specs.declared.app.Shared.{Shared}
 use Rattle.rt_app.specs.declared.app.Local.{Local}
 
+-- a literal, what a name stands for, or an operation of two expressions
 pub data Expression : Type 0 where
   Num : ℕ → Expression
   -- what its name stands for, and the offset of the name
@@ -29,6 +30,7 @@ pub data Spawn : Type 0 where
   -- the offset of the word, the delay, the task, the handle of a message of it, and the offset of the task's name
   Move : ℕ → Expression → ℕ → Expression → ℕ → Spawn
 
+-- what a `let` binds its variable to: a value, the time, or what a spawn gives
 pub data Value : Type 0 where
   Calc : Expression → Value
   -- the offset of the word
