@@ -13,4 +13,8 @@ pub mod Silent
 pub mod Queues
 pub mod Handles
 pub mod Served
+pub mod Places
+pub mod Messages
+pub mod Instants
+pub mod Counts
 pub mod Laws

@@ -1,4 +1,7 @@
 ghost use Rattle.rt_laws.specs.ByItems.{FrontsAreRuns, RunsAreByItems};
+ghost use Rattle.rt_laws.specs.Counts.{CountsRiseByOne};
+ghost use Rattle.rt_laws.specs.Instants.{EqualInstantsFireInOrder};
+ghost use Rattle.rt_laws.specs.Messages.{RunsKeepMessages};
 ghost use Rattle.rt_laws.specs.Laws.{
   JudgedTracesKeepLaws,
   RunsKeepHandles,
@@ -78,4 +81,20 @@ pub fn silent_steps_are_told_by_cost()
 /// The front of a run is a run.
 pub fn fronts_are_runs()
     ensures { FrontsAreRuns }
+{}
+
+/// In every run, at every moment: queues are in order, handles are of one message each, the places that are out are
+/// those in transit, armed and ready, and messages that are ready or due are served.
+pub fn runs_keep_messages()
+    ensures { RunsKeepMessages }
+{}
+
+/// Messages of one instant fire in the order in which they were last armed or moved.
+pub fn equal_instants_fire_in_order()
+    ensures { EqualInstantsFireInOrder }
+{}
+
+/// The time, and how many handles, moves and places there are, rise by one at most with each label of a run.
+pub fn counts_rise_by_one()
+    ensures { CountsRiseByOne }
 {}

@@ -1,7 +1,7 @@
 -- What an auditor keeps of resources and queues: lists by their numbers, of which a number behind the end has nothing.
 -- The definitions have one function from what holds something to what it holds (`rt_ids`; the RTIC 1 book, resources,
 -- software tasks and the monotonic).
-use Rattle.std.specs.Prelude.{ℕ, List, [], slice_index, slice_index_or}
+use Rattle.std.specs.Prelude.{ℕ, ◌-◌, ◌^◌, ◌<◌, List, [], slice_index, slice_index_or}
 use Rattle.rt_ids.specs.Holder.{Guarded, Own}
 use Rattle.rt_ids.specs.Content.{Message, Timed, Number, Messages, Delays, Values}
 use Rattle.rt_ids.specs.declared.ids.Section.TheVariants as section
@@ -24,3 +24,9 @@ contents s (Guarded (section.Free t)) = Number (slice_index s.out t)
 contents s (Guarded (section.Ready p)) = Messages (slice_index_or s.ready p [])
 contents s (Guarded section.Timer) = Delays s.timed
 contents s (Own l) = Number (slice_index s.locals l)
+
+-- Another place may be taken, and another message armed or moved: what is counted is of 32 bits.
+pub record HasRoom (s : Store) : Type 0 where
+  pub out : (n : ℕ) → slice_index s.out n < 2 ^ 32 - 1
+  pub given : s.timed.given < 2 ^ 32 - 1
+  pub moved : s.timed.moved < 2 ^ 32 - 1

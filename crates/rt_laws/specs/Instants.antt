@@ -1,0 +1,51 @@
+-- Messages of one instant fire in the order in which they were last armed or moved: an arming and a move put their
+-- message last in the timer queue, and of the messages of the least instant the first there fires. That the order is
+-- that of the last arming is this project's own.
+use Rattle.std.specs.Prelude.{◌≡◌, ℕ, suc, ◌<◌, ◌≤◌, List, [], ◌∷◌, ◌++◌, Some}
+use Rattle.std.specs.List.{AllByRecursion}
+use Rattle.rt_ids.specs.Holder.{Guarded}
+use Rattle.rt_ids.specs.Content.{Message, Armed, Timed, timed, delays, least, armed_as, without_handle}
+use Rattle.rt_ids.specs.declared.ids.Section.TheVariants as section
+use Rattle.rt_trace.specs.Label.{Stepped}
+use Rattle.rt_trace.specs.declared.item.What.TheVariants as what
+use Rattle.rt_app.specs.Tree.{App}
+use Rattle.rt_laws.specs.State.{State}
+use Rattle.rt_laws.specs.Allowed.{May, after}
+
+-- the timer queue of a state, and the armed messages in order of their last arming
+abbrev pub timer_queue : State → Timed
+timer_queue s = timed (s.values (Guarded section.Timer))
+
+abbrev pub armed : State → List Armed
+armed s = delays (s.values (Guarded section.Timer))
+
+-- a message of the task is armed last of all, for this instant, with a new handle
+pub record ArmsLast (before after : State) (task instant : ℕ) : Type 0 where
+  pub message : Message
+  pub of_task : message.task ≡ task
+  pub given : (timer_queue after).given ≡ suc (timer_queue before).given
+  pub last : armed after
+      ≡ armed before
+      ++ record { instant = instant; message = message; handle = suc (timer_queue before).given } ∷ []
+
+-- the message of the task that has the handle waits last of all, for this instant; the others are as before
+pub record MovesLast (before after : State) (task handle instant : ℕ) : Type 0 where
+  pub moved : Armed
+  pub was_armed : armed_as task handle (armed before) ≡ Some moved
+  pub last : armed after ≡ without_handle task handle (armed before) ++ record moved { instant = instant } ∷ []
+
+-- of the armed messages this one fires: those before it are of later instants, and none is of an earlier one
+pub record FiresFirst (all : List Armed) (a : Armed) : Type 0 where
+  pub before : List Armed
+  pub behind : List Armed
+  pub parts : all ≡ before ++ a ∷ behind
+  pub later : AllByRecursion (λ b. a.instant < b.instant) before
+  pub no_earlier : AllByRecursion (λ b. a.instant ≤ b.instant) behind
+
+pub record EqualInstantsFireInOrder : Type 0 where
+  pub arm : (app : App) (s : State) (t i : ℕ) → May app s (Stepped (Some (what.Arm t i)))
+      → ArmsLast s (after app s (Stepped (Some (what.Arm t i)))) t i
+  pub move : (app : App) (s : State) (t h i : ℕ) → May app s (Stepped (Some (what.Move t h i)))
+      → (moved : Armed) → armed_as t h (armed s) ≡ Some moved
+      → MovesLast s (after app s (Stepped (Some (what.Move t h i)))) t h i
+  pub fire : (all : List Armed) (a : Armed) → least all ≡ Some a → FiresFirst all a

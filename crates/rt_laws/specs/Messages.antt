@@ -1,0 +1,31 @@
+-- What holds of messages in a run, at every moment of it (Baker, Stack-Based Scheduling of Realtime Processes, 1991; the
+-- RTIC 1 book, software tasks and the monotonic): spawns are full exactly where the capacity is out, messages start
+-- first in, first out, and fire in order and not early; handles are of one message each; places are where they are
+-- counted; and ready and due messages are served. Each has a file of its own.
+use Rattle.std.specs.Prelude.{ℕ, List, take}
+use Rattle.rt_trace.specs.Label.{Label}
+use Rattle.rt_app.specs.Tree.{App}
+use Rattle.rt_app.specs.Accepted.{IsAccepted}
+use Rattle.rt_laws.specs.State.{State, first}
+use Rattle.rt_laws.specs.Run.{RunsOn}
+use Rattle.rt_laws.specs.ByItems.{after_all}
+use Rattle.rt_laws.specs.Queues.{KeepsQueues}
+use Rattle.rt_laws.specs.Handles.{KeepsHandles}
+use Rattle.rt_laws.specs.Places.{CountsPlaces}
+use Rattle.rt_laws.specs.Served.{ServesReady, ServesDue}
+
+-- the state behind the first so many labels
+abbrev pub state_at : App → List Label → ℕ → State
+state_at app labels n = after_all app (first app) (take n labels)
+
+pub record KeepsMessages (app : App) (labels : List Label) : Type 0 where
+  pub in_order : (n : ℕ) → KeepsQueues app (state_at app labels n)
+  pub handled : (n : ℕ) → KeepsHandles (state_at app labels n)
+  pub places_counted : (n : ℕ) → CountsPlaces app (take n labels) (state_at app labels n)
+  pub ready_served : (n : ℕ) → ServesReady app (state_at app labels n)
+  pub due_served : (n : ℕ) → ServesDue app (state_at app labels n)
+
+-- so does every run of an accepted application
+abbrev pub RunsKeepMessages : Type 0
+RunsKeepMessages =
+    (app : App) → IsAccepted app → (labels : List Label) → RunsOn app (first app) labels → KeepsMessages app labels
