@@ -2,6 +2,7 @@
 #![tactic(auto)]
 
 pub mod args;
+pub mod buffer;
 pub mod item;
 pub mod labels;
 pub mod laws;
@@ -16,6 +17,7 @@ pub mod trace;
 mod verb;
 
 pub use args::Args;
+pub use buffer::{BUFFER_BYTES, LINE_BYTES, LineBuffer};
 pub use item::{Item, What};
 pub use labels::labels_show_their_events;
 pub use laws::{lines_are_read, read_lines_are_lines, texts_are_read_one_way};
