@@ -14,10 +14,12 @@ use Rattle.rt_trace.specs.declared.item.Item.{Item}
 use Rattle.rt_trace.specs.declared.operand.Wrong.{Wrong}
 use Rattle.rt_trace.specs.declared.row.Row.TheVariants as row
 
+-- the line of an item is read as the item
 abbrev pub LinesAreRead : Type 0
 LinesAreRead = (names : Names) (item : Item) → AreNames names → HasLine names item → row_of names (item_line names item)
     ≡ Ok (row.Shown item)
 
+-- a line that is read as an item is the item's
 abbrev pub ReadLinesAreLines : Type 0
 ReadLinesAreLines =
     (names : Names) (line : List ℕ) (item : Item) → AreDifferent (map (λ irq. irq.1) names.irqs) → row_of names line

@@ -16,12 +16,15 @@ use Rattle.rt_trace.specs.declared.item.What.TheVariants as what
 abbrev pub IsWord : ℕ → Type 0
 IsWord n = n < 2 ^ 32
 
+-- an interrupt of this number is declared
 abbrev pub IsDeclared : Names → ℕ → Type 0
 IsDeclared names irq = IsSome (irq_named names irq)
 
+-- there is this task
 abbrev pub IsTask : Names → ℕ → Type 0
 IsTask names task = task < length names.tasks
 
+-- there is this section; a ready queue is of one of the 256 levels
 abbrev pub IsSection : Names → Section → Type 0
 IsSection names (section.Res r) = r < length names.shared
 IsSection names (section.Free t) = IsTask names t
@@ -33,10 +36,12 @@ abbrev pub HasValue : Section → Option ℕ → Type 0
 HasValue (section.Res r) value = (n : ℕ) × (value ≡ Some n) × IsWord n
 HasValue queue value = value ≡ None
 
+-- there is this body
 abbrev pub IsBody : Names → BodyId → Type 0
 IsBody names (body.Task t) = IsTask names t
 IsBody names other = Unit {0}
 
+-- what is shown has words behind its first
 abbrev pub HasOperands : Names → What → Type 0
 HasOperands names (what.Pend i) = IsDeclared names i
 HasOperands names what.Tick = Unit {0}
@@ -61,6 +66,7 @@ HasOperands names (what.Move t h v) = IsTask names t × IsWord h × IsWord v
 HasOperands names (what.End b) = IsBody names b
 HasOperands names (what.Trap k) = k < 2 ^ 8
 
+-- the item has a line
 pub record HasLine (names : Names) (item : Item) : Type 0 where
   pub step : item.step < 2 ^ 31
   pub operands : HasOperands names item.what

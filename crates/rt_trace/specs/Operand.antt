@@ -30,6 +30,7 @@ number_at bound word = ok_or (number_below bound word) wrong.Form
 abbrev pub found : List ℕ → Option ℕ → Result ℕ Wrong
 found word place = if is_identifier word then ok_or place wrong.Name else Err wrong.Form
 
+-- the interrupt, the task and the shared resource of this name
 abbrev pub irq_at : Names → List ℕ → Result ℕ Wrong
 irq_at names word = found word (irq_of names word)
 
@@ -51,10 +52,12 @@ queue_at names word =
     else if starts_with nat_eq word (codes "free.") then and_make (task_at names (drop 5 word)) section.Free
     else ready_at word
 
+-- the section of this name: a name that could be declared is a resource's
 abbrev pub section_at : Names → List ℕ → Result Section Wrong
 section_at names word = if is_identifier word then and_make (resource_at names word) section.Res
     else queue_at names word
 
+-- the body of this name
 abbrev pub body_at : Names → List ℕ → Result BodyId Wrong
 body_at names word =
     if bytes_eq word (codes "init") then Ok body.Init

@@ -44,6 +44,7 @@ IsPassed heading ls = IsListing heading
 abbrev pub is_account : List ℕ → Bool
 is_account line = starts_with nat_eq line (codes "account ")
 
+-- what the line of an item says
 abbrev pub shown : Item → Result Row Wrong
 shown item = Ok (row.Shown item)
 
@@ -61,6 +62,7 @@ pub record AreRows (names : Names) (ls : List (List ℕ)) (trace : Trace) : Type
   pub each : map (row_of names) items ≡ map shown trace.items
   pub closes : IsClosing names closing trace.total
 
+-- the text of this trace, maybe behind a listing
 pub record IsTraceText (names : Names) (text : List ℕ) (trace : Trace) : Type 0 where
   pub short : length text ≤ TRACE_BYTES
   pub heading : List (List ℕ)
@@ -102,6 +104,7 @@ pub record IsWrongBehind (names : Names) (ls : List (List ℕ)) (number : ℕ) (
   pub wrong_row : IsWrongRow names rows place w
   pub number_is : number ≡ length heading + place
 
+-- the line of this number is the first wrong one of the text, for this fault
 pub record IsFirstWrong (names : Names) (text : List ℕ) (number : ℕ) (w : Wrong) : Type 0 where
   pub short : length text ≤ TRACE_BYTES
   pub wrong_line : IsUnended (lines text) number w ⊎ IsWrongBehind names (lines text) number w

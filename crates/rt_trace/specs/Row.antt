@@ -18,16 +18,19 @@ use Rattle.rt_trace.specs.declared.verb.Verb.TheVariants as verb
 use Rattle.rt_trace.specs.Operand.{only, number_at, irq_at, task_at, resource_at, queue_at, section_at, body_at}
 use Rattle.rt_trace.specs.Operand.{values_at, bare, pair}
 
+-- an interrupt whose handler is entered, and the stack bytes in use
 abbrev pub take_of : Names → List (List ℕ) → Result What Wrong
 take_of names words =
     and_then (pair words) (λ p. and_then (number_at (2 ^ 32) p.1)
     (λ depth. and_make (irq_at names p.0) (λ irq. what.Take irq depth)))
 
+-- a task that is armed, and the instant
 abbrev pub arm_of : Names → List (List ℕ) → Result What Wrong
 arm_of names words =
     and_then (pair words) (λ p. and_then (number_at (2 ^ 32) p.1)
     (λ instant. and_make (task_at names p.0) (λ task. what.Arm task instant)))
 
+-- a task whose message is cancelled, and its handle
 abbrev pub cancel_of : Names → List (List ℕ) → Result What Wrong
 cancel_of names words =
     and_then (pair words) (λ p. and_then (number_at (2 ^ 32) p.1)
@@ -40,6 +43,7 @@ move_of names (t ∷ numbers) =
     (λ instant. and_make (task_at names t) (λ task. what.Move task handle instant))))
 move_of names [] = Err wrong.Form
 
+-- a task that starts, and the values of its message
 abbrev pub start_of : Names → List (List ℕ) → Result What Wrong
 start_of names (t ∷ values) =
     and_then (values_at 4 values) (λ vs. and_make (task_at names t) (λ task. what.Start task vs))
@@ -52,6 +56,7 @@ leave_of names (x ∷ value ∷ []) =
     and_then (number_at (2 ^ 32) value) (λ v. and_make (resource_at names x) (λ r. what.Leave (section.Res r) (Some v)))
 leave_of names words = Err wrong.Form
 
+-- what is shown behind this first word
 abbrev pub what_at : Names → Verb → List (List ℕ) → Result What Wrong
 what_at names verb.Pend words = and_make (and_then (only words) (irq_at names)) what.Pend
 what_at names verb.Tick words = bare words what.Tick
@@ -76,15 +81,18 @@ what_at names verb.Move words = move_of names words
 what_at names verb.End words = and_make (and_then (only words) (body_at names)) what.End
 what_at names verb.Trap words = and_make (and_then (only words) (number_at (2 ^ 8))) what.Trap
 
+-- the item of this step number
 abbrev pub item_row : ℕ → What → Row
 item_row step w = row.Shown (record { step = step; what = w })
 
+-- an item: a step number, a first word, and the words behind it
 abbrev pub item_at : Names → List (List ℕ) → Result Row Wrong
 item_at names (step ∷ word ∷ words) =
     and_then (number_at (2 ^ 31) step)
     (λ n. and_then (ok_or (verb_named word) wrong.Form) (λ v. and_make (what_at names v words) (item_row n)))
 item_at names words = Err wrong.Form
 
+-- what words say
 abbrev pub row_at : Names → List (List ℕ) → Result Row Wrong
 row_at names [] = Err wrong.Form
 row_at names (word ∷ words) =

@@ -46,6 +46,7 @@ item_line names item = decimal item.step ++ spaced (spelling (verb_of item.what)
 abbrev pub text : Names → Item → List ℕ
 text names item = item_line names item ++ 10 ∷ []
 
+-- the last line, the total of core steps
 abbrev pub total_text : ℕ → List ℕ
 total_text total = codes "total " ++ decimal total ++ 10 ∷ []
 

@@ -5,6 +5,7 @@ use Rattle.rt_trace.specs.declared.item.What.TheVariants as what
 use Rattle.rt_trace.specs.declared.verb.Verb.{Verb}
 use Rattle.rt_trace.specs.declared.verb.Verb.TheVariants as verb
 
+-- how each is spelled
 abbrev pub spelling : Verb → List ℕ
 spelling verb.Pend = codes "pend"
 spelling verb.Tick = codes "tick"
@@ -29,6 +30,7 @@ spelling verb.Move = codes "move"
 spelling verb.End = codes "end"
 spelling verb.Trap = codes "trap"
 
+-- all of them
 abbrev pub verbs : List Verb
 verbs =
     verb.Pend ∷ verb.Tick ∷ verb.Alarm ∷ verb.AlarmSet ∷ verb.Take ∷ verb.Ret ∷ verb.Enter ∷ verb.Leave ∷ verb.Emit
@@ -41,6 +43,7 @@ verbs =
 abbrev pub verb_named : List ℕ → Option Verb
 verb_named word = find (λ v. bytes_eq (spelling v) word) verbs
 
+-- the one of what is shown
 abbrev pub verb_of : What → Verb
 verb_of (what.Pend i) = verb.Pend
 verb_of what.Tick = verb.Tick
