@@ -15,8 +15,6 @@ use Rattle.rt_laws.specs.Sight.{Seen, Sight, first_sight, sees}
 use Rattle.rt_laws.specs.Waiting.{WaitsWell, ServesWell}
 use Rattle.rt_laws.specs.Properties.{AtEach, AreExclusive, FindsFree, LeavesInnermost}
 use Rattle.rt_laws.specs.ByItems.{after_all}
-use Rattle.rt_laws.specs.Queues.{KeepsQueues}
-use Rattle.rt_laws.specs.Handles.{KeepsHandles}
 use Rattle.rt_laws.specs.Laws.{RunsKeepQueues, RunsKeepHandles, RunsKeepLaws, RunsNestSections, JudgedTracesKeepLaws, IsHighestFirst, TheHighestRuns}
 use Rattle.rt_laws.proofs.Well.{IsAbove, StackWell, StateWell}
 use Rattle.rt_laws.proofs.Happens.{first_well, happens, after_well}
@@ -94,35 +92,30 @@ highest_first app (job ∷ others) (seen ∷ seens) stack = by job.role stack.1
     by Waiting above = none above.0
     by (Serving irq) above = below_level app job.priority others above.1
 
-highest_after : (app : App) → IsAccepted app → (labels : List Label) (s : State) (v : Sight) → StateWell app s v
-    → RunsOn app s labels → IsHighestFirst (after_all app s labels).jobs
-highest_after app accepted [] s v well runs = highest_first app s.jobs v.jobs well.stack
-highest_after app accepted (label ∷ labels) s v well runs =
-    highest_after app accepted labels (after app s label) (sees app v label)
+-- what is well stays so, behind the labels of a run
+well_after : (app : App) → IsAccepted app → (labels : List Label) (s : State) (v : Sight) → StateWell app s v
+    → RunsOn app s labels → (u : Sight) × StateWell app (after_all app s labels) u
+well_after app accepted [] s v well runs = (v, well)
+well_after app accepted (label ∷ labels) s v well runs =
+    well_after app accepted labels (after app s label) (sees app v label)
     (next_well app accepted s v label well runs.0) runs.1
+
+pub run_well : (app : App) → IsAccepted app → (labels : List Label) → RunsOn app (first app) labels
+    → (u : Sight) × StateWell app (after_all app (first app) labels) u
+run_well app accepted labels runs =
+    well_after app accepted labels (first app) (first_sight app) (first_well app accepted) runs
 
 pub the_highest_runs : TheHighestRuns
 the_highest_runs app accepted labels runs =
-    highest_after app accepted labels (first app) (first_sight app) (first_well app accepted) runs
-
-order_after : (app : App) → IsAccepted app → (labels : List Label) (s : State) (v : Sight) → StateWell app s v
-    → RunsOn app s labels → KeepsQueues app (after_all app s labels)
-order_after app accepted [] s v well runs = all_in_order app s.time s.values s.jobs well.order
-order_after app accepted (label ∷ labels) s v well runs =
-    order_after app accepted labels (after app s label) (sees app v label)
-    (next_well app accepted s v label well runs.0) runs.1
-
-handles_after : (app : App) → IsAccepted app → (labels : List Label) (s : State) (v : Sight) → StateWell app s v
-    → RunsOn app s labels → KeepsHandles (after_all app s labels)
-handles_after app accepted [] s v well runs = are_handled (timed (s.values (Guarded section.Timer))) well.queued.handles
-handles_after app accepted (label ∷ labels) s v well runs =
-    handles_after app accepted labels (after app s label) (sees app v label)
-    (next_well app accepted s v label well runs.0) runs.1
+    let behind = run_well app accepted labels runs in
+    highest_first app (after_all app (first app) labels).jobs behind.0.jobs behind.1.stack
 
 pub runs_keep_handles : RunsKeepHandles
 runs_keep_handles app accepted labels runs =
-    handles_after app accepted labels (first app) (first_sight app) (first_well app accepted) runs
+    are_handled (timed ((after_all app (first app) labels).values (Guarded section.Timer)))
+    (run_well app accepted labels runs).1.queued.handles
 
 pub runs_keep_queues : RunsKeepQueues
 runs_keep_queues app accepted labels runs =
-    order_after app accepted labels (first app) (first_sight app) (first_well app accepted) runs
+    let s : State = after_all app (first app) labels in
+    all_in_order app s.time s.values s.jobs (run_well app accepted labels runs).1.order

@@ -19,6 +19,7 @@ pub mod Free
 pub mod Waiting
 pub mod Serving
 pub mod Keeping
+pub mod Counting
 pub mod Readying
 pub mod Dispatchers
 pub mod ReadyServed
