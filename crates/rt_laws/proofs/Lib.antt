@@ -5,6 +5,7 @@ pub mod RowsRuns
 pub mod RowsQueues
 pub mod RowsServed
 pub mod RowsHandles
+pub mod RowsPlaces
 pub mod Outermost
 pub mod Handled
 pub mod Fine
@@ -20,6 +21,9 @@ pub mod Waiting
 pub mod Serving
 pub mod Keeping
 pub mod Counting
+pub mod Hands
+pub mod Counted
+pub mod Placed
 pub mod Readying
 pub mod Dispatchers
 pub mod ReadyServed
@@ -31,3 +35,4 @@ pub mod TimerSteps
 pub mod TimerRuns
 pub mod ByItems
 pub mod Silent
+pub mod AllMoments

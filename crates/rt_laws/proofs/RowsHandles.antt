@@ -28,7 +28,7 @@ told = with_times (with_times (with_times (with_times (var 2) 3 2) 4 4) 0 10) 1 
 --     let y = cancel t(g); let z = cancel t(g); emit x + y * 2 + z * 4 + h * 10 + g * 100;
 -- }
 -- task t(priority = 2, capacity = 2) with x { emit x; }
-unfoldable undo : App
+unfoldable pub undo : App
 undo = record {
   bits = 4;
   fpu = false;

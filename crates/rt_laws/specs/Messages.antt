@@ -1,7 +1,7 @@
--- What holds of messages in a run, at every moment of it (Baker, Stack-Based Scheduling of Realtime Processes, 1991; the
--- RTIC 1 book, software tasks and the monotonic): spawns are full exactly where the capacity is out, messages start
--- first in, first out, and fire in order and not early; handles are of one message each; places are where they are
--- counted; and ready and due messages are served. Each has a file of its own.
+-- What holds of messages in a run, at every moment of it (Baker, Stack-Based Scheduling of Realtime Processes, 1991;
+-- the RTIC 1 book, software tasks and the monotonic): spawns are full exactly where the capacity is out, messages
+-- start first in, first out, and fire in order and not early; handles are of one message each; places are where they
+-- are counted; and ready and due messages are served. Each has a file of its own.
 use Rattle.std.specs.Prelude.{ℕ, List, take}
 use Rattle.rt_trace.specs.Label.{Label}
 use Rattle.rt_app.specs.Tree.{App}

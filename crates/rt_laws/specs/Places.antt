@@ -1,6 +1,6 @@
--- Where the places of messages are (the RTIC 1 book, the capacity of software tasks): a place of a task is out while its
--- message is in transit, armed or ready. It is in transit in the hands of a job: from the `ok` of a spawn until its
--- message is ready or armed, from the `fire` of the timer handler until that is ready, and from the `start` of a
+-- Where the places of messages are (the RTIC 1 book, the capacity of software tasks): a place of a task is out while
+-- its message is in transit, armed or ready. It is in transit in the hands of a job: from the `ok` of a spawn until
+-- its message is ready or armed, from the `fire` of the timer handler until that is ready, and from the `start` of a
 -- dispatcher, or from a `cancel`, until its `free`. Whose hands a place is in is told by what is shown alone; the code
 -- keeps the numbers of free places in cells.
 use Rattle.std.specs.Prelude.{◌≡◌, ℕ, ◌+◌, ◌==◌, count_by, List, [], ◌∷◌, drop, Option, Some, None}

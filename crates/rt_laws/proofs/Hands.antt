@@ -1,0 +1,214 @@
+-- What is left to do of a job fits what it has in its hands: with empty hands it takes, starts, fires or takes back a
+-- message, and ends or returns; with the place of a task it makes a message of that task ready or arms it, or it frees
+-- the place. So do `init`, `idle` and every handler, whatever the values are on the way.
+use Rattle.std.proofs.Common.{◌≡◌, ℕ, zero, suc, ◌==◌, Bool, true, false, if◌then◌else◌, List, [], ◌∷◌, ◌++◌, replicate, slice_get, slice_set, map, Option, Some, None, refl}
+use Rattle.rt_ids.specs.Lists.{then_from}
+use Rattle.rt_ids.specs.Holder.{Guarded, Own}
+use Rattle.rt_ids.specs.Content.{Message, Armed, Values, Number, messages, timed, delays, put_at}
+use Rattle.rt_ids.specs.Action.{Action, Enters, Leaves, Clocks, Takes, Refuses, Readies, Starts, Frees, Arms, Fires, Cancels, Moves, Ends, Returns}
+use Rattle.rt_ids.specs.Doing.{Doing, over, does}
+use Rattle.rt_ids.specs.declared.ids.BodyId.TheVariants as body
+use Rattle.rt_ids.specs.declared.ids.Section.TheVariants as section
+use Rattle.rt_app.specs.declared.costs.TheConstants.{FREE_COST}
+use Rattle.rt_app.specs.declared.expr.Atom.{Atom}
+use Rattle.rt_app.specs.declared.expr.Atom.TheVariants as atom
+use Rattle.rt_app.specs.Tree.{Expression, Spawn, Soon, After, Cancel, Move, Calc, Now, Call, Statement, Bind, Assign, Branch, Repeat, Locked, Emit, Pend, Spawns, Block, Empty, Then, Body, App}
+use Rattle.rt_app.specs.Variables.{variables}
+use Rattle.rt_app.specs.Bodies.{task_priority}
+use Rattle.rt_app.specs.BodyCost.{timer_section_cost}
+use Rattle.rt_app.specs.Handlers.{Handler, Runs, Dispatches, Times}
+use Rattle.rt_app.specs.Sending.{Rest, act, act_all, has_place, take_place, ready_actions, instant_after, leave_timer, arm_actions, is_armed_as, spawn_actions}
+use Rattle.rt_app.specs.Meaning.{Later, value_in, assign, turns_from, run, run_block}
+use Rattle.rt_app.specs.Doings.{nothing, declared_doing, init_doing, idle_doing, task_doing, start_doing, due, fire_doing, handler_doing}
+use Rattle.rt_laws.specs.Places.{Hand}
+
+-- what is in the hands behind an action
+abbrev pub hand_then : Hand → Action → Hand
+hand_then hand (Takes n) = Some n
+hand_then hand (Starts p m) = Some m.task
+hand_then hand (Fires m) = Some m.task
+hand_then hand (Cancels n h) = Some n
+hand_then hand (Readies p m) = None
+hand_then hand (Arms i m) = None
+hand_then hand (Frees n) = None
+hand_then hand action = hand
+
+-- an action may come with these hands
+abbrev pub Suits : Hand → Action → Type 0
+Suits hand (Takes n) = hand ≡ None
+Suits hand (Starts p m) = hand ≡ None
+Suits hand (Fires m) = hand ≡ None
+Suits hand (Cancels n h) = hand ≡ None
+Suits hand (Readies p m) = hand ≡ Some m.task
+Suits hand (Arms i m) = hand ≡ Some m.task
+Suits hand (Frees n) = hand ≡ Some n
+Suits hand (Ends b) = hand ≡ None
+Suits hand Returns = hand ≡ None
+Suits hand action = Unit {0}
+
+abbrev pub Fits : Hand → Doing Values → Type 0
+Fits hand over = Unit {0}
+Fits hand (does action made next) =
+    Suits hand action × ((n : ℕ) (vs : Values) → Fits (hand_then hand action) (next n vs))
+
+abbrev pub RestFits : Hand → Rest → Type 0
+RestFits hand rest = (vs : Values) → Fits hand (rest vs)
+
+abbrev LaterFits : Later → Type 0
+LaterFits later = (vars : List ℕ) → RestFits None (later vars)
+
+module _ (app : App) where
+  take_fits : (n : ℕ) (granted refused : Rest) → RestFits (Some n) granted → RestFits None refused
+      → RestFits None (take_place app n granted refused)
+  take_fits n granted refused first second vs = (tt, λ k ws. go (has_place app n ws) ws)
+    where
+      go : (b : Bool) (ws : Values) → Fits None
+          (if b then act_all (Takes n ∷ Leaves (section.Free n) ∷ []) granted ws
+          else act_all (Refuses n ∷ Leaves (section.Free n) ∷ []) refused ws)
+      go true ws = (refl, λ k xs. (tt, λ l ys. first ys))
+      go false ws = (tt, λ k xs. (tt, λ l ys. second ys))
+
+  ready_fits : (p : ℕ) (m : Message) (rest : Rest) → RestFits None rest
+      → RestFits (Some m.task) (act_all (ready_actions app p m) rest)
+  ready_fits p m rest later vs = (tt, λ k ws. (refl, λ l xs. (tt, λ i ys. (tt, λ j zs. later zs))))
+
+  spawn_fits : (value : Expression → ℕ) (s : Spawn) (rest : ℕ → Rest) → ((n : ℕ) → RestFits None (rest n))
+      → RestFits None (spawn_actions app value s rest)
+  spawn_fits value (Soon n args at) rest later =
+      take_fits n (act_all (ready_actions app (task_priority app n) (record { task = n; args = map value args }))
+      (rest 1)) (rest 0)
+      (ready_fits (task_priority app n) (record { task = n; args = map value args }) (rest 1) (later 1)) (later 0)
+  spawn_fits value (After word delay n args at) rest later =
+      take_fits n
+      (arm_actions app (timer_section_cost app) (value delay) (record { task = n; args = map value args }) rest)
+      (rest 0)
+      (λ vs. (
+        tt,
+        λ k ws. (
+          tt,
+          λ time xs. (
+            refl,
+            λ l ys. (
+              tt,
+              λ i zs. (
+                tt,
+                λ j us. later (timed (ys (Guarded section.Timer))).given us,
+              ),
+            ),
+          ),
+        ),
+      )) (later 0)
+  spawn_fits value (Cancel word n handle at) rest later = λ vs.
+      (tt, λ k ws. go (is_armed_as app n (value handle) ws) ws)
+    where
+      back : Rest
+      back = act_all (Enters (section.Free n) FREE_COST ∷ Frees n ∷ Leaves (section.Free n) ∷ []) (rest 0)
+
+      go : (b : Bool) (ws : Values) → Fits None
+          (if b then act (Cancels n (value handle)) (leave_timer app back) ws
+          else act (Leaves section.Timer) (rest 1) ws)
+      go true ws = (refl, λ k xs. (tt, λ l ys. (tt, λ i zs. (tt, λ j us. (refl, λ g ts. (tt, λ f rs. later 0 rs))))))
+      go false ws = (tt, λ k xs. later 1 xs)
+  spawn_fits value (Move word delay n handle at) rest later = λ vs.
+      (tt, λ k ws. go (is_armed_as app n (value handle) ws) ws)
+    where
+      go : (b : Bool) (ws : Values) → Fits None
+          (if b then does Clocks ws (λ time. act (Moves n (value handle) (instant_after app time (value delay)))
+          (leave_timer app (rest 0)))
+          else act (Leaves section.Timer) (rest 1) ws)
+      go true ws = (tt, λ time xs. (tt, λ l ys. (tt, λ i zs. (tt, λ j us. later 0 us))))
+      go false ws = (tt, λ k xs. later 1 xs)
+
+  turns_fit : (n x i : ℕ) (turn : Later → Later) (later : Later)
+      → ((next : Later) → LaterFits next → LaterFits (turn next))
+      → LaterFits later → LaterFits (turns_from n x i turn later)
+  turns_fit zero x i turn later each fits vars vs = fits (slice_set vars x i) vs
+  turns_fit (suc n) x i turn later each fits vars vs =
+      each (turns_from n x (suc i) turn later) (turns_fit n x (suc i) turn later each fits) (slice_set vars x i) vs
+
+  assign_fits : (x : Atom) (n : ℕ) (later : Later) → LaterFits later → LaterFits (assign x n later)
+  assign_fits (atom.Var x) n later fits vars vs = fits (slice_set vars x n) vs
+  assign_fits (atom.Shared r) n later fits vars vs = fits vars (put_at vs (Guarded (section.Res r)) (Number n))
+  assign_fits (atom.Local l) n later fits vars vs = fits vars (put_at vs (Own l) (Number n))
+
+  mutual
+    statement_fits : (s : Statement) (later : Later) → LaterFits later → LaterFits (run app s later)
+    statement_fits (Bind x (Calc e)) later fits = λ vars vs. fits (slice_set vars x (value_in vars vs e)) vs
+    statement_fits (Bind x (Now at)) later fits = λ vars vs. (tt, λ time ws. fits (slice_set vars x time) ws)
+    statement_fits (Bind x (Call s)) later fits = λ vars vs.
+        spawn_fits (value_in vars vs) s (λ granted. later (slice_set vars x granted))
+        (λ granted. fits (slice_set vars x granted)) vs
+    statement_fits (Assign x e at) later fits = λ vars vs. assign_fits x (value_in vars vs e) later fits vars vs
+    statement_fits (Branch e first second) later fits = λ vars vs.
+        elim (value_in vars vs e == 0) as (λ b. Fits None
+        (if b then run_block app second later vars vs else run_block app first later vars vs)) [
+          | true ↦ block_fits second later fits vars vs
+          | false ↦ block_fits first later fits vars vs
+        ]
+    statement_fits (Repeat x first last turn) later fits =
+        turns_fit _ x first (run_block app turn) later (λ next good. block_fits turn next good) fits
+    statement_fits (Locked r inner at) later fits = λ vars vs. (
+      tt,
+      λ k ws. block_fits inner (λ vars. act (Leaves (section.Res r)) (later vars))
+          (λ vars vs. (tt, λ k ws. fits vars ws)) vars ws,
+    )
+    statement_fits (Emit e) later fits = λ vars vs. (tt, λ k ws. fits vars ws)
+    statement_fits (Pend i) later fits = λ vars vs. (tt, λ k ws. fits vars ws)
+    statement_fits (Spawns s) later fits = λ vars vs.
+        spawn_fits (value_in vars vs) s (λ granted. later vars) (λ granted. fits vars) vs
+
+    block_fits : (b : Block) (later : Later) → LaterFits later → LaterFits (run_block app b later)
+    block_fits Empty later fits = fits
+    block_fits (Then s rest) later fits = statement_fits s (run_block app rest later) (block_fits rest later fits)
+
+  declared_fits : (o : Option Body) (args : List ℕ) (rest : Rest) → RestFits None rest
+      → RestFits None (declared_doing app o args rest)
+  declared_fits None args rest fits = fits
+  declared_fits (Some b) args rest fits =
+      block_fits b.block (λ vars. rest) (λ vars. fits) (args ++ replicate (variables b.block) 0)
+
+  pub init_fits : RestFits None (init_doing app)
+  init_fits = declared_fits app.init [] (act (Ends body.Init) nothing) (λ vs. (refl, λ k ws. tt))
+
+  pub idle_fits : RestFits None (idle_doing app)
+  idle_fits = declared_fits app.idle [] (act (Ends body.Idle) nothing) (λ vs. (refl, λ k ws. tt))
+
+  task_fits : (n : ℕ) (args : List ℕ) (rest : Rest) → RestFits None rest → RestFits None (task_doing app n args rest)
+  task_fits n args rest fits =
+      declared_fits (then_from (slice_get app.tasks n) (λ t. Some t.body)) args rest fits
+
+  abbrev behind : Message → Rest
+  behind m = task_doing app m.task m.args (act_all (Ends (body.Task m.task) ∷ Returns ∷ []) nothing)
+
+  behind_fits : (m : Message) → RestFits None (behind m)
+  behind_fits m = task_fits m.task m.args (act_all (Ends (body.Task m.task) ∷ Returns ∷ []) nothing)
+      (λ vs. (refl, λ k ws. (refl, λ l xs. tt)))
+
+  start_fits : (p : ℕ) (ms : List Message) → RestFits None (start_doing app p ms)
+  start_fits p [] vs = (tt, λ k ws. (refl, λ l xs. tt))
+  start_fits p (m ∷ []) vs =
+      (refl, λ k ws. (tt, λ l xs. (tt, λ i ys. (refl, λ j zs. (tt, λ h us. behind_fits m us)))))
+  start_fits p (m ∷ n ∷ more) vs =
+      (refl, λ k ws. (tt, λ g rs. (tt, λ l xs. (tt, λ i ys. (refl, λ j zs. (tt, λ h us. behind_fits m us))))))
+
+  fire_fits : (o : Option Armed) → RestFits None (fire_doing app o)
+  fire_fits None vs = (tt, λ k ws. (tt, λ l xs. (refl, λ i ys. tt)))
+  fire_fits (Some a) vs = (
+    refl,
+    λ k ws. (
+      tt,
+      λ l xs. (
+        tt,
+        λ i ys.
+            ready_fits (task_priority app a.message.task) a.message (act Returns nothing) (λ zs. (refl, λ j us. tt)) ys,
+      ),
+    ),
+  )
+
+  pub handler_fits : (h : Handler) → RestFits None (handler_doing app h)
+  handler_fits (Runs n) = task_fits n [] (act Returns nothing) (λ vs. (refl, λ k ws. tt))
+  handler_fits (Dispatches p) = λ vs. (tt, λ k ws. start_fits p (messages (ws (Guarded (section.Ready p)))) ws)
+  handler_fits Times = λ vs. (
+    tt,
+    λ k ws. (tt, λ time xs. fire_fits (due app time (delays (xs (Guarded section.Timer)))) xs),
+  )
