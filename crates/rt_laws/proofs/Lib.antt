@@ -24,6 +24,7 @@ pub mod Counting
 pub mod Hands
 pub mod Counted
 pub mod Placed
+pub mod Instants
 pub mod Readying
 pub mod Dispatchers
 pub mod ReadyServed

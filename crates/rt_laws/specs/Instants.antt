@@ -6,11 +6,14 @@ use Rattle.std.specs.List.{AllByRecursion}
 use Rattle.rt_ids.specs.Holder.{Guarded}
 use Rattle.rt_ids.specs.Content.{Message, Armed, Timed, timed, delays, least, armed_as, without_handle}
 use Rattle.rt_ids.specs.declared.ids.Section.TheVariants as section
-use Rattle.rt_trace.specs.Label.{Stepped}
+use Rattle.rt_trace.specs.Label.{Label, Stepped}
 use Rattle.rt_trace.specs.declared.item.What.TheVariants as what
 use Rattle.rt_app.specs.Tree.{App}
-use Rattle.rt_laws.specs.State.{State}
+use Rattle.rt_app.specs.Accepted.{IsAccepted}
+use Rattle.rt_laws.specs.State.{State, first}
 use Rattle.rt_laws.specs.Allowed.{May, after}
+use Rattle.rt_laws.specs.Run.{RunsOn}
+use Rattle.rt_laws.specs.ByItems.{after_all}
 
 -- the timer queue of a state, and the armed messages in order of their last arming
 abbrev pub timer_queue : State → Timed
@@ -42,10 +45,19 @@ pub record FiresFirst (all : List Armed) (a : Armed) : Type 0 where
   pub later : AllByRecursion (λ b. a.instant < b.instant) before
   pub no_earlier : AllByRecursion (λ b. a.instant ≤ b.instant) behind
 
+-- in a state each arming that is allowed next puts its message last, and so does each move
+abbrev pub NextArmsLast : App → State → Type 0
+NextArmsLast app s = (t i : ℕ) → May app s (Stepped (Some (what.Arm t i)))
+    → ArmsLast s (after app s (Stepped (Some (what.Arm t i)))) t i
+
+abbrev pub NextMovesLast : App → State → Type 0
+NextMovesLast app s = (t h i : ℕ) → May app s (Stepped (Some (what.Move t h i)))
+    → MovesLast s (after app s (Stepped (Some (what.Move t h i)))) t h i
+
+-- at every moment of a run of an accepted application; and which of the armed messages is the least, which fires
 pub record EqualInstantsFireInOrder : Type 0 where
-  pub arm : (app : App) (s : State) (t i : ℕ) → May app s (Stepped (Some (what.Arm t i)))
-      → ArmsLast s (after app s (Stepped (Some (what.Arm t i)))) t i
-  pub move : (app : App) (s : State) (t h i : ℕ) → May app s (Stepped (Some (what.Move t h i)))
-      → (moved : Armed) → armed_as t h (armed s) ≡ Some moved
-      → MovesLast s (after app s (Stepped (Some (what.Move t h i)))) t h i
+  pub arm : (app : App) → IsAccepted app → (labels : List Label) → RunsOn app (first app) labels
+      → NextArmsLast app (after_all app (first app) labels)
+  pub move : (app : App) → IsAccepted app → (labels : List Label) → RunsOn app (first app) labels
+      → NextMovesLast app (after_all app (first app) labels)
   pub fire : (all : List Armed) (a : Armed) → least all ≡ Some a → FiresFirst all a
