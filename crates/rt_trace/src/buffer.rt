@@ -3,15 +3,14 @@ ghost use Rattle.rt_trace.specs.Lined.{HasLine};
 ghost use Rattle.rt_trace.specs.Text as spec;
 
 use crate::item::Item;
-use crate::text::line;
-use itoa::Buffer;
+use crate::text::{put_line, put_total};
 use rt_ids::Names;
 use std::marker::Model;
 
 /// Bytes that a buffer of lines holds at most.
 pub const BUFFER_BYTES: usize = 4096;
 
-/// Bytes for which a buffer must have room where it takes a line.
+/// Bytes for which there must be room where a line is written.
 pub const LINE_BYTES: usize = 160;
 
 /// Lines of a trace that wait to go out, at most 4096 bytes of them. Contracts see the bytes.
@@ -55,7 +54,8 @@ impl LineBuffer {
         requires room { length self.old + LINE_BYTES ≤ BUFFER_BYTES }
         ensures { self.new ≡ self.old ++ spec.text names.now item.now }
     {
-        self.extend(line(item, names).as_slice());
+        let at = self.len;
+        self.len = put_line(&mut self.bytes, at, item, names);
     }
 
     /// Appends the last line of a trace, the number of its core steps.
@@ -64,10 +64,8 @@ impl LineBuffer {
         requires room { length self.old + LINE_BYTES ≤ BUFFER_BYTES }
         ensures { self.new ≡ self.old ++ spec.total_text total }
     {
-        let mut digits = Buffer::new();
-        self.extend(b"total ");
-        self.extend(digits.format(total as u32).as_bytes());
-        self.extend(b"\n");
+        let at = self.len;
+        self.len = put_total(&mut self.bytes, at, total as u32);
     }
 
     /// The bytes of the lines.
@@ -83,15 +81,5 @@ impl LineBuffer {
         ensures { self.new ≡ [] }
     {
         self.len = 0;
-    }
-
-    /// Appends bytes.
-    fn extend(&mut self, bytes: &[u8])
-        requires { length self.old + length bytes.now ≤ BUFFER_BYTES }
-        ensures { self.new ≡ self.old ++ bytes.now }
-    {
-        let end = self.len + bytes.len();
-        self.bytes[self.len..end].copy_from_slice(bytes);
-        self.len = end;
     }
 }

@@ -1,13 +1,14 @@
-ghost use Rattle.std.specs.Prelude.{◌≡◌, ◌≤◌, ◌<◌, ◌+◌, ◌^◌, ◌∷◌, ◌++◌, [], length, map, decimal};
-ghost use Rattle.rt_ids.specs.Naming.{irq_name, task_name, resource_name, section_name, body_name};
+ghost use Rattle.std.specs.Prelude.{◌≡◌, ◌≤◌, ◌<◌, ◌+◌, ◌^◌, ◌∷◌, ◌++◌, length, map, take, decimal};
+ghost use Rattle.rt_ids.specs.Naming.{irq_name, task_name, section_name, body_name};
 ghost use Rattle.rt_trace.specs.Lined.{HasLine, HasOperands, IsBody, IsDeclared, IsSection, IsTask};
 ghost use Rattle.rt_trace.specs.Text as spec;
 
+use crate::buffer::LINE_BYTES;
 use crate::item::{Item, What};
 use crate::names::{irq_name, resource_name, task_name};
 use crate::verb::Verb;
 use arrayvec::ArrayVec;
-use itoa::Buffer;
+use itoa::write_digits;
 use rt_ids::{BodyId, Irq, Names, Section, TaskId};
 
 /// The line of an item, with its line feed. It is never longer than 160 bytes.
@@ -15,160 +16,212 @@ pub fn line(item: &Item, names: &Names) -> ArrayVec<u8, 160>
     requires { HasLine names.now item.now }
     ensures { result.items ≡ spec.text names.now item.now }
 {
-    let mut out = ArrayVec::new();
-    put_number(&mut out, item.step as u32);
-    put_word(&mut out, Verb::of(&item.what).word());
-    put_operands(&mut out, &item.what, names);
-    put(&mut out, b"\n");
-    out
+    let mut bytes = [0; LINE_BYTES];
+    let end = put_line(&mut bytes, 0, item, names);
+    let mut line = ArrayVec::new();
+    let _all = line.try_extend_from_slice(&bytes[..end]);
+    line
 }
 
-/// Appends bytes.
-fn put(out: &mut ArrayVec<u8, 160>, bytes: &[u8])
-    requires { length out.old.items + length bytes.now ≤ 160 }
-    ensures items { out.new.items ≡ out.old.items ++ bytes.now }
-    ensures len { length out.new.items ≡ length out.old.items + length bytes.now }
+// Each function below writes from a place of a text on, and says where that ends: what stands in front of the place
+// stays, and behind it stands what was written.
+
+/// Writes the line of an item, with its line feed.
+pub(crate) fn put_line(out: &mut [u8], at: usize, item: &Item, names: &Names) -> usize
+    requires line { HasLine names.now item.now }
+    requires room { at + LINE_BYTES ≤ length out.old }
+    ensures written { take result out.new ≡ take at out.old ++ spec.text names.now item.now }
+    ensures end { result ≤ at + LINE_BYTES }
 {
-    let _all = out.try_extend_from_slice(bytes);
+    let at = put_number(out, at, item.step as u32);
+    let at = put_word(out, at, Verb::of(&item.what).word());
+    let at = put_operands(out, at, &item.what, names);
+    put(out, at, b"\n")
 }
 
-/// Appends a number in decimal.
-fn put_number(out: &mut ArrayVec<u8, 160>, number: u32)
-    requires { length out.old.items ≤ 150 }
-    ensures items { out.new.items ≡ out.old.items ++ decimal number }
-    ensures len { length out.new.items ≤ length out.old.items + 10 }
+/// Writes the last line of a trace, the number of its core steps.
+pub(crate) fn put_total(out: &mut [u8], at: usize, total: u32) -> usize
+    requires { at + LINE_BYTES ≤ length out.old }
+    ensures written { take result out.new ≡ take at out.old ++ spec.total_text total }
+    ensures end { result ≤ at + LINE_BYTES }
 {
-    let mut buffer = Buffer::new();
-    put(out, buffer.format(number).as_bytes());
+    let at = put(out, at, b"total ");
+    let at = put_number(out, at, total);
+    put(out, at, b"\n")
 }
 
-/// Appends a space and a word.
-fn put_word(out: &mut ArrayVec<u8, 160>, word: &[u8])
-    requires { length out.old.items + length word.now < 160 }
-    ensures items { out.new.items ≡ out.old.items ++ 32 ∷ word.now }
-    ensures len { length out.new.items ≡ length out.old.items + length word.now + 1 }
+/// Writes bytes.
+#[inline(always)]
+fn put(out: &mut [u8], at: usize, bytes: &[u8]) -> usize
+    requires { at + length bytes.now ≤ length out.old }
+    ensures written { take result out.new ≡ take at out.old ++ bytes.now }
+    ensures end { result ≡ at + length bytes.now }
 {
-    put(out, b" ");
-    put(out, word);
+    let end = at + bytes.len();
+    out[at..end].copy_from_slice(bytes);
+    end
 }
 
-/// Appends a space and a number.
-fn put_value(out: &mut ArrayVec<u8, 160>, value: u32)
-    requires { length out.old.items < 150 }
-    ensures items { out.new.items ≡ out.old.items ++ 32 ∷ decimal value }
-    ensures len { length out.new.items ≤ length out.old.items + 11 }
+/// Writes a number in decimal.
+fn put_number(out: &mut [u8], at: usize, number: u32) -> usize
+    requires { at + 10 ≤ length out.old }
+    ensures written { take result out.new ≡ take at out.old ++ decimal number }
+    ensures end { result ≤ at + 10 }
 {
-    put(out, b" ");
-    put_number(out, value);
+    let end = at + digit_count(number);
+    let _start = write_digits(u64::from(number), out, end);
+    end
 }
 
-/// Appends a space and the name of an interrupt.
-fn put_irq(out: &mut ArrayVec<u8, 160>, irq: Irq, names: &Names)
+/// How many digits a number has in decimal.
+fn digit_count(number: u32) -> usize
+    ensures count { result ≡ length (decimal number) }
+    ensures few { result ≤ 10 }
+{
+    match number {
+        0..=9 => 1,
+        10..=99 => 2,
+        100..=999 => 3,
+        1_000..=9_999 => 4,
+        10_000..=99_999 => 5,
+        100_000..=999_999 => 6,
+        1_000_000..=9_999_999 => 7,
+        10_000_000..=99_999_999 => 8,
+        100_000_000..=999_999_999 => 9,
+        _ => 10,
+    }
+}
+
+/// Writes a space and a word.
+#[inline(always)]
+fn put_word(out: &mut [u8], at: usize, word: &[u8]) -> usize
+    requires { at + length word.now < length out.old }
+    ensures written { take result out.new ≡ take at out.old ++ 32 ∷ word.now }
+    ensures end { result ≡ at + length word.now + 1 }
+{
+    out[at] = b' ';
+    put(out, at + 1, word)
+}
+
+/// Writes a space and a number.
+fn put_value(out: &mut [u8], at: usize, value: u32) -> usize
+    requires { at + 11 ≤ length out.old }
+    ensures written { take result out.new ≡ take at out.old ++ 32 ∷ decimal value }
+    ensures end { result ≤ at + 11 }
+{
+    out[at] = b' ';
+    put_number(out, at + 1, value)
+}
+
+/// Writes a space and the name of an interrupt.
+fn put_irq(out: &mut [u8], at: usize, irq: Irq, names: &Names) -> usize
     requires declared { IsDeclared names.now irq }
-    requires room { length out.old.items ≤ 100 }
-    ensures items { out.new.items ≡ out.old.items ++ 32 ∷ irq_name names.now irq }
-    ensures len { length out.new.items ≤ length out.old.items + 33 }
+    requires room { at + 33 ≤ length out.old }
+    ensures written { take result out.new ≡ take at out.old ++ 32 ∷ irq_name names.now irq }
+    ensures end { result ≤ at + 33 }
 {
-    put_word(out, irq_name(names, irq));
+    put_word(out, at, irq_name(names, irq))
 }
 
-/// Appends a space and the name of a task.
-fn put_task(out: &mut ArrayVec<u8, 160>, task: TaskId, names: &Names)
+/// Writes a space and the name of a task.
+fn put_task(out: &mut [u8], at: usize, task: TaskId, names: &Names) -> usize
     requires declared { IsTask names.now task }
-    requires room { length out.old.items ≤ 100 }
-    ensures items { out.new.items ≡ out.old.items ++ 32 ∷ task_name names.now task }
-    ensures len { length out.new.items ≤ length out.old.items + 33 }
+    requires room { at + 33 ≤ length out.old }
+    ensures written { take result out.new ≡ take at out.old ++ 32 ∷ task_name names.now task }
+    ensures end { result ≤ at + 33 }
 {
-    put_word(out, task_name(names, task));
+    put_word(out, at, task_name(names, task))
 }
 
-/// Appends a space and the name of a section.
-fn put_section(out: &mut ArrayVec<u8, 160>, section: Section, names: &Names)
+/// Writes a space and the name of a section.
+fn put_section(out: &mut [u8], at: usize, section: Section, names: &Names) -> usize
     requires declared { IsSection names.now section }
-    requires room { length out.old.items ≤ 100 }
-    ensures items { out.new.items ≡ out.old.items ++ 32 ∷ section_name names.now section }
-    ensures len { length out.new.items ≤ length out.old.items + 38 }
+    requires room { at + 38 ≤ length out.old }
+    ensures written { take result out.new ≡ take at out.old ++ 32 ∷ section_name names.now section }
+    ensures end { result ≤ at + 38 }
 {
     match section {
-        Section::Res(resource) => put_word(out, resource_name(names, resource)),
+        Section::Res(resource) => put_word(out, at, resource_name(names, resource)),
         Section::Free(task) => {
-            put_word(out, b"free.");
-            put(out, task_name(names, task));
+            let at = put(out, at, b" free.");
+            put(out, at, task_name(names, task))
         }
         Section::Ready(level) => {
-            put_word(out, b"ready.");
-            put_number(out, u32::from(level.0));
+            let at = put(out, at, b" ready.");
+            put_number(out, at, u32::from(level.0))
         }
-        Section::Timer => put_word(out, b"timer.0"),
+        Section::Timer => put(out, at, b" timer.0"),
     }
 }
 
-/// Appends a space and the name of a body.
-fn put_body(out: &mut ArrayVec<u8, 160>, body: BodyId, names: &Names)
+/// Writes a space and the name of a body.
+fn put_body(out: &mut [u8], at: usize, body: BodyId, names: &Names) -> usize
     requires declared { IsBody names.now body }
-    requires room { length out.old.items ≤ 100 }
-    ensures items { out.new.items ≡ out.old.items ++ 32 ∷ body_name names.now body }
-    ensures len { length out.new.items ≤ length out.old.items + 33 }
+    requires room { at + 33 ≤ length out.old }
+    ensures written { take result out.new ≡ take at out.old ++ 32 ∷ body_name names.now body }
+    ensures end { result ≤ at + 33 }
 {
     match body {
-        BodyId::Init => put_word(out, b"init"),
-        BodyId::Idle => put_word(out, b"idle"),
-        BodyId::Task(task) => put_task(out, task, names),
+        BodyId::Init => put(out, at, b" init"),
+        BodyId::Idle => put(out, at, b" idle"),
+        BodyId::Task(task) => put_task(out, at, task, names),
     }
 }
 
-/// Appends at most four values, with a space in front of each.
-fn put_values(out: &mut ArrayVec<u8, 160>, values: &[u32])
+/// Writes at most four values, with a space in front of each.
+fn put_values(out: &mut [u8], at: usize, values: &[u32]) -> usize
     requires few { length values.now ≤ 4 }
-    requires room { length out.old.items ≤ 100 }
-    ensures items { out.new.items ≡ out.old.items ++ spec.spaced (map decimal values.now) }
-    ensures len { length out.new.items ≤ length out.old.items + 44 }
+    requires room { at + 44 ≤ length out.old }
+    ensures written { take result out.new ≡ take at out.old ++ spec.spaced (map decimal values.now) }
+    ensures end { result ≤ at + 44 }
 {
+    let mut end = at;
     for value in values {
-        put_value(out, *value);
+        end = put_value(out, end, *value);
     }
+    end
 }
 
-/// Appends the words behind the first.
-fn put_operands(out: &mut ArrayVec<u8, 160>, what: &What, names: &Names)
+/// Writes the words behind the first.
+fn put_operands(out: &mut [u8], at: usize, what: &What, names: &Names) -> usize
     requires lined { HasOperands names.now what.now }
-    requires room { length out.old.items ≤ 20 }
-    ensures items { out.new.items ≡ out.old.items ++ spec.spaced (spec.operands names.now what.now) }
-    ensures len { length out.new.items ≤ 100 }
+    requires room { at + 80 ≤ length out.old }
+    ensures written { take result out.new ≡ take at out.old ++ spec.spaced (spec.operands names.now what.now) }
+    ensures end { result ≤ at + 80 }
 {
     match what {
-        What::Tick | What::Alarm | What::AlarmSet => {}
-        What::Pend(irq) | What::Ret(irq) | What::Post(irq) => put_irq(out, *irq, names),
+        What::Tick | What::Alarm | What::AlarmSet => at,
+        What::Pend(irq) | What::Ret(irq) | What::Post(irq) => put_irq(out, at, *irq, names),
         What::Take(irq, depth) => {
-            put_irq(out, *irq, names);
-            put_value(out, *depth);
+            let at = put_irq(out, at, *irq, names);
+            put_value(out, at, *depth)
         }
-        What::Enter(section) => put_section(out, *section, names),
-        What::Leave(section, None) => put_section(out, *section, names),
+        What::Enter(section) => put_section(out, at, *section, names),
+        What::Leave(section, None) => put_section(out, at, *section, names),
         What::Leave(section, Some(value)) => {
-            put_section(out, *section, names);
-            put_value(out, *value);
+            let at = put_section(out, at, *section, names);
+            put_value(out, at, *value)
         }
-        What::Emit(value) | What::Clock(value) => put_value(out, *value),
+        What::Emit(value) | What::Clock(value) => put_value(out, at, *value),
         What::Placed(task)
         | What::Full(task)
         | What::Ready(task)
         | What::Free(task)
-        | What::Fire(task) => put_task(out, *task, names),
+        | What::Fire(task) => put_task(out, at, *task, names),
         What::Start(task, args) => {
-            put_task(out, *task, names);
-            put_values(out, args.values());
+            let at = put_task(out, at, *task, names);
+            put_values(out, at, args.values())
         }
         What::Arm(task, value) | What::Cancel(task, value) => {
-            put_task(out, *task, names);
-            put_value(out, *value);
+            let at = put_task(out, at, *task, names);
+            put_value(out, at, *value)
         }
         What::Move(task, handle, instant) => {
-            put_task(out, *task, names);
-            put_value(out, *handle);
-            put_value(out, *instant);
+            let at = put_task(out, at, *task, names);
+            let at = put_value(out, at, *handle);
+            put_value(out, at, *instant)
         }
-        What::End(body) => put_body(out, *body, names),
-        What::Trap(reason) => put_value(out, u32::from(*reason)),
+        What::End(body) => put_body(out, at, *body, names),
+        What::Trap(reason) => put_value(out, at, u32::from(*reason)),
     }
 }
