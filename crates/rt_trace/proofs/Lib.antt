@@ -1,6 +1,7 @@
 pub mod LabelsShown
 pub mod Values
 pub mod Rows
+pub mod Standing
 pub mod Digits
 pub mod Short
 pub mod Words

@@ -11,13 +11,12 @@ use Rattle.rt_trace.specs.Laws.{AreReadOneWay}
 use Rattle.rt_trace.specs.Trace.{Trace}
 use Rattle.rt_trace.specs.Row.{row_of}
 use Rattle.rt_trace.specs.Reading.{AreRows, HasFault, IsClosing, IsFirstWrong, IsListing, IsPassed, IsTraceText, IsUnended, IsWrongBehind, IsWrongRow, begins_listing, ends_listing, is_account, shown}
-use Rattle.rt_trace.specs.Inside.Progress.{TakesFrom, with_row}
 use Rattle.rt_trace.specs.declared.item.Item.{Item}
 use Rattle.rt_trace.specs.declared.operand.Wrong.{Wrong}
 use Rattle.rt_trace.specs.declared.operand.Wrong.TheVariants as wrong
 use Rattle.rt_trace.specs.declared.row.Row.{Row}
 use Rattle.rt_trace.specs.declared.row.Row.TheVariants as row
-use Rattle.rt_trace.proofs.Rows.{take_more, listing_passed}
+use Rattle.rt_trace.proofs.Rows.{TakesFrom, listing_passed, take_more, with_row}
 
 abbrev Verdict : Type 0
 Verdict = Result Trace (ℕ × Wrong)

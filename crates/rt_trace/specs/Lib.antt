@@ -9,5 +9,6 @@ pub mod Lined
 pub mod Operand
 pub mod Row
 pub mod Reading
+pub mod Reader
 pub mod Inside
 pub mod Laws

@@ -1,3 +1,6 @@
+ghost use Rattle.std.specs.Prelude.{◌≡◌};
+
+use rt_ids::NoMemory;
 use thiserror::Error;
 
 /// Why a text is no trace. The number is that of the first line that is wrong, from 1.
@@ -15,4 +18,14 @@ pub enum TraceRefused {
     /// Memory was wanted.
     #[error("out of memory")]
     NoMemory,
+}
+
+impl From<NoMemory> for TraceRefused {
+    ghost use Rattle.rt_trace.specs.declared.refusal.TraceRefused.TheVariants.{NoMemory};
+
+    ghost from_gives = { λ _ r. r ≡ NoMemory };
+
+    fn from(_error: NoMemory) -> TraceRefused {
+        TraceRefused::NoMemory
+    }
 }

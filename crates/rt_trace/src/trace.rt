@@ -1,7 +1,6 @@
-ghost use Rattle.std.specs.Prelude.{◌≡◌, [], ◌∷◌, ◌++◌, Some, OnOk};
+ghost use Rattle.std.specs.Prelude.{◌≡◌};
 
 use crate::item::Item;
-use rt_ids::NoMemory;
 use std::marker::Model;
 
 /// A trace: items, and how many core steps there are in all, where that is told. Contracts see a record of the list
@@ -40,20 +39,5 @@ impl Trace {
         ensures { result ≡ self.now.total }
     {
         self.total
-    }
-
-    /// Adds an item.
-    pub(crate) fn push(&mut self, item: Item) -> Result<(), NoMemory>
-        ensures { OnOk result (self.new ≡ record { items = self.old.items ++ item ∷ []; total = self.old.total }) }
-    {
-        self.items.extend_from_slice(&[item])?;
-        Ok(())
-    }
-
-    /// Tells the total.
-    pub(crate) fn tell(&mut self, total: u64)
-        ensures { self.new ≡ record { items = self.old.items; total = Some total } }
-    {
-        self.total = Some(total);
     }
 }
