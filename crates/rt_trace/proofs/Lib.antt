@@ -2,6 +2,7 @@ pub mod LabelsShown
 pub mod Values
 pub mod Rows
 pub mod Standing
+pub mod Lengths
 pub mod Digits
 pub mod Short
 pub mod Words

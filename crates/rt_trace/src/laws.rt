@@ -1,4 +1,4 @@
-ghost use Rattle.rt_trace.specs.Laws.{AreReadOneWay, LinesAreRead, ReadLinesAreLines};
+ghost use Rattle.rt_trace.specs.Laws.{AreReadOneWay, LinesAreRead, LinesAreShort, ReadLinesAreLines, RunsAreShort};
 
 /// Each item that has a line is what its line says.
 #[tactic(auto, using(crate::proofs::LinesRead::lines_read))]
@@ -14,4 +14,11 @@ pub fn read_lines_are_lines()
 /// Each text that is not too long is a trace's or has a first wrong line, not both, and in one way.
 pub fn texts_are_read_one_way()
     ensures { AreReadOneWay }
+{}
+
+/// How long the lines of items get, and that the trace of each run is shorter than a trace text may be.
+#[tactic(auto, using(crate::proofs::Lengths::lines_short, crate::proofs::Lengths::runs_short))]
+pub fn lines_are_short()
+    ensures lines { LinesAreShort }
+    ensures runs { RunsAreShort }
 {}

@@ -21,7 +21,7 @@ pub use args::Args;
 pub use buffer::{BUFFER_BYTES, LINE_BYTES, LineBuffer};
 pub use item::{Item, What};
 pub use labels::labels_show_their_events;
-pub use laws::{lines_are_read, read_lines_are_lines, texts_are_read_one_way};
+pub use laws::{lines_are_read, lines_are_short, read_lines_are_lines, texts_are_read_one_way};
 pub use lined::has_line;
 pub use reader::TraceReader;
 pub use reading::read_trace;
