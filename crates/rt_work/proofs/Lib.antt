@@ -7,3 +7,4 @@ pub mod Pushing
 pub mod Clocks
 pub mod Timing
 pub mod Handling
+pub mod Weights

@@ -11,7 +11,7 @@ use Rattle.std.specs.Option.{option_and_then}
 use Rattle.rt_ids.proofs.Lists.{find_by_position}
 use Rattle.rt_lemmas.proofs.Lists.{mapped_read}
 use Rattle.rt_ids.specs.Holder.{Holder, Guarded, Own}
-use Rattle.rt_ids.specs.Content.{Message, Armed, Timed, Content, Number, Messages, Delays, put_at}
+use Rattle.rt_ids.specs.Content.{Message, Armed, Timed, Content, Number, Messages, Delays, Values, put_at, timed}
 use Rattle.rt_ids.specs.Content.{without_least, has_handle, without_handle, postponed, armed_as}
 use Rattle.rt_ids.specs.Action.{effect, Takes, Frees, Readies, Starts, Arms, Fires, Cancels, Moves}
 use Rattle.rt_ids.specs.declared.ids.Section.TheVariants as section
@@ -111,6 +111,17 @@ set_timed s t = λ i h. each h i
     each (Guarded (section.Ready a)) = refl
     each (Guarded section.Timer) = refl
     each (Own a) = refl
+
+-- the timer queue is as it was where a resource changes
+pub timed_beside_shared : (s t : Store) (r n : ℕ)
+    → contents t ≡ put_at (contents s) (Guarded (section.Res r)) (Number n) → t.timed ≡ s.timed
+unfolding contents
+timed_beside_shared s t r n put = ap (λ (vs : Values). timed (vs (Guarded section.Timer))) put
+
+pub timed_beside_local : (s t : Store) (l n : ℕ) → contents t ≡ put_at (contents s) (Own l) (Number n)
+    → t.timed ≡ s.timed
+unfolding contents
+timed_beside_local s t l n put = ap (λ (vs : Values). timed (vs (Guarded section.Timer))) put
 
 -- what actions change, by the lists
 pub place_taken : (s t : Store) (i r n : ℕ) → s ≡ t → i ≡ r → i < length s.out → n ≡ get_or s.out i 0 + 1

@@ -1,10 +1,11 @@
-ghost use Rattle.std.specs.Prelude.{◌≡◌, ◌++◌, [], OnOk, option_map, replicate};
+ghost use Rattle.std.specs.Prelude.{◌≡◌, ◌+◌, ◌≤◌, ◌++◌, [], OnOk, option_map, replicate};
 ghost use Rattle.rt_app.specs.Tree as tree;
 ghost use Rattle.rt_app.specs.View.{statement_of, block_of, body_of, app_of};
 ghost use Rattle.rt_app.specs.Variables.{variables, variables_in};
 ghost use Rattle.rt_work.specs.Store as store;
 ghost use Rattle.rt_work.specs.Todo.{entered, task_body};
 ghost use Rattle.rt_work.specs.Work.{Becomes};
+ghost use Rattle.rt_work.specs.Inside.Weights.{bodies_weight, weights};
 
 use crate::message::Message;
 use crate::work::Work;
@@ -56,9 +57,11 @@ pub(crate) fn zeros(stmts: &[Stmt], vars: &mut Vec<u32>) -> Result<(), NoMemory>
 
 /// The body of a message's task begins, where it is declared.
 pub(crate) fn begin<'a>(app: &'a App, message: Message, work: &mut Work<'a>) -> Result<(), NoMemory>
-    ensures { let app = app_of app.now in
+    ensures same { let app = app_of app.now in
         OnOk result ((s : store.Store) → Becomes app (entered app (task_body app message.task) message.args)
         work.old s work.new s) }
+    ensures lighter { let app = app_of app.now in
+        OnOk result (weights app work.new.todos ≤ weights app work.old.todos + bodies_weight app.tasks) }
 {
     let number = message.task();
     match app.task(number) {

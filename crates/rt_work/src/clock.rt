@@ -1,4 +1,4 @@
-ghost use Rattle.std.specs.Prelude.{◌≡◌, ◌+◌, min, OnOk, IfOk};
+ghost use Rattle.std.specs.Prelude.{◌≡◌, ◌+◌, ◌<◌, ◌^◌, min, OnOk};
 ghost use Rattle.rt_ids.specs.declared.limits.TheConstants.{LONGEST_DELAY};
 ghost use Rattle.rt_app.specs.Tree.{App};
 ghost use Rattle.rt_work.specs.Store as store;
@@ -12,36 +12,30 @@ use crate::work::Work;
 use rt_ids::limits::LONGEST_DELAY;
 use rt_ids::{NoMemory, TaskId};
 
-/// A variable comes to hold the time, which there is room for below 2^32.
-fn bind<'a>(variable: u16, time: u64, work: &mut Work<'a>) -> Result<(), NoMemory>
-    ensures { OnOk result ((app : App) (s : store.Store) → Becomes app (clocked app (Reading.Bind variable) time)
-        work.old s work.new s) }
+/// A variable comes to hold the time.
+fn bind<'a>(variable: u16, time: u64, work: &mut Work<'a>)
+    requires { time < 2 ^ 32 }
+    ensures { (app : App) (s : store.Store) → Becomes app (clocked app (Reading.Bind variable) time) work.old s work.new
+        s }
 {
-    match u32::try_from(time) {
-        Err(_) => Err(NoMemory),
-        Ok(ticks) => {
-            work.set(variable, ticks);
-            Ok(())
-        }
-    }
+    work.set(variable, time as u32);
 }
 
 /// The instant so many ticks from a time.
-fn instant_after(time: u64, delay: u32) -> Result<u64, NoMemory>
-    ensures { IfOk result (λ instant. instant ≡ time + min delay LONGEST_DELAY) }
+fn instant_after(time: u64, delay: u32) -> u64
+    requires { time < 2 ^ 32 }
+    ensures { result ≡ time + min delay LONGEST_DELAY }
 {
-    match time.checked_add(u64::from(delay.min(LONGEST_DELAY))) {
-        None => Err(NoMemory),
-        Some(instant) => Ok(instant),
-    }
+    time + u64::from(delay.min(LONGEST_DELAY))
 }
 
 /// A message is armed, so many ticks from this time.
 fn arm<'a>(delay: u32, message: Message, time: u64, work: &mut Work<'a>) -> Result<(), NoMemory>
+    requires { time < 2 ^ 32 }
     ensures { OnOk result ((app : App) (s : store.Store) → Becomes app (clocked app (Reading.Arm delay message) time)
         work.old s work.new s) }
 {
-    let instant = instant_after(time, delay)?;
+    let instant = instant_after(time, delay);
     work.push(Todo::Act(Action::Arm(instant, message)))?;
     Ok(())
 }
@@ -54,22 +48,24 @@ fn put_off<'a>(
     time: u64,
     work: &mut Work<'a>,
 ) -> Result<(), NoMemory>
+    requires { time < 2 ^ 32 }
     ensures { OnOk result ((app : App) (s : store.Store) → Becomes app (clocked app (Reading.Move delay task handle)
         time) work.old s work.new s) }
 {
-    let instant = instant_after(time, delay)?;
+    let instant = instant_after(time, delay);
     work.push(Todo::Act(Action::Move(task, handle, instant)))?;
     Ok(())
 }
 
-/// The clock, which was read for this, answers the time.
+/// The clock, which was read for this, answers the time, in ticks.
 pub fn answer<'a>(reading: Reading, time: u64, work: &mut Work<'a>) -> Result<(), NoMemory>
+    requires { time < 2 ^ 32 }
     ensures { OnOk result ((app : App) (s : store.Store) → Becomes app (clocked app reading time) work.old s work.new
         s) }
 {
     match reading {
         Reading::Bind(variable) => {
-            bind(variable, time, work)?;
+            bind(variable, time, work);
             Ok(())
         }
         Reading::Arm(delay, message) => {

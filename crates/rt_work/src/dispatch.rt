@@ -1,4 +1,4 @@
-ghost use Rattle.std.specs.Prelude.{◌≡◌, ◌∷◌, [], ◌++◌, OnOk, List, if◌then◌else◌};
+ghost use Rattle.std.specs.Prelude.{◌≡◌, ◌+◌, ◌≤◌, ◌∷◌, [], ◌++◌, OnOk, List, if◌then◌else◌};
 ghost use Rattle.rt_ids.specs.Lists.{is_empty};
 ghost use Rattle.rt_ids.specs.Content as content;
 ghost use Rattle.rt_ids.specs.declared.ids.Section.TheVariants as section;
@@ -9,6 +9,7 @@ ghost use Rattle.rt_work.specs.Code.{IsCode};
 ghost use Rattle.rt_work.specs.Todo.{meaning, started};
 ghost use Rattle.rt_work.specs.Work.{Becomes};
 ghost use Rattle.rt_work.specs.Inside.Pushes.{Pushes};
+ghost use Rattle.rt_work.specs.Inside.Weights.{bodies_weight, weights};
 
 use crate::action::Action;
 use crate::code::Code;
@@ -78,9 +79,11 @@ fn start<'a>(
     work: &mut Work<'a>,
 ) -> Result<(), NoMemory>
     requires { IsCode code.now }
-    ensures { let app = app_of code.now.app.now in
+    ensures same { let app = app_of code.now.app.now in
         OnOk result ((rest : List content.Message) → is_empty rest ≡ is_last
         → Pushes app (started app level (oldest.now ∷ rest)) work.old work.new) }
+    ensures lighter { let app = app_of code.now.app.now in
+        OnOk result (weights app work.new.todos ≤ weights app work.old.todos + (bodies_weight app.tasks + 1)) }
 {
     let started = oldest.copied(code.alloc)?;
     serve(code.alloc, oldest, work)?;
@@ -98,8 +101,10 @@ pub(crate) fn dispatch<'a>(
     store: &Store,
 ) -> Result<(), NoMemory>
     requires { IsCode code.now }
-    ensures { let app = app_of code.now.app.now in
+    ensures same { let app = app_of code.now.app.now in
         OnOk result (Becomes app (meaning app (Todo.Dispatch level)) work.old store.now work.new store.now) }
+    ensures lighter { let app = app_of code.now.app.now in
+        OnOk result (weights app work.new.todos ≤ weights app work.old.todos + (bodies_weight app.tasks + 1)) }
 {
     match store.ready(level).split_first() {
         None => {

@@ -1,4 +1,4 @@
-ghost use Rattle.std.specs.Prelude.{OnOk};
+ghost use Rattle.std.specs.Prelude.{◌+◌, ◌<◌, ◌≤◌, ◌^◌, OnOk};
 ghost use Rattle.rt_ids.specs.Action.{Leaves};
 ghost use Rattle.rt_ids.specs.declared.ids.Section.TheVariants as section;
 ghost use Rattle.rt_app.specs.Tree.{App};
@@ -6,6 +6,7 @@ ghost use Rattle.rt_app.specs.Sending.{act};
 ghost use Rattle.rt_work.specs.Todo.{given, meaning};
 ghost use Rattle.rt_work.specs.Work.{Becomes};
 ghost use Rattle.rt_work.specs.Inside.Pushes.{Pushes};
+ghost use Rattle.rt_work.specs.Inside.Weights.{weights};
 
 use crate::action::Action;
 use crate::dispatch::free_place;
@@ -15,28 +16,21 @@ use crate::todo::{Reading, Todo};
 use crate::work::Work;
 use rt_ids::{NoMemory, Section, TaskId};
 
-/// A variable comes to hold the handle that was given last, which there is room for below 2^32.
-pub(crate) fn told_handle<'a>(
-    variable: u16,
-    work: &mut Work<'a>,
-    store: &Store,
-) -> Result<(), NoMemory>
-    ensures { OnOk result ((app : App) → Becomes app (meaning app (Todo.Handle variable)) work.old store.now work.new
-        store.now) }
+/// A variable comes to hold the handle that was given last.
+pub(crate) fn told_handle<'a>(variable: u16, work: &mut Work<'a>, store: &Store)
+    requires { store.now.timed.given < 2 ^ 32 }
+    ensures same { (app : App) → Becomes app (meaning app (Todo.Handle variable)) work.old store.now work.new
+        store.now }
+    ensures lighter { (app : App) → weights app work.new.todos ≤ weights app work.old.todos }
 {
-    match u32::try_from(store.given()) {
-        Err(_) => Err(NoMemory),
-        Ok(handle) => {
-            work.set(variable, handle);
-            Ok(())
-        }
-    }
+    work.set(variable, store.given() as u32);
 }
 
 /// No armed message has the handle: a variable is told so.
 fn miss<'a>(variable: Option<u16>, work: &mut Work<'a>) -> Result<(), NoMemory>
-    ensures { OnOk result ((app : App) → Pushes app (λ later vars. act (Leaves section.Timer) (given variable 1 later
-        vars)) work.old work.new) }
+    ensures same { OnOk result ((app : App) → Pushes app (λ later vars. act (Leaves section.Timer) (given variable 1
+        later vars)) work.old work.new) }
+    ensures lighter { OnOk result ((app : App) → weights app work.new.todos ≤ weights app work.old.todos + 1) }
 {
     tell(variable, 1, work)?;
     work.push(Todo::Act(Action::Leave(Section::Timer)))?;
@@ -51,8 +45,9 @@ pub(crate) fn cancel<'a>(
     work: &mut Work<'a>,
     store: &Store,
 ) -> Result<(), NoMemory>
-    ensures { OnOk result ((app : App) → Becomes app (meaning app (Todo.Cancel variable task handle)) work.old
+    ensures same { OnOk result ((app : App) → Becomes app (meaning app (Todo.Cancel variable task handle)) work.old
         store.now work.new store.now) }
+    ensures lighter { OnOk result ((app : App) → weights app work.new.todos ≤ weights app work.old.todos + 1) }
 {
     if !store.is_armed_as(task, handle) {
         miss(variable, work)?;
@@ -75,8 +70,9 @@ pub(crate) fn put_off<'a>(
     work: &mut Work<'a>,
     store: &Store,
 ) -> Result<(), NoMemory>
-    ensures { OnOk result ((app : App) → Becomes app (meaning app (Todo.Move variable delay task handle)) work.old
+    ensures same { OnOk result ((app : App) → Becomes app (meaning app (Todo.Move variable delay task handle)) work.old
         store.now work.new store.now) }
+    ensures lighter { OnOk result ((app : App) → weights app work.new.todos ≤ weights app work.old.todos + 1) }
 {
     if !store.is_armed_as(task, handle) {
         miss(variable, work)?;

@@ -1,4 +1,4 @@
-ghost use Rattle.std.specs.Prelude.{◌≡◌, OnOk};
+ghost use Rattle.std.specs.Prelude.{◌≡◌, ◌+◌, ◌≤◌, OnOk};
 ghost use Rattle.rt_app.specs.Tree.{App};
 ghost use Rattle.rt_app.specs.View.{app_of};
 ghost use Rattle.rt_app.specs.Bodies.{task_priority};
@@ -8,6 +8,7 @@ ghost use Rattle.rt_work.specs.Code.{IsCode};
 ghost use Rattle.rt_work.specs.Todo.{given, handed, sent, placed};
 ghost use Rattle.rt_work.specs.Work.{Becomes};
 ghost use Rattle.rt_work.specs.Inside.Pushes.{Pushes};
+ghost use Rattle.rt_work.specs.Inside.Weights.{weights};
 
 use crate::action::Action;
 use crate::code::Code;
@@ -34,7 +35,8 @@ pub(crate) fn tell<'a>(
     value: u32,
     work: &mut Work<'a>,
 ) -> Result<(), NoMemory>
-    ensures { OnOk result ((app : App) → Pushes app (given variable value) work.old work.new) }
+    ensures same { OnOk result ((app : App) → Pushes app (given variable value) work.old work.new) }
+    ensures lighter { OnOk result ((app : App) → weights app work.new.todos ≤ weights app work.old.todos + 1) }
 {
     match variable {
         None => Ok(()),
@@ -47,7 +49,8 @@ pub(crate) fn tell<'a>(
 
 /// A variable, where there is one, comes to hold the handle that was given last.
 fn tell_handle<'a>(variable: Option<u16>, work: &mut Work<'a>) -> Result<(), NoMemory>
-    ensures { OnOk result ((app : App) → Pushes app (handed variable) work.old work.new) }
+    ensures same { OnOk result ((app : App) → Pushes app (handed variable) work.old work.new) }
+    ensures lighter { OnOk result ((app : App) → weights app work.new.todos ≤ weights app work.old.todos + 1) }
 {
     match variable {
         None => Ok(()),
@@ -65,9 +68,11 @@ pub(crate) fn make_ready<'a>(
     work: &mut Work<'a>,
 ) -> Result<(), NoMemory>
     requires { IsCode code.now }
-    ensures { let app = app_of code.now.app.now in
+    ensures same { let app = app_of code.now.app.now in
         OnOk result (Pushes app (λ later vars. act_all (ready_actions app (task_priority app message.task) message)
         (later vars)) work.old work.new) }
+    ensures lighter { let app = app_of code.now.app.now in
+        OnOk result (weights app work.new.todos ≤ weights app work.old.todos) }
 {
     let level = priority(code.app, message.task);
     work.push(Todo::Act(Action::Leave(Section::Ready(Prio(level)))))?;
@@ -86,9 +91,11 @@ fn arm<'a>(
     work: &mut Work<'a>,
 ) -> Result<(), NoMemory>
     requires { IsCode code.now }
-    ensures { let app = app_of code.now.app.now in
+    ensures same { let app = app_of code.now.app.now in
         OnOk result (Pushes app (λ later vars. arm_actions app (timer_section_cost app) ticks message (λ handle.
         given variable handle later vars)) work.old work.new) }
+    ensures lighter { let app = app_of code.now.app.now in
+        OnOk result (weights app work.new.todos ≤ weights app work.old.todos + 1) }
 {
     work.push(Todo::Act(Action::Leave(Section::Timer)))?;
     work.push(Todo::Act(Action::SetAlarm))?;
@@ -107,9 +114,11 @@ fn send<'a>(
     work: &mut Work<'a>,
 ) -> Result<(), NoMemory>
     requires { IsCode code.now }
-    ensures { let app = app_of code.now.app.now in
+    ensures same { let app = app_of code.now.app.now in
         OnOk result (Pushes app (λ later vars. sent app delay message (λ value. given variable value later vars))
         work.old work.new) }
+    ensures lighter { let app = app_of code.now.app.now in
+        OnOk result (weights app work.new.todos ≤ weights app work.old.todos + 1) }
 {
     match delay {
         None => {
@@ -134,8 +143,10 @@ pub(crate) fn place<'a>(
     store: &Store,
 ) -> Result<(), NoMemory>
     requires { IsCode code.now }
-    ensures { let app = app_of code.now.app.now in
+    ensures same { let app = app_of code.now.app.now in
         OnOk result (Becomes app (placed app variable delay message) work.old store.now work.new store.now) }
+    ensures lighter { let app = app_of code.now.app.now in
+        OnOk result (weights app work.new.todos ≤ weights app work.old.todos + 1) }
 {
     let task = message.task;
     if store.places_out(task) >= u32::from(capacity(code.app, task)) {

@@ -1,4 +1,4 @@
-ghost use Rattle.std.specs.Prelude.{◌≡◌, ◌==◌, if◌then◌else◌, ◌∷◌, [], ◌++◌, ◌-◌, OnOk, IfOk, map};
+ghost use Rattle.std.specs.Prelude.{◌≡◌, ◌==◌, if◌then◌else◌, ◌∷◌, [], ◌++◌, ◌+◌, ◌-◌, ◌*◌, ◌≤◌, OnOk, IfOk, map};
 ghost use Rattle.rt_ids.specs.declared.ids.Section.TheVariants as section;
 ghost use Rattle.rt_app.specs.declared.costs.TheConstants.{FREE_COST};
 ghost use Rattle.rt_app.specs.View.{expression_of, spawn_of, value_of, statement_of, block_of, app_of};
@@ -7,6 +7,7 @@ ghost use Rattle.rt_work.specs.Code.{IsCode};
 ghost use Rattle.rt_work.specs.Store.{contents};
 ghost use Rattle.rt_work.specs.Work.{Becomes};
 ghost use Rattle.rt_work.specs.Inside.Pushes.{spawned};
+ghost use Rattle.rt_work.specs.Inside.Weights.{block_weight, statement_weight, weights};
 
 use crate::action::Action;
 use crate::code::Code;
@@ -91,8 +92,10 @@ fn spawn<'a>(
     store: &Store,
 ) -> Result<(), NoMemory>
     requires { IsCode code.now }
-    ensures { OnOk result (Becomes (app_of code.now.app.now) (spawned (app_of code.now.app.now) variable (spawn_of
+    ensures same { OnOk result (Becomes (app_of code.now.app.now) (spawned (app_of code.now.app.now) variable (spawn_of
         spawn.now)) work.old store.now work.new store.now) }
+    ensures lighter { let app = app_of code.now.app.now in
+        OnOk result (weights app work.new.todos ≤ weights app work.old.todos + 2) }
 {
     match spawn {
         Spawn::Soon(task, args, _at) => {
@@ -129,8 +132,10 @@ fn bind<'a>(
     store: &Store,
 ) -> Result<(), NoMemory>
     requires { IsCode code.now }
-    ensures { OnOk result (Becomes (app_of code.now.app.now) (bind (app_of code.now.app.now) variable (value_of
+    ensures same { OnOk result (Becomes (app_of code.now.app.now) (bind (app_of code.now.app.now) variable (value_of
         bound.now)) work.old store.now work.new store.now) }
+    ensures lighter { let app = app_of code.now.app.now in
+        OnOk result (weights app work.new.todos ≤ weights app work.old.todos + 2) }
 {
     match bound {
         Value::Calc(expr) => {
@@ -151,7 +156,9 @@ fn bind<'a>(
 
 /// A name comes to stand for a value.
 fn assign<'a>(app: &App, atom: Atom, value: u32, work: &mut Work<'a>, store: &mut Store)
-    ensures { Becomes (app_of app.now) (assign atom value) work.old store.old work.new store.new }
+    ensures same { Becomes (app_of app.now) (assign atom value) work.old store.old work.new store.new }
+    ensures lighter { weights (app_of app.now) work.new.todos ≤ weights (app_of app.now) work.old.todos }
+    ensures counts { store.new.timed ≡ store.old.timed }
 {
     match atom {
         Atom::Var(variable) => work.set(variable, value),
@@ -170,8 +177,11 @@ pub(crate) fn turn<'a>(
     work: &mut Work<'a>,
     store: &Store,
 ) -> Result<(), NoMemory>
-    ensures { OnOk result (Becomes (app_of app.now) (turns_from (last - next) variable next (run_block (app_of
+    ensures same { OnOk result (Becomes (app_of app.now) (turns_from (last - next) variable next (run_block (app_of
         app.now) (block_of stmts.now))) work.old store.now work.new store.now) }
+    ensures lighter { let app = app_of app.now in
+        OnOk result (weights app work.new.todos ≤ weights app work.old.todos
+        + (last - next) * (block_weight (block_of stmts.now) + 1)) }
 {
     if next >= last {
         work.set(variable, next);
@@ -229,8 +239,12 @@ pub(crate) fn statement<'a>(
     store: &mut Store,
 ) -> Result<(), NoMemory>
     requires { IsCode code.now }
-    ensures { OnOk result (Becomes (app_of code.now.app.now) (run (app_of code.now.app.now) (statement_of
+    ensures same { OnOk result (Becomes (app_of code.now.app.now) (run (app_of code.now.app.now) (statement_of
         stmt.now)) work.old store.old work.new store.new) }
+    ensures lighter { let app = app_of code.now.app.now in
+        OnOk result (weights app work.new.todos ≤ weights app work.old.todos + statement_weight (statement_of
+        stmt.now)) }
+    ensures counts { OnOk result (store.new.timed ≡ store.old.timed) }
 {
     match stmt {
         Stmt::Bind(variable, bound) => {

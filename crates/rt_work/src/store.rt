@@ -6,7 +6,7 @@ ghost use Rattle.rt_ids.specs.Content.{Number, number, messages, timed, delays, 
 ghost use Rattle.rt_ids.specs.Content.{armed_as, postponed, without_handle};
 ghost use Rattle.rt_ids.specs.declared.ids.Section.TheVariants as section;
 ghost use Rattle.rt_work.specs.Actions.{action_of};
-ghost use Rattle.rt_work.specs.Store.{contents};
+ghost use Rattle.rt_work.specs.Store.{contents, HasRoom};
 
 use crate::action::Action;
 use crate::message::{Armed, Message};
@@ -174,18 +174,13 @@ impl Store {
     }
 
     /// A place of a task is taken.
-    pub(crate) fn take_place(&mut self, task: TaskId) -> Result<(), NoMemory>
-        ensures { OnOk result (contents self.new ≡ effect (Takes task) (contents self.old)) }
+    pub(crate) fn take_place(&mut self, task: TaskId)
+        requires { HasRoom self.old }
+        ensures { contents self.new ≡ effect (Takes task) (contents self.old) }
     {
         let place = usize::from(task.0);
         let out = self.out[place];
-        match out.checked_add(1) {
-            None => Err(NoMemory),
-            Some(more) => {
-                self.out[place] = more;
-                Ok(())
-            }
-        }
+        self.out[place] = out + 1;
     }
 
     /// A place of a task is given back.
@@ -214,20 +209,17 @@ impl Store {
 
     /// A message is armed, with the next handle.
     pub(crate) fn arm(&mut self, instant: u64, message: Message) -> Result<(), NoMemory>
+        requires { HasRoom self.old }
         ensures { OnOk result (contents self.new ≡ effect (Arms instant message) (contents self.old)) }
     {
-        match self.given.checked_add(1) {
-            None => Err(NoMemory),
-            Some(handle) => {
-                self.armed.push(Armed {
-                    instant,
-                    message,
-                    handle,
-                })?;
-                self.given = handle;
-                Ok(())
-            }
-        }
+        let handle = self.given + 1;
+        self.armed.push(Armed {
+            instant,
+            message,
+            handle,
+        })?;
+        self.given = handle;
+        Ok(())
     }
 
     /// The least armed message is taken.
@@ -255,20 +247,18 @@ impl Store {
         handle: u32,
         instant: u64,
     ) -> Result<(), NoMemory>
+        requires { HasRoom self.old }
         ensures { OnOk result (contents self.new ≡ effect (Moves task handle instant) (contents self.old)) }
     {
-        match self.moved.checked_add(1) {
-            None => Err(NoMemory),
-            Some(moved) => {
-                postpone(&mut self.armed, task, handle, instant)?;
-                self.moved = moved;
-                Ok(())
-            }
-        }
+        let moved = self.moved + 1;
+        postpone(&mut self.armed, task, handle, instant)?;
+        self.moved = moved;
+        Ok(())
     }
 
     /// What an action changes in queues; it changes nothing else here.
     pub fn effect(&mut self, action: Action) -> Result<(), NoMemory>
+        requires { HasRoom self.old }
         ensures { OnOk result (contents self.new ≡ effect (action_of action) (contents self.old)) }
     {
         match action {
@@ -277,7 +267,7 @@ impl Store {
             Action::Emit(_value) => Ok(()),
             Action::Post(_irq) => Ok(()),
             Action::Place(task) => {
-                self.take_place(task)?;
+                self.take_place(task);
                 Ok(())
             }
             Action::Refuse(_task) => Ok(()),

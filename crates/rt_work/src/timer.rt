@@ -1,4 +1,4 @@
-ghost use Rattle.std.specs.Prelude.{◌≡◌, OnOk, None, Some, option_map, position};
+ghost use Rattle.std.specs.Prelude.{◌≡◌, ◌≤◌, OnOk, None, Some, option_map, position};
 ghost use Rattle.rt_ids.specs.Content.{least_instant, lesser, has_instant, has_handle};
 ghost use Rattle.rt_app.specs.Tree as tree;
 ghost use Rattle.rt_app.specs.View.{app_of};
@@ -6,6 +6,7 @@ ghost use Rattle.rt_app.specs.Doings.{due};
 ghost use Rattle.rt_work.specs.Code.{IsCode};
 ghost use Rattle.rt_work.specs.Todo.{meaning};
 ghost use Rattle.rt_work.specs.Work.{Becomes};
+ghost use Rattle.rt_work.specs.Inside.Weights.{weights};
 
 use crate::action::Action;
 use crate::code::Code;
@@ -89,8 +90,10 @@ pub(crate) fn fire<'a>(
     store: &Store,
 ) -> Result<(), NoMemory>
     requires { IsCode code.now }
-    ensures { let app = app_of code.now.app.now in
+    ensures same { let app = app_of code.now.app.now in
         OnOk result (Becomes app (meaning app (Todo.Due time)) work.old store.now work.new store.now) }
+    ensures lighter { let app = app_of code.now.app.now in
+        OnOk result (weights app work.new.todos ≤ weights app work.old.todos) }
 {
     match due(store.armed(), time) {
         None => {

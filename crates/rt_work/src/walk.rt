@@ -1,9 +1,10 @@
-ghost use Rattle.std.specs.Prelude.{OnOk};
+ghost use Rattle.std.specs.Prelude.{◌≡◌, ◌+◌, ◌-◌, ◌<◌, ◌≤◌, ◌^◌, OnOk};
 ghost use Rattle.rt_app.specs.View.{block_of, app_of};
 ghost use Rattle.rt_app.specs.Meaning.{run_block};
 ghost use Rattle.rt_work.specs.Code.{IsCode};
 ghost use Rattle.rt_work.specs.Todo.{meaning};
 ghost use Rattle.rt_work.specs.Work.{Becomes, IsSettled};
+ghost use Rattle.rt_work.specs.Inside.Weights.{block_weight, weight, weights};
 
 use crate::begin::begin;
 use crate::code::Code;
@@ -26,8 +27,12 @@ fn block<'a>(
     store: &mut Store,
 ) -> Result<(), NoMemory>
     requires { IsCode code.now }
-    ensures { OnOk result (Becomes (app_of code.now.app.now) (run_block (app_of code.now.app.now) (block_of
+    ensures same { OnOk result (Becomes (app_of code.now.app.now) (run_block (app_of code.now.app.now) (block_of
         stmts.now)) work.old store.old work.new store.new) }
+    ensures lighter { let app = app_of code.now.app.now in
+        OnOk result (weights app work.new.todos ≤ weights app work.old.todos
+        + (block_weight (block_of stmts.now) - 1)) }
+    ensures counts { OnOk result (store.new.timed ≡ store.old.timed) }
 {
     match stmts.split_first() {
         None => Ok(()),
@@ -46,9 +51,13 @@ fn take_up<'a>(
     work: &mut Work<'a>,
     store: &mut Store,
 ) -> Result<(), NoMemory>
-    requires { IsCode code.now }
-    ensures { OnOk result (Becomes (app_of code.now.app.now) (meaning (app_of code.now.app.now) todo.entry)
+    requires code { IsCode code.now }
+    requires room { store.old.timed.given < 2 ^ 32 }
+    ensures same { OnOk result (Becomes (app_of code.now.app.now) (meaning (app_of code.now.app.now) todo.entry)
         work.old store.old work.new store.new) }
+    ensures lighter { let app = app_of code.now.app.now in
+        OnOk result (weights app work.new.todos ≤ weights app work.old.todos + (weight app todo.entry - 1)) }
+    ensures counts { OnOk result (store.new.timed ≡ store.old.timed) }
 {
     match todo {
         Todo::Run(stmts) => {
@@ -80,7 +89,7 @@ fn take_up<'a>(
             Ok(())
         }
         Todo::Handle(variable) => {
-            told_handle(variable, work, store)?;
+            told_handle(variable, work, store);
             Ok(())
         }
         Todo::Cancel(variable, task, handle) => {
@@ -104,22 +113,18 @@ fn take_up<'a>(
 
 /// What there is to do is done up to the next thing that others can see.
 pub fn settle<'a>(code: &Code<'a>, work: &mut Work<'a>, store: &mut Store) -> Result<(), NoMemory>
-    requires { IsCode code.now }
+    requires code { IsCode code.now }
+    requires room { store.old.timed.given < 2 ^ 32 }
     ensures same { OnOk result (Becomes (app_of code.now.app.now) (λ later. later) work.old store.old work.new
         store.new) }
     ensures settled { OnOk result (IsSettled work.new.todos) }
 {
-    for _turn in 0..u64::MAX {
-        match work.pop() {
-            None => return Ok(()),
-            Some(todo) => {
-                if todo.is_seen() {
-                    work.push(todo)?;
-                    return Ok(());
-                }
-                take_up(code, todo, work, store)?;
-            }
+    while let Some(todo) = work.pop() {
+        if todo.is_seen() {
+            work.push(todo)?;
+            return Ok(());
         }
+        take_up(code, todo, work, store)?;
     }
-    Err(NoMemory)
+    Ok(())
 }

@@ -2,11 +2,11 @@ use Rattle.rt_work.specs.declared.todo.Reading.TheVariants as reading
 use Rattle.rt_work.proofs.Clocks.{answered_as, time_told}
 use Rattle.rt_work.proofs.clock.answer.Goals as goal
 
-pub returns-in_ok-bind-in-Bind : goal.returns-in_ok-bind-in-Bind
-returns-in_ok-bind-in-Bind c =
+pub returns-in-Bind : goal.returns-in-Bind
+returns-in-Bind c =
     λ app s.
     answered_as app c.args.reading (reading.Bind c.in-Bind.variable) c.args.time c.args.work.now c.bind.new.work s
-    c.in-Bind.is (c.in_ok-bind-in-Bind.ensures app s)
+    c.in-Bind.is (c.bind.ensures app s)
 
 pub returns-in_ok-arm-in-Arm : goal.returns-in_ok-arm-in-Arm
 returns-in_ok-arm-in-Arm c =

@@ -11,7 +11,7 @@ returns-in_ok-begin-in-Runs c =
       task = c.in-Runs.task;
       args = c.new-args.result.items;
     }) c.args.work.now c.begin.new.work (ap handler_of c.in-Runs.is) refl c.new-args.ensures.items
-    c.in_ok-begin-in-Runs.ensures
+    c.in_ok-begin-in-Runs.ensures.same
 
 pub returns-in_ok-push-in-Dispatches-2 : goal.returns-in_ok-push-in-Dispatches-2
 returns-in_ok-push-in-Dispatches-2 c =

@@ -1,8 +1,21 @@
-use Rattle.std.proofs.Common.{◌∙◌}
+use Rattle.std.proofs.Common.{set, arith}
+use Rattle.rt_work.specs.Store.{contents}
+use Rattle.rt_work.proofs.Weights.{same_weight}
 use Rattle.rt_work.proofs.Pushing.{handle_told}
 use Rattle.rt_work.proofs.handles.told_handle.Goals as goal
 
-pub returns-in-Ok : goal.returns-in-Ok
-returns-in-Ok c = λ app.
-    handle_told app c.args.variable c.in-Ok.handle c.args.work.now c.set.new.self c.args.store.now
-    (c.in-Ok.ensures.1 ∙ c.given.ensures) c.set.ensures
+pub overflow_cast-given : goal.overflow_cast-given
+unfolding contents
+overflow_cast-given c = omega (arith, c.given.ensures)
+
+pub returns-clause-same : goal.returns-clause-same
+returns-clause-same c = λ app.
+    handle_told app c.args.variable c.given.result c.args.work.now c.set.new.self c.args.store.now c.given.ensures
+    c.set.ensures
+
+pub returns-clause-lighter : goal.returns-clause-lighter
+returns-clause-lighter c = λ app.
+    let same = same_weight app c.args.work.now c.set.new.self (set c.args.work.now.vars c.args.variable
+    c.given.result)
+    c.set.ensures in
+    omega (arith, same)

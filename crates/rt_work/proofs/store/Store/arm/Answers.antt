@@ -1,7 +1,12 @@
+use Rattle.std.proofs.Common.{◌+◌, refl, ap, arith}
+use Rattle.rt_work.specs.Store.{Store}
 use Rattle.rt_work.proofs.Stores.{armed}
 use Rattle.rt_work.proofs.store.Store.arm.Goals as goal
 
-pub returns-in_ok-push-in-Some : goal.returns-in_ok-push-in-Some
-returns-in_ok-push-in-Some c =
-    armed _ c.args.self.now c.args.instant c.in-Some.handle c.args.message c.push.new.self.items c.self.view_is
-    c.in-Some.ensures.1 c.in_ok-push-in-Some.ensures.items
+pub overflow_add-handle : goal.overflow_add-handle
+overflow_add-handle c = omega (arith, c.requires.given, ap (λ (s : Store). s.timed.given) c.self.view_is)
+
+pub returns : goal.returns
+returns c =
+    armed _ c.args.self.now c.args.instant (c.self.inside.given + 1) c.args.message c.push.new.self.items
+    c.self.view_is refl c.in_ok-push.ensures.items
