@@ -1,0 +1,198 @@
+-- Runs that go on where others ended, or where a fault came.
+use Rattle.std.proofs.Common.{◌≡◌, ℕ, suc, ◌+◌, ◌-◌, ◌<◌, List, [], ◌∷◌, ◌++◌, flat_map, replicate, Option, Some}
+use Rattle.std.proofs.Common.{None, Bool, true, false, if◌then◌else◌, nat_le, refl, ap, sym, subst, ◌∙◌, append_assoc}
+use Rattle.std.proofs.Common.{arith}
+use Rattle.std.proofs.lemmas.Grind.{flat_map-append}
+use Rattle.std.proofs.lemmas.List.{append-nil, replicate_more, replicate-append-replicate}
+use Rattle.rt_ids.specs.Event.{Event, Arrive, Tick, Step, steps}
+use Rattle.rt_code.specs.Image.{Image}
+use Rattle.rt_core.specs.Core.{Core}
+use Rattle.rt_core.specs.Machine.{Machine}
+use Rattle.rt_core.specs.Trace.{ring, tick, happen, core_after, labels}
+use Rattle.rt_core.specs.Stepping.{step}
+use Rattle.rt_core.specs.Transfer.{pended}
+use Rattle.rt_core.specs.declared.alarm.Alarm.{Alarm}
+use Rattle.rt_outside.specs.Bytes.{TookPrefix}
+use Rattle.rt_trace.specs.Label.{Label, Arrived, Ticked, Rang, Stepped, items_of, steps_of}
+use Rattle.rt_trace.specs.Text.{text}
+use Rattle.rt_trace.specs.declared.item.Item.{Item}
+use Rattle.rt_trace.specs.declared.item.What.{What}
+use Rattle.rt_trace.specs.declared.item.What.TheVariants as what
+use Rattle.rt_run.specs.Done.{Leads}
+use Rattle.rt_run.specs.Inside.Writing.{lines_of, Wrote, Writes, Cut}
+use Rattle.rt_run.proofs.Taking.{wrote_none, wrote_on, wrote_cut}
+
+-- the core after more events
+pub core_after-append : (img : Image) (c : Core) (es fs : List Event)
+    → core_after img c (es ++ fs) ≡ core_after img (core_after img c es) fs
+unfolding core_after
+core_after-append img c [] fs = refl
+core_after-append img c (e ∷ es) fs = core_after-append img (happen img c e).0 es fs
+
+-- the labels of more events
+pub labels-append : (img : Image) (c : Core) (es fs : List Event)
+    → labels img c (es ++ fs) ≡ labels img c es ++ labels img (core_after img c es) fs
+unfolding labels core_after
+labels-append img c [] fs = refl
+labels-append img c (e ∷ es) fs =
+    ap (λ ls. (happen img c e).1 ++ ls) (labels-append img (happen img c e).0 es fs)
+    ∙ sym (append_assoc (happen img c e).1 (labels img (happen img c e).0 es)
+    (labels img (core_after img (happen img c e).0 es) fs))
+
+abbrev numbered : ℕ → What → Item
+numbered n w = record { step = n; what = w }
+
+-- the items of labels and of those behind them
+pub items-append : (n : ℕ) (ls ms : List Label) → items_of n (ls ++ ms) ≡ items_of n ls ++ items_of (n + steps_of ls) ms
+items-append n [] ms = ap (λ k. items_of k ms) (let e : n ≡ n + 0 = omega arith in e)
+items-append n (Arrived irq ∷ ls) ms = ap (λ is. numbered n (what.Pend irq) ∷ is) (items-append n ls ms)
+items-append n (Ticked ∷ ls) ms = ap (λ is. numbered n what.Tick ∷ is) (items-append n ls ms)
+items-append n (Rang ∷ ls) ms = ap (λ is. numbered n what.Alarm ∷ is) (items-append n ls ms)
+items-append n (Stepped None ∷ ls) ms =
+    items-append (suc n) ls ms
+    ∙ ap (λ k. items_of (suc n) ls ++ items_of k ms)
+    (let e : suc n + steps_of ls ≡ n + suc (steps_of ls) = omega arith in e)
+items-append n (Stepped (Some w) ∷ ls) ms =
+    ap (λ is. numbered n w ∷ is)
+    (items-append (suc n) ls ms
+    ∙ ap (λ k. items_of (suc n) ls ++ items_of k ms)
+    (let e : suc n + steps_of ls ≡ n + suc (steps_of ls) = omega arith in e))
+
+-- an alarm is no step
+ring_steps : (c : Core) (alarm : Option Alarm) (rest : List Label) → steps_of ((ring c alarm).1 ++ rest) ≡ steps_of rest
+ring_steps c None rest = refl
+ring_steps c (Some alarm) rest = one (nat_le alarm.instant c.time) (record (pended c alarm.irq) { alarm = None }) c
+  where
+    one : (due : Bool) (x y : Core)
+        → steps_of ((if◌then◌else◌ {A = Core × List Label} due (x, Rang ∷ []) (y, [])).1 ++ rest) ≡ steps_of rest
+    one true x y = refl
+    one false x y = refl
+
+pub labelled_steps : (img : Image) (c : Core) (es : List Event) → steps_of (labels img c es) ≡ steps es
+unfolding labels happen
+labelled_steps img c [] = refl
+labelled_steps img c (Arrive irq ∷ es) = labelled_steps img (pended c irq) es
+labelled_steps img c (Tick ∷ es) =
+    ring_steps (record c { time = suc c.time }) c.alarm (labels img (tick c).0 es) ∙ labelled_steps img (tick c).0 es
+labelled_steps img c (Step ∷ es) = ap suc (labelled_steps img (step img c).0 es)
+
+pub steps-append : (es fs : List Event) → steps (es ++ fs) ≡ steps es + steps fs
+steps-append [] fs = let e : steps fs ≡ 0 + steps fs = omega arith in e
+steps-append (Step ∷ es) fs = let e : suc (steps (es ++ fs)) ≡ suc (steps es) + steps fs =
+    omega (arith, steps-append es fs) in e
+steps-append (Tick ∷ es) fs = steps-append es fs
+steps-append (Arrive irq ∷ es) fs = steps-append es fs
+
+-- no events leave all as it was
+pub stands_still : (m : Machine) → Leads [] m m
+unfolding core_after
+stands_still m = record {
+  image = refl;
+  core = refl;
+  steps = let e : m.steps ≡ m.steps + 0 = omega arith in e;
+}
+
+pub leads_on : (es fs : List Event) (a b c : Machine) → Leads es a b → Leads fs b c → Leads (es ++ fs) a c
+leads_on es fs a b c first second = record {
+  image = second.image ∙ first.image;
+  core =
+      second.core ∙ ap (λ i. core_after i b.core fs) first.image ∙ ap (λ d. core_after a.image d fs) first.core
+      ∙ sym (core_after-append a.image a.core es fs);
+  steps = omega (arith, second.steps, first.steps, steps-append es fs);
+}
+
+-- the lines of more events
+pub lines_split : (es fs : List Event) (a b : Machine) → Leads es a b
+    → lines_of a (es ++ fs) ≡ lines_of a es ++ lines_of b fs
+lines_split es fs a b run =
+    let img : Image = a.image in
+    let put : List Item → List ℕ = flat_map (text img.names) in
+    let front : List Label = labels img a.core es in
+    let behind : List Label = labels img (core_after img a.core es) fs in
+    let split : lines_of a (es ++ fs) ≡ put (items_of a.steps front) ++ put (items_of (a.steps + steps es) behind) =
+    ap (λ ls. put (items_of a.steps ls)) (labels-append img a.core es fs)
+    ∙ ap put (items-append a.steps front behind)
+    ∙ ap (λ n. put (items_of a.steps front ++ items_of (a.steps + n) behind)) (labelled_steps img a.core es)
+    ∙ flat_map-append (text img.names) (items_of a.steps front) (items_of (a.steps + steps es) behind) in
+    let there : lines_of b fs ≡ put (items_of (a.steps + steps es) behind) =
+    ap (λ (i : Image). flat_map (text i.names) (items_of b.steps (labels i b.core fs))) run.image
+    ∙ ap (λ d. put (items_of b.steps (labels img d fs))) run.core
+    ∙ ap (λ n. put (items_of n behind)) run.steps in
+    split ∙ ap (λ t. lines_of a es ++ t) (sym there)
+
+-- nothing was run and nothing written
+pub nothing_yet : (m : Machine) (x : Option (List ℕ)) (held : List ℕ) → Writes [] m m x x held held
+unfolding labels
+nothing_yet m x held = record { leads = stands_still m; wrote = wrote_none x held }
+
+-- one run and one that goes on are one
+pub goes_on : (es fs : List Event) (a b c : Machine) (x y z : Option (List ℕ)) (held mid kept : List ℕ)
+    → Writes es a b x y held mid → Writes fs b c y z mid kept → Writes (es ++ fs) a c x z held kept
+goes_on es fs a b c x y z held mid kept first second = record {
+  leads = leads_on es fs a b c first.leads second.leads;
+  wrote =
+      subst (Wrote x z held kept) (sym (lines_split es fs a b first.leads))
+      (wrote_on x y z held mid kept (lines_of a es) (lines_of b fs) first.wrote second.wrote);
+}
+
+-- a run, and a fault behind it
+pub cut_behind : (es fs : List Event) (a b c : Machine) (x y z : Option (List ℕ)) (held mid : List ℕ)
+    → Writes es a b x y held mid → Cut fs b c y z mid → Cut (es ++ fs) a c x z held
+cut_behind es fs a b c x y z held mid first cut = record {
+  done = es ++ cut.done;
+  rest = cut.rest;
+  parts = ap (λ t. es ++ t) cut.parts ∙ sym (append_assoc es cut.done cut.rest);
+  leads = leads_on es cut.done a b c first.leads cut.leads;
+  took =
+      subst (λ t. TookPrefix x z (held ++ t)) (sym (lines_split es cut.done a b first.leads))
+      (wrote_cut x y z held mid (lines_of a es) (lines_of b cut.done) first.wrote cut.took);
+}
+
+-- a fault, with more to come
+pub cut_before : (es fs : List Event) (a b : Machine) (x y : Option (List ℕ)) (held : List ℕ) → Cut es a b x y held
+    → Cut (es ++ fs) a b x y held
+cut_before es fs a b x y held cut = record {
+  done = cut.done;
+  rest = cut.rest ++ fs;
+  parts = ap (λ t. t ++ fs) cut.parts ∙ append_assoc cut.done cut.rest fs;
+  leads = cut.leads;
+  took = cut.took;
+}
+
+-- all events came, and then a fault
+pub all_came : (es : List Event) (a b : Machine) (x y : Option (List ℕ)) (held : List ℕ) → Leads es a b
+    → TookPrefix x y (held ++ lines_of a es) → Cut es a b x y held
+all_came es a b x y held run took =
+    record { done = es; rest = []; parts = sym (append-nil es); leads = run; took = took }
+
+-- equal events, one more behind some
+pub more : (n : ℕ) (e : Event) (a b c : Machine) (x y z : Option (List ℕ)) (held mid kept : List ℕ)
+    → Writes (replicate n e) a b x y held mid → Writes (e ∷ []) b c y z mid kept
+    → Writes (replicate (n + 1) e) a c x z held kept
+more n e a b c x y z held mid kept first second =
+    subst (λ es. Writes es a c x z held kept) (replicate_more n e)
+    (goes_on (replicate n e) (e ∷ []) a b c x y z held mid kept first second)
+
+-- equal events, and a fault at the next of them
+pub more_cut : (n count : ℕ) (e : Event) (a b c : Machine) (x y z : Option (List ℕ)) (held mid : List ℕ) → n < count
+    → Writes (replicate n e) a b x y held mid → Cut (e ∷ []) b c y z mid → Cut (replicate count e) a c x z held
+more_cut n count e a b c x y z held mid within first cut =
+    let rest : ℕ = count - (n + 1) in
+    let all : replicate (n + 1) e ++ replicate rest e ≡ replicate count e =
+    replicate-append-replicate (n + 1) rest e
+    ∙ ap (λ k. replicate k e) (let same : n + 1 + rest ≡ count = omega arith in same) in
+    subst (λ es. Cut es a c x z held) all
+    (cut_before (replicate (n + 1) e) (replicate rest e) a c x z held
+    (subst (λ es. Cut es a c x z held) (replicate_more n e)
+    (cut_behind (replicate n e) (e ∷ []) a b c x y z held mid first cut)))
+
+-- events that came, with these lines
+pub written : (es : List Event) (a b : Machine) (x y : Option (List ℕ)) (held kept bytes : List ℕ) → Leads es a b
+    → lines_of a es ≡ bytes → Wrote x y held kept bytes → Writes es a b x y held kept
+written es a b x y held kept bytes run is wrote =
+    record { leads = run; wrote = subst (Wrote x y held kept) (sym is) wrote }
+
+pub stopped : (es : List Event) (a b : Machine) (x y : Option (List ℕ)) (held bytes : List ℕ) → Leads es a b
+    → lines_of a es ≡ bytes → TookPrefix x y (held ++ bytes) → Cut es a b x y held
+stopped es a b x y held bytes run is part =
+    all_came es a b x y held run (subst (λ t. TookPrefix x y (held ++ t)) (sym is) part)

@@ -1,0 +1,2 @@
+-- How far a run is written; no public contract cites it.
+pub mod Writing

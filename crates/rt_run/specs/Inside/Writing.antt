@@ -1,0 +1,126 @@
+-- How far a run's trace is written, and which items have a line: their names are in the tables, and their numbers in
+-- range.
+use Rattle.std.specs.Prelude.{◌≡◌, ℕ, ◌+◌, ◌<◌, ◌≤◌, ◌^◌, List}
+use Rattle.std.specs.Prelude.{◌++◌, flat_map, length, Option, Some, None, IsSome}
+use Rattle.std.specs.List.{AllByRecursion}
+use Rattle.rt_ids.specs.Event.{Event, Arrive, Tick, Step}
+use Rattle.rt_ids.specs.Names.{Names}
+use Rattle.rt_ids.specs.declared.ids.Section.{Section}
+use Rattle.rt_ids.specs.declared.ids.Section.TheVariants as section
+use Rattle.rt_code.specs.Image.{Image}
+use Rattle.rt_code.specs.Lines.{HasLines}
+use Rattle.rt_code.specs.Listable.{HasIrq, HasTask, HasSection, HasBody}
+use Rattle.rt_core.specs.Core.{Core}
+use Rattle.rt_core.specs.Machine.{Machine}
+use Rattle.rt_core.specs.Trace.{labels}
+use Rattle.rt_outside.specs.Bytes.{Took, TookPrefix}
+use Rattle.rt_script.specs.declared.line.Line.{Line}
+use Rattle.rt_script.specs.declared.line.Line.TheVariants.{Steps, Ticks, Pends, Device}
+use Rattle.rt_trace.specs.Label.{items_of}
+use Rattle.rt_trace.specs.Lined.{IsDeclared, IsWord}
+use Rattle.rt_trace.specs.Text.{text}
+use Rattle.rt_trace.specs.declared.buffer.TheConstants.{BUFFER_BYTES, LINE_BYTES}
+use Rattle.rt_trace.specs.declared.item.What.{What}
+use Rattle.rt_trace.specs.declared.item.What.TheVariants as what
+use Rattle.rt_run.specs.Done.{Leads}
+
+-- a level is in the range of a priority
+abbrev pub HasLevel : Section → Type 0
+HasLevel (section.Ready p) = p < 2 ^ 8
+HasLevel s = Unit {0}
+
+-- a number, where there is one, is of 32 bits
+abbrev pub IsWordIf : Option ℕ → Type 0
+IsWordIf None = Unit {0}
+IsWordIf (Some n) = IsWord n
+
+-- the numbers of an item are in the range of their types
+abbrev pub HasNumbers : What → Type 0
+HasNumbers (what.Take i depth) = IsWord depth
+HasNumbers (what.Enter x) = HasLevel x
+HasNumbers (what.Leave x value) = HasLevel x × IsWordIf value
+HasNumbers (what.Emit v) = IsWord v
+HasNumbers (what.Start t args) = (length args ≤ 4) × AllByRecursion IsWord args
+HasNumbers (what.Clock v) = IsWord v
+HasNumbers (what.Arm t v) = IsWord v
+HasNumbers (what.Cancel t h) = IsWord h
+HasNumbers (what.Move t h v) = IsWord h × IsWord v
+HasNumbers (what.Trap k) = k < 2 ^ 8
+HasNumbers w = Unit {0}
+
+-- a resource is left with a value, and a queue with none
+abbrev pub HasValueOf : Section → Option ℕ → Type 0
+HasValueOf (section.Res r) value = IsSome value
+HasValueOf s value = value ≡ None
+
+-- the names of an item are in the tables
+abbrev pub HasWords : Names → What → Type 0
+HasWords names (what.Pend i) = HasIrq names i
+HasWords names (what.Take i depth) = HasIrq names i
+HasWords names (what.Ret i) = HasIrq names i
+HasWords names (what.Post i) = HasIrq names i
+HasWords names (what.Enter x) = HasSection names x
+HasWords names (what.Leave x value) = HasSection names x × HasValueOf x value
+HasWords names (what.Placed t) = HasTask names t
+HasWords names (what.Full t) = HasTask names t
+HasWords names (what.Ready t) = HasTask names t
+HasWords names (what.Start t args) = HasTask names t
+HasWords names (what.Free t) = HasTask names t
+HasWords names (what.Arm t v) = HasTask names t
+HasWords names (what.Fire t) = HasTask names t
+HasWords names (what.Cancel t h) = HasTask names t
+HasWords names (what.Move t h v) = HasTask names t
+HasWords names (what.End b) = HasBody names b
+HasWords names w = Unit {0}
+
+-- where there is an item
+abbrev pub ShowsWords : Names → Option What → Type 0
+ShowsWords names None = Unit {0}
+ShowsWords names (Some w) = HasWords names w
+
+-- the core has as many cells as the image, and each handler that was entered is of an interrupt with a name
+pub record IsKnown (img : Image) (c : Core) : Type 0 where
+  pub cells : length c.processor.cells ≡ length img.cells
+  pub below : AllByRecursion (λ x. IsDeclared img.names x.irq) c.below
+
+-- a machine of which the lines of items can be written
+pub record IsWritable (m : Machine) : Type 0 where
+  pub lines : HasLines m.image
+  pub known : IsKnown m.image m.core
+
+-- what each event of a line is
+abbrev pub event_of : Line → Event
+event_of (Steps n) = Step
+event_of (Ticks n) = Tick
+event_of (Pends irq n) = Arrive irq
+event_of (Device d irq n) = Arrive irq
+
+-- the lines of what events show
+abbrev pub lines_of : Machine → List Event → List ℕ
+lines_of m events = flat_map (text m.image.names) (items_of m.steps (labels m.image m.core events))
+
+-- what is held leaves room for a line
+abbrev pub HasRoom : List ℕ → Type 0
+HasRoom held = length held + LINE_BYTES ≤ BUFFER_BYTES
+
+-- Bytes were written: those that were held, and these behind them, were taken in front and are held behind.
+pub record Wrote (before after : Option (List ℕ)) (held kept bytes : List ℕ) : Type 0 where
+  pub front : List ℕ
+  pub took : Took before after front
+  pub parts : held ++ bytes ≡ front ++ kept
+
+-- these events lead from the old machine to the new one, and their lines were written
+pub record Writes (events : List Event) (old new : Machine) (before after : Option (List ℕ)) (held kept : List ℕ)
+    : Type 0 where
+  pub leads : Leads events old new
+  pub wrote : Wrote before after held kept (lines_of old events)
+
+-- A fault came: the first of these events lead from the old machine to the new one, and a beginning of what was held
+-- and of their lines was taken.
+pub record Cut (events : List Event) (old new : Machine) (before after : Option (List ℕ)) (held : List ℕ)
+    : Type 0 where
+  pub done : List Event
+  pub rest : List Event
+  pub parts : events ≡ done ++ rest
+  pub leads : Leads done old new
+  pub took : TookPrefix before after (held ++ lines_of old done)

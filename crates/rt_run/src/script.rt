@@ -1,0 +1,87 @@
+ghost use Rattle.std.specs.Prelude.{◌≡◌, ◌<◌, ◌+◌, ◌^◌, OnOk, OnErr};
+ghost use Rattle.rt_outside.specs.Faults.{HasCause};
+ghost use Rattle.rt_outside.specs.Bytes.{Took, TookPrefix};
+ghost use Rattle.rt_code.specs.Lines.{HasLines};
+ghost use Rattle.rt_core.specs.Machine.{IsFresh};
+ghost use Rattle.rt_script.specs.Script.{IsScript, HasName, HasNames, events, line_events, count_of};
+ghost use Rattle.rt_run.specs.Done.{Leads, HasDone};
+ghost use Rattle.rt_run.specs.Written.{text_of};
+ghost use Rattle.rt_run.specs.Inside.Writing.{IsWritable, Writes, Cut};
+
+use crate::event::run_event;
+use crate::writing::put_end;
+use rt_core::Core;
+use rt_outside::{Failed, Sink};
+use rt_script::{Line, Script};
+use rt_trace::LineBuffer;
+
+/// The events of a line of a script.
+fn run_line<K: Sink>(
+    core: &mut Core,
+    line: &Line,
+    out: &mut K,
+    held: &mut LineBuffer,
+) -> Result<(), Failed>
+    requires writable { IsWritable core.old }
+    requires few { core.old.steps + count_of line.now < 2 ^ 31 }
+    requires early { core.old.core.time + count_of line.now < 2 ^ 31 }
+    requires declared { HasName core.old.image.names line.now }
+    ensures ok { OnOk result
+        (Writes (line_events line.now) core.old core.new (K.taken out.old) (K.taken out.new) held.old held.new) }
+    ensures err { OnErr result
+        (Cut (line_events line.now) core.old core.new (K.taken out.old) (K.taken out.new) held.old) }
+    ensures cause { HasCause (K.faults out.old) (K.faults out.new) result }
+    ensures quiet { OnOk result (K.faults out.new ≡ K.faults out.old) }
+{
+    for _done in 0..line.count() {
+        run_event(core, line, out, held)?;
+    }
+    Ok(())
+}
+
+/// The events of the lines of a script, from a core on to which no event has come.
+fn run_lines<K: Sink>(
+    core: &mut Core,
+    lines: &[Line],
+    out: &mut K,
+    held: &mut LineBuffer,
+) -> Result<(), Failed>
+    requires fresh { IsFresh core.old }
+    requires lines { HasLines core.old.image }
+    requires script { IsScript lines.now }
+    requires declared { HasNames core.old.image.names lines.now }
+    ensures ok { OnOk result
+        (Writes (events lines.now) core.old core.new (K.taken out.old) (K.taken out.new) held.old held.new) }
+    ensures err { OnErr result
+        (Cut (events lines.now) core.old core.new (K.taken out.old) (K.taken out.new) held.old) }
+    ensures cause { HasCause (K.faults out.old) (K.faults out.new) result }
+    ensures quiet { OnOk result (K.faults out.new ≡ K.faults out.old) }
+{
+    for line in lines {
+        run_line(core, line, out, held)?;
+    }
+    Ok(())
+}
+
+/// Runs a script on a core to which no event has come, and writes the text of its trace, with its total of core steps.
+/// The script's events come to the core line by line, the requests of a device at the place of its line. It takes no
+/// memory: lines gather in a buffer of 4 KiB, which goes out where the next line has no room, and at the end, before
+/// the call answers.
+pub fn run_script<K: Sink>(core: &mut Core, script: &Script, out: &mut K) -> Result<(), Failed>
+    requires fresh { IsFresh core.old }
+    requires lines { HasLines core.old.image }
+    requires declared { HasNames core.old.image.names script.now }
+    ensures ok { OnOk result (Took (K.taken out.old) (K.taken out.new) (text_of core.old.image script.now)) }
+    ensures all { OnOk result (Leads (events script.now) core.old core.new) }
+
+    // At a fault a beginning of the text was taken, and the core has done the first of its events.
+    ensures err { OnErr result (TookPrefix (K.taken out.old) (K.taken out.new) (text_of core.old.image script.now)) }
+    ensures part { OnErr result (HasDone (events script.now) core.old core.new) }
+    ensures cause { HasCause (K.faults out.old) (K.faults out.new) result }
+    ensures quiet { OnOk result (K.faults out.new ≡ K.faults out.old) }
+{
+    let mut held = LineBuffer::new();
+    let lines = script.lines();
+    run_lines(core, lines, out, &mut held)?;
+    put_end(out, &mut held, core.steps())
+}
