@@ -1,7 +1,9 @@
-// Where bytes come from and go to: sources and sinks with counts of their faults, in memory and outside.
+// Where bytes come from and go to: sources and sinks with counts of their faults, in memory and outside. A text is read
+// as a whole or line by line.
 #![tactic(auto)]
 
 pub mod file_source;
+pub mod lines;
 pub mod mem_sink;
 pub mod mem_source;
 pub mod never_fails;
@@ -10,6 +12,7 @@ pub mod sink;
 pub mod source;
 
 pub use file_source::FileSource;
+pub use lines::{LineSink, read_lines};
 pub use mem_sink::MemSink;
 pub use mem_source::MemSource;
 pub use never_fails::NeverFails;

@@ -4,6 +4,7 @@ ghost use Rattle.rt_outside.specs.Faults.{Rose, HasCause};
 ghost use Rattle.rt_outside.specs.Bytes.{Moves, GaveAll, GaveCount};
 
 use crate::Failed;
+use rt_ids::NoMemory;
 use std::alloc::{AllocError, Global};
 use thiserror::Error;
 
@@ -57,8 +58,18 @@ impl From<AllocError> for ReadFail {
     }
 }
 
+impl From<NoMemory> for ReadFail {
+    ghost use Rattle.rt_outside.specs.declared.source.ReadFail.TheVariants.{NoMemory};
+
+    ghost from_gives = { λ _ r. r ≡ NoMemory };
+
+    fn from(_error: NoMemory) -> ReadFail {
+        ReadFail::NoMemory
+    }
+}
+
 /// How many bytes a text is read at a time, at most.
-const PIECE: usize = 4096;
+pub(crate) const PIECE: usize = 4096;
 
 /// Reads all bytes up to the end of the source, where the first read gives none, and reads no further. After an error
 /// the source has lost what was taken.
