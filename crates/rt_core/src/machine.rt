@@ -84,7 +84,7 @@ fn enable(nvic: &mut Nvic, program: &Program, number: u16)
         → HasPrioritiesBelow (number + 1) program.now nvic.new }
 {
     let Some(irq) = Irq::new(number) else {
-        return;
+        unreachable!()
     };
     if let Some(handler) = program.handler(irq) {
         nvic.enable(irq, handler.value);
