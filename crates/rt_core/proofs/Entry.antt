@@ -19,6 +19,7 @@ use Rattle.rt_trace.specs.declared.item.What.TheVariants as what
 use Rattle.rt_core.specs.Outcome.{Outcome, Trapped, Done}
 use Rattle.rt_core.specs.Stepping as stepping
 use Rattle.rt_core.specs.Transfer as transfer
+use Rattle.rt_core.specs.Inside.Execution.{execution_of}
 use Rattle.rt_core.specs.Inside.Parts.{contexts, core, IsFalling, IsSound, machine}
 use Rattle.rt_core.specs.declared.machine.Core.TheInside.{Inside}
 use Rattle.rt_core.specs.Machine.{Machine}
@@ -110,11 +111,13 @@ module _ (c : Inside) (sound : IsSound c) (irq : ℕ) (h : Handler) (handler : h
       subst (λ n. slice_index_or c.nvic.pending n false ≡ true) next.number
       (and_parts (slice_index_or c.nvic.pending next.row.number false) (nat_lt (value_or_none next.row.handler) (execution (core c))) next.passes).0
 
-  module _ (n : Nvic) (pending : n.pending ≡ slice_set c.nvic.pending irq false) (active : n.active ≡ irq ∷ c.nvic.active) (priorities : n.priorities ≡ c.nvic.priorities) (within : irq < IRQ_NUMBERS) where
+  module _ (n : Nvic) (pending : n.pending ≡ slice_set c.nvic.pending irq false) (active : n.active ≡ irq ∷ c.nvic.active) (priorities : n.priorities ≡ c.nvic.priorities) (within : irq < IRQ_NUMBERS)
+      (kept : ℕ) (renewed : kept ≡ execution_of n c.registers) where
     -- the parts after entry
     abbrev pub after : Inside
     after = record c {
       nvic = n;
+      execution = kept;
       frames = moves.entered c.frames (exception_number (core c).below) c.registers.address h.frame;
       registers = record c.registers { address = h.entry };
     }
@@ -145,6 +148,7 @@ module _ (c : Inside) (sound : IsSound c) (irq : ℕ) (h : Handler) (handler : h
       priorities = λ k l. ap (λ ps. slice_index_or ps k None) priorities ∙ sound.priorities k l;
       active = ap length active ∙ ap suc sound.active;
       falling = subst (λ (k : Core). IsFalling k.below) (sym core_after) (is_above, is_even, sound.falling);
+      execution = renewed;
     }
 
     -- with the frames that the code has, which are these

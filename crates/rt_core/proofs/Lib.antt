@@ -6,6 +6,7 @@ pub mod Picking
 mod Numbers
 mod Entry
 mod Enabled
+mod Renewing
 mod RowParts
 mod Rows
 mod RowsLocks

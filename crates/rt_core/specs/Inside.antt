@@ -2,3 +2,4 @@
 pub mod Parts
 pub mod Came
 pub mod Enabling
+pub mod Execution

@@ -2,6 +2,7 @@
 #![tactic(auto)]
 
 pub mod alarm;
+mod execution;
 mod laws;
 pub mod machine;
 mod step;

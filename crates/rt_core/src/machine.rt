@@ -13,6 +13,7 @@ ghost use Rattle.rt_core.specs.Inside.Parts.{HasPriorities};
 ghost use Rattle.rt_core.specs.Inside.Enabling.{HasPrioritiesBelow};
 
 use crate::alarm::Alarm;
+use crate::execution::execution_of;
 use rt_code::{Image, Registers};
 use rt_context::Frames;
 use rt_ids::limits::IRQ_NUMBERS;
@@ -29,6 +30,8 @@ pub struct Core {
     pub(crate) time: u32,
     pub(crate) alarm: Option<Alarm>,
     pub(crate) nvic: Nvic,
+    /// The execution priority: 0 to 256.
+    pub(crate) execution: u16,
     pub(crate) frames: Frames,
     pub(crate) registers: Registers,
     pub(crate) cells: Vec<u32>,
@@ -55,6 +58,7 @@ impl Drop for Core {
             time: _,
             alarm: _,
             nvic: _,
+            execution: _,
             frames: _,
             registers: _,
             cells: _,
@@ -120,17 +124,20 @@ impl Core {
         )?;
         let program = Program::new(alloc, image)?;
         let nvic = controller(&program);
+        let registers = Registers {
+            address: 0,
+            basepri: 0,
+            primask: true,
+        };
+        let execution = execution_of(&nvic, &registers);
         Ok(Core {
             program,
             time: 0,
             alarm: None,
             nvic,
+            execution,
             frames,
-            registers: Registers {
-                address: 0,
-                basepri: 0,
-                primask: true,
-            },
+            registers,
             cells,
             stopped: false,
             steps: 0,

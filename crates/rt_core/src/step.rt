@@ -10,6 +10,7 @@ ghost use Rattle.rt_core.specs.Stepping as stepping;
 ghost use Rattle.rt_core.specs.Inside.Came.{Comes};
 
 use crate::alarm::Alarm;
+use crate::execution::{changes_a_mask, execution_of};
 use crate::machine::Core;
 use rt_code::{Instr, Note, Request, Trap};
 use rt_ids::{Irq, Section};
@@ -19,25 +20,11 @@ use rt_trace::{Args, What};
 const FIRST_EXCEPTION: u32 = 16;
 
 impl Core {
-    /// The execution priority: 0 to 256.
-    fn execution(&self) -> u16
-        ensures { result ≡ priority.execution self.now.core }
-    {
-        let running = u32::from(self.nvic.running());
-        let base = if self.registers.basepri == 0 {
-            256
-        } else {
-            self.registers.basepri
-        };
-        let mask = if self.registers.primask { 0 } else { 256 };
-        running.min(base.min(mask)) as u16
-    }
-
     /// The interrupt that is taken next.
     fn picked(&self) -> Option<Irq>
         ensures { result ≡ option_map (λ row. row.number) (priority.pick self.now.image self.now.core) }
     {
-        self.nvic.pick(self.execution())
+        self.nvic.pick(self.execution)
     }
 
     /// The exception number of what runs, and 0 for the thread.
@@ -69,6 +56,7 @@ impl Core {
         }
         self.nvic.enter(irq);
         self.registers.address = handler.entry;
+        self.execution = execution_of(&self.nvic, &self.registers);
         Ok(Some(What::Take(irq, self.frames.depth())))
     }
 
@@ -81,7 +69,9 @@ impl Core {
             return Err(Trap::Stack);
         };
         self.registers.address = address;
-        Ok(Some(What::Ret(self.nvic.leave())))
+        let irq = self.nvic.leave();
+        self.execution = execution_of(&self.nvic, &self.registers);
+        Ok(Some(What::Ret(irq)))
     }
 
     /// A call of a body.
@@ -246,8 +236,13 @@ impl Core {
           };
         } }
     {
-        self.frames
-            .execute(instr, self.time, &mut self.registers, &mut self.cells)
+        let asked =
+            self.frames
+                .execute(instr, self.time, &mut self.registers, &mut self.cells)?;
+        if changes_a_mask(&instr) {
+            self.execution = execution_of(&self.nvic, &self.registers);
+        }
+        Ok(asked)
     }
 
     /// The instruction at the code address, with its note. That of a thread that waits does nothing.

@@ -11,6 +11,7 @@ use Rattle.rt_code.specs.Tables.{handler_of}
 use Rattle.rt_core.specs.Core.{Context, Core, frames_of}
 use Rattle.rt_core.specs.Priority.{running_value}
 use Rattle.rt_core.specs.Machine.{Machine}
+use Rattle.rt_core.specs.Inside.Execution.{execution_of}
 use Rattle.rt_core.specs.declared.machine.Core.TheInside.{Inside}
 
 -- the contexts of the active interrupts, by their priority values and what they interrupted
@@ -57,3 +58,4 @@ pub record IsSound (c : Inside) : Type 0 where
   pub priorities : HasPriorities c.program c.nvic
   pub active : length c.nvic.active ≡ length c.frames.below
   pub falling : IsFalling (core c).below
+  pub execution : c.execution ≡ execution_of c.nvic c.registers

@@ -5,7 +5,6 @@ use Rattle.rt_context.specs.Frames.{Frames}
 use Rattle.rt_context.specs.Moves as moves
 use Rattle.rt_code.specs.Tables.{handler_of}
 use Rattle.rt_trace.specs.declared.item.What.TheVariants as what
-use Rattle.rt_core.specs.declared.machine.Core.TheInside.{Inside}
 use Rattle.rt_core.specs.Core.{Core, exception_number}
 use Rattle.rt_core.specs.Priority.{pick}
 use Rattle.rt_core.specs.Machine.{Machine}
@@ -63,8 +62,9 @@ invariant_of-self-2 c =
     let frames = c.if-not-enter.ensures.entered refl ∙ ap (λ k. moves.entered c.self.inside.frames k c.self.inside.registers.address c.in-Some.handler.frame) number in
     let within : c.args.irq < IRQ_NUMBERS = search rules in
     let e = c.enter-2.ensures in
-    subst (λ (f : Frames). IsSound (record c.self.inside { nvic = c.enter-2.new.self; frames = f; registers = record c.self.inside.registers { address = c.in-Some.handler.entry } })) (sym frames)
-    (sound_after c.self.inside c.self.invariant c.args.irq c.in-Some.handler handler next c.enter-2.new.self e.pending e.active e.priorities within)
+    let kept = c.execution_of-self-inside in
+    subst (λ (f : Frames). IsSound (record c.self.inside { nvic = c.enter-2.new.self; execution = kept.result; frames = f; registers = record c.self.inside.registers { address = c.in-Some.handler.entry } })) (sym frames)
+    (sound_after c.self.inside c.self.invariant c.args.irq c.in-Some.handler handler next c.enter-2.new.self e.pending e.active e.priorities within kept.result kept.ensures)
 
 pub returns-clause-outcome : goal.returns-clause-outcome
 returns-clause-outcome c =
@@ -75,8 +75,8 @@ returns-clause-outcome c =
     let within : c.args.irq < IRQ_NUMBERS = search rules in
     let e = c.enter-2.ensures in
     let room : moves.has_room c.self.inside.frames (c.self.inside.frames.entry + c.in-Some.handler.frame) ≡ true = search rules in
-    let parts : Frames → Inside = λ f. record c.self.inside { nvic = c.enter-2.new.self; frames = f; registers = record c.self.inside.registers { address = c.in-Some.handler.entry } } in
-    let new = entered_parts c.self.inside c.self.invariant c.args.irq c.in-Some.handler handler next c.enter-2.new.self e.pending e.active e.priorities within c.enter.new.self frames in
+    let kept = c.execution_of-self-inside in
+    let new = entered_parts c.self.inside c.self.invariant c.args.irq c.in-Some.handler handler next c.enter-2.new.self e.pending e.active e.priorities within kept.result kept.ensures c.enter.new.self frames in
     ap (λ (m : Machine). stepping.attempt m.image m.core (pick m.image m.core)) (sym c.self.view_is)
     ∙ attempt_is c.self.inside c.self.invariant c.args.irq c.in-Some.handler handler next
     ∙ enter_is c.self.inside c.self.invariant c.args.irq c.in-Some.handler
