@@ -4,7 +4,7 @@ ghost use Rattle.rt_code.specs.Processor.{Traps, Leads};
 ghost use Rattle.rt_code.specs.declared.processor.Request.TheVariants as request;
 ghost use Rattle.rt_core.specs.Core as spec;
 ghost use Rattle.rt_core.specs.Priority as priority;
-ghost use Rattle.rt_core.specs.Outcome.{Outcome, settle};
+ghost use Rattle.rt_core.specs.Outcome.{Outcome, Trapped, settle};
 ghost use Rattle.rt_core.specs.Note as notes;
 ghost use Rattle.rt_core.specs.Stepping as stepping;
 ghost use Rattle.rt_core.specs.Inside.Came.{Comes};
@@ -236,28 +236,23 @@ impl Core {
           };
         } }
     {
-        let asked =
-            self.frames
-                .execute(instr, self.time, &mut self.registers, &mut self.cells)?;
+        let asked = self
+            .frames
+            .execute(instr, self.time, &mut self.registers, &mut self.cells)?;
         if changes_a_mask(&instr) {
             self.execution = execution_of(&self.nvic, &self.registers);
         }
         Ok(asked)
     }
 
-    /// The instruction at the code address, with its note. That of a thread that waits does nothing.
-    fn run(&mut self) -> Result<Option<What>, Trap>
+    /// An instruction, with its note: the item is that of the instruction itself, else of the note.
+    fn go_on(&mut self, instr: Instr, note: Option<Note>) -> Result<Option<What>, Trap>
+        requires { self.old.core.processor.address + 1 < 2 ^ 32 }
         ensures outcome { Comes result self.new.core
-            (stepping.run self.old.image self.old.core
-            (slice_get self.old.image.code self.old.core.processor.address)) }
+            (stepping.go_on self.old.image self.old.core note
+            (effect instr self.old.core.time self.old.core.processor)) }
         ensures rest { self.new ≡ record self.old { core = self.new.core } }
     {
-        let Some((instr, note)) = self.program.line(self.registers.address) else {
-            return Err(Trap::Jump);
-        };
-        if let (Instr::Wait, None) = (instr, note) {
-            return Ok(None);
-        }
         let asked = self.execute(instr)?;
         let shown = self.answer(asked)?;
         match (note, shown) {
@@ -267,6 +262,15 @@ impl Core {
     }
 
     /// A trap stops the core and shows its number.
+    fn stop(&mut self, trap: Trap) -> Option<What>
+        ensures settled { settle (Trapped self.old.core trap) ≡ (self.new.core, result) }
+        ensures rest { self.new ≡ record self.old { core = self.new.core } }
+    {
+        self.stopped = true;
+        Some(What::Trap(trap.number()))
+    }
+
+    /// The item of what came of a step.
     fn settle(&mut self, came: Result<Option<What>, Trap>) -> Option<What>
         ensures settled { (outcome : Outcome) → Comes came self.old.core outcome → settle outcome
             ≡ (self.new.core, result) }
@@ -274,11 +278,32 @@ impl Core {
     {
         match came {
             Ok(shown) => shown,
-            Err(trap) => {
-                self.stopped = true;
-                Some(What::Trap(trap.number()))
-            }
+            Err(trap) => self.stop(trap),
         }
+    }
+
+    /// The entry of an interrupt as a step.
+    fn take(&mut self, irq: Irq) -> Option<What>
+        requires { option_map (λ row. row.number) (priority.pick self.old.image self.old.core) ≡ Some irq }
+        ensures settled { settle
+            (stepping.attempt self.old.image self.old.core (priority.pick self.old.image self.old.core))
+            ≡ (self.new.core, result) }
+        ensures rest { self.new ≡ record self.old { core = self.new.core } }
+    {
+        let came = self.enter(irq);
+        self.settle(came)
+    }
+
+    /// An instruction with its note as a step.
+    fn run(&mut self, instr: Instr, note: Option<Note>) -> Option<What>
+        requires { self.old.core.processor.address + 1 < 2 ^ 32 }
+        ensures settled { settle
+            (stepping.go_on self.old.image self.old.core note (effect instr self.old.core.time self.old.core.processor))
+            ≡ (self.new.core, result) }
+        ensures rest { self.new ≡ record self.old { core = self.new.core } }
+    {
+        let came = self.go_on(instr, note);
+        self.settle(came)
     }
 
     /// One core step: the entry of the interrupt that is to be taken, else one instruction. It answers the item that
@@ -297,10 +322,16 @@ impl Core {
         if self.stopped {
             return None;
         }
-        let came = match self.picked() {
-            Some(irq) => self.enter(irq),
-            None => self.run(),
+        if let Some(irq) = self.picked() {
+            return self.take(irq);
+        }
+        let Some((instr, note)) = self.program.line(self.registers.address) else {
+            return self.stop(Trap::Jump);
         };
-        self.settle(came)
+        // A thread that waits does nothing.
+        if let (Instr::Wait, None) = (instr, note) {
+            return None;
+        }
+        self.run(instr, note)
     }
 }
