@@ -2,6 +2,7 @@ ghost use Rattle.std.specs.Prelude.{◌≡◌, ◌≤◌, ◌<◌, ◌+◌, ◌^
 ghost use Rattle.rt_ids.specs.Naming.{irq_name, task_name, section_name, body_name};
 ghost use Rattle.rt_trace.specs.Lined.{HasLine, HasOperands, IsBody, IsDeclared, IsSection, IsTask};
 ghost use Rattle.rt_trace.specs.Text as spec;
+ghost use Rattle.rt_trace.specs.Verb.{spelling};
 
 use crate::buffer::LINE_BYTES;
 use crate::item::{Item, What};
@@ -34,7 +35,7 @@ pub(crate) fn put_line(out: &mut [u8], at: usize, item: &Item, names: &Names) ->
     ensures end { result ≤ at + LINE_BYTES }
 {
     let at = put_number(out, at, item.step as u32);
-    let at = put_word(out, at, Verb::of(&item.what).word());
+    let at = put_verb(out, at, Verb::of(&item.what));
     let at = put_operands(out, at, &item.what, names);
     put(out, at, b"\n")
 }
@@ -101,6 +102,39 @@ fn put_word(out: &mut [u8], at: usize, word: &[u8]) -> usize
 {
     out[at] = b' ';
     put(out, at + 1, word)
+}
+
+/// Writes a space and the word that stands behind the step number.
+#[inline(always)]
+fn put_verb(out: &mut [u8], at: usize, verb: Verb) -> usize
+    requires { at + 7 ≤ length out.old }
+    ensures written { take result out.new ≡ take at out.old ++ 32 ∷ spelling verb }
+    ensures end { result ≤ at + 7 }
+{
+    match verb {
+        Verb::Pend => put(out, at, b" pend"),
+        Verb::Tick => put(out, at, b" tick"),
+        Verb::Alarm => put(out, at, b" alarm"),
+        Verb::AlarmSet => put(out, at, b" set"),
+        Verb::Take => put(out, at, b" take"),
+        Verb::Ret => put(out, at, b" ret"),
+        Verb::Enter => put(out, at, b" enter"),
+        Verb::Leave => put(out, at, b" leave"),
+        Verb::Emit => put(out, at, b" emit"),
+        Verb::Placed => put(out, at, b" ok"),
+        Verb::Full => put(out, at, b" full"),
+        Verb::Ready => put(out, at, b" ready"),
+        Verb::Start => put(out, at, b" start"),
+        Verb::Free => put(out, at, b" free"),
+        Verb::Post => put(out, at, b" post"),
+        Verb::Clock => put(out, at, b" clock"),
+        Verb::Arm => put(out, at, b" arm"),
+        Verb::Fire => put(out, at, b" fire"),
+        Verb::Cancel => put(out, at, b" cancel"),
+        Verb::Move => put(out, at, b" move"),
+        Verb::End => put(out, at, b" end"),
+        Verb::Trap => put(out, at, b" trap"),
+    }
 }
 
 /// Writes a space and a number.
