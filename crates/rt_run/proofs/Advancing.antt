@@ -2,8 +2,10 @@
 use Rattle.std.proofs.Common.{◌≡◌, ℕ, suc, ◌+◌, ◌-◌, ◌<◌, List, [], ◌∷◌, ◌++◌, flat_map, replicate, Option, Some}
 use Rattle.std.proofs.Common.{None, Bool, true, false, if◌then◌else◌, nat_le, refl, ap, sym, subst, ◌∙◌, append_assoc}
 use Rattle.std.proofs.Common.{arith}
+use Rattle.std.specs.List.{AllByRecursion}
 use Rattle.std.proofs.lemmas.Grind.{flat_map-append}
 use Rattle.std.proofs.lemmas.List.{append-nil, replicate_more, replicate-append-replicate}
+use Rattle.rt_lemmas.proofs.Membership.{all_append}
 use Rattle.rt_ids.specs.Event.{Event, Arrive, Tick, Step, steps}
 use Rattle.rt_code.specs.Image.{Image}
 use Rattle.rt_core.specs.Core.{Core}
@@ -14,12 +16,13 @@ use Rattle.rt_core.specs.Transfer.{pended}
 use Rattle.rt_core.specs.declared.alarm.Alarm.{Alarm}
 use Rattle.rt_outside.specs.Bytes.{TookPrefix}
 use Rattle.rt_trace.specs.Label.{Label, Arrived, Ticked, Rang, Stepped, items_of, steps_of}
+use Rattle.rt_trace.specs.Lined.{HasLine}
 use Rattle.rt_trace.specs.Text.{text}
 use Rattle.rt_trace.specs.declared.item.Item.{Item}
 use Rattle.rt_trace.specs.declared.item.What.{What}
 use Rattle.rt_trace.specs.declared.item.What.TheVariants as what
 use Rattle.rt_run.specs.Done.{Leads}
-use Rattle.rt_run.specs.Inside.Writing.{lines_of, Wrote, Writes, Cut}
+use Rattle.rt_run.specs.Inside.Writing.{shown_items, lines_of, Wrote, Writes, Cut}
 use Rattle.rt_run.proofs.Taking.{wrote_none, wrote_on, wrote_cut}
 
 -- the core after more events
@@ -101,35 +104,44 @@ leads_on es fs a b c first second = record {
   steps = omega (arith, second.steps, first.steps, steps-append es fs);
 }
 
--- the lines of more events
+-- what more events show, and the lines of it
+items_split : (es fs : List Event) (a b : Machine) → Leads es a b
+    → shown_items a (es ++ fs) ≡ shown_items a es ++ shown_items b fs
+items_split es fs a b run =
+    let img : Image = a.image in
+    let front : List Label = labels img a.core es in
+    let behind : List Label = labels img (core_after img a.core es) fs in
+    let split : shown_items a (es ++ fs) ≡ items_of a.steps front ++ items_of (a.steps + steps es) behind =
+    ap (items_of a.steps) (labels-append img a.core es fs)
+    ∙ items-append a.steps front behind
+    ∙ ap (λ n. items_of a.steps front ++ items_of (a.steps + n) behind) (labelled_steps img a.core es) in
+    let there : shown_items b fs ≡ items_of (a.steps + steps es) behind =
+    ap (λ (i : Image). items_of b.steps (labels i b.core fs)) run.image
+    ∙ ap (λ d. items_of b.steps (labels img d fs)) run.core
+    ∙ ap (λ n. items_of n behind) run.steps in
+    split ∙ ap (λ t. shown_items a es ++ t) (sym there)
+
 pub lines_split : (es fs : List Event) (a b : Machine) → Leads es a b
     → lines_of a (es ++ fs) ≡ lines_of a es ++ lines_of b fs
 lines_split es fs a b run =
-    let img : Image = a.image in
-    let put : List Item → List ℕ = flat_map (text img.names) in
-    let front : List Label = labels img a.core es in
-    let behind : List Label = labels img (core_after img a.core es) fs in
-    let split : lines_of a (es ++ fs) ≡ put (items_of a.steps front) ++ put (items_of (a.steps + steps es) behind) =
-    ap (λ ls. put (items_of a.steps ls)) (labels-append img a.core es fs)
-    ∙ ap put (items-append a.steps front behind)
-    ∙ ap (λ n. put (items_of a.steps front ++ items_of (a.steps + n) behind)) (labelled_steps img a.core es)
-    ∙ flat_map-append (text img.names) (items_of a.steps front) (items_of (a.steps + steps es) behind) in
-    let there : lines_of b fs ≡ put (items_of (a.steps + steps es) behind) =
-    ap (λ (i : Image). flat_map (text i.names) (items_of b.steps (labels i b.core fs))) run.image
-    ∙ ap (λ d. put (items_of b.steps (labels img d fs))) run.core
-    ∙ ap (λ n. put (items_of n behind)) run.steps in
-    split ∙ ap (λ t. lines_of a es ++ t) (sym there)
+    ap (flat_map (text a.image.names)) (items_split es fs a b run)
+    ∙ flat_map-append (text a.image.names) (shown_items a es) (shown_items b fs)
+    ∙ ap (λ (i : Image). lines_of a es ++ flat_map (text i.names) (shown_items b fs)) (sym run.image)
 
 -- nothing was run and nothing written
 pub nothing_yet : (m : Machine) (x : Option (List ℕ)) (held : List ℕ) → Writes [] m m x x held held
 unfolding labels
-nothing_yet m x held = record { leads = stands_still m; wrote = wrote_none x held }
+nothing_yet m x held = record { leads = stands_still m; lined = tt; wrote = wrote_none x held }
 
 -- one run and one that goes on are one
 pub goes_on : (es fs : List Event) (a b c : Machine) (x y z : Option (List ℕ)) (held mid kept : List ℕ)
     → Writes es a b x y held mid → Writes fs b c y z mid kept → Writes (es ++ fs) a c x z held kept
 goes_on es fs a b c x y z held mid kept first second = record {
   leads = leads_on es fs a b c first.leads second.leads;
+  lined =
+      subst (AllByRecursion (HasLine a.image.names)) (sym (items_split es fs a b first.leads))
+      (all_append (HasLine a.image.names) (shown_items a es) (shown_items b fs) first.lined
+      (subst (λ (i : Image). AllByRecursion (HasLine i.names) (shown_items b fs)) first.leads.image second.lined));
   wrote =
       subst (Wrote x z held kept) (sym (lines_split es fs a b first.leads))
       (wrote_on x y z held mid kept (lines_of a es) (lines_of b fs) first.wrote second.wrote);
@@ -188,9 +200,10 @@ more_cut n count e a b c x y z held mid within first cut =
 
 -- events that came, with these lines
 pub written : (es : List Event) (a b : Machine) (x y : Option (List ℕ)) (held kept bytes : List ℕ) → Leads es a b
-    → lines_of a es ≡ bytes → Wrote x y held kept bytes → Writes es a b x y held kept
-written es a b x y held kept bytes run is wrote =
-    record { leads = run; wrote = subst (Wrote x y held kept) (sym is) wrote }
+    → AllByRecursion (HasLine a.image.names) (shown_items a es) → lines_of a es ≡ bytes → Wrote x y held kept bytes
+    → Writes es a b x y held kept
+written es a b x y held kept bytes run lined is wrote =
+    record { leads = run; lined = lined; wrote = subst (Wrote x y held kept) (sym is) wrote }
 
 pub stopped : (es : List Event) (a b : Machine) (x y : Option (List ℕ)) (held bytes : List ℕ) → Leads es a b
     → lines_of a es ≡ bytes → TookPrefix x y (held ++ bytes) → Cut es a b x y held

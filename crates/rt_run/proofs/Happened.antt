@@ -1,8 +1,9 @@
 -- One event: where it leads, and the lines of what it shows.
 use Rattle.std.proofs.Common.{◌≡◌, ℕ, zero, suc, ◌+◌, ◌-◌, ◌*◌, ◌/◌, ◌%◌, ◌==◌, ◌<◌, ◌≤◌, ◌≢◌, ◌^◌, inl, inr, List, []}
-use Rattle.std.proofs.Common.{◌∷◌, ◌++◌, map, filter, flat_map, Option, Some, None, Bool, if◌then◌else◌}
+use Rattle.std.proofs.Common.{◌∷◌, ◌++◌, map, filter, flat_map, Option, Some, None, Bool, true, false, if◌then◌else◌}
 use Rattle.std.proofs.Common.{refl, ap, sym, subst, ◌∙◌, arith}
 use Rattle.std.specs.Int.{bit_at}
+use Rattle.std.specs.List.{AllByRecursion}
 use Rattle.std.proofs.lemmas.Bool.{cases_lt}
 use Rattle.std.proofs.lemmas.List.{append-nil}
 use Rattle.std.proofs.lemmas.List.Elements.{filter-append}
@@ -17,12 +18,13 @@ use Rattle.rt_core.specs.Stepping.{step}
 use Rattle.rt_core.specs.Trace.{happen, core_after, labels}
 use Rattle.rt_core.specs.Transfer.{pended}
 use Rattle.rt_trace.specs.Label.{Label, Ticked, Rang, Stepped, items_of}
+use Rattle.rt_trace.specs.Lined.{HasLine, IsDeclared}
 use Rattle.rt_trace.specs.Text.{text}
 use Rattle.rt_trace.specs.declared.item.Item.{Item}
 use Rattle.rt_trace.specs.declared.item.What.{What}
 use Rattle.rt_trace.specs.declared.item.What.TheVariants as what
 use Rattle.rt_run.specs.Done.{Leads}
-use Rattle.rt_run.specs.Inside.Writing.{lines_of}
+use Rattle.rt_run.specs.Inside.Writing.{shown_items, lines_of}
 
 abbrev numbered : ℕ → What → Item
 numbered n w = record { step = n; what = w }
@@ -44,6 +46,12 @@ unfolding labels happen
 silent_lines m shown item none =
     ap (λ w. flat_map (text m.image.names) (items_of m.steps (Stepped w ∷ []))) (sym item ∙ none)
 
+pub silent_lined : (m : Machine) (shown : Option What) → shown ≡ (step m.image m.core).1 → shown ≡ None
+    → AllByRecursion (HasLine m.image.names) (shown_items m (Step ∷ []))
+unfolding labels happen
+silent_lined m shown item none =
+    subst (λ w. AllByRecursion (HasLine m.image.names) (items_of m.steps (Stepped w ∷ []))) (sym (sym item ∙ none)) tt
+
 -- another shows its item, which has the number of the steps before it
 pub step_lines : (m : Machine) (names : Names) (shown : Option What) (w : What) (k : ℕ) → names ≡ m.image.names
     → shown ≡ (step m.image m.core).1 → shown ≡ Some w → k ≡ suc m.steps
@@ -54,6 +62,18 @@ step_lines m names shown w k named item some counted =
     ∙ append-nil (text m.image.names (numbered m.steps w))
     ∙ ap (λ (n : Names). text n (numbered m.steps w)) (sym named)
     ∙ ap (λ n. text names (numbered n w)) (let e : m.steps ≡ k - 1 = omega (arith, counted) in e)
+
+pub step_lined : (m : Machine) (names : Names) (shown : Option What) (w : What) (k : ℕ) → names ≡ m.image.names
+    → shown ≡ (step m.image m.core).1 → shown ≡ Some w → k ≡ suc m.steps → HasLine names (numbered (k - 1) w)
+    → AllByRecursion (HasLine m.image.names) (shown_items m (Step ∷ []))
+unfolding labels happen
+step_lined m names shown w k named item some counted line =
+    let numbers : k - 1 ≡ m.steps = omega (arith, counted) in
+    let here : HasLine m.image.names (numbered m.steps w) =
+    subst (λ (n : Names). HasLine n (numbered m.steps w)) named
+    (subst (λ n. HasLine names (numbered n w)) numbers line) in
+    subst (λ s. AllByRecursion (HasLine m.image.names) (items_of m.steps (Stepped s ∷ []))) (sym (sym item ∙ some))
+    (here, tt)
 
 pub tick_leads : (old new : Machine) → new ≡ record old { core = (happen old.image old.core Tick).0 }
     → Leads (Tick ∷ []) old new
@@ -74,6 +94,19 @@ tick_lines m names came k named counted shown =
     ap (λ ls. flat_map (text m.image.names) (items_of m.steps ls)) (append-nil (happen m.image m.core Tick).1 ∙ shown)
     ∙ ap (λ (n : Names). flat_map (text n) (items_of m.steps all)) (sym named)
     ∙ ap (λ n. flat_map (text names) (items_of n all)) (sym counted)
+
+pub tick_lined : (m : Machine) (came : Bool) → m.steps < 2 ^ 31
+    → (happen m.image m.core Tick).1 ≡ Ticked ∷ (if came then Rang ∷ [] else [])
+    → AllByRecursion (HasLine m.image.names) (shown_items m (Tick ∷ []))
+unfolding labels
+tick_lined m came few shown =
+    subst (λ ls. AllByRecursion (HasLine m.image.names) (items_of m.steps ls))
+    (sym (append-nil (happen m.image m.core Tick).1 ∙ shown)) (by came)
+  where
+    by : (came : Bool)
+        → AllByRecursion (HasLine m.image.names) (items_of m.steps (Ticked ∷ (if came then Rang ∷ [] else [])))
+    by true = (record { step = few; operands = tt }, (record { step = few; operands = tt }, tt))
+    by false = (record { step = few; operands = tt }, tt)
 
 -- of a power of two one bit is set
 only_bits : (k n : ℕ) → (k < n → filter (λ bit. bit_at (2 ^ k) bit == 1) (numbers_below n) ≡ k ∷ [])
@@ -137,3 +170,8 @@ pend_lines m names irq k named counted =
     append-nil (text m.image.names (numbered m.steps (what.Pend irq)))
     ∙ ap (λ (n : Names). text n (numbered m.steps (what.Pend irq))) (sym named)
     ∙ ap (λ n. text names (numbered n (what.Pend irq))) (sym counted)
+
+pub pend_lined : (m : Machine) (irq : ℕ) → m.steps < 2 ^ 31 → IsDeclared m.image.names irq
+    → AllByRecursion (HasLine m.image.names) (shown_items m (Arrive irq ∷ []))
+unfolding labels happen
+pend_lined m irq few declared = (record { step = few; operands = declared }, tt)

@@ -5,3 +5,4 @@ pub mod Known
 pub mod Advancing
 pub mod Happened
 pub mod Scripted
+pub mod Brief

@@ -1,4 +1,5 @@
-ghost use Rattle.std.specs.Prelude.{◌≡◌, ◌<◌, ◌+◌, ◌^◌, OnOk, OnErr};
+ghost use Rattle.std.specs.Prelude.{◌≡◌, ◌<◌, ◌+◌, ◌^◌, length, OnOk, OnErr};
+ghost use Rattle.rt_ids.specs.declared.limits.TheConstants.{TRACE_BYTES};
 ghost use Rattle.rt_outside.specs.Faults.{HasCause};
 ghost use Rattle.rt_outside.specs.Bytes.{Took, TookPrefix};
 ghost use Rattle.rt_code.specs.Lines.{HasLines};
@@ -73,6 +74,9 @@ pub fn run_script<K: Sink>(core: &mut Core, script: &Script, out: &mut K) -> Res
     requires declared { HasNames core.old.image.names script.now }
     ensures ok { OnOk result (Took (K.taken out.old) (K.taken out.new) (text_of core.old.image script.now)) }
     ensures all { OnOk result (Leads (events script.now) core.old core.new) }
+
+    // The text is short enough to be read as a trace.
+    ensures short { OnOk result (length (text_of core.old.image script.now) < TRACE_BYTES) }
 
     // At a fault a beginning of the text was taken, and the core has done the first of its events.
     ensures err { OnErr result (TookPrefix (K.taken out.old) (K.taken out.new) (text_of core.old.image script.now)) }

@@ -57,6 +57,7 @@ pub(crate) fn put_shown<K: Sink>(
 ) -> Result<(), Failed>
     requires few { item.now.step < 2 ^ 31 }
     requires words { HasWords names.now item.now.what }
+    ensures line { HasLine names.now item.now }
     ensures ok { OnOk result
         (Wrote (K.taken out.old) (K.taken out.new) held.old held.new (spec.text names.now item.now)) }
     ensures err { OnErr result

@@ -17,9 +17,10 @@ use Rattle.rt_outside.specs.Bytes.{Took, TookPrefix}
 use Rattle.rt_script.specs.declared.line.Line.{Line}
 use Rattle.rt_script.specs.declared.line.Line.TheVariants.{Steps, Ticks, Pends, Device}
 use Rattle.rt_trace.specs.Label.{items_of}
-use Rattle.rt_trace.specs.Lined.{IsDeclared, IsWord}
+use Rattle.rt_trace.specs.Lined.{HasLine, IsDeclared, IsWord}
 use Rattle.rt_trace.specs.Text.{text}
 use Rattle.rt_trace.specs.declared.buffer.TheConstants.{BUFFER_BYTES, LINE_BYTES}
+use Rattle.rt_trace.specs.declared.item.Item.{Item}
 use Rattle.rt_trace.specs.declared.item.What.{What}
 use Rattle.rt_trace.specs.declared.item.What.TheVariants as what
 use Rattle.rt_run.specs.Done.{Leads}
@@ -95,9 +96,12 @@ event_of (Ticks n) = Tick
 event_of (Pends irq n) = Arrive irq
 event_of (Device d irq n) = Arrive irq
 
--- the lines of what events show
+-- what events show, and the lines of it
+abbrev pub shown_items : Machine → List Event → List Item
+shown_items m events = items_of m.steps (labels m.image m.core events)
+
 abbrev pub lines_of : Machine → List Event → List ℕ
-lines_of m events = flat_map (text m.image.names) (items_of m.steps (labels m.image m.core events))
+lines_of m events = flat_map (text m.image.names) (shown_items m events)
 
 -- what is held leaves room for a line
 abbrev pub HasRoom : List ℕ → Type 0
@@ -109,10 +113,11 @@ pub record Wrote (before after : Option (List ℕ)) (held kept bytes : List ℕ)
   pub took : Took before after front
   pub parts : held ++ bytes ≡ front ++ kept
 
--- these events lead from the old machine to the new one, and their lines were written
+-- these events lead from the old machine to the new one, each item that they show has a line, and these were written
 pub record Writes (events : List Event) (old new : Machine) (before after : Option (List ℕ)) (held kept : List ℕ)
     : Type 0 where
   pub leads : Leads events old new
+  pub lined : AllByRecursion (HasLine old.image.names) (shown_items old events)
   pub wrote : Wrote before after held kept (lines_of old events)
 
 -- A fault came: the first of these events lead from the old machine to the new one, and a beginning of what was held

@@ -6,7 +6,7 @@ use Rattle.rt_ids.specs.Names.{Names}
 use Rattle.rt_code.specs.Image.{Image}
 use Rattle.rt_trace.specs.Lined.{IsDeclared}
 use Rattle.rt_run.proofs.Advancing.{written, stopped}
-use Rattle.rt_run.proofs.Happened.{only_bit, one_arrival, pend_leads, pend_lines}
+use Rattle.rt_run.proofs.Happened.{only_bit, one_arrival, pend_leads, pend_lines, pend_lined}
 use Rattle.rt_run.proofs.event.run_pend.Goals as goal
 
 pub arrive-requires : goal.arrive-requires
@@ -39,6 +39,7 @@ returns-clause-ok g c =
     let counted : c.steps-step.result ≡ core.steps = omega (arith, c.steps-step.ensures, run.steps) in
     on_ok_weaker c.put_item.result
     (written (Arrive c.args.irq ∷ []) core after _ _ c.args.held.now _ _ run
+    (pend_lined core c.args.irq c.requires.few c.requires.declared)
     (pend_lines core _ c.args.irq _ named counted))
     c.put_item.ensures.ok
 

@@ -7,7 +7,7 @@ use Rattle.rt_run.specs.Inside.Writing.{HasWords, ShowsWords}
 use Rattle.rt_run.proofs.Taking.{wrote_none}
 use Rattle.rt_run.proofs.Worded.{step_known}
 use Rattle.rt_run.proofs.Advancing.{written, stopped}
-use Rattle.rt_run.proofs.Happened.{step_leads, silent_lines, step_lines}
+use Rattle.rt_run.proofs.Happened.{step_leads, silent_lines, silent_lined, step_lines, step_lined}
 use Rattle.rt_run.proofs.event.run_step.Goals as goal
 
 pub returns-in_default-clause-ok : goal.returns-in_default-clause-ok
@@ -15,6 +15,7 @@ returns-in_default-clause-ok g c =
     let core = c.args.core.now in
     written (Step ∷ []) core c.step.new.self _ _ c.args.held.now _ []
     (step_leads core c.step.new.self c.step.ensures.state)
+    (silent_lined core c.step.result c.step.ensures.item c.in_default.is)
     (silent_lines core c.step.result c.step.ensures.item c.in_default.is) (wrote_none _ c.args.held.now)
 
 pub put_shown-requires-clause-words : goal.put_shown-requires-clause-words
@@ -34,6 +35,8 @@ returns-clause-ok g c =
     let counted : c.steps-step.result ≡ suc core.steps = omega (arith, c.steps-step.ensures, run.steps) in
     on_ok_weaker c.put_shown.result
     (written (Step ∷ []) core c.step.new.self _ _ c.args.held.now _ _ run
+    (step_lined core _ c.step.result c.in-Some.what _ named c.step.ensures.item c.in-Some.is counted
+    c.put_shown.ensures.line)
     (step_lines core _ c.step.result c.in-Some.what _ named c.step.ensures.item c.in-Some.is counted))
     c.put_shown.ensures.ok
 

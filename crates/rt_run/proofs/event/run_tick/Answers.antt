@@ -3,7 +3,7 @@ use Rattle.std.proofs.lemmas.Result.{on_ok_weaker, on_err_weaker}
 use Rattle.rt_ids.specs.Event.{Tick}
 use Rattle.rt_code.specs.Image.{Image}
 use Rattle.rt_run.proofs.Advancing.{written, stopped}
-use Rattle.rt_run.proofs.Happened.{tick_leads, tick_lines}
+use Rattle.rt_run.proofs.Happened.{tick_leads, tick_lines, tick_lined}
 use Rattle.rt_run.proofs.event.run_tick.Goals as goal
 
 pub returns-clause-ok : goal.returns-clause-ok
@@ -15,6 +15,7 @@ returns-clause-ok g c =
     let counted : c.steps.result ≡ core.steps = omega (arith, c.steps.ensures, run.steps) in
     on_ok_weaker c.put_tick.result
     (written (Tick ∷ []) core after _ _ c.args.held.now _ _ run
+    (tick_lined core c.tick-came.result c.requires.few c.tick-came.ensures.shown)
     (tick_lines core _ c.tick-came.result _ named counted c.tick-came.ensures.shown))
     c.put_tick.ensures.ok
 

@@ -7,6 +7,7 @@ use Rattle.rt_script.specs.declared.line.Line.{Line}
 use Rattle.rt_run.proofs.Known.{steps_below}
 use Rattle.rt_run.proofs.Scripted.{events_length, ran_same, cut_same, cut_text, finished, total_cut, part_done}
 use Rattle.rt_run.proofs.Scripted.{all_done}
+use Rattle.rt_run.proofs.Brief.{text_short}
 use Rattle.rt_run.proofs.script.run_script.Goals as goal
 
 pub run_lines-requires-clause-script : goal.run_lines-requires-clause-script
@@ -90,3 +91,14 @@ returns-clause-part g c =
     let held = c.new-held.result in
     let run = ran_same _ script core after _ _ held _ c.lines-lines.ensures.lines c.in_ok-run_lines.ensures.ok in
     on_err_weaker c.put_end.result (λ _. all_done (events script) core after run.leads) c.put_end.ensures.err
+
+pub returns-clause-short : goal.returns-clause-short
+returns-clause-short g c =
+    let script = c.args.script.now in
+    let core = c.args.core.now in
+    let after = c.run_lines.new.core in
+    let held = c.new-held.result in
+    let run = ran_same _ script core after _ _ held _ c.lines-lines.ensures.lines c.in_ok-run_lines.ensures.ok in
+    on_ok_weaker c.put_end.result
+    (λ _. text_short core script c.requires.fresh c.requires.lines c.lines-lines.ensures.script run.lined)
+    c.put_end.ensures.ok

@@ -6,3 +6,9 @@ put_item-requires g c = record {
   step = c.requires.few;
   operands = operands c.args.names.now c.args.item.now.what c.requires.words c.numbers_fit.ensures;
 }
+
+pub returns-clause-line : goal.returns-clause-line
+returns-clause-line g c = record {
+  step = c.requires.few;
+  operands = operands c.args.names.now c.args.item.now.what c.requires.words c.numbers_fit.ensures;
+}
