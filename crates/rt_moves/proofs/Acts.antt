@@ -1,5 +1,5 @@
 -- What the running job does is what Baker's machine has it do.
-use Rattle.std.proofs.Common.{◌≡◌, ◌≢◌, ℕ, Bool, true, false, Option, None, if◌then◌else◌, set, List, [], ◌∷◌, ◌++◌}
+use Rattle.std.proofs.Common.{◌≡◌, ◌≢◌, ℕ, Bool, true, false, Option, None, if◌then◌else◌, List, [], ◌∷◌, ◌++◌}
 use Rattle.std.proofs.Common.{refl, ap, ◌∙◌, sym, subst}
 use Rattle.rt_ids.specs.Holder.{Guarded}
 use Rattle.rt_ids.specs.Content.{Values, delays, least_instant}
@@ -9,6 +9,7 @@ use Rattle.rt_ids.specs.Action.{Frees, Arms, Fires, Cancels, Moves, SetsAlarm, E
 use Rattle.rt_ids.specs.Doing.{Doing, over}
 use Rattle.rt_ids.specs.declared.ids.BodyId.TheVariants as body
 use Rattle.rt_app.specs.Tree.{App}
+use Rattle.rt_app.specs.Accepted.{IsAccepted}
 use Rattle.rt_app.specs.Meaning.{Later}
 use Rattle.rt_laws.specs.State as laws
 use Rattle.rt_laws.specs.State.{reached}
@@ -27,7 +28,10 @@ use Rattle.rt_work.specs.Work.{Work, is_seen, IsSettled}
 use Rattle.rt_work.proofs.Walks.{with_todos, behind_more}
 use Rattle.rt_moves.specs.Job.{Kept, finish, rest_of, with_rest, JobIs}
 use Rattle.rt_moves.specs.State.{Held, with_jobs, JobsAre, StateIs}
-use Rattle.rt_moves.specs.Inside.Acts.{tracked, IsPerformed, moved, with_work, before, held_alarm, beyond, Resumes}
+use Rattle.rt_moves.specs.Waiting.{waiting_of}
+use Rattle.rt_moves.specs.Inside.Acts.{tracked, IsPerformed, moved, with_work, before, held_pended, held_alarm, beyond}
+use Rattle.rt_moves.specs.Inside.Acts.{Resumes}
+use Rattle.rt_moves.proofs.Pending.{pended_stands}
 
 -- work with a thing on top is at that thing
 pub on_top : (app : App) (j : Kept) (w : Work) (t : Todo) (vs : Values) → j.work ≡ with_todos w (t ∷ [])
@@ -194,62 +198,54 @@ job_stands app a j new w was is vs busy alike p =
 
 pub moved_stands : (app : App) (s : Held) (t : laws.State) (k : laws.Job) (ks : List laws.Job) (vs : Values) (j new
     : Kept) (is : Store)
-    → t ≡ with_jobs (moved s j s.store) t.jobs → Stands app new is k vs → JobsAre app s.jobs ks
-    → StateIs app (moved s new is) (with_first t k ks vs)
-moved_stands app s t k ks vs j new is held stands others = record {
+    → t ≡ with_jobs (moved s j s.store) t.jobs → s.waiting ≡ waiting_of app s.pending → Stands app new is k vs
+    → JobsAre app s.jobs ks → StateIs app (moved s new is) (with_first t k ks vs)
+moved_stands app s t k ks vs j new is held waiting stands others = record {
   jobs = (stands.job, others);
   is = ap (λ (u : laws.State). with_first u k ks vs) held
       ∙ ap (λ (us : Values). with_first (with_jobs s t.jobs) k ks us) stands.values;
+  waiting = waiting;
 }
 
-alarm_alike : (app : App) (i : Option ℕ) (s : Held) (ks : List laws.Job)
-    → alarm_set app i (with_jobs s ks) ≡ with_jobs (held_alarm app i s) ks
-alarm_alike app i s ks = go (is_due s.time i)
+-- the alarm is set to another instant
+abbrev pub with_alarm : Option ℕ → Held → Held
+with_alarm i s = record s { alarm = i }
+
+alarm_stands : (app : App) (i : Option ℕ) (s : Held) (t : laws.State) → StateIs app s t
+    → StateIs app (with_alarm i s) (record t { alarm = i })
+alarm_stands app i s t h = record {
+  jobs = h.jobs;
+  is = ap (λ (u : laws.State). record u { alarm = i }) h.is;
+  waiting = h.waiting;
+}
+
+set_stands : (app : App) → IsAccepted app → (i : Option ℕ) (s : Held) (t : laws.State) → StateIs app s t
+    → StateIs app (held_alarm app i s) (alarm_set app i t)
+set_stands app accepted i s t h =
+    subst (λ (n : ℕ). StateIs app (held_alarm app i s) (if is_due n i then pended (timer_number app) (record t {
+      alarm
+          = None;
+    }) else record t { alarm = i })) (sym (ap (λ (u : laws.State). u.time) h.is)) (go (is_due s.time i))
   where
-    go : (due : Bool)
-        → (if due then pended (timer_number app) (record (with_jobs s ks) { alarm = None }) else record (with_jobs
-        s ks) { alarm = i })
-        ≡ with_jobs (if due then record s { pending = set s.pending (timer_number app) true; alarm = None } else
-        record s { alarm = i }) ks
-    go true = refl
-    go false = refl
+    go : (due : Bool) → StateIs app (if due then held_pended app (timer_number app) (with_alarm None s) else with_alarm
+        i s) (if due then pended (timer_number app) (record t { alarm = None }) else record t { alarm = i })
+    go true =
+        pended_stands app accepted (timer_number app) (with_alarm None s) (record t { alarm = None }) (alarm_stands app
+        None s t h)
+    go false = alarm_stands app i s t h
 
-beyond_alike : (app : App) (a : Action) (i : Option ℕ) (s : Held) (ks : List laws.Job)
-    → machine_beyond app a i (with_jobs s ks) ≡ with_jobs (beyond app a i s) ks
-beyond_alike app (Posts irq) i s ks = refl
-beyond_alike app SetsAlarm i s ks = alarm_alike app i s ks
-beyond_alike app _ i s ks = refl
-
-alarm_jobs : (app : App) (i : Option ℕ) (s : Held) → (held_alarm app i s).jobs ≡ s.jobs
-alarm_jobs app i s = go (is_due s.time i)
-  where
-    go : (due : Bool) → (if due then record s { pending = set s.pending (timer_number app) true; alarm = None }
-        else record s { alarm = i }).jobs ≡ s.jobs
-    go true = refl
-    go false = refl
-
-beyond_jobs : (app : App) (a : Action) (i : Option ℕ) (s : Held) → (beyond app a i s).jobs ≡ s.jobs
-beyond_jobs app (Posts irq) i s = refl
-beyond_jobs app SetsAlarm i s = alarm_jobs app i s
-beyond_jobs app _ i s = refl
-
-stands_as : (app : App) (s : Held) (ks : List laws.Job) → JobsAre app s.jobs ks → StateIs app s (with_jobs s ks)
-stands_as app s ks h = record { jobs = h; is = refl }
-
-pub beyond_stands : (app : App) (a : Action) (i : Option ℕ) (s : Held) (t : laws.State) → StateIs app s t
-    → StateIs app (beyond app a i s) (machine_beyond app a i t)
-beyond_stands app a i s t h =
-    subst (λ (u : laws.State). StateIs app (beyond app a i s) u) (sym (ap (machine_beyond app a i) h.is
-    ∙ beyond_alike app a i s t.jobs))
-    (stands_as app (beyond app a i s) t.jobs (subst (λ (js : List Kept). JobsAre app js t.jobs) (sym (beyond_jobs
-    app a i s)) h.jobs))
+pub beyond_stands : (app : App) → IsAccepted app → (a : Action) (i : Option ℕ) (s : Held) (t : laws.State)
+    → StateIs app s t → StateIs app (beyond app a i s) (machine_beyond app a i t)
+beyond_stands app accepted (Posts irq) i s t h = pended_stands app accepted irq s t h
+beyond_stands app accepted SetsAlarm i s t h = set_stands app accepted i s t h
+beyond_stands app accepted _ i s t h = h
 
 -- the running job does an action of its work, which stood on top
-pub plain_acts : (app : App) (a : code.Action) (i : Option ℕ) (s new : Held) (t : laws.State) (job : Kept)
-    → IsPlain (action_of a) → Resumes app (action_of a) job s new
+pub plain_acts : (app : App) → IsAccepted app → (a : code.Action) (i : Option ℕ) (s new : Held) (t : laws.State) (job
+    : Kept) → IsPlain (action_of a) → Resumes app (action_of a) job s new
     → StateIs app (before a job s) t → i ≡ least_instant (delays (contents s.store (Guarded section.Timer)))
     → StateIs app (beyond app (action_of a) i new) (given app t t.jobs)
-plain_acts app a i s new t job plain r h early =
+plain_acts app accepted a i s new t job plain r h early =
     let j = with_work job (with_todos job.work (todo.Act a ∷ [])) in
     let parts = first_of app j s.jobs t.jobs h.jobs in
     let busy = is_busy app j parts.0 job.work (todo.Act a) parts.3 refl in
@@ -264,8 +260,8 @@ plain_acts app a i s new t job plain r h early =
     ∙ plain_given app a t j parts.0 parts.1 job.work plain parts.3 refl in
     let after : StateIs app (beyond app (action_of a) (next_instant t) (moved s r.after r.store)) (machine_beyond
     app (action_of a) (next_instant t) moved_to) =
-    beyond_stands app (action_of a) (next_instant t) (moved s r.after r.store) moved_to (moved_stands app s t _
-    parts.1 _ j r.after r.store h.is st parts.4) in
+    beyond_stands app accepted (action_of a) (next_instant t) (moved s r.after r.store) moved_to (moved_stands app s t
+    _ parts.1 _ j r.after r.store h.is h.waiting st parts.4) in
     subst (λ (u : laws.State). StateIs app (beyond app (action_of a) i new) u) (sym gives)
     (subst (λ (n : Held). StateIs app (beyond app (action_of a) i n) (machine_beyond app (action_of a)
     (next_instant t) moved_to)) (sym r.is)
@@ -308,11 +304,11 @@ nothing_beyond app (act.Move n h instant) i s posts sets = refl
 nothing_beyond app act.SetAlarm i s posts sets = absurd (sets refl)
 nothing_beyond app (act.End n) i s posts sets = refl
 
-pub acted_by : (app : App) (a b : code.Action) (i : Option ℕ) (s mid new : Held) (t : laws.State) (job : Kept)
-    → a ≡ b → Resumes app (action_of b) job s mid
+pub acted_by : (app : App) → IsAccepted app → (a b : code.Action) (i : Option ℕ) (s mid new : Held) (t : laws.State)
+    (job : Kept) → a ≡ b → Resumes app (action_of b) job s mid
     → new ≡ beyond app (action_of b) i mid → i ≡ least_instant (delays (contents s.store (Guarded section.Timer)))
     → StateIs app (before a job s) t → StateIs app new (given app t t.jobs)
-acted_by app a b i s mid new t job same r is early h =
+acted_by app accepted a b i s mid new t job same r is early h =
     subst (λ (n : Held). StateIs app n (given app t t.jobs)) (sym is)
-    (plain_acts app b i s mid t job (is_plain b) r (subst (λ (c : code.Action). StateIs app (before c job s) t)
-    same h) early)
+    (plain_acts app accepted b i s mid t job (is_plain b) r (subst (λ (c : code.Action). StateIs app (before c job s)
+    t) same h) early)

@@ -56,7 +56,7 @@ clock_read app r s new job mid old w time now is made answers resumes t h =
     ∙ clock_given app r t job parts.0 parts.1 w s.store parts.3 values told in
     subst (λ (n : Held). StateIs app n (given app t t.jobs)) (sym p.is)
     (subst (λ (u : laws.State). StateIs app (moved s p.after p.store) u) (sym gives)
-    (moved_stands app s t _ parts.1 _ j p.after p.store h.is st parts.4))
+    (moved_stands app s t _ parts.1 _ j p.after p.store h.is h.waiting st parts.4))
 
 -- a job that has done all its work stands at its last action
 at_end : (app : App) (j : Kept) (k : laws.Job) (h : JobIs app j k) → j.work.todos ≡ []
@@ -104,7 +104,7 @@ idles app s new job r thread role begins none t h =
     ∙ thread_acts app t job parts.1 r parts.3.values thread in
     subst (λ (n : Held). StateIs app n (given app t t.jobs)) (sym begins.is)
     (subst (λ (u : laws.State). StateIs app (moved s begins.job begins.store) u) (sym gives)
-    (moved_stands app s t _ parts.1 _ job begins.job begins.store h.is st parts.4))
+    (moved_stands app s t _ parts.1 _ job begins.job begins.store h.is h.waiting st parts.4))
 
 -- the thread that waits has nothing to do
 pub still_waits : (app : App) (s new : Held) (job : Kept) → job.role ≡ laws.Waiting → new ≡ moved s job s.store
@@ -124,4 +124,4 @@ returned app s job irq role none t h =
     let gives : given app t t.jobs ≡ record t { jobs = parts.1 } = ap (λ (l : List laws.Job). given app t l) parts.2
     ∙ ended app t job parts.0 parts.1 (laws.Serving irq) parts.3 none role in
     subst (λ (u : laws.State). StateIs app s u) (sym gives)
-    (record { jobs = parts.4; is = ap (λ (u : laws.State). record u { jobs = parts.1 }) h.is })
+    (record { jobs = parts.4; is = ap (λ (u : laws.State). record u { jobs = parts.1 }) h.is; waiting = h.waiting })

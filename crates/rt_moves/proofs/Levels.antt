@@ -1,23 +1,22 @@
 -- The level and the candidate of the state that an auditor keeps are those of the machine's state.
-use Rattle.std.proofs.Common.{◌≡◌, ℕ, ◌+◌, ◌-◌, ◌<◌, max, nat_lt, Bool, false, ◌&&◌}
-use Rattle.std.proofs.Common.{if◌then◌else◌, List, [], ◌∷◌, map, drop, take, length, get_or, slice_index_or, Option}
-use Rattle.std.proofs.Common.{None, refl, sym, ap, subst, ◌∙◌, arith}
-use Rattle.std.specs.List.{list_any}
-use Rattle.rt_lemmas.proofs.Bools.{both_of_none}
-use Rattle.rt_lemmas.proofs.Lists.{drop_as_cons, map_next}
-use Rattle.rt_ids.specs.Choice.{best, better_of}
+use Rattle.std.proofs.Common.{◌≡◌, ℕ, ◌+◌, ◌<◌, max, nat_lt, Bool, false, ◌&&◌, List, [], ◌∷◌, map, take, length}
+use Rattle.std.proofs.Common.{get_or, slice_get, slice_index_or, Option, refl, sym, ap, subst, ◌∙◌, arith}
+use Rattle.rt_lemmas.proofs.Lists.{map_next}
+use Rattle.rt_ids.specs.Choice.{best}
 use Rattle.rt_ids.specs.Lists.{greatest}
 use Rattle.rt_ids.specs.declared.ids.Section.{Section}
 use Rattle.rt_ids.proofs.Greatest.{greatest_append}
 use Rattle.rt_app.specs.Ceiling.{ceiling}
-use Rattle.rt_app.specs.declared.app.IrqDecl.{IrqDecl}
 use Rattle.rt_app.specs.Tree.{App}
 use Rattle.rt_laws.specs.Level.{greatest_ceiling, level, goes_before, candidate}
 use Rattle.rt_laws.specs.Services.{priority_of}
 use Rattle.rt_laws.specs.State as laws
 use Rattle.rt_moves.specs.Job.{Kept}
 use Rattle.rt_moves.specs.State.{Held, JobsAre, StateIs}
-use Rattle.rt_moves.specs.Inside.Level.{job_level, kept_level, starts_above}
+use Rattle.rt_moves.specs.Waiting.{waits, waiting_of}
+use Rattle.rt_moves.specs.Inside.Level.{job_level, kept_level}
+use Rattle.rt_moves.specs.Inside.Waiting.{if_above}
+use Rattle.rt_moves.proofs.Waiting.{first_ordered, over_best}
 
 pub level_is : (app : App) (js : List Kept) (ks : List laws.Job) → JobsAre app js ks → level app ks ≡ kept_level app js
 level_is app [] [] h = refl
@@ -48,38 +47,20 @@ pub jobs_next : (app : App) (js ks : List Kept) (i : ℕ) (j : Kept) (most here 
 jobs_next app js ks i j most here new same within is so_far own step =
     let more = greatest_next (job_level app) js ks i j same within is in omega arith
 
--- what is chosen of those from one on
-abbrev pub chosen : App → List Bool → ℕ → List IrqDecl → Option ℕ
-chosen app pending n ds = best (starts_above app pending n) (goes_before app) (map (λ d. d.number) ds)
-
+-- the first of those that wait, where it is above the level
 pub candidate_is : (app : App) (s : Held) (t : laws.State) (o : Option ℕ) → StateIs app s t
-    → o ≡ chosen app s.pending (kept_level app s.jobs) app.irqs → o ≡ candidate app t
+    → o ≡ if_above (priority_of app) (kept_level app s.jobs) (slice_get s.waiting 0) → o ≡ candidate app t
+unfolding waiting_of
 candidate_is app s t o h is =
-    is ∙ ap (λ (n : ℕ). chosen app s.pending n app.irqs) (sym (level_is app s.jobs t.jobs h.jobs))
-    ∙ ap (λ (ps : List Bool). chosen app ps (level app t.jobs) app.irqs) (sym (ap (λ (u : laws.State). u.pending) h.is))
-
-pub none_chosen : (app : App) (pending : List Bool) (n : ℕ) (ds : List IrqDecl)
-    → list_any (λ d. slice_index_or pending d.number false) ds ≡ false → chosen app pending n ds ≡ None
-none_chosen app pending n [] h = refl
-none_chosen app pending n (d ∷ ds) h =
-    let parts = both_of_none (slice_index_or pending d.number false) (list_any (λ d. slice_index_or pending d.number
-    false) ds) h in
-    ap (λ (b : Bool). if b && nat_lt n (priority_of app d.number) then better_of (goes_before app) d.number (chosen
-    app pending n ds) else chosen app pending n ds) parts.0
-    ∙ none_chosen app pending n ds parts.1
-
--- one before those that were looked at
-pub chosen_next : (app : App) (pending : List Bool) (n : ℕ) (ds : List IrqDecl) (behind : ℕ) (d : IrqDecl) (o p :
-    Option ℕ) → behind < length ds → d ≡ get_or ds (length ds - 1 - behind) d
-    → o ≡ chosen app pending n (drop (length ds - behind) ds)
-    → p ≡ (if starts_above app pending n d.number then better_of (goes_before app) d.number o else o)
-    → p ≡ chosen app pending n (drop (length ds - (behind + 1)) ds)
-chosen_next app pending n ds behind d o p within at is chooses =
-    let place = length ds - 1 - behind in
-    let e : length ds - behind ≡ place + 1 = omega arith in
-    let f : place ≡ length ds - (behind + 1) = omega arith in
-    chooses
-    ∙ ap (λ (q : Option ℕ). if starts_above app pending n d.number then better_of (goes_before app) d.number q else
-    q) (is ∙ ap (λ (k : ℕ). chosen app pending n (drop k ds)) e)
-    ∙ sym (ap (λ (xs : List IrqDecl). chosen app pending n xs) (drop_as_cons ds place d (omega arith) at))
-    ∙ ap (λ (k : ℕ). chosen app pending n (drop k ds)) f
+    is
+    ∙ ap (λ (irqs : List ℕ). if_above (priority_of app) (kept_level app s.jobs) (slice_get irqs 0)) h.waiting
+    ∙ ap (if_above (priority_of app) (kept_level app s.jobs)) (first_ordered (waits app s.pending) (goes_before app)
+    numbers)
+    ∙ ap (λ (n : ℕ). if_above (priority_of app) n (best (waits app s.pending) (goes_before app) numbers)) (sym (level_is
+    app s.jobs t.jobs h.jobs))
+    ∙ over_best (priority_of app) (λ irq. slice_index_or s.pending irq false) (level app t.jobs) numbers
+    ∙ ap (λ (ps : List Bool). best (λ irq. slice_index_or ps irq false && nat_lt (level app t.jobs) (priority_of app
+    irq)) (goes_before app) numbers) (sym (ap (λ (u : laws.State). u.pending) h.is))
+  where
+    numbers : List ℕ
+    numbers = map (λ d. d.number) app.irqs

@@ -3,6 +3,8 @@ pub mod Ceilings
 pub mod Filling
 pub mod Serving
 pub mod Resets
+pub mod Waiting
+pub mod Pending
 pub mod Jobs
 pub mod Acts
 pub mod Idling

@@ -11,7 +11,7 @@ use Rattle.rt_laws.specs.State.{first_values}
 use Rattle.rt_work.specs.Store.{Store, contents}
 
 -- copies of a thing, read with the same thing for none
-copies_read : {X : Type 0} (x : X) (n i : ℕ) → get_or (replicate n x) i x ≡ x
+pub copies_read : {X : Type 0} (x : X) (n i : ℕ) → get_or (replicate n x) i x ≡ x
 copies_read x zero i = refl
 copies_read x (suc n) zero = refl
 copies_read x (suc n) (suc i) = copies_read x n i

@@ -1,6 +1,6 @@
 -- Jobs that start, and what they have to do.
 use Rattle.std.proofs.Common.{◌≡◌, ◌≢◌, ◌^◌, ℕ, Bool, false, List, [], ◌∷◌, ◌++◌}
-use Rattle.std.proofs.Common.{replicate, set, Option, Some, None}
+use Rattle.std.proofs.Common.{replicate, Option, Some, None}
 use Rattle.std.proofs.Common.{if◌then◌else◌, refl, ap, ◌∙◌, sym, subst}
 use Rattle.rt_ids.specs.Lists.{is_empty}
 use Rattle.rt_ids.specs.Holder.{Guarded}
@@ -14,6 +14,7 @@ use Rattle.rt_trace.specs.Label.{Stepped}
 use Rattle.rt_trace.specs.declared.item.What.TheVariants as what
 use Rattle.rt_app.specs.declared.costs.TheConstants.{FREE_COST}
 use Rattle.rt_app.specs.Tree.{Body, App}
+use Rattle.rt_app.specs.Accepted.{IsAccepted}
 use Rattle.rt_app.specs.BodyCost.{cost_measure, cost_of, dispatcher_section_cost, timer_section_cost}
 use Rattle.rt_app.specs.Handlers.{Handler, Runs, Dispatches, Times, Service}
 use Rattle.rt_app.specs.Sending.{Rest, act, act_all, dispatcher_number}
@@ -35,6 +36,7 @@ use Rattle.rt_moves.specs.State.{Held, StateIs}
 use Rattle.rt_moves.specs.Inside.Acts.{moved}
 use Rattle.rt_moves.specs.Inside.Starts.{held_taken, Begins, Launches}
 use Rattle.rt_moves.proofs.Jobs.{kept}
+use Rattle.rt_moves.proofs.Pending.{none_waiting, taken_from, taken_stands}
 use Rattle.rt_moves.proofs.Acts.{settled_reaches, finish_reaches, Stands, with_first, moved_stands}
 
 -- what the definitions have handlers do, with their return
@@ -111,6 +113,7 @@ abbrev pub with_more : Held → List Kept → Store → Held
 with_more s jobs is = record {
   jobs = jobs;
   pending = s.pending;
+  waiting = s.waiting;
   store = is;
   time = s.time;
   alarm = s.alarm;
@@ -152,10 +155,11 @@ begins_stand app r p cost first was is j rest us busy b alike =
     }
 
 -- the state after reset
-abbrev pub held : List Kept → List Bool → Store → Held
-held jobs pending store = record {
+abbrev pub held : List Kept → List Bool → List ℕ → Store → Held
+held jobs pending waiting store = record {
   jobs = jobs;
   pending = pending;
+  waiting = waiting;
   store = store;
   time = 0;
   alarm = None;
@@ -163,13 +167,14 @@ held jobs pending store = record {
 }
 
 abbrev pub reset : List Kept → Store → Held
-reset jobs store = held jobs (replicate IRQ_NUMBERS false) store
+reset jobs store = held jobs (replicate IRQ_NUMBERS false) [] store
 
-pub reset_is : (j : Kept) (jobs none : List Kept) (pending : List Bool) (store : Store) → jobs ≡ none ++ j ∷ []
-    → none ≡ [] → pending ≡ replicate IRQ_NUMBERS false
-    → held jobs pending store ≡ reset (j ∷ []) store
-reset_is j jobs none pending store grown empty quiet =
-    ap (λ (ps : List Bool). held jobs ps store) quiet
+pub reset_is : (j : Kept) (jobs none : List Kept) (pending : List Bool) (waiting : List ℕ) (store : Store)
+    → jobs ≡ none ++ j ∷ [] → none ≡ [] → pending ≡ replicate IRQ_NUMBERS false → waiting ≡ []
+    → held jobs pending waiting store ≡ reset (j ∷ []) store
+reset_is j jobs none pending waiting store grown empty quiet free =
+    ap (λ (ps : List Bool). held jobs ps waiting store) quiet
+    ∙ ap (λ (irqs : List ℕ). held jobs (replicate IRQ_NUMBERS false) irqs store) free
     ∙ ap (λ (js : List Kept). reset js store) (grown ∙ ap (λ (js : List Kept). js ++ j ∷ []) empty)
 
 init_works : laws.Init ≢ laws.Waiting
@@ -195,19 +200,12 @@ first_stands app was is j s b fills made_so =
         alarm = None;
         owing = false;
       }) stands.values;
+      waiting = sym (none_waiting app IRQ_NUMBERS);
     })
 
 -- a handler starts
 serving_works : (irq : ℕ) → laws.Serving irq ≢ laws.Waiting
 serving_works irq e = cc
-
--- the machine's state, where an interrupt is pending no longer
-abbrev taken_from : ℕ → laws.State → laws.State
-taken_from irq t = record t { pending = set t.pending irq false }
-
-taken_stands : (app : App) (irq : ℕ) (s : Held) (t : laws.State) → StateIs app s t
-    → StateIs app (held_taken irq s) (taken_from irq t)
-taken_stands app irq s t h = record { jobs = h.jobs; is = ap (taken_from irq) h.is }
 
 handler_stands : (app : App) (irq p cost : ℕ) (h : Handler) (v : Service) (s new : Held) (t : laws.State)
     → h ≡ v.handler → p ≡ v.level → cost ≡ handler_cost app v.handler
@@ -221,7 +219,8 @@ handler_stands app irq p cost h v s new t does_it at takes l held =
     (handler_is app irq v.handler t.values
     ∙ ap (λ (k : Handler). handled app k (finish (laws.Serving irq)) [] t.values) (sym does_it)
     ∙ ap (λ (u : laws.State). handled app h (finish (laws.Serving irq)) [] u.values) held.is) in
-    let moves = moved_stands app s t _ t.jobs _ l.after l.after l.store held.is stands held.jobs in
+    let moves = moved_stands app s t _ t.jobs _ l.after l.after l.store held.is held.waiting stands
+    held.jobs in
     subst (λ (k : Held). StateIs app k (machine.started app t irq (Some v))) (sym l.is)
     (subst (λ (n : ℕ). StateIs app (moved s l.after l.store) (with_first t (laws.begun (laws.Serving irq) n
     (handler_cost app v.handler) rest) t.jobs (reached rest t.values))) at
@@ -229,23 +228,24 @@ handler_stands app irq p cost h v s new t does_it at takes l held =
     t.jobs (reached rest t.values))) takes moves))
 
 -- an interrupt is taken: nothing serves it, or its handler starts
-pub none_taken : (app : App) (irq : ℕ) (o : Option Served) (s mid : Held)
+pub none_taken : (app : App) → IsAccepted app → (irq : ℕ) (o : Option Served) (s mid : Held)
     → IsServed app o (service_at app irq) → o ≡ None → mid ≡ held_taken irq s → (depth : ℕ) (t : laws.State)
     → StateIs app s t → StateIs app mid (machine.after app t (Stepped (Some (what.Take irq depth))))
-none_taken app irq o s mid serves none cleared depth t h = go (service_at app irq) (subst (λ (x : Option Served).
-    IsServed app x (service_at app irq)) none serves)
+none_taken app accepted irq o s mid serves none cleared depth t h = go (service_at app irq) (subst (λ (x : Option
+    Served). IsServed app x (service_at app irq)) none serves)
   where
     go : (v : Option Service) → IsServed app None v → StateIs app mid (machine.started app (taken_from irq t) irq v)
-    go None is = subst (λ (k : Held). StateIs app k (taken_from irq t)) (sym cleared) (taken_stands app irq s t h)
+    go None is =
+        subst (λ (k : Held). StateIs app k (taken_from irq t)) (sym cleared) (taken_stands app accepted irq s t h)
     go (Some v) is = absurd is
 
-pub one_taken : (app : App) (irq : ℕ) (o : Option Served) (served : Served) (s mid new : Held)
+pub one_taken : (app : App) → IsAccepted app → (irq : ℕ) (o : Option Served) (served : Served) (s mid new : Held)
     → IsServed app o (service_at app irq) → o ≡ Some served → mid ≡ held_taken irq s
     → Launches app (laws.Serving irq) served.level served.cost (handled app (handler_of served.handler)) mid new
     → (depth : ℕ) (t : laws.State) → StateIs app s t
     → StateIs app new (machine.after app t (Stepped (Some (what.Take irq depth))))
-one_taken app irq o served s mid new serves one cleared l depth t h = go (service_at app irq) (subst (λ (x : Option
-    Served). IsServed app x (service_at app irq)) one serves)
+one_taken app accepted irq o served s mid new serves one cleared l depth t h = go (service_at app irq) (subst (λ (x :
+    Option Served). IsServed app x (service_at app irq)) one serves)
   where
     go : (v : Option Service) → IsServed app (Some served) v
         → StateIs app new (machine.started app (taken_from irq t) irq v)
@@ -253,4 +253,4 @@ one_taken app irq o served s mid new serves one cleared l depth t h = go (servic
     go (Some v) is =
         handler_stands app irq served.level served.cost (handler_of served.handler) v mid new (taken_from irq t) is.0
         is.1 is.2 l
-        (subst (λ (k : Held). StateIs app k (taken_from irq t)) (sym cleared) (taken_stands app irq s t h))
+        (subst (λ (k : Held). StateIs app k (taken_from irq t)) (sym cleared) (taken_stands app accepted irq s t h))

@@ -1,6 +1,7 @@
 -- What private contracts alone cite.
 pub mod Guards
 pub mod Level
+pub mod Waiting
 pub mod Acts
 pub mod Moves
 pub mod Starts

@@ -1,4 +1,5 @@
 pub mod Job
+pub mod Waiting
 pub mod State
 pub mod Machine
 pub mod Tables

@@ -5,12 +5,15 @@ use Rattle.rt_app.specs.Tree.{App}
 use Rattle.rt_laws.specs.State as laws
 use Rattle.rt_work.specs.Store.{Store, contents}
 use Rattle.rt_moves.specs.Job.{Kept, JobIs}
+use Rattle.rt_moves.specs.Waiting.{waiting_of}
 
 pub record Held : Type 0 where
   -- the last started first
   pub jobs : List Kept
   -- by interrupt number
   pub pending : List Bool
+  -- the pending interrupts that something serves, by their numbers, in the order in which they would be taken
+  pub waiting : List ℕ
   pub store : Store
   pub time : ℕ
   pub alarm : Option ℕ
@@ -37,3 +40,4 @@ JobsAre app (j ∷ js) (k ∷ ks) = JobIs app j k × JobsAre app js ks
 pub record StateIs (app : App) (s : Held) (t : laws.State) : Type 0 where
   pub jobs : JobsAre app s.jobs t.jobs
   pub is : t ≡ with_jobs s t.jobs
+  pub waiting : s.waiting ≡ waiting_of app s.pending

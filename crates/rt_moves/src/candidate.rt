@@ -1,6 +1,4 @@
-ghost use Rattle.std.specs.Prelude.{◌≡◌, map, false, slice_index_or, if◌then◌else◌, option_map};
-ghost use Rattle.std.specs.List.{list_any};
-ghost use Rattle.rt_ids.specs.Choice.{best, better_of};
+ghost use Rattle.std.specs.Prelude.{◌≡◌, ◌≤◌, ◌==◌, length, insert, position, Some, OnOk, option_map};
 ghost use Rattle.rt_ids.specs.Lists.{or_zero};
 ghost use Rattle.rt_app.specs.View.{app_of};
 ghost use Rattle.rt_laws.specs.Level.{goes_before, candidate};
@@ -8,12 +6,13 @@ ghost use Rattle.rt_laws.specs.Services.{priority_of};
 ghost use Rattle.rt_laws.specs.State as laws;
 ghost use Rattle.rt_moves.specs.Machine.{IsMachine};
 ghost use Rattle.rt_moves.specs.State.{StateIs};
-ghost use Rattle.rt_moves.specs.Inside.Level.{starts_above};
+ghost use Rattle.rt_moves.specs.Waiting.{placed};
+ghost use Rattle.rt_moves.specs.Inside.Level.{kept_level};
+ghost use Rattle.rt_moves.specs.Inside.Waiting.{queued, without, if_above};
 
 use crate::machine::{Machine, Served};
 use crate::state::State;
-use rt_app::App;
-use rt_ids::Irq;
+use rt_ids::{Irq, NoMemory};
 
 /// The priority of what serves, and 0 where nothing does.
 fn level_of(served: &Option<Served>) -> u8
@@ -46,88 +45,85 @@ fn goes_before<'a>(machine: &Machine<'a>, irq: Irq, other: Irq) -> bool
     others < own || (own == others && irq.get() < other.get())
 }
 
-/// The one of two that is taken first, where there is a second one.
-fn better<'a>(machine: &Machine<'a>, irq: Irq, chosen: Option<Irq>) -> Option<Irq>
+/// The place of an interrupt among those that wait: in front of the first that it goes before.
+fn place<'a>(machine: &Machine<'a>, irq: Irq, waiting: &[Irq]) -> usize
     requires { IsMachine machine.now }
-    ensures { result ≡ better_of (goes_before (app_of machine.now.code.now.app.now)) irq chosen }
+    ensures within { result ≤ length waiting.now }
+    ensures place { let app = app_of machine.now.code.now.app.now in
+        insert waiting.now result irq ≡ placed (goes_before app) irq waiting.now }
 {
-    match chosen {
-        None => Some(irq),
-        Some(other) => {
-            if goes_before(machine, irq, other) {
-                Some(irq)
-            } else {
-                Some(other)
-            }
+    for (place, other) in waiting.iter().enumerate() {
+        if goes_before(machine, irq, *other) {
+            return place;
+        }
+    }
+    waiting.len()
+}
+
+/// An interrupt that has come to be pending waits at its place, where something serves it.
+fn enqueue<'a>(machine: &Machine<'a>, irq: Irq, waiting: &mut Vec<Irq>) -> Result<(), NoMemory>
+    requires { IsMachine machine.now }
+    ensures { let app = app_of machine.now.code.now.app.now in
+        OnOk result (waiting.new.items ≡ queued app irq waiting.old.items) }
+{
+    if priority(machine, irq) == 0 {
+        return Ok(());
+    }
+    let place = place(machine, irq, waiting);
+    waiting.insert(place, irq)?;
+    Ok(())
+}
+
+/// The interrupt of this number has come to be pending, and waits at its place, where something serves it.
+pub(crate) fn queue<'a>(
+    machine: &Machine<'a>,
+    irq: u16,
+    waiting: &mut Vec<Irq>,
+) -> Result<(), NoMemory>
+    requires { IsMachine machine.now }
+    ensures { let app = app_of machine.now.code.now.app.now in
+        OnOk result (waiting.new.items ≡ queued app irq waiting.old.items) }
+{
+    match Irq::new(irq) {
+        None => Ok(()),
+        Some(irq) => {
+            enqueue(machine, irq, waiting)?;
+            Ok(())
+        }
+    }
+}
+
+/// The place of an interrupt among these, where it is one of them.
+fn place_of(waiting: &[Irq], irq: u16) -> Option<usize>
+    ensures { result ≡ position (λ n. n == irq) waiting.now }
+{
+    waiting.iter().position(|other| other.get() == irq)
+}
+
+/// The interrupt of this number waits no longer.
+pub(crate) fn unqueue(waiting: &mut Vec<Irq>, irq: u16)
+    ensures { waiting.new.items ≡ without irq waiting.old.items }
+{
+    match place_of(waiting, irq) {
+        None => {}
+        Some(place) => {
+            waiting.remove(place);
         }
     }
 }
 
 impl<'a> State<'a> {
-    /// Whether an interrupt is pending.
-    fn is_pending(&self, irq: Irq) -> bool
-        ensures { result ≡ slice_index_or self.now.pending irq false }
-    {
-        match self.pending.get(usize::from(irq.get())) {
-            None => false,
-            Some(is_pending) => *is_pending,
-        }
-    }
-
-    /// Whether a declared interrupt is pending.
-    fn has_pending(&self, app: &App) -> bool
-        ensures { result ≡ list_any (λ d. slice_index_or self.now.pending d.number false) app.now.irqs.items }
-    {
-        for declared in &app.irqs {
-            if self.is_pending(declared.number) {
-                return true;
-            }
-        }
-        false
-    }
-
-    /// Whether an interrupt is pending and of a priority above this level.
-    fn starts_above(&self, machine: &Machine<'a>, level: u32, irq: Irq) -> bool
-        requires { IsMachine machine.now }
-        ensures { result ≡ starts_above (app_of machine.now.code.now.app.now) self.now.pending level irq }
-    {
-        self.is_pending(irq) && level < u32::from(priority(machine, irq))
-    }
-
-    /// The interrupt that is chosen with one more, where that may start above this level.
-    fn choose(
-        &self,
-        machine: &Machine<'a>,
-        level: u32,
-        irq: Irq,
-        chosen: Option<Irq>,
-    ) -> Option<Irq>
+    /// An interrupt, where it is of a priority above the level.
+    fn above(&self, machine: &Machine<'a>, irq: Irq) -> Option<u16>
         requires { IsMachine machine.now }
         ensures { let app = app_of machine.now.code.now.app.now in
-            result ≡ (if starts_above app self.now.pending level irq then better_of (goes_before app) irq chosen
-            else chosen) }
+            result ≡ if_above (priority_of app) (kept_level app self.now.jobs) (Some irq) }
     {
-        if self.starts_above(machine, level, irq) {
-            better(machine, irq, chosen)
+        if self.level(machine) < u32::from(priority(machine, irq)) {
+            Some(irq.get())
         } else {
-            chosen
+            None
         }
-    }
-
-    /// Of the declared interrupts that may start above this level the one that is taken first.
-    fn best_above(&self, machine: &Machine<'a>, level: u32) -> Option<Irq>
-        requires { IsMachine machine.now }
-        ensures { let app = app_of machine.now.code.now.app.now in
-            result ≡ best (starts_above app self.now.pending level) (goes_before app)
-            (map (λ d. d.number) app.irqs) }
-    {
-        let irqs = machine.code.app.irqs.as_slice();
-        let mut chosen = None;
-        for behind in 0..irqs.len() {
-            let irq = irqs[irqs.len() - 1 - behind].number;
-            chosen = self.choose(machine, level, irq, chosen);
-        }
-        chosen
     }
 
     /// The interrupt that is to be taken, where there is one.
@@ -136,12 +132,9 @@ impl<'a> State<'a> {
         ensures { (t : laws.State) → StateIs (app_of machine.now.code.now.app.now) self.now t
             → result ≡ candidate (app_of machine.now.code.now.app.now) t }
     {
-        if !self.has_pending(machine.code.app) {
-            return None;
-        }
-        match self.best_above(machine, self.level(machine)) {
+        match self.waiting.first() {
             None => None,
-            Some(irq) => Some(irq.get()),
+            Some(irq) => self.above(machine, *irq),
         }
     }
 }

@@ -8,24 +8,28 @@ ghost use Rattle.rt_laws.specs.Allowed.{given, after};
 ghost use Rattle.rt_laws.specs.Silent.{spending};
 ghost use Rattle.rt_laws.specs.State as laws;
 ghost use Rattle.rt_work.specs.Code.{IsCode};
+ghost use Rattle.rt_moves.specs.Machine.{IsMachine};
 ghost use Rattle.rt_moves.specs.State.{StateIs};
 ghost use Rattle.rt_moves.specs.Inside.Moves.{with_next, Advances, IsIdling};
 ghost use Rattle.rt_moves.specs.Inside.Acts.{moved, Resumes};
 
 use crate::idle::idle;
 use crate::job::{Job, Role};
+use crate::machine::Machine;
 use crate::state::{State, is_due, timer};
-use rt_app::App as Application;
 use rt_ids::NoMemory;
 use rt_work::clock::answer;
 use rt_work::{Code, Reading, Todo};
 
 impl<'a> State<'a> {
     /// The interrupt of this number arrives.
-    pub fn arrive(&mut self, irq: u16)
-        ensures { (app : App) (t : laws.State) → StateIs app self.old t → StateIs app self.new (pended irq t) }
+    pub fn arrive(&mut self, machine: &Machine<'a>, irq: u16) -> Result<(), NoMemory>
+        requires { IsMachine machine.now }
+        ensures { let app = app_of machine.now.code.now.app.now in
+            OnOk result ((t : laws.State) → StateIs app self.old t → StateIs app self.new (pended irq t)) }
     {
-        self.pend(irq);
+        self.pend(machine, irq)?;
+        Ok(())
     }
 
     /// The time rises by one tick.
@@ -38,13 +42,15 @@ impl<'a> State<'a> {
     }
 
     /// The alarm of a tick comes.
-    pub fn ring(&mut self, app: &Application)
-        ensures { (t : laws.State) → StateIs (app_of app.now) self.old t
-            → StateIs (app_of app.now) self.new (after (app_of app.now) t Rang) }
+    pub fn ring(&mut self, machine: &Machine<'a>) -> Result<(), NoMemory>
+        requires { IsMachine machine.now }
+        ensures { let app = app_of machine.now.code.now.app.now in
+            OnOk result ((t : laws.State) → StateIs app self.old t → StateIs app self.new (after app t Rang)) }
     {
         self.alarm = None;
         self.owing = false;
-        self.pend(timer(app));
+        self.pend(machine, timer(machine.code.app))?;
+        Ok(())
     }
 
     /// So many silent steps pass.
@@ -58,15 +64,15 @@ impl<'a> State<'a> {
     }
 
     /// The running job does its next action, whatever that is, and runs on to the one behind it.
-    pub fn advance(&mut self, code: &Code<'a>) -> Result<(), NoMemory>
-        requires { IsCode code.now }
-        ensures { let app = app_of code.now.app.now in
+    pub fn advance(&mut self, machine: &Machine<'a>) -> Result<(), NoMemory>
+        requires { IsMachine machine.now }
+        ensures { let app = app_of machine.now.code.now.app.now in
             OnOk result ((t : laws.State) → StateIs app self.old t → StateIs app self.new (given app t t.jobs)) }
     {
         match self.running() {
             None => Ok(()),
             Some(job) => {
-                self.go_on(code, job)?;
+                self.go_on(machine, job)?;
                 Ok(())
             }
         }
@@ -92,17 +98,18 @@ impl<'a> State<'a> {
     }
 
     /// The running job, taken out of the state, does its next action, and runs on.
-    fn go_on(&mut self, code: &Code<'a>, mut job: Job<'a>) -> Result<(), NoMemory>
-        requires { IsCode code.now }
-        ensures { OnOk result (Advances (app_of code.now.app.now) (moved self.old job.entry self.old.store) self.new) }
+    fn go_on(&mut self, machine: &Machine<'a>, mut job: Job<'a>) -> Result<(), NoMemory>
+        requires { IsMachine machine.now }
+        ensures { OnOk result (Advances (app_of machine.now.code.now.app.now) (moved self.old job.entry
+            self.old.store) self.new) }
     {
         match job.next() {
             None => {
-                self.finish(code, job)?;
+                self.finish(machine.code, job)?;
                 Ok(())
             }
             Some(todo) => {
-                self.follow(code, todo, job)?;
+                self.follow(machine, todo, job)?;
                 Ok(())
             }
         }
@@ -110,18 +117,23 @@ impl<'a> State<'a> {
 
     /// The running job, taken out of the state, does this, which was taken off its work, and runs on. It is an action
     /// or a reading of the clock, since a job stands at such.
-    fn follow(&mut self, code: &Code<'a>, todo: Todo<'a>, job: Job<'a>) -> Result<(), NoMemory>
-        requires { IsCode code.now }
-        ensures { OnOk result (Advances (app_of code.now.app.now) (moved self.old (with_next todo.entry job.entry)
-            self.old.store) self.new) }
+    fn follow(
+        &mut self,
+        machine: &Machine<'a>,
+        todo: Todo<'a>,
+        job: Job<'a>,
+    ) -> Result<(), NoMemory>
+        requires { IsMachine machine.now }
+        ensures { OnOk result (Advances (app_of machine.now.code.now.app.now) (moved self.old (with_next todo.entry
+            job.entry) self.old.store) self.new) }
     {
         match todo {
             Todo::Act(action) => {
-                self.act(code, action, job)?;
+                self.act(machine, action, job)?;
                 Ok(())
             }
             Todo::Clock(reading) => {
-                self.read(code, reading, job)?;
+                self.read(machine.code, reading, job)?;
                 Ok(())
             }
             _silent => Err(NoMemory),

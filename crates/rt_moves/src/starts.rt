@@ -18,6 +18,7 @@ ghost use Rattle.rt_moves.specs.Job.{role_of};
 ghost use Rattle.rt_moves.specs.State.{StateIs};
 ghost use Rattle.rt_moves.specs.Inside.Starts.{held_taken, Begins, Launches};
 
+use crate::candidate::unqueue;
 use crate::job::{Job, Role};
 use crate::machine::{Machine, Served};
 use crate::reset::first_store;
@@ -100,9 +101,11 @@ impl<'a> State<'a> {
         let mut jobs = Vec::new(code.alloc);
         jobs.push(job)?;
         let pending = none_pending(code.alloc)?;
+        let waiting = Vec::with_capacity(code.alloc, code.app.irqs.len())?;
         Ok(State {
             jobs,
             pending,
+            waiting,
             store,
             time: 0,
             alarm: None,
@@ -114,6 +117,7 @@ impl<'a> State<'a> {
     fn clear(&mut self, irq: u16)
         ensures { self.new ≡ held_taken irq self.old }
     {
+        unqueue(&mut self.waiting, irq);
         let place = usize::from(irq);
         if place < self.pending.len() {
             self.pending[place] = false;

@@ -6,12 +6,15 @@ ghost use Rattle.rt_laws.specs.Services.{timer_number};
 ghost use Rattle.rt_laws.specs.State as laws;
 ghost use Rattle.rt_work.specs.Actions.{action_of};
 ghost use Rattle.rt_work.specs.Code.{IsCode};
+ghost use Rattle.rt_moves.specs.Machine.{IsMachine};
 ghost use Rattle.rt_moves.specs.State.{StateIs};
 ghost use Rattle.rt_moves.specs.Inside.Acts.{before, held_pended, held_alarm, Resumes};
 
+use crate::candidate::queue;
 use crate::job::Job;
+use crate::machine::Machine;
 use rt_app::App;
-use rt_ids::NoMemory;
+use rt_ids::{Irq, NoMemory};
 use rt_work::lookup::number;
 use rt_work::timer::least_instant;
 use rt_work::{Action, Code, Store};
@@ -24,6 +27,9 @@ pub struct State<'a> {
     pub(crate) jobs: Vec<Job<'a>>,
     /// By interrupt number.
     pub(crate) pending: Vec<bool>,
+    /// The pending interrupts that something serves, in the order in which they would be taken. There is room for all
+    /// declared ones from the start.
+    pub(crate) waiting: Vec<Irq>,
     pub(crate) store: Store,
     /// In ticks.
     pub(crate) time: u64,
@@ -45,6 +51,7 @@ impl<'a> Model for State<'a> {
     ghost view = { λ s. record {
       jobs = s.jobs.items;
       pending = s.pending.items;
+      waiting = s.waiting.items;
       store = s.store;
       time = s.time;
       alarm = s.alarm;
@@ -80,14 +87,22 @@ impl<'a> State<'a> {
         self.owing
     }
 
-    /// The interrupt of this number is pending from now on.
-    pub(crate) fn pend(&mut self, irq: u16)
-        ensures { self.new ≡ held_pended irq self.old }
+    /// The interrupt of this number is pending from now on, and waits where something serves it. Where it is pending
+    /// already, nothing changes.
+    pub(crate) fn pend(&mut self, machine: &Machine<'a>, irq: u16) -> Result<(), NoMemory>
+        requires { IsMachine machine.now }
+        ensures { OnOk result (self.new ≡ held_pended (app_of machine.now.code.now.app.now) irq self.old) }
     {
         let place = usize::from(irq);
-        if place < self.pending.len() {
-            self.pending[place] = true;
+        if place >= self.pending.len() {
+            return Ok(());
         }
+        if self.pending[place] {
+            return Ok(());
+        }
+        queue(machine, irq, &mut self.waiting)?;
+        self.pending[place] = true;
+        Ok(())
     }
 
     /// The running job, taken out of the state, does an action of its work, and runs on.
@@ -101,43 +116,45 @@ impl<'a> State<'a> {
     }
 
     /// The alarm is set to an instant, or to none. Where the instant is due, it comes at once.
-    fn set_alarm(&mut self, app: &App, instant: Option<u64>)
-        ensures { self.new ≡ held_alarm (app_of app.now) instant self.old }
+    fn set_alarm(&mut self, machine: &Machine<'a>, instant: Option<u64>) -> Result<(), NoMemory>
+        requires { IsMachine machine.now }
+        ensures { OnOk result (self.new ≡ held_alarm (app_of machine.now.code.now.app.now) instant self.old) }
     {
         if is_due(self.time, instant) {
             self.alarm = None;
-            self.pend(timer(app));
-            return;
+            self.pend(machine, timer(machine.code.app))?;
+            return Ok(());
         }
         self.alarm = instant;
+        Ok(())
     }
 
     /// The running job, taken out of the state, does an action of its work, which stood on top, and runs on.
     pub(crate) fn act(
         &mut self,
-        code: &Code<'a>,
+        machine: &Machine<'a>,
         action: Action,
         job: Job<'a>,
     ) -> Result<(), NoMemory>
-        requires { IsCode code.now }
-        ensures { let app = app_of code.now.app.now in
+        requires { IsMachine machine.now }
+        ensures { let app = app_of machine.now.code.now.app.now in
             OnOk result ((t : laws.State) → StateIs app (before action job.entry self.old) t
             → StateIs app self.new (given app t t.jobs)) }
     {
         match action {
             Action::Post(irq) => {
-                self.resume(code, Action::Post(irq), job)?;
-                self.pend(irq);
+                self.resume(machine.code, Action::Post(irq), job)?;
+                self.pend(machine, irq)?;
                 Ok(())
             }
             Action::SetAlarm => {
                 let instant = least_instant(self.store.armed());
-                self.resume(code, Action::SetAlarm, job)?;
-                self.set_alarm(code.app, instant);
+                self.resume(machine.code, Action::SetAlarm, job)?;
+                self.set_alarm(machine, instant)?;
                 Ok(())
             }
             plain => {
-                self.resume(code, plain, job)?;
+                self.resume(machine.code, plain, job)?;
                 Ok(())
             }
         }

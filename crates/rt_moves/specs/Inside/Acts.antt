@@ -1,6 +1,6 @@
 -- What an action of the running job changes in what an auditor keeps of it and of the state, told beside what the
 -- machine of the definitions changes (`rt_laws`; Baker, Stack-Based Scheduling of Realtime Processes, 1991).
-use Rattle.std.specs.Prelude.{◌≡◌, ℕ, ◌-◌, true, [], ◌∷◌, ◌++◌, map, drop, slice_set, Option, None}
+use Rattle.std.specs.Prelude.{◌≡◌, ℕ, ◌-◌, true, [], ◌∷◌, ◌++◌, map, drop, slice_set, slice_index_or, Option, None}
 use Rattle.std.specs.Prelude.{if◌then◌else◌}
 use Rattle.rt_ids.specs.Holder.{Guarded}
 use Rattle.rt_ids.specs.Content.{Values, delays, least_instant}
@@ -16,6 +16,7 @@ use Rattle.rt_work.specs.Store.{Store, contents}
 use Rattle.rt_work.specs.Work.{Work, IsSettled}
 use Rattle.rt_moves.specs.Job.{Kept, rest_of, with_rest}
 use Rattle.rt_moves.specs.State.{Held}
+use Rattle.rt_moves.specs.Inside.Waiting.{queued}
 
 -- what an action changes in the sections and the steps that are left
 abbrev pub tracked : Action → Kept → Kept
@@ -44,15 +45,18 @@ abbrev pub moved : Held → Kept → Store → Held
 moved s new is = record {
   jobs = new ∷ s.jobs;
   pending = s.pending;
+  waiting = s.waiting;
   store = is;
   time = s.time;
   alarm = s.alarm;
   owing = s.owing;
 }
 
--- an interrupt is pending from now on
-abbrev pub held_pended : ℕ → Held → Held
-held_pended irq s = record s { pending = slice_set s.pending irq true }
+-- an interrupt that is not pending yet is so from now on; numbers beyond all that there are change nothing
+abbrev pub held_pended : App → ℕ → Held → Held
+held_pended app irq s =
+    if slice_index_or s.pending irq true then s
+    else record s { pending = slice_set s.pending irq true; waiting = queued app irq s.waiting }
 
 abbrev pub held_instant : Held → Option ℕ
 held_instant s = least_instant (delays (contents s.store (Guarded section.Timer)))
@@ -60,12 +64,12 @@ held_instant s = least_instant (delays (contents s.store (Guarded section.Timer)
 -- the alarm is set to an instant; where that is due it comes at once
 abbrev pub held_alarm : App → Option ℕ → Held → Held
 held_alarm app instant s =
-    if is_due s.time instant then record s { pending = slice_set s.pending (timer_number app) true; alarm = None }
+    if is_due s.time instant then held_pended app (timer_number app) (record s { alarm = None })
     else record s { alarm = instant }
 
 -- what an action changes beside the running job and the contents, where this instant was armed next
 abbrev pub beyond : App → Action → Option ℕ → Held → Held
-beyond app (Posts irq) instant s = held_pended irq s
+beyond app (Posts irq) instant s = held_pended app irq s
 beyond app SetsAlarm instant s = held_alarm app instant s
 beyond app a instant s = s
 

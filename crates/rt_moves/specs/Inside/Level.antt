@@ -1,11 +1,10 @@
--- The level of Baker's machine, which interrupts may start above it, and how many steps the running job has left
--- (Stack-Based Scheduling of Realtime Processes, 1991), told of the jobs that an auditor keeps.
-use Rattle.std.specs.Prelude.{ℕ, max, nat_lt, nat_le, Bool, true, false, ◌&&◌, List, [], ◌∷◌, map, slice_index_or}
+-- The level of Baker's machine, and how many steps the running job has left (Stack-Based Scheduling of Realtime
+-- Processes, 1991), told of the jobs that an auditor keeps.
+use Rattle.std.specs.Prelude.{ℕ, max, nat_le, Bool, true, false, ◌&&◌, List, [], ◌∷◌, map}
 use Rattle.std.specs.List.{list_all}
 use Rattle.rt_ids.specs.Lists.{greatest}
 use Rattle.rt_app.specs.Tree.{App}
 use Rattle.rt_laws.specs.Level.{greatest_ceiling}
-use Rattle.rt_laws.specs.Services.{priority_of}
 use Rattle.rt_laws.specs.State as laws
 use Rattle.rt_moves.specs.Job.{Kept}
 
@@ -16,10 +15,6 @@ module _ (app : App) where
 
   abbrev pub kept_level : List Kept → ℕ
   kept_level js = greatest (map job_level js)
-
-  -- an interrupt that is pending and of a priority above this level
-  abbrev pub starts_above : List Bool → ℕ → ℕ → Bool
-  starts_above pending level irq = slice_index_or pending irq false && nat_lt level (priority_of app irq)
 
 -- a job of this role has so many steps left; the thread that waits has no cost
 abbrev pub has_steps : laws.Role → ℕ → ℕ → Bool

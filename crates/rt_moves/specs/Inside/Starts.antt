@@ -12,6 +12,7 @@ use Rattle.rt_work.specs.Work.{IsSettled}
 use Rattle.rt_moves.specs.Job.{Kept, finish, rest_of, with_rest}
 use Rattle.rt_moves.specs.State.{Held}
 use Rattle.rt_moves.specs.Inside.Acts.{moved}
+use Rattle.rt_moves.specs.Inside.Waiting.{without}
 
 module _ (app : App) where
   -- A job began with this to do, and went on as far as its first action.
@@ -30,4 +31,4 @@ module _ (app : App) where
 
 -- an interrupt is pending no longer
 abbrev pub held_taken : ℕ → Held → Held
-held_taken irq s = record s { pending = slice_set s.pending irq false }
+held_taken irq s = record s { pending = slice_set s.pending irq false; waiting = without irq s.waiting }

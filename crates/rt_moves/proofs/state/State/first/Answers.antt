@@ -7,4 +7,5 @@ returns c =
     first_stands (app_of c.args.code.now.app.now) c.in_ok-store.store c.first_job.new.store c.in_ok-job.job _
     c.in_ok-job.ensures c.in_ok-store.ensures
     (reset_is c.in_ok-job.job c.push.new.self.items c.new-jobs.result.items c.in_ok-pending.pending.items
-    c.first_job.new.store c.in_ok-push.ensures.items c.new-jobs.ensures.items c.in_ok-pending.ensures)
+    c.in_ok-waiting.waiting.items c.first_job.new.store c.in_ok-push.ensures.items c.new-jobs.ensures.items
+    c.in_ok-pending.ensures c.in_ok-waiting.ensures.items)

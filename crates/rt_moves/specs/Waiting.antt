@@ -1,0 +1,26 @@
+-- The interrupts that wait in Baker's machine (Stack-Based Scheduling of Realtime Processes, 1991): they are pending,
+-- and something serves them. An auditor keeps them in the order in which they would be taken. The machine has no such
+-- list: whenever one may be taken, it chooses among all that are declared.
+use Rattle.std.specs.Prelude.{ℕ, nat_lt, Bool, false, ◌&&◌, if◌then◌else◌, List, [], ◌∷◌, map, slice_index_or}
+use Rattle.rt_app.specs.Tree.{App}
+use Rattle.rt_laws.specs.Level.{goes_before}
+use Rattle.rt_laws.specs.Services.{priority_of}
+
+-- with one more, in front of the first that it beats
+abbrev pub placed : {A : Type 0} → (A → A → Bool) → A → List A → List A
+placed beats x [] = x ∷ []
+placed beats x (y ∷ ys) = if beats x y then x ∷ y ∷ ys else y ∷ placed beats x ys
+
+-- those of a list that pass, each in front of those that it beats
+abbrev pub ordered : {A : Type 0} → (A → Bool) → (A → A → Bool) → List A → List A
+ordered passes beats [] = []
+ordered passes beats (x ∷ xs) =
+    if passes x then placed beats x (ordered passes beats xs) else ordered passes beats xs
+
+-- it is pending, and something serves it
+abbrev pub waits : App → List Bool → ℕ → Bool
+waits app pending irq = slice_index_or pending irq false && nat_lt 0 (priority_of app irq)
+
+-- those of the declared interrupts, the one that would be taken first in front
+unfoldable pub waiting_of : App → List Bool → List ℕ
+waiting_of app pending = ordered (waits app pending) (goes_before app) (map (λ d. d.number) app.irqs)
