@@ -1,3 +1,4 @@
 pub mod Allowing
 pub mod Running
+pub mod Counting
 pub mod Verdicts

@@ -19,7 +19,7 @@ use Rattle.rt_laws.specs.Allowed.{started, stepped, given, after}
 use Rattle.rt_laws.specs.Run.{RunsOn}
 use Rattle.rt_laws.specs.ByItems.{label_of, done_after, after_all, silent, Comes, after_item, RunsByItems}
 use Rattle.rt_laws.proofs.Silent.{silent_steps_by_cost}
-use Rattle.rt_baker.specs.Inside.Items.{state_behind, done_behind, AllCome}
+use Rattle.rt_baker.specs.Judge.{state_behind, done_behind, AllCome}
 
 module _ (app : App) where
   alarm_time : (i : Option ℕ) (s : laws.State) → (alarm_set app i s).time ≡ s.time

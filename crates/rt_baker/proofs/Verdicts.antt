@@ -1,12 +1,14 @@
 -- Items are judged one after another, and so is the trace.
 use Rattle.std.proofs.Common.{◌≡◌, ℕ, zero, suc, ◌+◌, ◌-◌, ◌<◌, ◌≤◌, ◌^◌, Bool, true, false, List, [], ◌∷◌}
 use Rattle.std.proofs.Common.{◌++◌, length, take, get_or, Option, Some, None, inl, inr, refl, ap, ◌∙◌, sym, subst}
-use Rattle.std.proofs.Common.{le_refl, arith}
+use Rattle.std.proofs.Common.{le_refl, arith, length-append}
+use Rattle.std.proofs.Math.Seq.{take-append-add, take-append_seam, take-length, take-take}
 use Rattle.std.specs.List.{AllByRecursion}
-use Rattle.std.proofs.lemmas.List.{take_more}
+use Rattle.std.proofs.lemmas.List.{take_more, take-append-le}
 use Rattle.rt_trace.specs.Trace.{Trace}
 use Rattle.rt_trace.specs.declared.item.Item.{Item}
 use Rattle.rt_app.specs.Tree.{App}
+use Rattle.rt_app.specs.Stack.{stack_bytes}
 use Rattle.rt_app.specs.Accepted.{IsAccepted}
 use Rattle.rt_laws.specs.State as laws
 use Rattle.rt_laws.specs.State.{first}
@@ -17,12 +19,12 @@ use Rattle.rt_laws.proofs.ByItems.{runs_are_by_items}
 use Rattle.rt_laws.proofs.Keeping.{judged_traces_keep_laws}
 use Rattle.rt_moves.specs.State.{Held, StateIs}
 use Rattle.rt_baker.specs.declared.done.Done.{Done}
-use Rattle.rt_baker.specs.declared.reached.Reached.{Reached}
-use Rattle.rt_baker.specs.declared.reached.Reached.TheVariants as reached
-use Rattle.rt_baker.specs.Audit.{front, IsRight, IsWrongAt}
-use Rattle.rt_baker.specs.Inside.Judging.{steps_done, IsEarly, Judges, Passes, Behind, ItemComes, ItemJudged}
-use Rattle.rt_baker.specs.Inside.Items.{state_behind, done_behind, AreRight, Follows, FailsAt, ItemsJudged, Ends}
-use Rattle.rt_baker.specs.Inside.Items.{TotalJudged}
+use Rattle.rt_baker.specs.declared.judge.Judge.{Judge}
+use Rattle.rt_baker.specs.declared.verdict.Verdict.{Verdict}
+use Rattle.rt_baker.specs.Audit.{front, IsRight, IsWrongAt, IsVerdict}
+use Rattle.rt_baker.specs.Judge.{steps_done, state_behind, done_behind, AreRight, Follows, FailsAt, Stands, HasJudged}
+use Rattle.rt_baker.specs.Judge.{MayTake}
+use Rattle.rt_baker.specs.Inside.Judging.{IsEarly, Judges, Passes, Behind, ItemComes, ItemJudged, Ends, TotalJudged}
 use Rattle.rt_baker.proofs.Allowing.{owes_as}
 use Rattle.rt_baker.proofs.Running.{silent_owing, silent_time, behind_time, come_more, come_last, state_more}
 use Rattle.rt_baker.proofs.Running.{done_more, come_front, run_from, run_comes, run_ends, run_here}
@@ -132,90 +134,145 @@ right_front app k xs right = record {
   depths = all_front app k xs right.depths;
 }
 
-take_front : (n m : ℕ) (xs : List Item) → n ≤ m → take n (take m xs) ≡ take n xs
-take_front zero zero [] le = refl
-take_front zero (suc m) [] le = refl
-take_front zero zero (x ∷ xs) le = refl
-take_front zero (suc m) (x ∷ xs) le = refl
-take_front (suc n) zero xs le = absurd (omega (arith, le))
-take_front (suc n) (suc m) [] le = refl
-take_front (suc n) (suc m) (x ∷ xs) le = ap (λ (ys : List Item). x ∷ ys) (take_front n m xs (omega (arith, le)))
-
 right_less : (app : App) (n m : ℕ) (xs : List Item) → n ≤ m → AreRight app (take m xs) → AreRight app (take n xs)
 right_less app n m xs le right =
-    subst (λ (ys : List Item). AreRight app ys) (take_front n m xs le) (right_front app n (take m xs) right)
+    subst (λ (ys : List Item). AreRight app ys) (take-take n m xs le) (right_front app n (take m xs) right)
 
-pub follows_none : (app : App) (xs : List Item) (s : Held) (n : ℕ) → StateIs app s (first app) → n ≡ 0
-    → Follows app (take 0 xs) s n
-follows_none app [] s n h none = record { right = record { come = tt; depths = tt }; is = h; steps = none }
-follows_none app (x ∷ xs) s n h none = record { right = record { come = tt; depths = tt }; is = h; steps = none }
-
-pub follows_more : (app : App) (xs : List Item) (i n : ℕ) (x : Item) (old new : Held) (o : Option Done) (d : Done)
-    → i < length xs → x ≡ get_or xs i x → Follows app (take i xs) old n → o ≡ Some d
-    → ItemJudged app o old new n x → Follows app (take (i + 1) xs) new (steps_done d)
+-- of items that follow one another, the next one follows too, or it is the first that fails
+follows_more : (app : App) (xs : List Item) (n : ℕ) (x : Item) (old new : Held) (d : Done) → Follows app xs old n
+    → ItemJudged app (Some d) old new n x → Follows app (xs ++ x ∷ []) new (steps_done d)
 unfolding ItemJudged
-follows_more app xs i n x old new o d within reads h is judged =
-    let j : ItemJudged app (Some d) old new n x =
-    subst (λ (p : Option Done). ItemJudged app p old new n x) is judged in
-    let ys : List Item = take i xs in
-    let more : ys ++ x ∷ [] ≡ take (i + 1) xs =
-    ap (λ (y : Item). ys ++ y ∷ []) reads ∙ sym (take_more xs i x within) in
-    let b : Behind app (state_behind app (first app) 0 ys) (done_behind app (first app) 0 ys) x new (steps_done d) =
-    subst (λ (m : ℕ). Behind app (state_behind app (first app) 0 ys) m x new (steps_done d)) h.steps
-    (j.1 (state_behind app (first app) 0 ys) h.is) in
-    subst (λ (zs : List Item). Follows app zs new (steps_done d)) more
-    (record {
-      right = right_more app ys x h.right b.comes j.0;
-      is = subst (λ (u : laws.State). StateIs app new u) (sym (state_more app ys (first app) 0 x)) b.is;
-      steps = b.steps ∙ sym (done_more app ys (first app) 0 x);
-    })
-
-pub follows_early : (app : App) (xs : List Item) (i n : ℕ) (s : Held) → i < length xs → length xs < 2 ^ 63
-    → Follows app (take i xs) s n → IsEarly app s
-follows_early app xs i n s within short h = record {
-  state = state_behind app (first app) 0 (take i xs);
-  is = h.is;
-  early =
-      (let bound = behind_time app (take i xs) (first app) 0 in
-      let few : length (take i xs) ≤ i = omega (arith, length_take i xs) in omega (arith, bound, few));
-}
-  where
-    length_take : (k : ℕ) (ys : List Item) → length (take k ys) ≤ k
-    length_take zero [] = omega arith
-    length_take zero (y ∷ ys) = omega arith
-    length_take (suc k) [] = omega arith
-    length_take (suc k) (y ∷ ys) = omega (arith, length_take k ys)
-
-pub fails_here : (app : App) (xs : List Item) (i n : ℕ) (x : Item) (old new : Held) (o : Option Done)
-    → i < length xs → x ≡ get_or xs i x → Follows app (take i xs) old n → o ≡ None
-    → ItemJudged app o old new n x → FailsAt app xs i
-unfolding ItemJudged
-fails_here app xs i n x old new o within reads h is judged =
-    let j : ItemJudged app None old new n x =
-    subst (λ (p : Option Done). ItemJudged app p old new n x) is judged in
-    let ys : List Item = take i xs in
-    let step : i + 1 ≡ suc i = omega arith in
-    let more : take (suc i) xs ≡ ys ++ x ∷ [] =
-    ap (λ (k : ℕ). take k xs) (sym step) ∙ take_more xs i x within ∙ ap (λ (y : Item). ys ++ y ∷ []) (sym reads) in
+follows_more app xs n x old new d h judged =
+    let b : Behind app (state_behind app (first app) 0 xs) (done_behind app (first app) 0 xs) x new (steps_done d) =
+    subst (λ (m : ℕ). Behind app (state_behind app (first app) 0 xs) m x new (steps_done d)) h.steps
+    (judged.1 (state_behind app (first app) 0 xs) h.is) in
     record {
-      within = within;
-      right = h.right;
-      wrong = λ right.
-          let all : AreRight app (ys ++ x ∷ []) = subst (λ (zs : List Item). AreRight app zs) more right in
-          j (state_behind app (first app) 0 ys) h.is (all_last app ys x all.depths)
-          (subst (λ (m : ℕ). Comes app (state_behind app (first app) 0 ys) m x) (sym h.steps)
-          (come_last app ys (first app) 0 x all.come));
+      right = right_more app xs x h.right b.comes judged.0;
+      is = subst (λ (u : laws.State). StateIs app new u) (sym (state_more app xs (first app) 0 x)) b.is;
+      steps = b.steps ∙ sym (done_more app xs (first app) 0 x);
     }
 
-take_all : (n : ℕ) (xs : List Item) → n ≡ length xs → take n xs ≡ xs
-take_all zero [] e = refl
-take_all (suc n) [] e = refl
-take_all zero (x ∷ xs) e = absurd (omega (arith, e))
-take_all (suc n) (x ∷ xs) e = ap (λ (ys : List Item). x ∷ ys) (take_all n xs (omega (arith, e)))
+take_last : (xs : List Item) (x : Item) → take (suc (length xs)) (xs ++ x ∷ []) ≡ xs ++ x ∷ []
+take_last xs x =
+    let n : suc (length xs) ≡ length xs + 1 = omega arith in
+    ap (λ (k : ℕ). take k (xs ++ x ∷ [])) n ∙ take-append-add xs (x ∷ []) 1
 
-pub follows_all : (app : App) (xs : List Item) (n : ℕ) (s : Held) (m : ℕ) → n ≡ length xs
-    → Follows app (take n xs) s m → Follows app xs s m
-follows_all app xs n s m all h = subst (λ (ys : List Item). Follows app ys s m) (take_all n xs all) h
+fails_here : (app : App) (xs : List Item) (n : ℕ) (x : Item) (old new : Held) → Follows app xs old n
+    → ItemJudged app None old new n x → FailsAt app (xs ++ x ∷ []) (length xs)
+unfolding ItemJudged
+fails_here app xs n x old new h judged = record {
+  within = omega (arith, length-append xs (x ∷ []));
+  right = subst (λ (ys : List Item). AreRight app ys) (sym (take-append_seam xs (x ∷ []))) h.right;
+  wrong = λ right.
+      let all : AreRight app (xs ++ x ∷ []) = subst (λ (ys : List Item). AreRight app ys) (take_last xs x) right in
+      judged (state_behind app (first app) 0 xs) h.is (all_last app xs x all.depths)
+      (subst (λ (m : ℕ). Comes app (state_behind app (first app) 0 xs) m x) (sym h.steps)
+      (come_last app xs (first app) 0 x all.come));
+}
+
+-- what failed is still the first that does
+fails_still : (app : App) (xs : List Item) (x : Item) (place : ℕ) → FailsAt app xs place
+    → FailsAt app (xs ++ x ∷ []) place
+fails_still app xs x place h =
+    let within = h.within in
+    record {
+      within = omega (arith, length-append xs (x ∷ []));
+      right =
+          subst (λ (ys : List Item). AreRight app ys) (sym (take-append-le place xs (x ∷ []) (omega arith))) h.right;
+      wrong = λ right.
+          h.wrong (subst (λ (ys : List Item). AreRight app ys) (take-append-le (suc place) xs (x ∷ []) (omega arith))
+          right);
+    }
+
+-- a judge
+follows : (app : App) (xs : List Item) (j : Judge) → j.wrong ≡ None → HasJudged app xs j
+    → Follows app xs j.state (steps_done j.done)
+follows app xs j is h =
+    let s : Stands app xs j.state j.done None =
+    subst (λ (o : Option ℕ). Stands app xs j.state j.done o) is h.stands in s
+
+fails : (app : App) (xs : List Item) (j : Judge) (place : ℕ) → j.wrong ≡ Some place → HasJudged app xs j
+    → FailsAt app xs place
+fails app xs j place is h =
+    let s : Stands app xs j.state j.done (Some place) =
+    subst (λ (o : Option ℕ). Stands app xs j.state j.done o) is h.stands in s
+
+pub judged_none : (app : App) (s : Held) (stack : ℕ) (d : Done) → stack ≡ stack_bytes app → StateIs app s (first app)
+    → steps_done d ≡ 0 → HasJudged app [] (record { state = s; stack = stack; done = d; items = 0; wrong = None })
+judged_none app s stack d bound is none = record {
+  counted = refl;
+  bounded = bound;
+  stands = record { right = record { come = tt; depths = tt }; is = is; steps = none };
+}
+
+pub judge_early : (app : App) (j : Judge) → j.wrong ≡ None → MayTake app j → IsEarly app j.state
+judge_early app j is may =
+    let bound = behind_time app may.items (first app) 0 in
+    let few = may.few in
+    record {
+      state = state_behind app (first app) 0 may.items;
+      is = (follows app may.items j is may.judged).is;
+      early = omega (arith, bound, few);
+    }
+
+one_more : (app : App) (x : Item) (j : Judge) (n : ℕ) → n ≡ j.items + 1 → (xs : List Item) → HasJudged app xs j
+    → n ≡ length (xs ++ x ∷ [])
+one_more app x j n more xs h = omega (arith, more, h.counted, length-append xs (x ∷ []))
+
+-- an item came behind a wrong one
+pub judged_behind : (app : App) (x : Item) (j : Judge) (n place : ℕ) → n ≡ j.items + 1 → j.wrong ≡ Some place
+    → (xs : List Item) → HasJudged app xs j → HasJudged app (xs ++ x ∷ []) (record j { items = n })
+judged_behind app x j n place more is xs h = record {
+  counted = one_more app x j n more xs h;
+  bounded = h.bounded;
+  stands =
+      subst (λ (o : Option ℕ). Stands app (xs ++ x ∷ []) j.state j.done o) (sym is)
+      (fails_still app xs x place (fails app xs j place is h));
+}
+
+-- the first wrong one came
+pub judged_wrong : (app : App) (x : Item) (j : Judge) (n : ℕ) (new : Held) (o : Option Done) → n ≡ j.items + 1
+    → j.wrong ≡ None → o ≡ None → ItemJudged app o j.state new (steps_done j.done) x
+    → (xs : List Item) → HasJudged app xs j
+    → HasJudged app (xs ++ x ∷ []) (record j { state = new; items = n; wrong = Some j.items })
+judged_wrong app x j n new o more is none judged xs h =
+    let judges : ItemJudged app None j.state new (steps_done j.done) x =
+    subst (λ (p : Option Done). ItemJudged app p j.state new (steps_done j.done) x) none judged in
+    let here : FailsAt app (xs ++ x ∷ []) (length xs) =
+    fails_here app xs (steps_done j.done) x j.state new (follows app xs j is h) judges in
+    record {
+      counted = one_more app x j n more xs h;
+      bounded = h.bounded;
+      stands = subst (λ (place : ℕ). FailsAt app (xs ++ x ∷ []) place) (sym h.counted) here;
+    }
+
+-- another right one came
+pub judged_right : (app : App) (x : Item) (j : Judge) (n : ℕ) (new : Held) (o : Option Done) (d : Done)
+    → n ≡ j.items + 1 → j.wrong ≡ None → o ≡ Some d → ItemJudged app o j.state new (steps_done j.done) x
+    → (xs : List Item) → HasJudged app xs j
+    → HasJudged app (xs ++ x ∷ []) (record j { state = new; done = d; items = n })
+judged_right app x j n new o d more is some judged xs h =
+    let judges : ItemJudged app (Some d) j.state new (steps_done j.done) x =
+    subst (λ (p : Option Done). ItemJudged app p j.state new (steps_done j.done) x) some judged in
+    record {
+      counted = one_more app x j n more xs h;
+      bounded = h.bounded;
+      stands =
+          subst (λ (p : Option ℕ). Stands app (xs ++ x ∷ []) new d p) (sym is)
+          (follows_more app xs (steps_done j.done) x j.state new d (follows app xs j is h) judges);
+    }
+
+-- the items of a trace so far
+pub judged_front : (app : App) (xs : List Item) (i : ℕ) (x : Item) (j : Judge) → i < length xs → x ≡ get_or xs i x
+    → HasJudged app (take i xs ++ x ∷ []) j → HasJudged app (take (i + 1) xs) j
+judged_front app xs i x j within reads h =
+    subst (λ (ys : List Item). HasJudged app ys j)
+    (ap (λ (y : Item). take i xs ++ y ∷ []) reads ∙ sym (take_more xs i x within)) h
+
+pub judged_all : (app : App) (xs : List Item) (i : ℕ) (j : Judge) → i ≡ length xs → HasJudged app (take i xs) j
+    → HasJudged app xs j
+judged_all app xs i j all h =
+    subst (λ (ys : List Item). HasJudged app ys j) (ap (λ (k : ℕ). take k xs) all ∙ take-length xs) h
 
 -- the end
 pub ends_any : (app : App) (s : Held) (n : ℕ) (o : Option ℕ) → o ≡ None → TotalJudged app true s n o
@@ -285,7 +342,7 @@ judged_fronts : (app : App) (trace : Trace) (m n : ℕ) → AreRight app (take m
 judged_fronts app trace m n right le =
     judged_items app (take n trace.items) None (right_less app n m trace.items le right) tt
 
-pub is_right : (app : App) (trace : Trace) (s : Held) (n : ℕ) → IsAccepted app → Follows app trace.items s n
+is_right : (app : App) (trace : Trace) (s : Held) (n : ℕ) → IsAccepted app → Follows app trace.items s n
     → TotalJudged app true s n trace.total → IsRight app trace
 unfolding TotalJudged
 is_right app trace s n accepted h ends =
@@ -294,7 +351,7 @@ is_right app trace s n accepted h ends =
     (ends (state_behind app (first app) 0 trace.items) h.is)) in
     record { judged = judged; laws = judged_traces_keep_laws app trace accepted judged }
 
-pub is_wrong_at : (app : App) (trace : Trace) (i number : ℕ) → number ≡ i + 1 → FailsAt app trace.items i
+is_wrong_at : (app : App) (trace : Trace) (i number : ℕ) → number ≡ i + 1 → FailsAt app trace.items i
     → IsWrongAt app trace number
 is_wrong_at app trace i number is h = record {
   before = i;
@@ -304,7 +361,7 @@ is_wrong_at app trace i number is h = record {
   not_judged = λ judged. h.wrong (right_front app (suc i) trace.items (right_items app trace judged));
 }
 
-pub is_wrong_total : (app : App) (trace : Trace) (s : Held) (n number : ℕ) → number ≡ length trace.items + 1
+is_wrong_total : (app : App) (trace : Trace) (s : Held) (n number : ℕ) → number ≡ length trace.items + 1
     → Follows app trace.items s n → TotalJudged app false s n trace.total → IsWrongAt app trace number
 unfolding TotalJudged
 is_wrong_total app trace s n number is h wrong = record {
@@ -319,37 +376,28 @@ is_wrong_total app trace s n number is h wrong = record {
       (right_ends app trace judged));
 }
 
--- what was judged of all items and of the total
-pub fails_in : (app : App) (xs : List Item) (s : Held) (r : Reached) (i : ℕ) → r ≡ reached.Wrong i
-    → ItemsJudged app xs s r → FailsAt app xs i
-unfolding ItemsJudged
-fails_in app xs s r i is h =
-    let j : ItemsJudged app xs s (reached.Wrong i) = subst (λ (q : Reached). ItemsJudged app xs s q) is h in j
+pub finds_wrong : (app : App) (o : Option ℕ) (j : Judge) (place number : ℕ) → j.wrong ≡ Some place
+    → number ≡ place + 1 → (xs : List Item) → HasJudged app xs j
+    → IsWrongAt app (record { items = xs; total = o }) number
+finds_wrong app o j place number is counts xs h =
+    is_wrong_at app (record { items = xs; total = o }) place number counts (fails app xs j place is h)
 
-follows_in : (app : App) (xs : List Item) (s : Held) (r : Reached) (d : Done) → r ≡ reached.End d
-    → ItemsJudged app xs s r → Follows app xs s (steps_done d)
-unfolding ItemsJudged
-follows_in app xs s r d is h =
-    let j : ItemsJudged app xs s (reached.End d) = subst (λ (q : Reached). ItemsJudged app xs s q) is h in j
+pub finds_right : (app : App) (o : Option ℕ) (j : Judge) → IsAccepted app → j.wrong ≡ None
+    → TotalJudged app true j.state (steps_done j.done) o → (xs : List Item) → HasJudged app xs j
+    → IsRight app (record { items = xs; total = o })
+finds_right app o j accepted is total xs h =
+    is_right app (record { items = xs; total = o }) j.state (steps_done j.done) accepted (follows app xs j is h) total
 
-pub judged_wrong_at : (app : App) (trace : Trace) (xs : List Item) (s : Held) (r : Reached) (i : ℕ)
-    → xs ≡ trace.items → r ≡ reached.Wrong i → ItemsJudged app xs s r → IsWrongAt app trace (i + 1)
-judged_wrong_at app trace xs s r i same is h =
-    is_wrong_at app trace i (i + 1) refl
-    (subst (λ (ys : List Item). FailsAt app ys i) same (fails_in app xs s r i is h))
+pub finds_wrong_total : (app : App) (o : Option ℕ) (j : Judge) (number : ℕ) → j.wrong ≡ None
+    → TotalJudged app false j.state (steps_done j.done) o → number ≡ j.items + 1 → (xs : List Item)
+    → HasJudged app xs j → IsWrongAt app (record { items = xs; total = o }) number
+finds_wrong_total app o j number is total counts xs h =
+    is_wrong_total app (record { items = xs; total = o }) j.state (steps_done j.done) number
+    (omega (arith, counts, h.counted)) (follows app xs j is h) total
 
-pub judged_right : (app : App) (trace : Trace) (xs : List Item) (s : Held) (r : Reached) (d : Done) (o : Option ℕ)
-    → IsAccepted app → xs ≡ trace.items → r ≡ reached.End d → ItemsJudged app xs s r → o ≡ trace.total
-    → TotalJudged app true s (steps_done d) o → IsRight app trace
-judged_right app trace xs s r d o accepted same is h told total =
-    is_right app trace s (steps_done d) accepted
-    (subst (λ (ys : List Item). Follows app ys s (steps_done d)) same (follows_in app xs s r d is h))
-    (subst (λ (p : Option ℕ). TotalJudged app true s (steps_done d) p) told total)
-
-pub judged_wrong_total : (app : App) (trace : Trace) (xs : List Item) (s : Held) (r : Reached) (d : Done)
-    (o : Option ℕ) (number : ℕ) → xs ≡ trace.items → r ≡ reached.End d → ItemsJudged app xs s r → o ≡ trace.total
-    → TotalJudged app false s (steps_done d) o → number ≡ length trace.items + 1 → IsWrongAt app trace number
-judged_wrong_total app trace xs s r d o number same is h told total counts =
-    is_wrong_total app trace s (steps_done d) number counts
-    (subst (λ (ys : List Item). Follows app ys s (steps_done d)) same (follows_in app xs s r d is h))
-    (subst (λ (p : Option ℕ). TotalJudged app false s (steps_done d) p) told total)
+-- the verdict on the items and the total of a trace is on the trace
+pub verdict_of : (app : App) (trace : Trace) (xs : List Item) (o : Option ℕ) (v : Verdict) → xs ≡ trace.items
+    → o ≡ trace.total → IsVerdict app (record { items = xs; total = o }) v → IsVerdict app trace v
+verdict_of app trace xs o v items total h =
+    subst (λ (p : Option ℕ). IsVerdict app (record { items = trace.items; total = p }) v) total
+    (subst (λ (ys : List Item). IsVerdict app (record { items = ys; total = o }) v) items h)

@@ -1,6 +1,6 @@
 ghost use Rattle.std.specs.Prelude.{◌≡◌, ℕ, suc, ◌<◌, ◌≤◌, ◌-◌, MatchOption, if◌then◌else◌};
 ghost use Rattle.rt_laws.specs.ByItems.{label_of, done_after};
-ghost use Rattle.rt_baker.specs.Inside.Judging.{steps_done};
+ghost use Rattle.rt_baker.specs.Judge.{steps_done};
 
 use rt_trace::{Item, What};
 

@@ -3,15 +3,12 @@ ghost use Rattle.rt_app.specs.Tree.{App};
 ghost use Rattle.rt_app.specs.Stack.{stack_bytes};
 ghost use Rattle.rt_app.specs.View.{app_of};
 ghost use Rattle.rt_laws.specs.Run.{IsWithinStack};
-ghost use Rattle.rt_laws.specs.State as laws;
 ghost use Rattle.rt_moves.specs.Machine.{IsMachine};
-ghost use Rattle.rt_moves.specs.State.{StateIs};
-ghost use Rattle.rt_baker.specs.Inside.Judging.{steps_done, IsEarly, ItemComes, ItemJudged};
-ghost use Rattle.rt_baker.specs.Inside.Items.{ItemsJudged, TotalJudged};
+ghost use Rattle.rt_baker.specs.Judge.{steps_done};
+ghost use Rattle.rt_baker.specs.Inside.Judging.{IsEarly, ItemComes, ItemJudged, TotalJudged};
 
 use crate::coming::{come, pass_steps};
 use crate::done::Done;
-use crate::reached::Reached;
 use rt_ids::NoMemory;
 use rt_moves::{Machine, State};
 use rt_trace::{Item, What};
@@ -56,7 +53,7 @@ fn come_after<'a>(
 }
 
 /// An item comes, where it may and is within so many stack bytes. The steps that are done then.
-fn judge_item<'a>(
+pub(crate) fn judge_item<'a>(
     state: &mut State<'a>,
     machine: &Machine<'a>,
     stack: u32,
@@ -74,28 +71,6 @@ fn judge_item<'a>(
     }
     let behind = come_after(state, machine, done, item)?;
     Ok(behind)
-}
-
-/// The items of a trace come from the start on, up to the first that is wrong.
-pub(crate) fn judge_items<'a>(
-    state: &mut State<'a>,
-    machine: &Machine<'a>,
-    stack: u32,
-    items: &[Item],
-) -> Result<Reached, NoMemory>
-    requires machine { IsMachine machine.now }
-    requires stack { stack ≡ stack_bytes (app_of machine.now.code.now.app.now) }
-    requires first { let app = app_of machine.now.code.now.app.now in StateIs app state.old (laws.first app) }
-    ensures { IfOk result (λ reached. ItemsJudged (app_of machine.now.code.now.app.now) items.now state.new reached) }
-{
-    let mut done = Done::none();
-    for (place, item) in items.iter().enumerate() {
-        match judge_item(state, machine, stack, done, item)? {
-            None => return Ok(Reached::Wrong(place)),
-            Some(behind) => done = behind,
-        }
-    }
-    Ok(Reached::End(done))
 }
 
 /// Whether a trace may end with so many core steps, where they are told.

@@ -4,9 +4,10 @@
 mod coming;
 mod done;
 mod items;
+pub mod judge;
 mod judging;
-mod reached;
 pub mod verdict;
 
+pub use judge::Judge;
 pub use judging::audit;
 pub use verdict::Verdict;

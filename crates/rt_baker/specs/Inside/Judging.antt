@@ -1,7 +1,7 @@
 -- What an auditor says of an item, and of the silent steps in front of it, for each state of Baker's machine
 -- (Stack-Based Scheduling of Realtime Processes, 1991) that the one that it keeps stands for: that it may come, and
--- what is kept of the state behind it; or that it may not.
-use Rattle.std.specs.Prelude.{◌≡◌, ℕ, suc, ◌<◌, ◌^◌, Bool, true, false, if◌then◌else◌, Option, Some, None}
+-- what is kept of the state behind it; or that it may not. Likewise of the end.
+use Rattle.std.specs.Prelude.{◌≡◌, ℕ, ◌-◌, ◌<◌, ◌≤◌, ◌^◌, Bool, true, false, Option, Some, None}
 use Rattle.rt_trace.specs.declared.item.Item.{Item}
 use Rattle.rt_trace.specs.declared.item.What.{What}
 use Rattle.rt_trace.specs.declared.item.What.TheVariants as what
@@ -12,10 +12,7 @@ use Rattle.rt_laws.specs.Run.{RunsOn, IsWithinStack}
 use Rattle.rt_laws.specs.ByItems.{label_of, done_after, after_all, silent, Comes, after_item}
 use Rattle.rt_moves.specs.State.{Held, StateIs}
 use Rattle.rt_baker.specs.declared.done.Done.{Done}
-
--- the core steps that are done
-abbrev pub steps_done : Done → ℕ
-steps_done d = if d.is_step then suc d.step else d.step
+use Rattle.rt_baker.specs.Judge.{steps_done}
 
 -- an item that the running job gives by a step
 abbrev pub IsTurn : What → Type 0
@@ -68,3 +65,13 @@ ItemJudged app None old new n item =
 ItemJudged app (Some d) old new n item =
     IsWithinStack app item.what
     × ((t : laws.State) → StateIs app old t → Behind app t n item new (steps_done d))
+
+-- A trace may end where so many steps are done: silent steps come up to the total, where it is told.
+abbrev pub Ends : App → laws.State → ℕ → Option ℕ → Type 0
+Ends app t n None = Unit {0}
+Ends app t n (Some total) = (n ≤ total) × RunsOn app t (silent (total - n))
+
+-- A trace ended where it might, and only there.
+unfoldable pub TotalJudged : App → Bool → Held → ℕ → Option ℕ → Type 0
+TotalJudged app true s n total = (t : laws.State) → StateIs app s t → Ends app t n total
+TotalJudged app false s n total = (t : laws.State) → StateIs app s t → Ends app t n total → ⊥

@@ -1,6 +1,6 @@
 use Rattle.std.proofs.Common.{refl}
 use Rattle.rt_app.specs.View.{app_of}
-use Rattle.rt_baker.specs.Inside.Judging.{steps_done}
+use Rattle.rt_baker.specs.Judge.{steps_done}
 use Rattle.rt_baker.proofs.Verdicts.{item_beyond, item_within}
 use Rattle.rt_baker.proofs.items.judge_item.Goals as goal
 

@@ -1,5 +1,5 @@
 use Rattle.rt_app.specs.View.{app_of}
-use Rattle.rt_baker.specs.Inside.Judging.{steps_done}
+use Rattle.rt_baker.specs.Judge.{steps_done}
 use Rattle.rt_baker.proofs.Verdicts.{ends_any, total_less, total_passes}
 use Rattle.rt_baker.proofs.items.judge_total.Goals as goal
 

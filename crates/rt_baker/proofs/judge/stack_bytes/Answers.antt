@@ -1,6 +1,6 @@
 use Rattle.rt_app.specs.View.{app_of}
 use Rattle.rt_app.proofs.Sound.{accepted_are_sound}
-use Rattle.rt_baker.proofs.judging.stack_bytes.Goals as goal
+use Rattle.rt_baker.proofs.judge.stack_bytes.Goals as goal
 
 pub bounds-requires-clause-sound : goal.bounds-requires-clause-sound
 bounds-requires-clause-sound c =

@@ -1,18 +1,22 @@
--- The items of a trace that come one after another from the start on, as an auditor judges them. The state and the
--- steps behind items are functions of them, so there is one of each at most; a run of Baker's machine (Stack-Based
--- Scheduling of Realtime Processes, 1991) is told by labels.
-use Rattle.std.specs.Prelude.{◌≡◌, ℕ, suc, ◌-◌, ◌<◌, ◌≤◌, Bool, true, false, List, [], ◌∷◌, length, take, Option, Some}
-use Rattle.std.specs.Prelude.{None}
+-- Which items a judge has judged. They come one after another from the start on; the state and the steps behind them
+-- are functions of them, so there is one of each at most. A run of Baker's machine (Stack-Based Scheduling of Realtime
+-- Processes, 1991) is told by labels.
+use Rattle.std.specs.Prelude.{◌≡◌, ℕ, suc, ◌-◌, ◌^◌, ◌<◌, List, [], ◌∷◌, length, take, Option, Some, None}
+use Rattle.std.specs.Prelude.{if◌then◌else◌}
 use Rattle.std.specs.List.{AllByRecursion}
 use Rattle.rt_trace.specs.declared.item.Item.{Item}
+use Rattle.rt_app.specs.Stack.{stack_bytes}
 use Rattle.rt_app.specs.Tree.{App}
 use Rattle.rt_laws.specs.State as laws
-use Rattle.rt_laws.specs.Run.{RunsOn, IsWithinStack}
-use Rattle.rt_laws.specs.ByItems.{label_of, done_after, silent, Comes, after_item}
+use Rattle.rt_laws.specs.Run.{IsWithinStack}
+use Rattle.rt_laws.specs.ByItems.{label_of, done_after, Comes, after_item}
 use Rattle.rt_moves.specs.State.{Held, StateIs}
-use Rattle.rt_baker.specs.declared.reached.Reached.{Reached}
-use Rattle.rt_baker.specs.declared.reached.Reached.TheVariants as reached
-use Rattle.rt_baker.specs.Inside.Judging.{steps_done}
+use Rattle.rt_baker.specs.declared.done.Done.{Done}
+use Rattle.rt_baker.specs.declared.judge.Judge.{Judge}
+
+-- the core steps that are done
+abbrev pub steps_done : Done → ℕ
+steps_done d = if d.is_step then suc d.step else d.step
 
 module _ (app : App) where
   -- the state behind items, and the core steps that are done there
@@ -49,16 +53,20 @@ module _ (app : App) where
     pub right : AreRight (take place items)
     pub wrong : AreRight (take (suc place) items) → ⊥
 
--- All items are judged, or those in front of the first that is wrong.
-unfoldable pub ItemsJudged : App → List Item → Held → Reached → Type 0
-ItemsJudged app items s (reached.End done) = Follows app items s (steps_done done)
-ItemsJudged app items s (reached.Wrong place) = FailsAt app items place
+  -- No item is wrong, or the one at this place is the first that is.
+  abbrev pub Stands : List Item → Held → Done → Option ℕ → Type 0
+  Stands items s done None = Follows items s (steps_done done)
+  Stands items s done (Some place) = FailsAt items place
 
--- A trace may end here: silent steps come up to the total, where it is told.
-abbrev pub Ends : App → laws.State → ℕ → Option ℕ → Type 0
-Ends app t n None = Unit {0}
-Ends app t n (Some total) = (n ≤ total) × RunsOn app t (silent (total - n))
+  -- These items were judged. The judge keeps the state behind them where all are right, and else which is the first
+  -- that is wrong.
+  pub record HasJudged (items : List Item) (judge : Judge) : Type 0 where
+    pub counted : judge.items ≡ length items
+    pub bounded : judge.stack ≡ stack_bytes app
+    pub stands : Stands items judge.state judge.done judge.wrong
 
-unfoldable pub TotalJudged : App → Bool → Held → ℕ → Option ℕ → Type 0
-TotalJudged app true s n total = (t : laws.State) → StateIs app s t → Ends app t n total
-TotalJudged app false s n total = (t : laws.State) → StateIs app s t → Ends app t n total → ⊥
+  -- Some items were judged, so few that there may be another.
+  pub record MayTake (judge : Judge) : Type 0 where
+    pub items : List Item
+    pub judged : HasJudged items judge
+    pub few : length items < 2 ^ 32 - 1
