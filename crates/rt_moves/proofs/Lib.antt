@@ -13,3 +13,4 @@ pub mod Advancing
 pub mod Levels
 pub mod Steps
 pub mod Showing
+pub mod Early

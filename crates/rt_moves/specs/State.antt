@@ -1,9 +1,9 @@
 -- What an auditor keeps of a state of Baker's machine (Stack-Based Scheduling of Realtime Processes, 1991), and the
 -- states that it stands for. Contents are lists by number here, and what jobs have left to do lists of things to do.
-use Rattle.std.specs.Prelude.{◌≡◌, ℕ, Bool, List, [], ◌∷◌, Option}
+use Rattle.std.specs.Prelude.{◌≡◌, ℕ, ◌-◌, ◌^◌, ◌<◌, Bool, List, [], ◌∷◌, Option}
 use Rattle.rt_app.specs.Tree.{App}
 use Rattle.rt_laws.specs.State as laws
-use Rattle.rt_work.specs.Store.{Store, contents}
+use Rattle.rt_work.specs.Store.{Store, contents, HasRoom}
 use Rattle.rt_moves.specs.Job.{Kept, JobIs}
 use Rattle.rt_moves.specs.Waiting.{waiting_of}
 
@@ -18,6 +18,11 @@ pub record Held : Type 0 where
   pub time : ℕ
   pub alarm : Option ℕ
   pub owing : Bool
+
+-- No count is so great that it could not rise.
+pub record IsEarly (s : Held) : Type 0 where
+  pub time : s.time < 2 ^ 32 - 1
+  pub store : HasRoom s.store
 
 -- with these jobs
 abbrev pub with_jobs : Held → List laws.Job → laws.State

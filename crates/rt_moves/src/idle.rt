@@ -8,7 +8,7 @@ ghost use Rattle.rt_app.specs.Sending.{act};
 ghost use Rattle.rt_laws.specs.State as laws;
 ghost use Rattle.rt_laws.specs.Acting.{idling};
 ghost use Rattle.rt_work.specs.Code.{IsCode};
-ghost use Rattle.rt_work.specs.Store.{contents};
+ghost use Rattle.rt_work.specs.Store.{contents, HasRoom};
 ghost use Rattle.rt_moves.specs.Inside.Moves.{IsBegun};
 
 use crate::job::{Job, Role};
@@ -19,7 +19,8 @@ use rt_work::{Code, Store, Work};
 
 /// The thread as it begins this body of `idle`, which runs as far as its first action.
 fn run<'a>(code: &Code<'a>, body: &'a Body, store: &mut Store) -> Result<Job<'a>, NoMemory>
-    requires { IsCode code.now }
+    requires code { IsCode code.now }
+    requires room { HasRoom store.old }
     ensures { let app = app_of code.now.app.now in
         IfOk result (λ job. IsBegun app (laws.begun laws.Idle 0 (body_cost (cost_measure app) (body_of body.entry.now))
         (body_doing app (body_of body.entry.now) [] (act (Ends body_id.Idle) nothing) (contents store.old))) store.old
@@ -34,7 +35,8 @@ fn run<'a>(code: &Code<'a>, body: &'a Body, store: &mut Store) -> Result<Job<'a>
 
 /// The thread as it begins `idle`, or as it waits where that is absent.
 pub(crate) fn idle<'a>(code: &Code<'a>, store: &mut Store) -> Result<Job<'a>, NoMemory>
-    requires { IsCode code.now }
+    requires code { IsCode code.now }
+    requires room { HasRoom store.old }
     ensures { let app = app_of code.now.app.now in
         IfOk result (λ job. IsBegun app (idling app (contents store.old) app.idle) store.old job store.new) }
 {

@@ -3,6 +3,7 @@ ghost use Rattle.rt_ids.specs.Action.{Clocks};
 ghost use Rattle.rt_app.specs.View.{app_of};
 ghost use Rattle.rt_work.specs.Actions.{action_of};
 ghost use Rattle.rt_work.specs.Code.{IsCode};
+ghost use Rattle.rt_work.specs.Store.{HasRoom};
 ghost use Rattle.rt_moves.specs.Job.{role_of};
 ghost use Rattle.rt_moves.specs.Inside.Acts.{tracked, IsPerformed};
 ghost use Rattle.rt_moves.specs.Inside.Moves.{kept_spent, with_next};
@@ -137,7 +138,8 @@ impl<'a> Job<'a> {
         action: Action,
         store: &mut Store,
     ) -> Result<(), NoMemory>
-        requires { IsCode code.now }
+        requires code { IsCode code.now }
+        requires room { HasRoom store.old }
         ensures { OnOk result (IsPerformed (app_of code.now.app.now) (action_of action) self.old store.old self.new
             store.new) }
     {
@@ -149,7 +151,8 @@ impl<'a> Job<'a> {
 
     /// The job has read the clock, and goes on as far as its next action.
     pub(crate) fn pass(&mut self, code: &Code<'a>, store: &mut Store) -> Result<(), NoMemory>
-        requires { IsCode code.now }
+        requires code { IsCode code.now }
+        requires room { HasRoom store.old }
         ensures { OnOk result (IsPerformed (app_of code.now.app.now) Clocks self.old store.old self.new store.new) }
     {
         self.spend(1);

@@ -1,4 +1,5 @@
-ghost use Rattle.std.specs.Prelude.{◌≡◌, ◌<◌, ◌^◌, [], OnOk, MatchOption};
+ghost use Rattle.std.specs.Prelude.{◌≡◌, [], true, OnOk, MatchOption};
+ghost use Rattle.std.specs.List.{AllByRecursion};
 ghost use Rattle.rt_ids.specs.Action.{Clocks};
 ghost use Rattle.rt_app.specs.Tree.{App};
 ghost use Rattle.rt_app.specs.View.{app_of};
@@ -8,8 +9,9 @@ ghost use Rattle.rt_laws.specs.Allowed.{given, after};
 ghost use Rattle.rt_laws.specs.Silent.{spending};
 ghost use Rattle.rt_laws.specs.State as laws;
 ghost use Rattle.rt_work.specs.Code.{IsCode};
+ghost use Rattle.rt_work.specs.Work.{is_seen, IsSettled};
 ghost use Rattle.rt_moves.specs.Machine.{IsMachine};
-ghost use Rattle.rt_moves.specs.State.{StateIs};
+ghost use Rattle.rt_moves.specs.State.{StateIs, IsEarly};
 ghost use Rattle.rt_moves.specs.Inside.Moves.{with_next, Advances, IsIdling};
 ghost use Rattle.rt_moves.specs.Inside.Acts.{moved, Resumes};
 
@@ -34,7 +36,7 @@ impl<'a> State<'a> {
 
     /// The time rises by one tick.
     pub fn tick(&mut self)
-        requires { self.old.time < 2 ^ 63 }
+        requires early { IsEarly self.old }
         ensures { (app : App) (t : laws.State) → StateIs app self.old t → StateIs app self.new (after app t Ticked) }
     {
         self.time += 1;
@@ -65,7 +67,9 @@ impl<'a> State<'a> {
 
     /// The running job does its next action, whatever that is, and runs on to the one behind it.
     pub fn advance(&mut self, machine: &Machine<'a>) -> Result<(), NoMemory>
-        requires { IsMachine machine.now }
+        requires machine { IsMachine machine.now }
+        requires early { IsEarly self.old }
+        requires settled { AllByRecursion (λ j. IsSettled j.work.todos) self.old.jobs }
         ensures { let app = app_of machine.now.code.now.app.now in
             OnOk result ((t : laws.State) → StateIs app self.old t → StateIs app self.new (given app t t.jobs)) }
     {
@@ -99,7 +103,9 @@ impl<'a> State<'a> {
 
     /// The running job, taken out of the state, does its next action, and runs on.
     fn go_on(&mut self, machine: &Machine<'a>, mut job: Job<'a>) -> Result<(), NoMemory>
-        requires { IsMachine machine.now }
+        requires machine { IsMachine machine.now }
+        requires early { IsEarly self.old }
+        requires settled { IsSettled job.work.todos }
         ensures { OnOk result (Advances (app_of machine.now.code.now.app.now) (moved self.old job.entry
             self.old.store) self.new) }
     {
@@ -123,7 +129,9 @@ impl<'a> State<'a> {
         todo: Todo<'a>,
         job: Job<'a>,
     ) -> Result<(), NoMemory>
-        requires { IsMachine machine.now }
+        requires machine { IsMachine machine.now }
+        requires early { IsEarly self.old }
+        requires seen { is_seen todo ≡ true }
         ensures { OnOk result (Advances (app_of machine.now.code.now.app.now) (moved self.old (with_next todo.entry
             job.entry) self.old.store) self.new) }
     {
@@ -136,13 +144,14 @@ impl<'a> State<'a> {
                 self.read(machine.code, reading, job)?;
                 Ok(())
             }
-            _silent => Err(NoMemory),
+            _silent => unreachable!(),
         }
     }
 
     /// The running job, taken out of the state, reads the clock, for what was taken off its work, and runs on.
     fn read(&mut self, code: &Code<'a>, reading: Reading, mut job: Job<'a>) -> Result<(), NoMemory>
-        requires { IsCode code.now }
+        requires code { IsCode code.now }
+        requires early { IsEarly self.old }
         ensures { OnOk result (Advances (app_of code.now.app.now) (moved self.old (with_next (Todo.Clock reading)
             job.entry) self.old.store) self.new) }
     {
@@ -153,7 +162,8 @@ impl<'a> State<'a> {
 
     /// The running job, taken out of the state, has read the clock, and runs on.
     fn pass(&mut self, code: &Code<'a>, mut job: Job<'a>) -> Result<(), NoMemory>
-        requires { IsCode code.now }
+        requires code { IsCode code.now }
+        requires early { IsEarly self.old }
         ensures { OnOk result (Resumes (app_of code.now.app.now) Clocks job.entry self.old self.new) }
     {
         job.pass(code, &mut self.store)?;
@@ -164,7 +174,8 @@ impl<'a> State<'a> {
     /// The running job, taken out of the state, has done all its work. A handler returns, and the thread begins `idle`,
     /// unless it waits.
     fn finish(&mut self, code: &Code<'a>, job: Job<'a>) -> Result<(), NoMemory>
-        requires { IsCode code.now }
+        requires code { IsCode code.now }
+        requires early { IsEarly self.old }
         ensures { OnOk result (job.entry.work.todos ≡ [] → Advances (app_of code.now.app.now) (moved self.old job.entry
             self.old.store) self.new) }
     {
@@ -187,7 +198,8 @@ impl<'a> State<'a> {
 
     /// The thread, taken out of the state, begins `idle`, or waits where that is absent.
     fn become_idle(&mut self, code: &Code<'a>) -> Result<(), NoMemory>
-        requires { IsCode code.now }
+        requires code { IsCode code.now }
+        requires early { IsEarly self.old }
         ensures { OnOk result (IsIdling (app_of code.now.app.now) self.old self.new) }
     {
         let job = idle(code, &mut self.store)?;

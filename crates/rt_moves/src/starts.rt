@@ -10,12 +10,13 @@ ghost use Rattle.rt_laws.specs.Allowed.{after};
 ghost use Rattle.rt_laws.specs.State as laws;
 ghost use Rattle.rt_work.specs.Code.{IsCode, handler_of};
 ghost use Rattle.rt_work.specs.Handlers.{handled};
+ghost use Rattle.rt_work.specs.Store.{HasRoom};
 ghost use Rattle.rt_work.specs.Todo.{entered};
 ghost use Rattle.rt_work.specs.Work as kept;
 ghost use Rattle.rt_work.specs.Work.{no_work, Becomes};
 ghost use Rattle.rt_moves.specs.Machine.{IsMachine};
 ghost use Rattle.rt_moves.specs.Job.{role_of};
-ghost use Rattle.rt_moves.specs.State.{StateIs};
+ghost use Rattle.rt_moves.specs.State.{StateIs, IsEarly};
 ghost use Rattle.rt_moves.specs.Inside.Starts.{held_taken, Begins, Launches};
 
 use crate::candidate::unqueue;
@@ -42,7 +43,8 @@ fn begin_job<'a>(
     mut work: Work<'a>,
     store: &mut Store,
 ) -> Result<Job<'a>, NoMemory>
-    requires { IsCode code.now }
+    requires code { IsCode code.now }
+    requires room { HasRoom store.old }
     ensures { let app = app_of code.now.app.now in
         IfOk result (λ j. (first : Later → Later) (start : kept.Work) → start ≡ no_work
         → Becomes app first start store.old work.entry store.old
@@ -62,7 +64,8 @@ fn greatest(app: &App) -> u32
 
 /// `init` begins.
 fn first_job<'a>(code: &Code<'a>, store: &mut Store) -> Result<Job<'a>, NoMemory>
-    requires { IsCode code.now }
+    requires code { IsCode code.now }
+    requires room { HasRoom store.old }
     ensures { let app = app_of code.now.app.now in
         IfOk result (λ j. Begins app laws.Init (2 ^ app.bits) (cost_of (cost_measure app) app.init) (entered app
         app.init []) store.old j store.new) }
@@ -126,7 +129,8 @@ impl<'a> State<'a> {
 
     /// The handler of an interrupt starts as a job.
     fn serve(&mut self, code: &Code<'a>, irq: u16, served: Served) -> Result<(), NoMemory>
-        requires { IsCode code.now }
+        requires code { IsCode code.now }
+        requires early { IsEarly self.old }
         ensures { let app = app_of code.now.app.now in
             OnOk result (Launches app (laws.Serving irq) served.level served.cost (handled app (handler_of
             served.handler)) self.old self.new) }
@@ -144,6 +148,7 @@ impl<'a> State<'a> {
     pub fn take(&mut self, machine: &Machine<'a>, irq: u16) -> Result<(), NoMemory>
         requires machine { IsMachine machine.now }
         requires number { irq < IRQ_NUMBERS }
+        requires early { IsEarly self.old }
         ensures { let app = app_of machine.now.code.now.app.now in
             OnOk result ((depth : ℕ) (t : laws.State) → StateIs app self.old t
             → StateIs app self.new (after app t (Stepped (Some (what.Take irq depth))))) }

@@ -7,7 +7,7 @@ ghost use Rattle.rt_laws.specs.State as laws;
 ghost use Rattle.rt_work.specs.Actions.{action_of};
 ghost use Rattle.rt_work.specs.Code.{IsCode};
 ghost use Rattle.rt_moves.specs.Machine.{IsMachine};
-ghost use Rattle.rt_moves.specs.State.{StateIs};
+ghost use Rattle.rt_moves.specs.State.{StateIs, IsEarly};
 ghost use Rattle.rt_moves.specs.Inside.Acts.{before, held_pended, held_alarm, Resumes};
 
 use crate::candidate::queue;
@@ -107,7 +107,8 @@ impl<'a> State<'a> {
 
     /// The running job, taken out of the state, does an action of its work, and runs on.
     fn resume(&mut self, code: &Code<'a>, action: Action, mut job: Job<'a>) -> Result<(), NoMemory>
-        requires { IsCode code.now }
+        requires code { IsCode code.now }
+        requires early { IsEarly self.old }
         ensures { OnOk result (Resumes (app_of code.now.app.now) (action_of action) job.entry self.old self.new) }
     {
         job.perform(code, action, &mut self.store)?;
@@ -136,7 +137,8 @@ impl<'a> State<'a> {
         action: Action,
         job: Job<'a>,
     ) -> Result<(), NoMemory>
-        requires { IsMachine machine.now }
+        requires machine { IsMachine machine.now }
+        requires early { IsEarly self.old }
         ensures { let app = app_of machine.now.code.now.app.now in
             OnOk result ((t : laws.State) → StateIs app (before action job.entry self.old) t
             → StateIs app self.new (given app t t.jobs)) }

@@ -11,7 +11,7 @@ returns c =
     c.args.body.now)) c.from-cost.result (body_of c.args.body.now) c.as_slice.result c.new-2.result
     c.begin.new.self c.settle.new.work c.args.store.now c.settle.new.store
     (c.from-cost.ensures ∙ c.body.ensures ∙ ap (λ (m : Measure). body_cost m (body_of c.args.body.now))
-    c.requires.measured)
+    c.requires.code.measured)
     (sym (ap block_of c.as_slice.ensures.value))
     (work_begun c.new-work.result c.begin.new.self c.new.result.items c.as_slice.result c.new-work.ensures
     c.new.ensures.items c.in_ok-begin.ensures)

@@ -1,6 +1,11 @@
 use Rattle.rt_app.specs.View.{app_of}
+use Rattle.rt_moves.proofs.Early.{room_at_first}
 use Rattle.rt_moves.proofs.Starting.{first_stands, reset_is}
 use Rattle.rt_moves.proofs.state.State.first.Goals as goal
+
+pub first_job-requires-clause-room : goal.first_job-requires-clause-room
+first_job-requires-clause-room c =
+    room_at_first (app_of c.args.code.now.app.now) c.in_ok-store.store c.in_ok-store.ensures
 
 pub returns : goal.returns
 returns c =

@@ -3,7 +3,12 @@ use Rattle.rt_app.specs.View.{app_of}
 use Rattle.rt_moves.specs.Job.{Kept}
 use Rattle.rt_moves.specs.State.{StateIs}
 use Rattle.rt_moves.specs.Inside.Acts.{moved}
+use Rattle.rt_moves.proofs.Early.{seen_next}
 use Rattle.rt_moves.proofs.state.State.go_on.Goals as goal
+
+pub follow-requires-clause-seen : goal.follow-requires-clause-seen
+follow-requires-clause-seen c =
+    seen_next c.args.job c.next.new.self c.in-Some.todo c.in-Some.ensures c.requires.settled
 
 pub returns-in_ok-finish-in-None : goal.returns-in_ok-finish-in-None
 returns-in_ok-finish-in-None c =
