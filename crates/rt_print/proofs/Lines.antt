@@ -1,5 +1,5 @@
 -- Statements and blocks of the code, and their texts.
-use Rattle.std.proofs.Common.{◌≡◌, ℕ, ◌<◌, List, [], ◌∷◌, ◌++◌, flat_map, length, Vec, Global, Result, OnOk, Some, codes, decimal, refl, sym, ap, ◌∙◌, arith, append_assoc}
+use Rattle.std.proofs.Common.{◌≡◌, ℕ, ◌<◌, List, [], ◌∷◌, ◌++◌, flat_map, length, Box, Vec, Global, Result, OnOk, Some, codes, decimal, refl, sym, ap, ◌∙◌, arith, append_assoc}
 use Rattle.rt_lemmas.proofs.Results.{on_ok_weaker}
 use Rattle.rt_ast.specs.Tree as tree
 use Rattle.rt_ast.specs.View.{expression_of, spawn_of, statement_of, block_of}
@@ -103,13 +103,13 @@ move_appended : (o0 o1 o2 d n h : List ℕ) → o1 ≡ o0 ++ (codes "reschedule_
     → o2 ≡ o0 ++ (codes "reschedule_after(" ++ d ++ codes ") " ++ n ++ codes "(" ++ h ++ codes ")")
 move_appended o0 o1 o2 d n h e1 e2 = rw (e2, e1) (simp append_assoc refl)
 
-pub move_text_appended : {A E : Type 0} (r : Result A E) (o0 o1 o2 : List ℕ) (spawn : Spawn) (at : ℕ) (delay : Expr)
-    (task : Ident) (handle : Expr) → spawn ≡ Move at delay task handle
-    → o1 ≡ o0 ++ (codes "reschedule_after(" ++ expression_text (expression_of delay) ++ codes ") ")
+pub move_text_appended : {A E : Type 0} (r : Result A E) (o0 o1 o2 : List ℕ) (spawn : Spawn) (at : ℕ)
+    (delay : Box Expr Global) (task : Ident) (handle : Expr) → spawn ≡ Move at delay task handle
+    → o1 ≡ o0 ++ (codes "reschedule_after(" ++ expression_text (expression_of delay.value) ++ codes ") ")
     → OnOk r (o2 ≡ o1 ++ (name_text task ++ codes "(" ++ expression_text (expression_of handle) ++ codes ")"))
     → OnOk r (o2 ≡ o0 ++ spawn_text (spawn_of spawn))
 move_text_appended r o0 o1 o2 spawn at delay task handle is e1 h =
-    on_ok_weaker r _ _ (λ k. move_appended o0 o1 o2 (expression_text (expression_of delay)) (name_text task)
+    on_ok_weaker r _ _ (λ k. move_appended o0 o1 o2 (expression_text (expression_of delay.value)) (name_text task)
     (expression_text (expression_of handle)) e1 k
     ∙ ap (λ (s : Spawn). o0 ++ spawn_text (spawn_of s)) (sym is)) h
 
