@@ -1,5 +1,5 @@
 -- An item, and silent steps in front of it, come where they may.
-use Rattle.std.proofs.Common.{◌≡◌, ℕ, zero, suc, ◌<◌, ◌≤◌, ◌^◌, List, [], ◌∷◌, Bool, true, false, Option, Some}
+use Rattle.std.proofs.Common.{◌≡◌, ℕ, zero, suc, ◌<◌, ◌≤◌, List, [], ◌∷◌, Bool, true, false, Option, Some}
 use Rattle.std.proofs.Common.{None, if◌then◌else◌, refl, ap, ◌∙◌, sym, subst, arith}
 use Rattle.std.specs.List.{AllByRecursion}
 use Rattle.std.proofs.lemmas.Option.{none-some, same_Some}
@@ -17,8 +17,10 @@ use Rattle.rt_laws.specs.Run.{RunsOn}
 use Rattle.rt_laws.specs.ByItems.{label_of, after_all, silent}
 use Rattle.rt_laws.specs.Silent.{HasSteps, MaySpend, spending}
 use Rattle.rt_laws.proofs.Silent.{silent_steps_by_cost}
-use Rattle.rt_moves.specs.State.{Held, StateIs}
-use Rattle.rt_baker.specs.Inside.Judging.{IsTurn, IsEarly, Came, Judges, Passes}
+use Rattle.rt_work.specs.Work.{IsSettled}
+use Rattle.rt_moves.specs.State.{Held, StateIs, IsEarly}
+use Rattle.rt_moves.proofs.Early.{all_settled, early_held}
+use Rattle.rt_baker.specs.Inside.Judging.{IsTurn, MayGoOn, Came, Judges, Passes}
 
 -- what a state stands for owes an alarm where the one that is kept does
 pub owes_as : (app : App) (s : Held) (t : laws.State) (b : Bool) → StateIs app s t → s.owing ≡ b → t.owing ≡ b
@@ -101,13 +103,13 @@ unfolding Judges
 not_rung app s new w owing other = λ t h may. only_rings app t t.owing w (owes_as app s t true h owing) other may
 
 pub arrived : (app : App) (s new : Held) (irq n : ℕ) → s.owing ≡ false → n ≡ irq → is_declared app n ≡ true
-    → ((a : App) (t : laws.State) → StateIs a s t → StateIs a new (pended n t))
+    → ((t : laws.State) → StateIs app s t → StateIs app new (pended n t))
     → Judges app true s new (what.Pend irq)
 unfolding Judges
 arrived app s new irq n owing same declared arrives = λ t h.
     came app t (what.Pend irq) new (Arrived irq) refl
     (owes_as app s t false h owing, ap (is_declared app) (sym same) ∙ declared)
-    (subst (λ (i : ℕ). StateIs app new (pended i t)) same (arrives app t h))
+    (subst (λ (i : ℕ). StateIs app new (pended i t)) same (arrives t h))
 
 pub not_declared : (app : App) (s new : Held) (irq n : ℕ) → n ≡ irq → is_declared app n ≡ false
     → Judges app false s new (what.Pend irq)
@@ -123,10 +125,12 @@ unfolding Judges
 ticked app s new w owing is ticks = λ t h.
     came app t w new Ticked (ap (label_of t.owing) is) (owes_as app s t false h owing) (ticks app t h)
 
-pub early : (app : App) (s : Held) → IsEarly app s → s.time < 2 ^ 63
-early app s h =
-    let same : h.state.time ≡ s.time = ap (λ (u : laws.State). u.time) h.is.is in
-    subst (λ (n : ℕ). n < 2 ^ 63) same h.early
+-- what a state is known of that may go on
+pub kept_early : (app : App) (s : Held) → MayGoOn app s → IsEarly s
+kept_early app s h = early_held app s h.state h.count h.is h.within h.few
+
+pub kept_settled : (app : App) (s : Held) → MayGoOn app s → AllByRecursion (λ j. IsSettled j.work.todos) s.jobs
+kept_settled app s h = all_settled app s.jobs h.state.jobs h.is.jobs
 
 pub taken : (app : App) (s new : Held) (irq n : ℕ) (o : Option ℕ) → s.owing ≡ false → n ≡ irq → o ≡ Some n
     → ((t : laws.State) → StateIs app s t → o ≡ level.candidate app t)
@@ -242,7 +246,3 @@ is_turn (what.Pend irq) pend tick take = pend irq refl
 is_turn what.Tick pend tick take = tick refl
 is_turn (what.Take irq depth) pend tick take = take irq depth refl
 is_turn w pend tick take = tt
-
-pub judged_as : (app : App) (b : Bool) (s new : Held) (v w : What) → v ≡ w → Judges app b s new v
-    → Judges app b s new w
-judged_as app b s new v w same h = subst (λ (x : What). Judges app b s new x) same h

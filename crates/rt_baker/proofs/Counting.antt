@@ -10,7 +10,8 @@ use Rattle.rt_laws.specs.State.{State, first}
 use Rattle.rt_laws.specs.Allowed.{after}
 use Rattle.rt_laws.specs.Run.{RunsOn}
 use Rattle.rt_laws.specs.ByItems.{label_of, done_after, after_all, silent, Comes}
-use Rattle.rt_laws.specs.Counts.{AreWithin, CountsRiseByOne}
+use Rattle.rt_laws.specs.Counts.{AreWithin}
+use Rattle.rt_laws.proofs.Counting.{counts_rise_by_one}
 use Rattle.rt_baker.specs.Judge.{state_behind, AllCome}
 
 module _ (app : App) where
@@ -40,17 +41,17 @@ module _ (app : App) where
     leads = after_append r.labels more (first app) ∙ ap (λ (u : State). after_all app u more) r.leads;
   }
 
-  module _ (accepted : IsAccepted app) (rise : CountsRiseByOne) where
+  pub silent_within : (k n : ℕ) (s : State) → AreWithin n s → AreWithin n (after_all app s (silent k))
+  silent_within zero n s within = within
+  silent_within (suc k) n s within =
+      silent_within k n (after app s (Stepped None)) (counts_rise_by_one.silent app s n within)
+
+  module _ (accepted : IsAccepted app) where
     raised : (s : State) (label : Label) (n : ℕ) → Reaches s → AreWithin n s → AreWithin (suc n) (after app s label)
     raised s label n r within =
         subst (λ (u : State). AreWithin (suc n) (after app u label)) r.leads
-        (rise.one app accepted r.labels r.runs label n
+        (counts_rise_by_one.one app accepted r.labels r.runs label n
         (subst (λ (u : State). AreWithin n u) (sym r.leads) within))
-
-    silent_within : (k n : ℕ) (s : State) → AreWithin n s → AreWithin n (after_all app s (silent k))
-    silent_within zero n s within = within
-    silent_within (suc k) n s within =
-        silent_within k n (after app s (Stepped None)) (rise.silent app s n within)
 
     come_within : (items : List Item) (s : State) (d n : ℕ) → Reaches s → AreWithin n s → AllCome app s d items
         → AreWithin (n + length items) (state_behind app s d items)
@@ -73,4 +74,4 @@ module _ (app : App) where
     behind_within items all =
         let same : 0 + length items ≡ length items = omega arith in
         subst (λ (m : ℕ). AreWithin m (state_behind app (first app) 0 items)) same
-        (come_within items (first app) 0 0 from_start (rise.start app accepted) all)
+        (come_within items (first app) 0 0 from_start (counts_rise_by_one.start app accepted) all)

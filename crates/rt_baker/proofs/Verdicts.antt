@@ -1,10 +1,9 @@
 -- Items are judged one after another, and so is the trace.
-use Rattle.std.proofs.Common.{◌≡◌, ℕ, zero, suc, ◌+◌, ◌-◌, ◌<◌, ◌≤◌, ◌^◌, Bool, true, false, List, [], ◌∷◌}
-use Rattle.std.proofs.Common.{◌++◌, length, take, get_or, Option, Some, None, inl, inr, refl, ap, ◌∙◌, sym, subst}
+use Rattle.std.proofs.Common.{◌≡◌, ℕ, zero, suc, ◌+◌, ◌-◌, ◌<◌, ◌≤◌, Bool, true, false, List, [], ◌∷◌}
+use Rattle.std.proofs.Common.{◌++◌, length, take, Option, Some, None, inl, inr, refl, ap, ◌∙◌, sym, subst}
 use Rattle.std.proofs.Common.{le_refl, arith, length-append}
 use Rattle.std.proofs.Math.Seq.{take-append-add, take-append_seam, take-length, take-take}
 use Rattle.std.specs.List.{AllByRecursion}
-use Rattle.std.proofs.lemmas.List.{take_more, take-append-le}
 use Rattle.rt_trace.specs.Trace.{Trace}
 use Rattle.rt_trace.specs.declared.item.Item.{Item}
 use Rattle.rt_app.specs.Tree.{App}
@@ -24,9 +23,10 @@ use Rattle.rt_baker.specs.declared.verdict.Verdict.{Verdict}
 use Rattle.rt_baker.specs.Audit.{front, IsRight, IsWrongAt, IsVerdict}
 use Rattle.rt_baker.specs.Judge.{steps_done, state_behind, done_behind, AreRight, Follows, FailsAt, Stands, HasJudged}
 use Rattle.rt_baker.specs.Judge.{MayTake}
-use Rattle.rt_baker.specs.Inside.Judging.{IsEarly, Judges, Passes, Behind, ItemComes, ItemJudged, Ends, TotalJudged}
+use Rattle.rt_baker.specs.Inside.Judging.{MayGoOn, Judges, Passes, Behind, ItemComes, ItemJudged, Ends, TotalJudged}
 use Rattle.rt_baker.proofs.Allowing.{owes_as}
-use Rattle.rt_baker.proofs.Running.{silent_owing, silent_time, behind_time, come_more, come_last, state_more}
+use Rattle.rt_baker.proofs.Counting.{silent_within, behind_within}
+use Rattle.rt_baker.proofs.Running.{silent_owing, come_more, come_last, state_more}
 use Rattle.rt_baker.proofs.Running.{done_more, come_front, run_from, run_comes, run_ends, run_here}
 
 -- an item with the silent steps in front of it
@@ -41,13 +41,15 @@ item_stopped app old new n k x is stops = λ t h comes.
     stops t h (subst (λ (m : ℕ). RunsOn app t (silent m)) (sym is) comes.quiet)
 
 -- the state behind the silent steps, and what is kept of it
-pub still_early : (app : App) (old mid : Held) (k : ℕ) → IsEarly app old → Passes app true old mid k
-    → IsEarly app mid
+pub still_early : (app : App) (old mid : Held) (k : ℕ) → MayGoOn app old → Passes app true old mid k
+    → MayGoOn app mid
 unfolding Passes
 still_early app old mid k h passes = record {
   state = after_all app h.state (silent k);
   is = (passes h.state h.is).is;
-  early = subst (λ (n : ℕ). n < 2 ^ 63) (sym (silent_time app k h.state)) h.early;
+  count = h.count;
+  within = silent_within app k h.count h.state h.within;
+  few = h.few;
 }
 
 pub item_refused : (app : App) (old mid new : Held) (n k : ℕ) (x : Item) → k ≡ x.step - n
@@ -100,9 +102,6 @@ item_within app None old new n x within comes = λ t h also. comes t h
 item_within app (Some d) old new n x within comes = (within, comes)
 
 -- all items
-abbrev Within : App → Item → Type 0
-Within app x = IsWithinStack app x.what
-
 all_more : (app : App) (xs : List Item) (x : Item) → AllByRecursion (λ y. IsWithinStack app y.what) xs
     → IsWithinStack app x.what → AllByRecursion (λ y. IsWithinStack app y.what) (xs ++ x ∷ [])
 all_more app [] x all last = (last, tt)
@@ -170,20 +169,6 @@ fails_here app xs n x old new h judged = record {
       (come_last app xs (first app) 0 x all.come));
 }
 
--- what failed is still the first that does
-fails_still : (app : App) (xs : List Item) (x : Item) (place : ℕ) → FailsAt app xs place
-    → FailsAt app (xs ++ x ∷ []) place
-fails_still app xs x place h =
-    let within = h.within in
-    record {
-      within = omega (arith, length-append xs (x ∷ []));
-      right =
-          subst (λ (ys : List Item). AreRight app ys) (sym (take-append-le place xs (x ∷ []) (omega arith))) h.right;
-      wrong = λ right.
-          h.wrong (subst (λ (ys : List Item). AreRight app ys) (take-append-le (suc place) xs (x ∷ []) (omega arith))
-          right);
-    }
-
 -- a judge
 follows : (app : App) (xs : List Item) (j : Judge) → j.wrong ≡ None → HasJudged app xs j
     → Follows app xs j.state (steps_done j.done)
@@ -205,30 +190,20 @@ judged_none app s stack d bound is none = record {
   stands = record { right = record { come = tt; depths = tt }; is = is; steps = none };
 }
 
-pub judge_early : (app : App) (j : Judge) → j.wrong ≡ None → MayTake app j → IsEarly app j.state
-judge_early app j is may =
-    let bound = behind_time app may.items (first app) 0 in
-    let few = may.few in
+pub judge_early : (app : App) (j : Judge) → IsAccepted app → j.wrong ≡ None → MayTake app j → MayGoOn app j.state
+judge_early app j accepted is may =
+    let h : Follows app may.items j.state (steps_done j.done) = follows app may.items j is may.judged in
     record {
       state = state_behind app (first app) 0 may.items;
-      is = (follows app may.items j is may.judged).is;
-      early = omega (arith, bound, few);
+      is = h.is;
+      count = length may.items;
+      within = behind_within app accepted may.items h.right.come;
+      few = may.few;
     }
 
 one_more : (app : App) (x : Item) (j : Judge) (n : ℕ) → n ≡ j.items + 1 → (xs : List Item) → HasJudged app xs j
     → n ≡ length (xs ++ x ∷ [])
 one_more app x j n more xs h = omega (arith, more, h.counted, length-append xs (x ∷ []))
-
--- an item came behind a wrong one
-pub judged_behind : (app : App) (x : Item) (j : Judge) (n place : ℕ) → n ≡ j.items + 1 → j.wrong ≡ Some place
-    → (xs : List Item) → HasJudged app xs j → HasJudged app (xs ++ x ∷ []) (record j { items = n })
-judged_behind app x j n place more is xs h = record {
-  counted = one_more app x j n more xs h;
-  bounded = h.bounded;
-  stands =
-      subst (λ (o : Option ℕ). Stands app (xs ++ x ∷ []) j.state j.done o) (sym is)
-      (fails_still app xs x place (fails app xs j place is h));
-}
 
 -- the first wrong one came
 pub judged_wrong : (app : App) (x : Item) (j : Judge) (n : ℕ) (new : Held) (o : Option Done) → n ≡ j.items + 1
@@ -262,13 +237,7 @@ judged_right app x j n new o d more is some judged xs h =
           (follows_more app xs (steps_done j.done) x j.state new d (follows app xs j is h) judges);
     }
 
--- the items of a trace so far
-pub judged_front : (app : App) (xs : List Item) (i : ℕ) (x : Item) (j : Judge) → i < length xs → x ≡ get_or xs i x
-    → HasJudged app (take i xs ++ x ∷ []) j → HasJudged app (take (i + 1) xs) j
-judged_front app xs i x j within reads h =
-    subst (λ (ys : List Item). HasJudged app ys j)
-    (ap (λ (y : Item). take i xs ++ y ∷ []) reads ∙ sym (take_more xs i x within)) h
-
+-- the items of a trace
 pub judged_all : (app : App) (xs : List Item) (i : ℕ) (j : Judge) → i ≡ length xs → HasJudged app (take i xs) j
     → HasJudged app xs j
 judged_all app xs i j all h =

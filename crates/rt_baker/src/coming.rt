@@ -6,7 +6,7 @@ ghost use Rattle.rt_laws.specs.Silent.{MaySpend};
 ghost use Rattle.rt_laws.specs.State as laws;
 ghost use Rattle.rt_moves.specs.Machine.{IsMachine};
 ghost use Rattle.rt_moves.specs.State.{StateIs};
-ghost use Rattle.rt_baker.specs.Inside.Judging.{IsTurn, IsEarly, Judges, Passes};
+ghost use Rattle.rt_baker.specs.Inside.Judging.{IsTurn, MayGoOn, Judges, Passes};
 
 use rt_app::App;
 use rt_ids::{Irq, NoMemory};
@@ -53,36 +53,40 @@ pub(crate) fn pass_steps<'a>(state: &mut State<'a>, machine: &Machine<'a>, steps
 }
 
 /// The alarm that is owed comes. Nothing else may.
-fn rings<'a>(state: &mut State<'a>, app: &App, what: &What) -> bool
-    requires { state.old.owing ≡ true }
-    ensures { Judges (app_of app.now) result state.old state.new what.now }
+fn rings<'a>(state: &mut State<'a>, machine: &Machine<'a>, what: &What) -> Result<bool, NoMemory>
+    requires machine { IsMachine machine.now }
+    requires owing { state.old.owing ≡ true }
+    ensures { IfOk result (λ came. Judges (app_of machine.now.code.now.app.now) came state.old state.new what.now) }
 {
     match what {
         What::Alarm => {
-            state.ring(app);
-            true
+            state.ring(machine)?;
+            Ok(true)
         }
-        _other => false,
+        _other => Ok(false),
     }
 }
 
 /// An interrupt arrives, where it is declared.
-fn arrives<'a>(state: &mut State<'a>, app: &App, irq: Irq) -> bool
-    requires { state.old.owing ≡ false }
-    ensures { Judges (app_of app.now) result state.old state.new (What.Pend irq) }
+fn arrives<'a>(state: &mut State<'a>, machine: &Machine<'a>, irq: Irq) -> Result<bool, NoMemory>
+    requires machine { IsMachine machine.now }
+    requires free { state.old.owing ≡ false }
+    ensures { IfOk result (λ came. Judges (app_of machine.now.code.now.app.now) came state.old state.new
+        (What.Pend irq)) }
 {
     let number = irq.get();
-    if !is_declared(app, number) {
-        return false;
+    if !is_declared(machine.code.app, number) {
+        return Ok(false);
     }
-    state.arrive(number);
-    true
+    state.arrive(machine, number)?;
+    Ok(true)
 }
 
 /// An interrupt is taken, where it is the one that is to be.
 fn takes<'a>(state: &mut State<'a>, machine: &Machine<'a>, irq: Irq) -> Result<bool, NoMemory>
     requires machine { IsMachine machine.now }
     requires free { state.old.owing ≡ false }
+    requires early { MayGoOn (app_of machine.now.code.now.app.now) state.old }
     ensures { IfOk result (λ came. (depth : ℕ) → Judges (app_of machine.now.code.now.app.now) came state.old state.new
         (What.Take irq depth)) }
 {
@@ -104,6 +108,7 @@ fn turn<'a>(state: &mut State<'a>, machine: &Machine<'a>, what: &What) -> Result
     requires machine { IsMachine machine.now }
     requires free { state.old.owing ≡ false }
     requires action { IsTurn what.now }
+    requires early { MayGoOn (app_of machine.now.code.now.app.now) state.old }
     ensures { IfOk result (λ came. Judges (app_of machine.now.code.now.app.now) came state.old state.new what.now) }
 {
     if !may_go(state, machine, 1) {
@@ -112,7 +117,7 @@ fn turn<'a>(state: &mut State<'a>, machine: &Machine<'a>, what: &What) -> Result
     if !state.shows(what) {
         return Ok(false);
     }
-    state.advance(machine.code)?;
+    state.advance(machine)?;
     Ok(true)
 }
 
@@ -120,11 +125,14 @@ fn turn<'a>(state: &mut State<'a>, machine: &Machine<'a>, what: &What) -> Result
 fn comes<'a>(state: &mut State<'a>, machine: &Machine<'a>, what: &What) -> Result<bool, NoMemory>
     requires machine { IsMachine machine.now }
     requires free { state.old.owing ≡ false }
-    requires early { IsEarly (app_of machine.now.code.now.app.now) state.old }
+    requires early { MayGoOn (app_of machine.now.code.now.app.now) state.old }
     ensures { IfOk result (λ came. Judges (app_of machine.now.code.now.app.now) came state.old state.new what.now) }
 {
     match what {
-        What::Pend(irq) => Ok(arrives(state, machine.code.app, *irq)),
+        What::Pend(irq) => {
+            let came = arrives(state, machine, *irq)?;
+            Ok(came)
+        }
         What::Tick => {
             state.tick();
             Ok(true)
@@ -147,11 +155,12 @@ pub(crate) fn come<'a>(
     what: &What,
 ) -> Result<bool, NoMemory>
     requires machine { IsMachine machine.now }
-    requires early { IsEarly (app_of machine.now.code.now.app.now) state.old }
+    requires early { MayGoOn (app_of machine.now.code.now.app.now) state.old }
     ensures { IfOk result (λ came. Judges (app_of machine.now.code.now.app.now) came state.old state.new what.now) }
 {
     if state.is_owing() {
-        return Ok(rings(state, machine.code.app, what));
+        let rang = rings(state, machine, what)?;
+        return Ok(rang);
     }
     let came = comes(state, machine, what)?;
     Ok(came)

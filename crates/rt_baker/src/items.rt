@@ -5,7 +5,7 @@ ghost use Rattle.rt_app.specs.View.{app_of};
 ghost use Rattle.rt_laws.specs.Run.{IsWithinStack};
 ghost use Rattle.rt_moves.specs.Machine.{IsMachine};
 ghost use Rattle.rt_baker.specs.Judge.{steps_done};
-ghost use Rattle.rt_baker.specs.Inside.Judging.{IsEarly, ItemComes, ItemJudged, TotalJudged};
+ghost use Rattle.rt_baker.specs.Inside.Judging.{MayGoOn, ItemComes, ItemJudged, TotalJudged};
 
 use crate::coming::{come, pass_steps};
 use crate::done::Done;
@@ -32,7 +32,7 @@ fn come_after<'a>(
     item: &Item,
 ) -> Result<Option<Done>, NoMemory>
     requires machine { IsMachine machine.now }
-    requires early { IsEarly (app_of machine.now.code.now.app.now) state.old }
+    requires early { MayGoOn (app_of machine.now.code.now.app.now) state.old }
     ensures { IfOk result (λ behind. ItemComes (app_of machine.now.code.now.app.now) behind state.old state.new
         (steps_done done) item.now) }
 {
@@ -62,7 +62,7 @@ pub(crate) fn judge_item<'a>(
 ) -> Result<Option<Done>, NoMemory>
     requires machine { IsMachine machine.now }
     requires stack { stack ≡ stack_bytes (app_of machine.now.code.now.app.now) }
-    requires early { IsEarly (app_of machine.now.code.now.app.now) state.old }
+    requires early { MayGoOn (app_of machine.now.code.now.app.now) state.old }
     ensures { IfOk result (λ behind. ItemJudged (app_of machine.now.code.now.app.now) behind state.old state.new
         (steps_done done) item.now) }
 {

@@ -9,6 +9,7 @@ use Rattle.rt_app.specs.Tree.{App}
 use Rattle.rt_laws.specs.State as laws
 use Rattle.rt_laws.specs.Allowed.{May, after}
 use Rattle.rt_laws.specs.Run.{RunsOn, IsWithinStack}
+use Rattle.rt_laws.specs.Counts.{AreWithin}
 use Rattle.rt_laws.specs.ByItems.{label_of, done_after, after_all, silent, Comes, after_item}
 use Rattle.rt_moves.specs.State.{Held, StateIs}
 use Rattle.rt_baker.specs.declared.done.Done.{Done}
@@ -21,11 +22,13 @@ IsTurn what.Tick = ⊥
 IsTurn (what.Take irq depth) = ⊥
 IsTurn w = Unit {0}
 
--- The time is so early that it can rise.
-pub record IsEarly (app : App) (s : Held) : Type 0 where
+-- What is kept stands for a state of the machine in which no count is so great that it could not rise.
+pub record MayGoOn (app : App) (s : Held) : Type 0 where
   pub state : laws.State
   pub is : StateIs app s state
-  pub early : state.time < 2 ^ 63
+  pub count : ℕ
+  pub within : AreWithin count state
+  pub few : count < 2 ^ 32 - 1
 
 -- An item may come, and this is kept of the state behind it.
 pub record Came (app : App) (t : laws.State) (w : What) (new : Held) : Type 0 where

@@ -1,6 +1,6 @@
 use Rattle.std.proofs.Common.{ℕ, Some, ap, ◌∙◌}
 use Rattle.rt_app.specs.View.{app_of}
-use Rattle.rt_baker.proofs.Allowing.{taken, not_taken, none_first, other_first}
+use Rattle.rt_baker.proofs.Allowing.{kept_early, taken, not_taken, none_first, other_first}
 use Rattle.rt_baker.proofs.coming.takes.Goals as goal
 
 pub returns-then-first-number : goal.returns-then-first-number
@@ -18,6 +18,10 @@ returns-in-None c =
     not_taken app c.args.state.now c.args.state.now c.args.irq c.get-number.result
     c.candidate.result
     c.get-number.ensures.value (none_first c.get-number.result c.candidate.result c.in-None.is) c.candidate.ensures
+
+pub take-requires-clause-early : goal.take-requires-clause-early
+take-requires-clause-early c =
+    kept_early (app_of c.args.machine.now.code.now.app.now) c.args.state.now c.requires.early
 
 pub returns-in_ok-take-in-Some : goal.returns-in_ok-take-in-Some
 returns-in_ok-take-in-Some c =

@@ -1,6 +1,6 @@
 use Rattle.std.proofs.Common.{refl}
 use Rattle.rt_app.specs.View.{app_of}
-use Rattle.rt_baker.proofs.Allowing.{turn_stopped, turn_other, turned}
+use Rattle.rt_baker.proofs.Allowing.{kept_early, kept_settled, turn_stopped, turn_other, turned}
 use Rattle.rt_baker.proofs.coming.turn.Goals as goal
 
 pub returns-then-not-may_go : goal.returns-then-not-may_go
@@ -16,6 +16,14 @@ returns-then-not-shows c =
     turn_other app c.args.state.now c.args.state.now c.args.what.now c.requires.free
     c.requires.action
     (c.if-not-shows.ensures.wrong refl)
+
+pub advance-requires-clause-early : goal.advance-requires-clause-early
+advance-requires-clause-early c =
+    kept_early (app_of c.args.machine.now.code.now.app.now) c.args.state.now c.requires.early
+
+pub advance-requires-clause-settled : goal.advance-requires-clause-settled
+advance-requires-clause-settled c =
+    kept_settled (app_of c.args.machine.now.code.now.app.now) c.args.state.now c.requires.early
 
 pub returns : goal.returns
 returns c =

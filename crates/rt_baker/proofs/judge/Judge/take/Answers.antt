@@ -6,7 +6,7 @@ use Rattle.rt_baker.proofs.judge.Judge.take.Goals as goal
 
 pub judge_item-requires-clause-early : goal.judge_item-requires-clause-early
 judge_item-requires-clause-early c =
-    judge_early (app_of c.args.machine.now.code.now.app.now) c.args.self.now
+    judge_early (app_of c.args.machine.now.code.now.app.now) c.args.self.now c.requires.machine.code.accepted
     (none_from_is_some c.args.self.now.wrong (sym c.is_some.ensures ∙ c.if-is_some.false)) c.requires.judged
 
 pub returns-in-None : goal.returns-in-None
