@@ -16,6 +16,7 @@ use Rattle.rt_laws.specs.Run.{RunsOn, IsWithinStack, IsTold, Judged}
 use Rattle.rt_laws.specs.ByItems.{label_of, done_after, after_all, silent, Comes}
 use Rattle.rt_laws.proofs.ByItems.{runs_are_by_items}
 use Rattle.rt_laws.proofs.Keeping.{judged_traces_keep_laws}
+use Rattle.rt_laws.proofs.AllMoments.{runs_keep_messages}
 use Rattle.rt_moves.specs.State.{Held, StateIs}
 use Rattle.rt_baker.specs.declared.done.Done.{Done}
 use Rattle.rt_baker.specs.declared.judge.Judge.{Judge}
@@ -318,7 +319,11 @@ is_right app trace s n accepted h ends =
     let judged : Judged app trace = judged_items app trace.items trace.total h.right
     (subst (λ (m : ℕ). Ends app (state_behind app (first app) 0 trace.items) m trace.total) h.steps
     (ends (state_behind app (first app) 0 trace.items) h.is)) in
-    record { judged = judged; laws = judged_traces_keep_laws app trace accepted judged }
+    record {
+      judged = judged;
+      laws = judged_traces_keep_laws app trace accepted judged;
+      messages = runs_keep_messages app accepted judged.run.labels judged.run.allowed;
+    }
 
 is_wrong_at : (app : App) (trace : Trace) (i number : ℕ) → number ≡ i + 1 → FailsAt app trace.items i
     → IsWrongAt app trace number

@@ -7,6 +7,7 @@ use Rattle.rt_trace.specs.Trace.{Trace}
 use Rattle.rt_app.specs.Tree.{App}
 use Rattle.rt_laws.specs.Run.{Judged}
 use Rattle.rt_laws.specs.Properties.{KeepsLaws}
+use Rattle.rt_laws.specs.Messages.{KeepsMessages}
 use Rattle.rt_baker.specs.declared.verdict.Verdict.{Verdict}
 use Rattle.rt_baker.specs.declared.verdict.Verdict.TheVariants as verdict
 
@@ -15,10 +16,13 @@ abbrev pub front : ℕ → Trace → Trace
 front n trace = record { items = take n trace.items; total = None }
 
 -- It is judged right. Sections were exclusive then, no job found one taken, and none waited for more than one section
--- of one lower job.
+-- of one lower job. At every moment spawns were full exactly where the capacity was out; messages started first in,
+-- first out, and fired in order and not early; a handle was of one message; the places that were out were those in
+-- transit, armed and ready; and messages that were ready or due were served.
 pub record IsRight (app : App) (trace : Trace) : Type 0 where
   pub judged : Judged app trace
   pub laws : KeepsLaws app judged.run.labels
+  pub messages : KeepsMessages app judged.run.labels
 
 -- The items so far are judged right, and with the next one they are not; or all items are, and the total is not.
 abbrev pub IsWrongBehind : App → Trace → ℕ → Type 0
