@@ -37,6 +37,7 @@ use Rattle.rt_laws.specs.Sight.{Sight, first_sight, sees}
 use Rattle.rt_laws.proofs.Well.{StateWell}
 use Rattle.rt_laws.proofs.Happens.{first_well, happens, after_well}
 use Rattle.rt_laws.proofs.Keeping.{runs_keep_laws}
+use Rattle.rt_laws.proofs.AllMoments.{runs_keep_messages}
 use Rattle.rt_sim.specs.Guarded.{sees_all, IsGuarded}
 use Rattle.rt_sim.specs.Good.{AreDeclared, IsNoTrap, RunsWell, ImagesAreGood}
 use Rattle.rt_sim.specs.Inside.Moment.{Moment}
@@ -174,6 +175,7 @@ module _ (app : App) (img : Image) (accepted : IsAccepted app)
         };
         shows = shows_its_events img events;
         laws = runs_keep_laws app accepted (labels img (reset img) events) whole.runs;
+        messages = runs_keep_messages app accepted (labels img (reset img) events) whole.runs;
         stack_within = λ n.
             let part = reached_by (take n events) (omega (arith, few, front_short events n))
             (front_declared app events n declared) in

@@ -28,8 +28,4 @@ pub mod Bodies
 pub mod Access
 pub mod Good
 pub mod Rows
-pub mod Worded
-pub mod Advancing
-pub mod Happened
-pub mod Scripted
 pub mod Prepared

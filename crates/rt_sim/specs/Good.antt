@@ -1,6 +1,7 @@
 -- A good image of an application: whatever happens, what the core shows is a run of Baker's machine (Stack-Based
--- Scheduling of Realtime Processes, 1991) with its three properties, the stack stays within the printed bound, nothing
--- traps, and shared resources are touched in their sections alone. No frame, mask or address is named here.
+-- Scheduling of Realtime Processes, 1991) with its three properties, messages are kept, the stack stays within the
+-- printed bound, nothing traps, and shared resources are touched in their sections alone. No frame, mask or address is
+-- named here.
 use Rattle.std.specs.Prelude.{◌≡◌, ℕ, ◌^◌, ◌<◌, ◌≤◌, true, List, [], ◌∷◌, length, take}
 use Rattle.std.specs.List.{AllByRecursion}
 use Rattle.rt_ids.specs.Event.{Event, Arrive, steps}
@@ -18,6 +19,7 @@ use Rattle.rt_core.specs.Trace.{labels, trace, depth_after}
 use Rattle.rt_laws.specs.Services.{is_declared}
 use Rattle.rt_laws.specs.Run.{Run}
 use Rattle.rt_laws.specs.Properties.{KeepsLaws}
+use Rattle.rt_laws.specs.Messages.{KeepsMessages}
 use Rattle.rt_sim.specs.Guarded.{AccessesAreGuarded}
 
 -- each interrupt that arrives is declared
@@ -38,6 +40,10 @@ pub record RunsWell (app : App) (img : Image) (events : List Event) : Type 0 whe
   pub shows : shown 0 (trace img events) (steps events) ≡ events
   -- sections are exclusive, no job finds one taken, and none waits for more than one section of one lower job
   pub laws : KeepsLaws app (labels img (reset img) events)
+  -- At every moment: a message finds no place exactly where the capacity is out, and places are where they are counted;
+  -- messages start first in, first out, and fire in order and not early; a handle is of one message; and ready and due
+  -- messages are served.
+  pub messages : KeepsMessages app (labels img (reset img) events)
   -- the stack bytes in use are within the bound at every moment
   pub stack_within : (n : ℕ) → depth_after img (take n events) ≤ stack_bytes app
   pub no_trap : AllByRecursion (λ item. IsNoTrap item.what) (trace img events)

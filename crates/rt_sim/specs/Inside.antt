@@ -8,4 +8,3 @@ pub mod Calling
 pub mod PartFits
 pub mod Fits
 pub mod Agrees
-pub mod Writing

@@ -1,4 +1,3 @@
 pub mod Inside
 pub mod Guarded
 pub mod Good
-pub mod Written
