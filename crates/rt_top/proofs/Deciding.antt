@@ -7,7 +7,6 @@ use Rattle.rt_ast.specs.Tree as tree
 use Rattle.rt_ast.specs.Canonical.{canonical}
 use Rattle.rt_grammar.specs.Text.{IsText}
 use Rattle.rt_app.specs.Accepted.{IsAccepted}
-use Rattle.rt_app.specs.Handlers.{has_no_handles}
 use Rattle.rt_app.specs.Names.{names_of}
 use Rattle.rt_app.specs.Tree.{App}
 use Rattle.rt_baker.specs.declared.verdict.Verdict.{Verdict}
@@ -119,55 +118,52 @@ module _ (first second third : Option (List ℕ)) (app : App) (accepted : (text 
   }
 
   -- a verdict, or the refusal of a trace
-  module _ (plain : has_no_handles app ≡ true) where
-    pub audit_passes : IsFirstRefused Audit u → ⊥
-    audit_passes r = form_passes has_no_handles r.0 r.1 app (accepted r.0 r.2) plain r.3
+  pub audit_passes : IsFirstRefused Audit u → ⊥
+  audit_passes r = application_passes r.0 r.1 app (accepted r.0 r.2) r.3
 
-    trace_decided : (refusal : TraceRefused) (line : List ℕ)
-        → ((more : List ℕ) → second ≡ Some more → trace.IsRefused (names_of app) more refusal)
-        → SaysTrace refusal line → IsDecided Audit u status.Text line
-    trace_decided refusal line met says =
-        past_decided Audit u audit_passes (omega arith) status.Text line is_text (λ text more e f.
-        faulty text more line e f (record {
+  trace_decided : (refusal : TraceRefused) (line : List ℕ)
+      → ((more : List ℕ) → second ≡ Some more → trace.IsRefused (names_of app) more refusal)
+      → SaysTrace refusal line → IsDecided Audit u status.Text line
+  trace_decided refusal line met says =
+      past_decided Audit u audit_passes (omega arith) status.Text line is_text (λ text more e f.
+      faulty text more line e f (record {
+        app = app;
+        of_text = accepted text e;
+        refusal = refusal;
+        refused = met more f;
+        says = says;
+      }))
+
+  pub long_trace_decided : ((more : List ℕ) → second ≡ Some more → TRACE_BYTES < length more) → (line : List ℕ)
+      → SaysTrace in_trace.TooLong line → IsDecided Audit u status.Text line
+  long_trace_decided long line says = trace_decided in_trace.TooLong line long says
+
+  pub audit_decided : (own : List ℕ) → ((more : List ℕ) → second ≡ Some more → own ≡ more) → (ended : Status)
+      (bytes : List ℕ) → AnswersAudit app own ended bytes → IsDecided Audit u ended bytes
+  audit_decided own same s b (replies.judged shown ended bytes read (verdict, is, says)) =
+      past_decided Audit u audit_passes (omega arith) ended bytes (is_past verdict says) (λ text more e f.
+      output ended bytes (
+        text,
+        more,
+        e,
+        f,
+        record {
           app = app;
           of_text = accepted text e;
-          plain = plain;
-          refusal = refusal;
-          refused = met more f;
+          trace = shown;
+          read = subst (λ m. trace.IsTraceText (names_of app) m shown) (same more f) read;
+          verdict = verdict;
+          is = is;
           says = says;
-        }))
-
-    pub long_trace_decided : ((more : List ℕ) → second ≡ Some more → TRACE_BYTES < length more) → (line : List ℕ)
-        → SaysTrace in_trace.TooLong line → IsDecided Audit u status.Text line
-    long_trace_decided long line says = trace_decided in_trace.TooLong line long says
-
-    pub audit_decided : (own : List ℕ) → ((more : List ℕ) → second ≡ Some more → own ≡ more) → (ended : Status)
-        (bytes : List ℕ) → AnswersAudit app own ended bytes → IsDecided Audit u ended bytes
-    audit_decided own same s b (replies.judged shown ended bytes read (verdict, is, says)) =
-        past_decided Audit u audit_passes (omega arith) ended bytes (is_past verdict says) (λ text more e f.
-        output ended bytes (
-          text,
-          more,
-          e,
-          f,
-          record {
-            app = app;
-            of_text = accepted text e;
-            plain = plain;
-            trace = shown;
-            read = subst (λ m. trace.IsTraceText (names_of app) m shown) (same more f) read;
-            verdict = verdict;
-            is = is;
-            says = says;
-          },
-        ))
-      where
-        is_past : (v : Verdict) → Says shown v ended bytes → IsPast ended
-        is_past judged.Yes s = subst IsPast (sym s.0) is_done
-        is_past (judged.No n) s = subst IsPast (sym s.0) is_no
-    audit_decided own same s b (replies.refused refusal line met says) =
-        trace_decided refusal line
-        (λ more f. subst (λ m. trace.IsRefused (names_of app) m refusal) (same more f) met) says
+        },
+      ))
+    where
+      is_past : (v : Verdict) → Says shown v ended bytes → IsPast ended
+      is_past judged.Yes s = subst IsPast (sym s.0) is_done
+      is_past (judged.No n) s = subst IsPast (sym s.0) is_no
+  audit_decided own same s b (replies.refused refusal line met says) =
+      trace_decided refusal line
+      (λ more f. subst (λ m. trace.IsRefused (names_of app) m refusal) (same more f) met) says
 
   -- a listing
   pub listed_decided : IsAccepted app → has_image app ≡ true → (items : List ℕ) → Lists app items → (bytes : List ℕ)

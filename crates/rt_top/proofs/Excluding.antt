@@ -5,7 +5,6 @@ use Rattle.rt_ids.specs.declared.status.Status.{Status}
 use Rattle.rt_ast.specs.Tree as tree
 use Rattle.rt_grammar.specs.Text.{IsText}
 use Rattle.rt_parse.proofs.WholeOnly.{text_only}
-use Rattle.rt_app.specs.Handlers.{has_no_handles}
 use Rattle.rt_app.specs.Names.{names_of}
 use Rattle.rt_app.specs.Tree.{App}
 use Rattle.rt_app.specs.Violation.{IsFirst}
@@ -118,7 +117,7 @@ refused_no_second Run text more line other r s = form_passes has_image text line
 refused_no_second Check text more line other r s = s
 refused_no_second Fmt text more line other r s = s
 refused_no_second Build text more line other r s = s
-refused_no_second Audit text more line other r s = form_passes has_no_handles text line s.app s.of_text s.plain r
+refused_no_second Audit text more line other r s = application_passes text line s.app s.of_text r
 refused_no_second Live text more line other r s = s
 refused_no_second (Soak number count workers) text more line other r s = s
 refused_no_second (Demo n) text more line other r s = s
@@ -135,8 +134,8 @@ refused_no_output Build t text line ended bytes e r (is, text', e', w) =
     form_passes has_image text' line w.app w.is.of_text w.is.made
     (subst (λ s. RefusesFirst Build s line) (some_same t.first text text' e e') r)
 refused_no_output Audit t text line ended bytes e r (text', more, e', h, audited) =
-    form_passes has_no_handles text' line audited.app audited.of_text audited.plain
-    (subst (λ s. RefusesFirst Audit s line) (some_same t.first text text' e e') r)
+    application_passes text' line audited.app audited.of_text
+    (subst (λ s. RefusesApplication s line) (some_same t.first text text' e e') r)
 refused_no_output Live t text line ended bytes e r w = w
 refused_no_output (Soak number count workers) t text line ended bytes e r w = w
 refused_no_output (Demo n) t text line ended bytes e r w = w

@@ -8,4 +8,3 @@ mod Refused
 mod Listed
 mod Ran
 mod Audited
-pub mod ByHandle

@@ -5,7 +5,7 @@ use Rattle.rt_ids.specs.declared.status.Status.{Status}
 use Rattle.rt_ids.specs.declared.status.Status.TheVariants as status
 use Rattle.rt_outside.specs.Bytes.{Took, TookPrefix}
 use Rattle.rt_top.specs.Words.{Command, Run, Check, Fmt, Build, Audit, Names, IsBuilt, reads}
-use Rattle.rt_top.specs.Refusal.{RefusesText, RefusesApplication, RefusesBuilding, RefusesJudging}
+use Rattle.rt_top.specs.Refusal.{RefusesText, RefusesApplication, RefusesBuilding}
 use Rattle.rt_top.specs.SecondRefusal.{RefusesScript, RefusesTrace}
 use Rattle.rt_top.specs.Outputs.{IsFormatted, IsChecked, IsListed, IsRun, IsAudited}
 
@@ -25,7 +25,7 @@ RefusesFirst Run text line = RefusesBuilding text line
 RefusesFirst Check text line = RefusesApplication text line
 RefusesFirst Fmt text line = RefusesText text line
 RefusesFirst Build text line = RefusesBuilding text line
-RefusesFirst Audit text line = RefusesJudging text line
+RefusesFirst Audit text line = RefusesApplication text line
 RefusesFirst other text line = ⊥
 
 -- the line refuses the second text, where the first is not refused

@@ -1,4 +1,3 @@
 -- What the private parts of the top call say of their ends.
 pub mod Replies
 pub mod Decides
-pub mod Handles

@@ -8,7 +8,6 @@ use Rattle.rt_grammar.specs.Text.{IsText}
 use Rattle.rt_app.specs.Tree.{App}
 use Rattle.rt_app.specs.Bounds.{bounds}
 use Rattle.rt_app.specs.Ceiling.{ceilings}
-use Rattle.rt_app.specs.Handlers.{has_no_handles}
 use Rattle.rt_app.specs.Names.{names_of}
 use Rattle.rt_baker.specs.Audit.{IsVerdict}
 use Rattle.rt_baker.specs.declared.verdict.Verdict.{Verdict}
@@ -76,7 +75,6 @@ Says trace (judged.No number) ended bytes =
 pub record IsAudited (text more : List ℕ) (ended : Status) (bytes : List ℕ) : Type 0 where
   pub app : App
   pub of_text : IsApplication text app
-  pub plain : has_no_handles app ≡ true
   pub trace : Trace
   pub read : IsTraceText (names_of app) more trace
   pub verdict : Verdict

@@ -8,7 +8,6 @@ use Rattle.rt_ids.specs.declared.refusal.Refusal.TheVariants as refusal
 use Rattle.rt_ids.specs.declared.rule.Rule.{Rule}
 use Rattle.rt_ids.specs.declared.rule.Rule.TheVariants as rule
 use Rattle.rt_grammar.specs.Text.{IsRefused}
-use Rattle.rt_app.specs.Handlers.{has_no_handles}
 use Rattle.rt_app.specs.Tree.{App}
 use Rattle.rt_build.specs.Accepted.{IsApplication, IsRefusedText}
 use Rattle.rt_build.specs.Form.{has_image}
@@ -88,7 +87,3 @@ RefusesOther form text line = RefusesApplication text line ⊎ RefusesForm form 
 -- where an image is wanted: one is made of each application without a monotonic
 abbrev pub RefusesBuilding : List ℕ → List ℕ → Type 0
 RefusesBuilding text line = RefusesOther has_image text line
-
--- where traces are judged: those of applications that take no message back and put none off
-abbrev pub RefusesJudging : List ℕ → List ℕ → Type 0
-RefusesJudging text line = RefusesOther has_no_handles text line

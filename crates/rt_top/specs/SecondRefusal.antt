@@ -2,7 +2,6 @@
 -- first wrong line, and what is wrong there. A text that is too long is refused at its first line. Want of memory
 -- refuses nothing.
 use Rattle.std.specs.Prelude.{◌≡◌, ℕ, true, List, ◌++◌, codes, decimal}
-use Rattle.rt_app.specs.Handlers.{has_no_handles}
 use Rattle.rt_app.specs.Names.{names_of}
 use Rattle.rt_app.specs.Tree.{App}
 use Rattle.rt_build.specs.Accepted.{IsApplication}
@@ -47,11 +46,10 @@ pub record RefusesScript (text more line : List ℕ) : Type 0 where
   pub refused : script.IsRefused (names_of app) more refusal
   pub says : SaysScript refusal line
 
--- the line refuses a text that is no trace over the names of an application of which traces are judged
+-- the line refuses a text that is no trace over the names of an application
 pub record RefusesTrace (text more line : List ℕ) : Type 0 where
   pub app : App
   pub of_text : IsApplication text app
-  pub plain : has_no_handles app ≡ true
   pub refusal : TraceRefused
   pub refused : trace.IsRefused (names_of app) more refusal
   pub says : SaysTrace refusal line

@@ -8,7 +8,7 @@ ghost use Rattle.rt_top.specs.Defined.{inputs, IsFirstRefused};
 ghost use Rattle.rt_top.specs.Inside.Decides.{Decides};
 ghost use Rattle.rt_top.specs.Inside.Replies.{Replies, IsHeard, AnswersAudit, AnswersVerdict};
 
-use crate::reading::{read_plain, read_second};
+use crate::reading::{read_accepted, read_second};
 use crate::reply::{Reply, numbered, refuse_trace};
 use rt_app::App;
 use rt_baker::Verdict;
@@ -30,7 +30,7 @@ pub(crate) fn audit<A: Source, B: Source>(alloc: Global, app: &mut A, second: &m
     ensures first_heard { IsHeard (A.faults app.old) (A.faults app.new) result }
     ensures second_heard { IsHeard (B.faults second.old) (B.faults second.new) result }
 {
-    let accepted = match read_plain(alloc, app) {
+    let accepted = match read_accepted(alloc, app) {
         Ok(accepted) => accepted,
         Err(reply) => return reply,
     };

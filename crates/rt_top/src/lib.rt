@@ -8,7 +8,6 @@ mod command;
 mod decide;
 mod format;
 pub mod gate;
-mod handles;
 mod reading;
 mod refusal;
 mod reply;

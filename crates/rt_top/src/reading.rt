@@ -6,14 +6,12 @@ ghost use Rattle.rt_ast.specs.View.{app_of};
 ghost use Rattle.rt_grammar.specs.Text.{IsText};
 ghost use Rattle.rt_app.specs.View as resolved;
 ghost use Rattle.rt_app.specs.Accepted.{IsAccepted};
-ghost use Rattle.rt_app.specs.Handlers.{has_no_handles};
 ghost use Rattle.rt_build.specs.Accepted.{KeepsRules, IsApplication};
 ghost use Rattle.rt_build.specs.Form.{has_image};
-ghost use Rattle.rt_top.specs.Refusal.{RefusesText, RefusesApplication, RefusesBuilding, RefusesJudging};
+ghost use Rattle.rt_top.specs.Refusal.{RefusesText, RefusesApplication, RefusesBuilding};
 ghost use Rattle.rt_top.specs.Inside.Decides.{Tells, Stops, Halts, IsBrokenBy};
 ghost use Rattle.rt_top.specs.Inside.Replies.{IsHeardIn};
 
-use crate::handles::has_no_handles;
 use crate::reply::{Reply, line, refuse};
 use rt_app::App;
 use rt_ast::AppTree;
@@ -105,27 +103,6 @@ pub(crate) fn read_imaged<A: Source>(alloc: Global, app: &mut A) -> Result<App, 
         Err(reply) => return Err(reply),
     };
     if has_image(&accepted) {
-        Ok(accepted)
-    } else {
-        Err(line(alloc, Status::App, UNBUILT))
-    }
-}
-
-/// Reads the application, where it breaks no rule and has no handles, so that its traces are judged.
-pub(crate) fn read_plain<A: Source>(alloc: Global, app: &mut A) -> Result<App, Reply>
-    ensures accepted { (text : List ℕ) → A.left app.old ≡ Some text →
-        IfOk result (λ app. IsApplication text (resolved.app_of app)) }
-    ensures kept { IfOk result (λ app. IsAccepted (resolved.app_of app)) }
-    ensures plain { IfOk result (λ app. has_no_handles (resolved.app_of app) ≡ true) }
-    ensures halts { IfErr result (Halts (A.left app.old) RefusesJudging
-        (Rose (A.faults app.old) (A.faults app.new))) }
-    ensures heard { IsHeardIn (A.faults app.old) (A.faults app.new) result }
-{
-    let accepted = match read_accepted(alloc, app) {
-        Ok(accepted) => accepted,
-        Err(reply) => return Err(reply),
-    };
-    if has_no_handles(&accepted) {
         Ok(accepted)
     } else {
         Err(line(alloc, Status::App, UNBUILT))
