@@ -15,7 +15,7 @@ use Rattle.rt_top.specs.Inside.Decides.{Tells}
 use Rattle.rt_top.specs.Inside.Replies.{Replies, AnswersVerdict, AnswersAudit}
 use Rattle.rt_top.specs.Inside.Replies as replies
 use Rattle.rt_top.specs.declared.reply.Reply.{Reply}
-use Rattle.rt_top.proofs.Ran.{replies_as}
+use Rattle.rt_top.proofs.Giving.{replies_as}
 
 -- a verdict is answered by its line
 module _ (app : App) (shown : Trace) where

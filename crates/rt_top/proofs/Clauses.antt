@@ -6,10 +6,9 @@ use Rattle.rt_outside.specs.Faults.{Rose}
 use Rattle.rt_outside.specs.Bytes.{Took}
 use Rattle.rt_top.specs.Words.{Command, IsBuilt, Names, IsCommand, reads}
 use Rattle.rt_top.specs.Defined.{Inputs, IsDue, IsAnswer, IsFirstRefused, AreTold, AreReadTold, SkipsFirst, SkipsSecond, WroteAll, WrotePart}
-use Rattle.rt_top.specs.Inside.Decides.{meant, Decides, Finishes}
+use Rattle.rt_top.specs.Inside.Decides.{meant, HasFailed, Concludes}
 use Rattle.rt_top.specs.declared.command.Command as code
 use Rattle.rt_top.specs.declared.command.Command.TheVariants as command
-use Rattle.rt_top.specs.declared.reply.Reply.{Reply}
 use Rattle.rt_top.proofs.CommandWords.{one_command}
 use Rattle.rt_top.proofs.Ending as ending
 
@@ -39,37 +38,51 @@ module _ (words : List (List ℕ)) (c : code.Command) (named : Names words (mean
   pub first_unread : SkipsFirst words → ⊥
   first_unread skips = let none = skips (meant c) (built c) named in let some = reads_first c in omega (arith, none, some)
 
-  module _ (t : Inputs) (rose kept rose_second : Type 0) (r : Reply) (d : Decides (meant c) t (rose × kept) rose_second r) (before after : Option (List ℕ)) (fb fa : ℕ) (result : Status) (f : Finishes before after fb fa r result) where
-    pub answered : (e : Command) → IsBuilt e → Names words e → IsAnswer result → AreReadTold e t result → WroteAll e t result before after
+  module _ (t : Inputs) (rose kept rose_second : Type 0) (before after : Option (List ℕ)) (fb fa : ℕ) (result : Status)
+      (k : Concludes (meant c) t (rose × kept) rose_second before after fb fa result) where
+    pub answered : (e : Command) → IsBuilt e → Names words e → IsAnswer result → AreReadTold e t result
+        → WroteAll e t result before after
     answered e is named_so answer =
-        any (λ x. AreReadTold x t result → WroteAll x t result before after) (ending.answered (meant c) t (rose × kept) rose_second before after fb fa result r d f answer) e is named_so
+        any (λ x. AreReadTold x t result → WroteAll x t result before after)
+        (ending.answered (meant c) t (rose × kept) rose_second before after fb fa result k answer) e is named_so
 
-    pub complete : (e : Command) (due : Status) → IsBuilt e → Names words e → IsDue e t due → (rose → ⊥) → (rose_second → ⊥) → (Rose fb fa → ⊥) → (result ≡ due) ⊎ (result ≡ status.Memory)
+    pub complete : (e : Command) (due : Status) → IsBuilt e → Names words e → IsDue e t due → (rose → ⊥)
+        → (rose_second → ⊥) → (Rose fb fa → ⊥) → (result ≡ due) ⊎ (result ≡ status.Memory)
     complete e due is named_so is_due no_first no_second no_third =
-        ending.complete (meant c) t (rose × kept) rose_second before after fb fa result due (back is_due) (λ both. no_first both.0) no_second no_third r d f
+        ending.complete (meant c) t (rose × kept) rose_second before after fb fa result due (back is_due)
+        (λ both. no_first both.0) no_second no_third k
       where
         back : IsDue e t due → IsDue (meant c) t due
         back x = subst (λ y. IsDue y t due) (one_command words e (meant c) is (built c) named_so named) x
 
     pub no_usage : result ≡ status.Usage → IsCommand words → ⊥
-    no_usage usage _ = ending.no_usage (meant c) t (rose × kept) rose_second before after fb fa result r d f usage
+    no_usage usage _ = ending.no_usage (meant c) t (rose × kept) rose_second before after fb fa result k usage
 
-    pub read : result ≡ status.Read → (e : Command) × IsBuilt e × Names words e × (((1 ≤ reads e) × rose × kept) ⊎ ((2 ≤ reads e) × rose_second))
-    read is = (meant c, built c, named, flat (ending.read (meant c) t (rose × kept) rose_second before after fb fa result r d f is))
+    pub read : result ≡ status.Read → (e : Command) × IsBuilt e × Names words e
+        × (((1 ≤ reads e) × rose × kept) ⊎ ((2 ≤ reads e) × rose_second))
+    read is = (
+      meant c,
+      built c,
+      named,
+      flat (ending.read (meant c) t (rose × kept) rose_second before after fb fa result k is),
+    )
       where
-        flat : ((1 ≤ reads (meant c)) × (rose × kept)) ⊎ ((2 ≤ reads (meant c)) × rose_second) → ((1 ≤ reads (meant c)) × rose × kept) ⊎ ((2 ≤ reads (meant c)) × rose_second)
+        flat : HasFailed (meant c) (rose × kept) rose_second
+            → ((1 ≤ reads (meant c)) × rose × kept) ⊎ ((2 ≤ reads (meant c)) × rose_second)
         flat (inl (some, both)) = inl (some, both.0, both.1)
         flat (inr h) = inr h
 
     pub silent : (result ≡ status.Read) ⊎ (result ≡ status.Memory) → Took before after []
-    silent quiet = ending.silent (meant c) t (rose × kept) rose_second before after fb fa result r d f quiet
+    silent quiet = ending.silent (meant c) t (rose × kept) rose_second before after fb fa result k quiet
 
     pub write : result ≡ status.Write → Rose fb fa
-    write is = ending.write (meant c) t (rose × kept) rose_second before after fb fa result r d f is
+    write is = ending.write (meant c) t (rose × kept) rose_second before after fb fa result k is
 
-    pub part : (e : Command) → IsBuilt e → Names words e → result ≡ status.Write → AreTold e t ⊎ IsFirstRefused e t → WrotePart e t before after
+    pub part : (e : Command) → IsBuilt e → Names words e → result ≡ status.Write → AreTold e t ⊎ IsFirstRefused e t
+        → WrotePart e t before after
     part e is named_so failed =
-        any (λ x. AreTold x t ⊎ IsFirstRefused x t → WrotePart x t before after) (ending.part (meant c) t (rose × kept) rose_second before after fb fa result r d f failed) e is named_so
+        any (λ x. AreTold x t ⊎ IsFirstRefused x t → WrotePart x t before after)
+        (ending.part (meant c) t (rose × kept) rose_second before after fb fa result k failed) e is named_so
 
     pub second_unread : ((reads (meant c) ≤ 1) ⊎ IsFirstRefused (meant c) t → kept) → SkipsSecond words t → kept
     second_unread keeps skips = keeps (skips (meant c) (built c) named)

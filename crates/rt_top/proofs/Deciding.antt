@@ -26,7 +26,7 @@ use Rattle.rt_top.specs.Outputs.{check_report, Says}
 use Rattle.rt_top.specs.Defined.{Inputs, inputs, RefusesFirst, Defined, refused, faulty, output, IsTold, IsFirstRefused, AreTold, AreReadTold}
 use Rattle.rt_top.specs.Inside.Replies.{Replies, AnswersRun, AnswersAudit}
 use Rattle.rt_top.specs.Inside.Replies as replies
-use Rattle.rt_top.specs.Inside.Decides.{Tells, Halts, meant, Lists, IsPast, is_done, is_text, is_no, IsDecided, Decides}
+use Rattle.rt_top.specs.Inside.Decides.{Tells, Halts, meant, Lists, IsPast, is_done, is_text, is_no, IsDecided, Decides, Concludes}
 use Rattle.rt_top.specs.declared.command.Command as code
 use Rattle.rt_top.specs.declared.reply.Reply.{Reply}
 use Rattle.rt_top.specs.declared.reply.Reply.TheVariants as reply
@@ -51,13 +51,13 @@ module _ (c : Command) (t : Inputs) (some : 1 ≤ reads c) (Refuses : List ℕ �
           subst (λ s. Defined c t s bytes) (sym is) (refused text.0 bytes text.1 (means text.0 bytes (refuses text.0 text.1)))
 
   pub halts_decides : (failed first second : Type 0) → (failed → first) → (r : Reply) → Halts t.first Refuses failed r → Decides c t first second r
-  halts_decides failed first second more (reply.Write ended front back) (is, refuses) = refused_decided ended (front.items ++ back.items) is refuses
+  halts_decides failed first second more (reply.Write ended text) (is, refuses) = refused_decided ended text.items is refuses
   halts_decides failed first second more (reply.Stop ended) (inl is) = inl is
   halts_decides failed first second more (reply.Stop ended) (inr (is, f)) = inr (is, inl (some, more f))
 
 -- a reply that replies what is decided
 pub replies_decides : (c : Command) (t : Inputs) (first second : Type 0) (P : Status → List ℕ → Type 0) → ((ended : Status) (bytes : List ℕ) → P ended bytes → IsDecided c t ended bytes) → (r : Reply) → Replies P r → Decides c t first second r
-replies_decides c t first second P means (reply.Write ended front back) p = means ended (front.items ++ back.items) p
+replies_decides c t first second P means (reply.Write ended text) p = means ended text.items p
 replies_decides c t first second P means (reply.Stop ended) is = inl is
 
 pub tells_decides : (c : Command) (t : Inputs) (first second : Type 0) (wanted : Status) (P : List ℕ → Type 0) → ((bytes : List ℕ) → P bytes → IsDecided c t wanted bytes) → (r : Reply) → Tells wanted P r → Decides c t first second r
@@ -67,7 +67,7 @@ tells_decides c t first second wanted P means r tells =
 
 -- a reply of a command that reads one source, where another source is as it was
 pub only_first : (c : Command) (t : Inputs) (one : reads c ≤ 1) (failed first second : Type 0) → (failed → first) → (r : Reply) → Decides c t failed ⊥ r → Decides c t first second r
-only_first c t one failed first second more (reply.Write ended front back) d = d
+only_first c t one failed first second more (reply.Write ended text) d = d
 only_first c t one failed first second more (reply.Stop ended) (inl is) = inl is
 only_first c t one failed first second more (reply.Stop ended) (inr (is, inl f)) = inr (is, inl (f.0, more f.1))
 only_first c t one failed first second more (reply.Stop ended) (inr (is, inr f)) = absurd f.1
@@ -166,10 +166,9 @@ module _ (first second third : Option (List ℕ)) (app : App) (accepted : (text 
       (λ more f. subst (λ m. trace.IsRefused (names_of app) m refusal) (same more f) met) says
 
   -- a listing
-  pub listed_decided : IsAccepted app → has_image app ≡ true → (items : List ℕ) → Lists app items → (bytes : List ℕ)
-      → bytes ≡ items
+  pub listed_decided : IsAccepted app → has_image app ≡ true → (bytes : List ℕ) → Lists app bytes
       → IsDecided Build u status.Done bytes
-  listed_decided is_accepted made items (image, of_application, runnable, says) bytes same = record {
+  listed_decided is_accepted made bytes (image, of_application, runnable, says) = record {
     which = inr (is_done, λ r. form_passes has_image r.0 r.1 app (accepted r.0 r.2) made r.3);
     defined = λ told.
         let text = told_text first (told.0 (omega arith)) in
@@ -187,7 +186,7 @@ module _ (first second third : Option (List ℕ)) (app : App) (accepted : (text 
               runnable = runnable;
               good = images_are_good app image is_accepted made of_application;
             };
-            written = same ∙ says;
+            written = says;
           },
         );
   }
@@ -238,9 +237,12 @@ pub two_kept : (c : Command) (t : Inputs) (kept : Type 0) → 2 ≤ reads c → 
 two_kept c t kept two keeps (inl few) = absurd (omega (arith, two, few))
 two_kept c t kept two keeps (inr r) = keeps r
 
--- what is decided of a command is decided of one that equals it
-pub decides_as : (c k : code.Command) → c ≡ k → (t : Inputs) (first second : Type 0) (r : Reply) → Decides (meant k) t first second r → Decides (meant c) t first second r
-decides_as c k same t first second r d = subst (λ x. Decides (meant x) t first second r) (sym same) d
+-- a command ends as one that equals it
+pub concludes_as : (c k : code.Command) → c ≡ k → (t : Inputs) (first second : Type 0) (before after : Option (List ℕ))
+    (fb fa : ℕ) (result : Status) → Concludes (meant k) t first second before after fb fa result
+    → Concludes (meant c) t first second before after fb fa result
+concludes_as c k same t first second before after fb fa result d =
+    subst (λ x. Concludes (meant x) t first second before after fb fa result) (sym same) d
 
 pub kept_as : (c k : code.Command) → c ≡ k → (t : Inputs) (kept : Type 0) → ((reads (meant k) ≤ 1) ⊎ IsFirstRefused (meant k) t → kept) → (reads (meant c) ≤ 1) ⊎ IsFirstRefused (meant c) t → kept
 kept_as c k same t kept keeps = subst (λ x. (reads (meant x) ≤ 1) ⊎ IsFirstRefused (meant x) t → kept) (sym same) keeps

@@ -1,20 +1,13 @@
--- From what a command replies, and how that was written, to what the top call says.
-use Rattle.std.proofs.Common.{◌≡◌, ℕ, ◌≤◌, ◌⊎◌, List, [], ◌++◌, Option, Some, None, inl, inr, sym, subst, ◌∙◌, append-nil}
+-- From how a command ends to what the top call says.
+use Rattle.std.proofs.Common.{◌≡◌, ℕ, ◌⊎◌, List, [], Option, inl, inr, sym, subst, ◌∙◌}
 use Rattle.rt_ids.specs.declared.status.Status.{Status}
 use Rattle.rt_ids.specs.declared.status.Status.TheVariants as status
 use Rattle.rt_outside.specs.Faults.{Rose}
 use Rattle.rt_outside.specs.Bytes.{Took}
-use Rattle.rt_top.specs.Words.{Command, reads}
+use Rattle.rt_top.specs.Words.{Command}
 use Rattle.rt_top.specs.Defined.{Inputs, Defined, IsDue, IsAnswer, IsFirstRefused, AreTold, AreReadTold, WroteAll, WrotePart}
-use Rattle.rt_top.specs.Inside.Decides.{IsPast, is_done, is_text, is_no, IsDecided, Decides, Finishes}
-use Rattle.rt_top.specs.declared.reply.Reply.{Reply}
-use Rattle.rt_top.specs.declared.reply.Reply.TheVariants as reply
+use Rattle.rt_top.specs.Inside.Decides.{IsPast, is_done, is_text, is_no, IsDecided, HasFailed, Concludes}
 use Rattle.rt_top.proofs.Excluding.{one_due, told_of_due, is_told}
-
--- a sink that was not written to took nothing
-pub took_none : (o : Option (List ℕ)) → Took o o []
-took_none None = tt
-took_none (Some bytes) = sym (append-nil bytes)
 
 no_answer : (ended : Status) → (ended ≡ status.Memory) ⊎ (ended ≡ status.Read) → IsAnswer ended → ⊥
 no_answer ended (inl is) answer = subst IsAnswer is answer
@@ -76,65 +69,66 @@ past_no_write s is_text e = absurd cc
 past_no_write s is_no e = absurd cc
 
 module _ (c : Command) (t : Inputs) (first second : Type 0) (before after : Option (List ℕ)) (fb fa : ℕ) (result : Status) where
-  abbrev Cause : Type 0
-  Cause = ((1 ≤ reads c) × first) ⊎ ((2 ≤ reads c) × second)
+  pub answered : Concludes c t first second before after fb fa result → IsAnswer result → AreReadTold c t result
+      → WroteAll c t result before after
+  answered (inl (ended, bytes, d, inl (is, took))) answer told =
+      (bytes, subst (λ s. Defined c t s bytes) (sym is) (d.defined (subst (AreReadTold c t) is told)), took)
+  answered (inl (ended, bytes, d, inr (is, rose, part))) answer told = absurd (subst IsAnswer is answer)
+  answered (inr (inl is, none)) answer told = absurd (no_answer result (inl is) answer)
+  answered (inr (inr (is, failed), none)) answer told = absurd (no_answer result (inr is) answer)
 
-  pub answered : (r : Reply) → Decides c t first second r → Finishes before after fb fa r result → IsAnswer result → AreReadTold c t result → WroteAll c t result before after
-  answered (reply.Write ended front back) d (inl (is, took)) answer told =
-      (front.items ++ back.items, subst (λ s. Defined c t s (front.items ++ back.items)) (sym is) (d.defined (subst (AreReadTold c t) is told)), took)
-  answered (reply.Write ended front back) d (inr (is, rose, part)) answer told = absurd (subst IsAnswer is answer)
-  answered (reply.Stop ended) (inl is) (same, none) answer told = absurd (no_answer result (inl (same ∙ is)) answer)
-  answered (reply.Stop ended) (inr (is, cause)) (same, none) answer told = absurd (no_answer result (inr (same ∙ is)) answer)
-
-  pub complete : (due : Status) → IsDue c t due → (first → ⊥) → (second → ⊥) → (Rose fb fa → ⊥) → (r : Reply) → Decides c t first second r → Finishes before after fb fa r result → (result ≡ due) ⊎ (result ≡ status.Memory)
-  complete due is_due_so no_first no_second no_third (reply.Write ended front back) d (inl (is, took)) =
-      inl (is ∙ is_due c t ended (front.items ++ back.items) d due is_due_so)
-  complete due is_due_so no_first no_second no_third (reply.Write ended front back) d (inr (is, rose, part)) = absurd (no_third rose)
-  complete due is_due_so no_first no_second no_third (reply.Stop ended) (inl is) (same, none) = inr (same ∙ is)
-  complete due is_due_so no_first no_second no_third (reply.Stop ended) (inr (is, inl f)) (same, none) = absurd (no_first f.1)
-  complete due is_due_so no_first no_second no_third (reply.Stop ended) (inr (is, inr f)) (same, none) = absurd (no_second f.1)
+  pub complete : (due : Status) → IsDue c t due → (first → ⊥) → (second → ⊥) → (Rose fb fa → ⊥)
+      → Concludes c t first second before after fb fa result → (result ≡ due) ⊎ (result ≡ status.Memory)
+  complete due is_due_so no_first no_second no_third (inl (ended, bytes, d, inl (is, took))) =
+      inl (is ∙ is_due c t ended bytes d due is_due_so)
+  complete due is_due_so no_first no_second no_third (inl (ended, bytes, d, inr (is, rose, part))) = absurd (no_third rose)
+  complete due is_due_so no_first no_second no_third (inr (inl is, none)) = inr is
+  complete due is_due_so no_first no_second no_third (inr (inr (is, inl f), none)) = absurd (no_first f.1)
+  complete due is_due_so no_first no_second no_third (inr (inr (is, inr f), none)) = absurd (no_second f.1)
 
   -- no command ends with this status
-  pub no_usage : (r : Reply) → Decides c t first second r → Finishes before after fb fa r result → result ≡ status.Usage → ⊥
-  no_usage (reply.Write ended front back) d (inl (is, took)) usage =
-      is_answer c t ended (front.items ++ back.items) d (λ s. s ≡ status.Usage) (λ e. absurd cc) past_no_usage (sym is ∙ usage)
-  no_usage (reply.Write ended front back) d (inr (is, rose, part)) usage = absurd cc
-  no_usage (reply.Stop ended) (inl is) (same, none) usage = absurd cc
-  no_usage (reply.Stop ended) (inr (is, cause)) (same, none) usage = absurd cc
+  pub no_usage : Concludes c t first second before after fb fa result → result ≡ status.Usage → ⊥
+  no_usage (inl (ended, bytes, d, inl (is, took))) usage =
+      is_answer c t ended bytes d (λ s. s ≡ status.Usage) (λ e. absurd cc) past_no_usage (sym is ∙ usage)
+  no_usage (inl (ended, bytes, d, inr (is, rose, part))) usage = absurd cc
+  no_usage (inr (inl is, none)) usage = absurd cc
+  no_usage (inr (inr (is, failed), none)) usage = absurd cc
 
-  pub read : (r : Reply) → Decides c t first second r → Finishes before after fb fa r result → result ≡ status.Read → Cause
-  read (reply.Write ended front back) d (inl (is, took)) is_read =
-      absurd (is_answer c t ended (front.items ++ back.items) d (λ s. s ≡ status.Read) (λ e. absurd cc) past_no_read (sym is ∙ is_read))
-  read (reply.Write ended front back) d (inr (is, rose, part)) is_read = absurd cc
-  read (reply.Stop ended) (inl is) (same, none) is_read = absurd cc
-  read (reply.Stop ended) (inr (is, cause)) (same, none) is_read = cause
+  pub read : Concludes c t first second before after fb fa result → result ≡ status.Read → HasFailed c first second
+  read (inl (ended, bytes, d, inl (is, took))) is_read =
+      absurd (is_answer c t ended bytes d (λ s. s ≡ status.Read) (λ e. absurd cc) past_no_read (sym is ∙ is_read))
+  read (inl (ended, bytes, d, inr (is, rose, part))) is_read = absurd cc
+  read (inr (inl is, none)) is_read = absurd cc
+  read (inr (inr (is, failed), none)) is_read = failed
 
-  pub silent : (r : Reply) → Decides c t first second r → Finishes before after fb fa r result → (result ≡ status.Read) ⊎ (result ≡ status.Memory) → Took before after []
-  silent (reply.Write ended front back) d (inl (is, took)) quiet = absurd (loud quiet)
+  pub silent : Concludes c t first second before after fb fa result → (result ≡ status.Read) ⊎ (result ≡ status.Memory)
+      → Took before after []
+  silent (inl (ended, bytes, d, inl (is, took))) quiet = absurd (loud quiet)
     where
       loud : (result ≡ status.Read) ⊎ (result ≡ status.Memory) → ⊥
-      loud (inl e) = is_answer c t ended (front.items ++ back.items) d (λ s. s ≡ status.Read) (λ e. absurd cc) past_no_read (sym is ∙ e)
-      loud (inr e) = is_answer c t ended (front.items ++ back.items) d (λ s. s ≡ status.Memory) (λ e. absurd cc) past_no_memory (sym is ∙ e)
-  silent (reply.Write ended front back) d (inr (is, rose, part)) quiet = absurd (loud quiet)
+      loud (inl e) = is_answer c t ended bytes d (λ s. s ≡ status.Read) (λ e. absurd cc) past_no_read (sym is ∙ e)
+      loud (inr e) = is_answer c t ended bytes d (λ s. s ≡ status.Memory) (λ e. absurd cc) past_no_memory (sym is ∙ e)
+  silent (inl (ended, bytes, d, inr (is, rose, part))) quiet = absurd (loud quiet)
     where
       loud : (result ≡ status.Read) ⊎ (result ≡ status.Memory) → ⊥
       loud (inl e) = absurd cc
       loud (inr e) = absurd cc
-  silent (reply.Stop ended) d (same, none) quiet = none
+  silent (inr (stops, none)) quiet = none
 
-  pub write : (r : Reply) → Decides c t first second r → Finishes before after fb fa r result → result ≡ status.Write → Rose fb fa
-  write (reply.Write ended front back) d (inl (is, took)) is_write =
-      absurd (is_answer c t ended (front.items ++ back.items) d (λ s. s ≡ status.Write) (λ e. absurd cc) past_no_write (sym is ∙ is_write))
-  write (reply.Write ended front back) d (inr (is, rose, part)) is_write = rose
-  write (reply.Stop ended) (inl is) (same, none) is_write = absurd cc
-  write (reply.Stop ended) (inr (is, cause)) (same, none) is_write = absurd cc
+  pub write : Concludes c t first second before after fb fa result → result ≡ status.Write → Rose fb fa
+  write (inl (ended, bytes, d, inl (is, took))) is_write =
+      absurd (is_answer c t ended bytes d (λ s. s ≡ status.Write) (λ e. absurd cc) past_no_write (sym is ∙ is_write))
+  write (inl (ended, bytes, d, inr (is, rose, part))) is_write = rose
+  write (inr (inl is, none)) is_write = absurd cc
+  write (inr (inr (is, failed), none)) is_write = absurd cc
 
-  pub part : (r : Reply) → Decides c t first second r → Finishes before after fb fa r result → result ≡ status.Write → AreTold c t ⊎ IsFirstRefused c t → WrotePart c t before after
-  part (reply.Write ended front back) d (inl (is, took)) is_write told =
-      absurd (is_answer c t ended (front.items ++ back.items) d (λ s. s ≡ status.Write) (λ e. absurd cc) past_no_write (sym is ∙ is_write))
-  part (reply.Write ended front back) d (inr (is, rose, took)) is_write (inl told) =
-      (ended, front.items ++ back.items, defined_by c t ended (front.items ++ back.items) d (inr told), took)
-  part (reply.Write ended front back) d (inr (is, rose, took)) is_write (inr r) =
-      (ended, front.items ++ back.items, defined_by c t ended (front.items ++ back.items) d (inl r), took)
-  part (reply.Stop ended) (inl is) (same, none) is_write told = absurd cc
-  part (reply.Stop ended) (inr (is, cause)) (same, none) is_write told = absurd cc
+  pub part : Concludes c t first second before after fb fa result → result ≡ status.Write
+      → AreTold c t ⊎ IsFirstRefused c t → WrotePart c t before after
+  part (inl (ended, bytes, d, inl (is, took))) is_write told =
+      absurd (is_answer c t ended bytes d (λ s. s ≡ status.Write) (λ e. absurd cc) past_no_write (sym is ∙ is_write))
+  part (inl (ended, bytes, d, inr (is, rose, took))) is_write (inl told) =
+      (ended, bytes, defined_by c t ended bytes d (inr told), took)
+  part (inl (ended, bytes, d, inr (is, rose, took))) is_write (inr r) =
+      (ended, bytes, defined_by c t ended bytes d (inl r), took)
+  part (inr (inl is, none)) is_write told = absurd cc
+  part (inr (inr (is, failed), none)) is_write told = absurd cc

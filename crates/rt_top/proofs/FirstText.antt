@@ -34,11 +34,11 @@ long_text before after n text e gave = at after (subst (λ b. GaveCount b after 
 
 -- a refusal halts
 pub tells_halts : (told : Option (List ℕ)) (Refuses : List ℕ → List ℕ → Type 0) (failed : Type 0) (P : List ℕ → Type 0) → ((text line : List ℕ) → told ≡ Some text → P line → Refuses text line) → (r : Reply) → Tells status.App P r → Halts told Refuses failed r
-tells_halts told Refuses failed P means (reply.Write ended first second) (is, p) = (is, λ text e. means text (first.items ++ second.items) e p)
+tells_halts told Refuses failed P means (reply.Write ended line) (is, p) = (is, λ text e. means text line.items e p)
 tells_halts told Refuses failed P means (reply.Stop ended) is = inl is
 
 pub halts_as : (told : Option (List ℕ)) (R S : List ℕ → List ℕ → Type 0) (failed : Type 0) → ((text line : List ℕ) → R text line → S text line) → (r : Reply) → Halts told R failed r → Halts told S failed r
-halts_as told R S failed means (reply.Write ended first second) (is, h) = (is, λ text e. means text (first.items ++ second.items) (h text e))
+halts_as told R S failed means (reply.Write ended line) (is, h) = (is, λ text e. means text line.items (h text e))
 halts_as told R S failed means (reply.Stop ended) h = h
 
 -- the line of a fault that refuses each text that is told

@@ -22,7 +22,7 @@ use Rattle.rt_report.specs.Report.{report}
 use Rattle.rt_script.specs.Text.{IsScriptText}
 use Rattle.rt_script.specs.declared.line.Line.{Line}
 use Rattle.rt_sim.specs.Good.{Good}
-use Rattle.rt_sim.specs.Written.{text_of}
+use Rattle.rt_run.specs.Written.{text_of}
 use Rattle.rt_trace.specs.Reading.{IsTraceText}
 use Rattle.rt_trace.specs.Trace.{Trace}
 

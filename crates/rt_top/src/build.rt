@@ -9,7 +9,7 @@ ghost use Rattle.rt_top.specs.Inside.Decides.{Decides, Lists};
 ghost use Rattle.rt_top.specs.Inside.Replies.{IsHeard};
 
 use crate::reading::read_imaged;
-use crate::reply::{Reply, text};
+use crate::reply::{Reply, told};
 use rt_app::App;
 use rt_ids::{NoMemory, Status};
 use rt_listing::listing;
@@ -26,10 +26,7 @@ pub(crate) fn build<A: Source>(alloc: Global, app: &mut A) -> Reply
         Ok(accepted) => accepted,
         Err(reply) => return reply,
     };
-    match listed(alloc, &accepted) {
-        Ok(bytes) => text(alloc, Status::Done, bytes),
-        Err(_) => Reply::Stop(Status::Memory),
-    }
+    told(Status::Done, listed(alloc, &accepted))
 }
 
 /// The listing of its image.

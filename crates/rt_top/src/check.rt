@@ -9,7 +9,7 @@ ghost use Rattle.rt_top.specs.Inside.Decides.{Decides};
 ghost use Rattle.rt_top.specs.Inside.Replies.{IsHeard};
 
 use crate::reading::read_accepted;
-use crate::reply::{Reply, text};
+use crate::reply::{Reply, told};
 use rt_app::App;
 use rt_ceil::ceilings;
 use rt_frames::bounds;
@@ -28,10 +28,7 @@ pub(crate) fn check<A: Source>(alloc: Global, app: &mut A) -> Reply
         Ok(accepted) => accepted,
         Err(reply) => return reply,
     };
-    match checked(alloc, &accepted) {
-        Ok(bytes) => text(alloc, Status::Done, bytes),
-        Err(_) => Reply::Stop(Status::Memory),
-    }
+    told(Status::Done, checked(alloc, &accepted))
 }
 
 /// The report on an application.

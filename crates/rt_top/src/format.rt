@@ -6,7 +6,7 @@ ghost use Rattle.rt_top.specs.Inside.Decides.{Decides};
 ghost use Rattle.rt_top.specs.Inside.Replies.{IsHeard};
 
 use crate::reading::read_tree;
-use crate::reply::{Reply, text};
+use crate::reply::{Reply, told};
 use rt_ids::Status;
 use rt_outside::Source;
 use rt_print::canonical;
@@ -22,8 +22,5 @@ pub(crate) fn fmt<A: Source>(alloc: Global, app: &mut A) -> Reply
         Ok(written) => written,
         Err(reply) => return reply,
     };
-    match canonical(alloc, &written.tree) {
-        Ok(bytes) => text(alloc, Status::Done, bytes),
-        Err(_) => Reply::Stop(Status::Memory),
-    }
+    told(Status::Done, canonical(alloc, &written.tree))
 }

@@ -1,4 +1,4 @@
-ghost use Rattle.std.specs.Prelude.{◌≡◌, ◌⊎◌, ◌++◌, decimal, IfOk};
+ghost use Rattle.std.specs.Prelude.{◌≡◌, ◌⊎◌, ◌++◌, decimal, IfOk, OnErr};
 ghost use Rattle.rt_top.specs.Refusal.{refusal_line};
 ghost use Rattle.rt_top.specs.SecondRefusal.{script_line, SaysScript, trace_line, SaysTrace};
 ghost use Rattle.rt_top.specs.Ends.{Wrote};
@@ -16,24 +16,20 @@ use std::alloc::Global;
 /// What a command replies. Nothing is written yet.
 #[derive(Drop)]
 pub(crate) enum Reply {
-    /// Two pieces of text, and the status once both are written.
-    Write {
-        status: Status,
-        first: Vec<u8>,
-        second: Vec<u8>,
-    },
+    /// A text, and the status once it is written.
+    Write { status: Status, text: Vec<u8> },
     /// The program stops with this status, and writes nothing.
     Stop(Status),
 }
 
-/// The reply of one piece of text.
-pub(crate) fn text(alloc: Global, status: Status, text: Vec<u8>) -> Reply
-    ensures { Tells status (λ bytes. bytes ≡ text.items) result }
+/// The reply of a text, where no memory was wanted for it.
+pub(crate) fn told<E: Drop>(status: Status, made: Result<Vec<u8>, E>) -> Reply
+    ensures text { IfOk made (λ text. result ≡ Reply.Write status text) }
+    ensures memory { OnErr made (result ≡ Reply.Stop Status.Memory) }
 {
-    Reply::Write {
-        status,
-        first: text,
-        second: Vec::new(alloc),
+    match made {
+        Ok(text) => Reply::Write { status, text },
+        Err(_) => Reply::Stop(Status::Memory),
     }
 }
 
@@ -41,20 +37,14 @@ pub(crate) fn text(alloc: Global, status: Status, text: Vec<u8>) -> Reply
 pub(crate) fn line(alloc: Global, status: Status, line: &[u8]) -> Reply
     ensures { Tells status (λ bytes. bytes ≡ line.now) result }
 {
-    match line.to_vec(alloc) {
-        Ok(line) => text(alloc, status, line),
-        Err(_) => Reply::Stop(Status::Memory),
-    }
+    told(status, Vec::from_slice(alloc, line))
 }
 
 /// The reply of a refusal of the application.
 pub(crate) fn refuse(alloc: Global, fault: Fault) -> Reply
     ensures { Tells status.App (λ bytes. bytes ≡ refusal_line fault) result }
 {
-    match refusal_line(alloc, fault) {
-        Ok(line) => text(alloc, Status::App, line),
-        Err(_) => Reply::Stop(Status::Memory),
-    }
+    told(Status::App, refusal_line(alloc, fault))
 }
 
 /// The reply of a line that has a number between two texts.
@@ -67,10 +57,7 @@ pub(crate) fn numbered(
 ) -> Reply
     ensures { Tells status (λ bytes. bytes ≡ front.now ++ decimal number ++ back.now) result }
 {
-    match numbered_line(alloc, front, number, back) {
-        Ok(line) => text(alloc, status, line),
-        Err(_) => Reply::Stop(Status::Memory),
-    }
+    told(status, numbered_line(alloc, front, number, back))
 }
 
 /// A number between two texts.
@@ -136,14 +123,7 @@ pub(crate) fn finish<K: Sink>(out: &mut K, reply: &Reply) -> Status
     ensures heard { (K.faults out.new ≡ K.faults out.old) ⊎ (result ≡ Status.Write) }
 {
     match reply {
-        Reply::Write {
-            status,
-            first,
-            second,
-        } => match put_all(out, first) {
-            Ok(()) => answer(out, second, *status),
-            Err(_) => Status::Write,
-        },
+        Reply::Write { status, text } => answer(out, text, *status),
         Reply::Stop(status) => *status,
     }
 }

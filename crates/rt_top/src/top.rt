@@ -9,7 +9,7 @@ ghost use Rattle.rt_top.specs.Ends.{Wrote, IsKept};
 use crate::command::command_of;
 use crate::decide::decide;
 use crate::gate::Gate;
-use crate::reply::{answer, finish};
+use crate::reply::answer;
 use rt_ids::Status;
 use rt_outside::{Sink, Source};
 use std::alloc::Global;
@@ -85,7 +85,7 @@ pub fn rtic<R: Threads + Sync, A: Source, B: Source, C: Source, K: Sink + Send, 
         AreTold c t ⊎ IsFirstRefused c t → WrotePart c t (K.taken out.old) (K.taken out.new) }
 {
     match command_of(words) {
-        Some(command) => finish(out, &decide(alloc, command, app, second)),
+        Some(command) => decide(alloc, command, app, second, out),
         None => answer(out, USAGE, Status::Usage),
     }
 }

@@ -1,6 +1,6 @@
--- What a command replies, said of its sources before anything is written: a text with its status, or why the program
--- stops.
-use Rattle.std.specs.Prelude.{◌≡◌, ℕ, ◌≤◌, ◌⊎◌, List, [], ◌++◌, Option, Some}
+-- What a command replies, said of its sources before anything is written, and how it ends: with what is due, written as
+-- far as the sink took it, or why the program stops.
+use Rattle.std.specs.Prelude.{◌≡◌, ℕ, ◌≤◌, ◌⊎◌, List, [], Option, Some}
 use Rattle.rt_ids.specs.declared.refusal.Fault.{Fault}
 use Rattle.rt_ids.specs.declared.status.Status.{Status}
 use Rattle.rt_ids.specs.declared.status.Status.TheVariants as status
@@ -16,11 +16,10 @@ use Rattle.rt_top.specs.Words as word
 use Rattle.rt_top.specs.Refusal.{refusal_line}
 use Rattle.rt_top.specs.Ends.{Wrote}
 use Rattle.rt_top.specs.Defined.{Inputs, Defined, IsFirstRefused, AreReadTold}
-use Rattle.rt_top.specs.Inside.Replies.{Replies}
+use Rattle.rt_top.specs.Inside.Replies.{Gives, Replies}
 use Rattle.rt_top.specs.declared.command.Command.{Command}
 use Rattle.rt_top.specs.declared.command.Command.TheVariants as command
 use Rattle.rt_top.specs.declared.reply.Reply.{Reply}
-use Rattle.rt_top.specs.declared.reply.Reply.TheVariants as reply
 
 -- the command of the code, as a command of the definitions
 abbrev pub meant : Command → word.Command
@@ -40,9 +39,9 @@ Stops failed ended = (ended ≡ status.Memory) ⊎ ((ended ≡ status.Read) × f
 
 -- the reply refuses the first text, where it is told, or the program stops
 abbrev pub Halts : Option (List ℕ) → (List ℕ → List ℕ → Type 0) → Type 0 → Reply → Type 0
-Halts told Refuses failed (reply.Write ended first second) =
-    (ended ≡ status.App) × ((text : List ℕ) → told ≡ Some text → Refuses text (first.items ++ second.items))
-Halts told Refuses failed (reply.Stop ended) = Stops failed ended
+Halts told Refuses failed r =
+    Gives (λ ended line. (ended ≡ status.App) × ((text : List ℕ) → told ≡ Some text → Refuses text line))
+    (Stops failed) r
 
 -- the line refuses the text of this tree by the first rule that it breaks
 pub record IsBrokenBy (text : List ℕ) (a : tree.App) (line : List ℕ) : Type 0 where
@@ -65,14 +64,31 @@ pub record IsDecided (c : word.Command) (t : Inputs) (ended : Status) (bytes : L
   pub which : (ended ≡ status.App) ⊎ (IsPast ended × (IsFirstRefused c t → ⊥))
   pub defined : AreReadTold c t ended → Defined c t ended bytes
 
--- What a command replies: what is due, or that it stops, for memory, or since the first or the second source failed so.
-abbrev pub Decides : word.Command → Inputs → Type 0 → Type 0 → Reply → Type 0
-Decides c t first second (reply.Write ended front back) = IsDecided c t ended (front.items ++ back.items)
-Decides c t first second (reply.Stop ended) =
-    Stops (((1 ≤ word.reads c) × first) ⊎ ((2 ≤ word.reads c) × second)) ended
+-- The first or the second source failed so, where the command reads it.
+abbrev pub HasFailed : word.Command → Type 0 → Type 0 → Type 0
+HasFailed c first second = ((1 ≤ word.reads c) × first) ⊎ ((2 ≤ word.reads c) × second)
 
--- the reply was written as far as the sink took it, or there was nothing to write
+-- What a command replies: what is due, or that it stops.
+abbrev pub Decides : word.Command → Inputs → Type 0 → Type 0 → Reply → Type 0
+Decides c t first second r = Gives (IsDecided c t) (Stops (HasFailed c first second)) r
+
+-- How a command ends: some bytes were written as far as the sink took them, and this is so of them and of their status;
+-- or it stops with a status of which this is so, and the sink took nothing.
+abbrev pub EndsAs : (Status → List ℕ → Type 0) → (Status → Type 0) → Option (List ℕ) → Option (List ℕ) → ℕ → ℕ
+    → Status → Type 0
+EndsAs Said Stopped before after faults_before faults_after result =
+    ((ended : Status) × (bytes : List ℕ) × Said ended bytes
+    × Wrote before after faults_before faults_after ended result bytes)
+    ⊎ (Stopped result × Took before after [])
+
+-- a reply was written as far as the sink took it, or there was nothing to write
 abbrev pub Finishes : Option (List ℕ) → Option (List ℕ) → ℕ → ℕ → Reply → Status → Type 0
-Finishes before after faults_before faults_after (reply.Write ended first second) result =
-    Wrote before after faults_before faults_after ended result (first.items ++ second.items)
-Finishes before after faults_before faults_after (reply.Stop ended) result = (result ≡ ended) × Took before after []
+Finishes before after faults_before faults_after r result =
+    Gives (λ ended bytes. Wrote before after faults_before faults_after ended result bytes)
+    (λ ended. (result ≡ ended) × Took before after []) r
+
+-- What is due was written, or the command stops.
+abbrev pub Concludes : word.Command → Inputs → Type 0 → Type 0 → Option (List ℕ) → Option (List ℕ) → ℕ → ℕ → Status
+    → Type 0
+Concludes c t first second before after faults_before faults_after result =
+    EndsAs (IsDecided c t) (Stops (HasFailed c first second)) before after faults_before faults_after result

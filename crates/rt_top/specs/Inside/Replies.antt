@@ -14,7 +14,7 @@ use Rattle.rt_script.specs.Text as script
 use Rattle.rt_script.specs.declared.line.Line.{Line}
 use Rattle.rt_script.specs.declared.refusal.ScriptRefused.{ScriptRefused}
 use Rattle.rt_sim.specs.Good.{Good}
-use Rattle.rt_sim.specs.Written.{text_of}
+use Rattle.rt_run.specs.Written.{text_of}
 use Rattle.rt_trace.specs.Reading as trace
 use Rattle.rt_trace.specs.Trace.{Trace}
 use Rattle.rt_trace.specs.declared.refusal.TraceRefused.{TraceRefused}
@@ -23,10 +23,18 @@ use Rattle.rt_top.specs.SecondRefusal.{SaysScript, SaysTrace}
 use Rattle.rt_top.specs.declared.reply.Reply.{Reply}
 use Rattle.rt_top.specs.declared.reply.Reply.TheVariants as reply
 
+-- this is so of the reply's status and text, or this of the status with which the program stops
+abbrev pub Gives : (Status → List ℕ → Type 0) → (Status → Type 0) → Reply → Type 0
+Gives Said Stopped (reply.Write ended text) = Said ended text.items
+Gives Said Stopped (reply.Stop ended) = Stopped ended
+
+-- memory was wanted
+abbrev pub WantsMemory : Status → Type 0
+WantsMemory ended = ended ≡ status.Memory
+
 -- this is so of the reply's status and text, or memory was wanted
 abbrev pub Replies : (Status → List ℕ → Type 0) → Reply → Type 0
-Replies P (reply.Write ended first second) = P ended (first.items ++ second.items)
-Replies P (reply.Stop ended) = ended ≡ status.Memory
+Replies Said r = Gives Said WantsMemory r
 
 -- a count of faults stands still, or the reply is that a source failed
 abbrev pub IsHeard : ℕ → ℕ → Reply → Type 0

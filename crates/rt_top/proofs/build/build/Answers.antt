@@ -5,6 +5,8 @@ use Rattle.rt_app.specs.View.{app_of}
 use Rattle.rt_top.specs.Words.{Build}
 use Rattle.rt_top.specs.Refusal.{RefusesBuilding}
 use Rattle.rt_top.specs.Defined.{inputs}
+use Rattle.rt_top.specs.Inside.Decides.{Lists}
+use Rattle.rt_top.proofs.Giving.{made_tells}
 use Rattle.rt_top.proofs.Deciding.{halts_decides, tells_decides, listed_decided}
 use Rattle.rt_top.proofs.build.build.Goals as goal
 
@@ -15,12 +17,10 @@ returns-in-Err-clause-decides g c second third =
     (Rose (g.A.Source.faults c.args.app.now) (g.A.Source.faults c.read_imaged.new.app)) ⊥ (λ h. h)
     c.in-Err.reply c.in-Err.ensures.halts
 
-pub returns-in-Ok-listed-clause-decides : goal.returns-in-Ok-listed-clause-decides
-returns-in-Ok-listed-clause-decides g c second third =
+pub returns-clause-decides : goal.returns-clause-decides
+returns-clause-decides g c second third =
     tells_decides Build (inputs (g.A.Source.left c.args.app.now) second third)
-    (Rose (g.A.Source.faults c.args.app.now) (g.A.Source.faults c.read_imaged.new.app)) ⊥ status.Done
-    (λ bytes. bytes ≡ c.in-Ok-listed.bytes.items)
-    (λ bytes e. listed_decided (g.A.Source.left c.args.app.now) second third (app_of c.in-Ok.accepted)
-    (λ text told. c.in-Ok.ensures.accepted text told) c.in-Ok.ensures.kept c.in-Ok.ensures.image
-    c.in-Ok-listed.bytes.items c.in-Ok-listed.ensures bytes e)
-    c.text.result c.text.ensures
+    (Rose (g.A.Source.faults c.args.app.now) (g.A.Source.faults c.read_imaged.new.app)) ⊥ status.Done (Lists (app_of c.in-Ok.accepted))
+    (listed_decided (g.A.Source.left c.args.app.now) second third (app_of c.in-Ok.accepted) (λ text told. c.in-Ok.ensures.accepted text told) c.in-Ok.ensures.kept c.in-Ok.ensures.image)
+    c.told.result
+    (made_tells status.Done (Lists (app_of c.in-Ok.accepted)) c.listed.result c.listed.ensures c.told.result c.told.ensures.text c.told.ensures.memory)

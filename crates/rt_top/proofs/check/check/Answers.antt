@@ -5,6 +5,8 @@ use Rattle.rt_app.specs.View.{app_of}
 use Rattle.rt_top.specs.Words.{Check}
 use Rattle.rt_top.specs.Refusal.{RefusesApplication}
 use Rattle.rt_top.specs.Defined.{inputs}
+use Rattle.rt_top.specs.Outputs.{check_report}
+use Rattle.rt_top.proofs.Giving.{made_tells}
 use Rattle.rt_top.proofs.Deciding.{halts_decides, tells_decides, checked_decided}
 use Rattle.rt_top.proofs.check.check.Goals as goal
 
@@ -14,9 +16,10 @@ returns-in-Err-clause-decides g c second third =
     (Rose (g.A.Source.faults c.args.app.now) (g.A.Source.faults c.read_accepted.new.app)) (Rose (g.A.Source.faults c.args.app.now) (g.A.Source.faults c.read_accepted.new.app)) ⊥ (λ h. h)
     c.in-Err.reply c.in-Err.ensures.halts
 
-pub returns-in-Ok-checked-clause-decides : goal.returns-in-Ok-checked-clause-decides
-returns-in-Ok-checked-clause-decides g c second third =
+pub returns-clause-decides : goal.returns-clause-decides
+returns-clause-decides g c second third =
     tells_decides Check (inputs (g.A.Source.left c.args.app.now) second third)
-    (Rose (g.A.Source.faults c.args.app.now) (g.A.Source.faults c.read_accepted.new.app)) ⊥ status.Done (λ bytes. bytes ≡ c.in-Ok-checked.bytes.items)
-    (λ bytes e. checked_decided (g.A.Source.left c.args.app.now) second third (app_of c.in-Ok.accepted) (λ text told. c.in-Ok.ensures.accepted text told) bytes (e ∙ c.in-Ok-checked.ensures))
-    c.text.result c.text.ensures
+    (Rose (g.A.Source.faults c.args.app.now) (g.A.Source.faults c.read_accepted.new.app)) ⊥ status.Done (λ bytes. bytes ≡ check_report (app_of c.in-Ok.accepted))
+    (checked_decided (g.A.Source.left c.args.app.now) second third (app_of c.in-Ok.accepted) (λ text told. c.in-Ok.ensures.accepted text told))
+    c.told.result
+    (made_tells status.Done (λ bytes. bytes ≡ check_report (app_of c.in-Ok.accepted)) c.checked.result c.checked.ensures c.told.result c.told.ensures.text c.told.ensures.memory)

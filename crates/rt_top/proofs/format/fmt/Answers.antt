@@ -5,6 +5,8 @@ use Rattle.rt_ast.specs.View.{app_of}
 use Rattle.rt_top.specs.Words.{Fmt}
 use Rattle.rt_top.specs.Refusal.{RefusesText}
 use Rattle.rt_top.specs.Defined.{inputs}
+use Rattle.rt_ast.specs.Canonical.{canonical}
+use Rattle.rt_top.proofs.Giving.{made_tells}
 use Rattle.rt_top.proofs.Deciding.{halts_decides, tells_decides, formatted_decided}
 use Rattle.rt_top.proofs.format.fmt.Goals as goal
 
@@ -14,9 +16,10 @@ returns-in-Err-clause-decides g c second third =
     (Rose (g.A.Source.faults c.args.app.now) (g.A.Source.faults c.read_tree.new.app)) (Rose (g.A.Source.faults c.args.app.now) (g.A.Source.faults c.read_tree.new.app)) ⊥ (λ h. h)
     c.in-Err.reply c.in-Err.ensures.halts
 
-pub returns-in-Ok-canonical-clause-decides : goal.returns-in-Ok-canonical-clause-decides
-returns-in-Ok-canonical-clause-decides g c second third =
+pub returns-clause-decides : goal.returns-clause-decides
+returns-clause-decides g c second third =
     tells_decides Fmt (inputs (g.A.Source.left c.args.app.now) second third)
-    (Rose (g.A.Source.faults c.args.app.now) (g.A.Source.faults c.read_tree.new.app)) ⊥ status.Done (λ bytes. bytes ≡ c.in-Ok-canonical.bytes.items)
-    (λ bytes e. formatted_decided (g.A.Source.left c.args.app.now) second third (app_of c.in-Ok.written.tree) (λ text told. c.in-Ok.ensures.text text told) bytes (e ∙ c.in-Ok-canonical.ensures))
-    c.text.result c.text.ensures
+    (Rose (g.A.Source.faults c.args.app.now) (g.A.Source.faults c.read_tree.new.app)) ⊥ status.Done (λ bytes. bytes ≡ canonical (app_of c.in-Ok.written.tree))
+    (formatted_decided (g.A.Source.left c.args.app.now) second third (app_of c.in-Ok.written.tree) (λ text told. c.in-Ok.ensures.text text told))
+    c.told.result
+    (made_tells status.Done (λ bytes. bytes ≡ canonical (app_of c.in-Ok.written.tree)) c.canonical.result c.canonical.ensures c.told.result c.told.ensures.text c.told.ensures.memory)

@@ -12,9 +12,8 @@ returns-in-Some-clause-answered g c command is named is_answer told =
     (Rose (g.A.Source.faults c.args.app.now) (g.A.Source.faults c.decide.new.app))
     (IsKept g.B.Source.left g.B.Source.faults c.args.second.now c.decide.new.second)
     (Rose (g.B.Source.faults c.args.second.now) (g.B.Source.faults c.decide.new.second))
-    c.decide.result (c.decide.ensures.decides (g.C.Source.left c.args.third.now))
-    (g.K.Sink.taken c.args.out.now) (g.K.Sink.taken c.finish.new.out) (g.K.Sink.faults c.args.out.now)
-    (g.K.Sink.faults c.finish.new.out) c.finish.result c.finish.ensures.finished
+    (g.K.Sink.taken c.args.out.now) (g.K.Sink.taken c.decide.new.out) (g.K.Sink.faults c.args.out.now)
+    (g.K.Sink.faults c.decide.new.out) c.decide.result (c.decide.ensures.concludes (g.C.Source.left c.args.third.now))
     command is named is_answer told
 
 pub returns-in-Some-clause-complete : goal.returns-in-Some-clause-complete
@@ -24,9 +23,8 @@ returns-in-Some-clause-complete g c command due is named is_due no_first no_seco
     (Rose (g.A.Source.faults c.args.app.now) (g.A.Source.faults c.decide.new.app))
     (IsKept g.B.Source.left g.B.Source.faults c.args.second.now c.decide.new.second)
     (Rose (g.B.Source.faults c.args.second.now) (g.B.Source.faults c.decide.new.second))
-    c.decide.result (c.decide.ensures.decides (g.C.Source.left c.args.third.now))
-    (g.K.Sink.taken c.args.out.now) (g.K.Sink.taken c.finish.new.out) (g.K.Sink.faults c.args.out.now)
-    (g.K.Sink.faults c.finish.new.out) c.finish.result c.finish.ensures.finished
+    (g.K.Sink.taken c.args.out.now) (g.K.Sink.taken c.decide.new.out) (g.K.Sink.faults c.args.out.now)
+    (g.K.Sink.faults c.decide.new.out) c.decide.result (c.decide.ensures.concludes (g.C.Source.left c.args.third.now))
     command due is named is_due no_first no_second no_sink
 
 pub returns-in-Some-clause-usage : goal.returns-in-Some-clause-usage
@@ -40,9 +38,8 @@ returns-in-Some-clause-no_usage g c is_usage =
     (Rose (g.A.Source.faults c.args.app.now) (g.A.Source.faults c.decide.new.app))
     (IsKept g.B.Source.left g.B.Source.faults c.args.second.now c.decide.new.second)
     (Rose (g.B.Source.faults c.args.second.now) (g.B.Source.faults c.decide.new.second))
-    c.decide.result (c.decide.ensures.decides (g.C.Source.left c.args.third.now))
-    (g.K.Sink.taken c.args.out.now) (g.K.Sink.taken c.finish.new.out) (g.K.Sink.faults c.args.out.now)
-    (g.K.Sink.faults c.finish.new.out) c.finish.result c.finish.ensures.finished
+    (g.K.Sink.taken c.args.out.now) (g.K.Sink.taken c.decide.new.out) (g.K.Sink.faults c.args.out.now)
+    (g.K.Sink.faults c.decide.new.out) c.decide.result (c.decide.ensures.concludes (g.C.Source.left c.args.third.now))
     is_usage
 
 pub returns-in-Some-clause-first_unread : goal.returns-in-Some-clause-first_unread
@@ -56,9 +53,8 @@ returns-in-Some-clause-second_unread g c skips =
     (Rose (g.A.Source.faults c.args.app.now) (g.A.Source.faults c.decide.new.app))
     (IsKept g.B.Source.left g.B.Source.faults c.args.second.now c.decide.new.second)
     (Rose (g.B.Source.faults c.args.second.now) (g.B.Source.faults c.decide.new.second))
-    c.decide.result (c.decide.ensures.decides (g.C.Source.left c.args.third.now))
-    (g.K.Sink.taken c.args.out.now) (g.K.Sink.taken c.finish.new.out) (g.K.Sink.faults c.args.out.now)
-    (g.K.Sink.faults c.finish.new.out) c.finish.result c.finish.ensures.finished
+    (g.K.Sink.taken c.args.out.now) (g.K.Sink.taken c.decide.new.out) (g.K.Sink.faults c.args.out.now)
+    (g.K.Sink.faults c.decide.new.out) c.decide.result (c.decide.ensures.concludes (g.C.Source.left c.args.third.now))
     (c.decide.ensures.kept (g.C.Source.left c.args.third.now)) skips
 
 pub returns-in-Some-clause-read : goal.returns-in-Some-clause-read
@@ -68,9 +64,8 @@ returns-in-Some-clause-read g c is_read =
     (Rose (g.A.Source.faults c.args.app.now) (g.A.Source.faults c.decide.new.app))
     (IsKept g.B.Source.left g.B.Source.faults c.args.second.now c.decide.new.second)
     (Rose (g.B.Source.faults c.args.second.now) (g.B.Source.faults c.decide.new.second))
-    c.decide.result (c.decide.ensures.decides (g.C.Source.left c.args.third.now))
-    (g.K.Sink.taken c.args.out.now) (g.K.Sink.taken c.finish.new.out) (g.K.Sink.faults c.args.out.now)
-    (g.K.Sink.faults c.finish.new.out) c.finish.result c.finish.ensures.finished
+    (g.K.Sink.taken c.args.out.now) (g.K.Sink.taken c.decide.new.out) (g.K.Sink.faults c.args.out.now)
+    (g.K.Sink.faults c.decide.new.out) c.decide.result (c.decide.ensures.concludes (g.C.Source.left c.args.third.now))
     is_read
 
 pub returns-in-Some-clause-silent : goal.returns-in-Some-clause-silent
@@ -80,9 +75,8 @@ returns-in-Some-clause-silent g c quiet =
     (Rose (g.A.Source.faults c.args.app.now) (g.A.Source.faults c.decide.new.app))
     (IsKept g.B.Source.left g.B.Source.faults c.args.second.now c.decide.new.second)
     (Rose (g.B.Source.faults c.args.second.now) (g.B.Source.faults c.decide.new.second))
-    c.decide.result (c.decide.ensures.decides (g.C.Source.left c.args.third.now))
-    (g.K.Sink.taken c.args.out.now) (g.K.Sink.taken c.finish.new.out) (g.K.Sink.faults c.args.out.now)
-    (g.K.Sink.faults c.finish.new.out) c.finish.result c.finish.ensures.finished
+    (g.K.Sink.taken c.args.out.now) (g.K.Sink.taken c.decide.new.out) (g.K.Sink.faults c.args.out.now)
+    (g.K.Sink.faults c.decide.new.out) c.decide.result (c.decide.ensures.concludes (g.C.Source.left c.args.third.now))
     quiet
 
 pub returns-in-Some-clause-write : goal.returns-in-Some-clause-write
@@ -92,9 +86,8 @@ returns-in-Some-clause-write g c is_write =
     (Rose (g.A.Source.faults c.args.app.now) (g.A.Source.faults c.decide.new.app))
     (IsKept g.B.Source.left g.B.Source.faults c.args.second.now c.decide.new.second)
     (Rose (g.B.Source.faults c.args.second.now) (g.B.Source.faults c.decide.new.second))
-    c.decide.result (c.decide.ensures.decides (g.C.Source.left c.args.third.now))
-    (g.K.Sink.taken c.args.out.now) (g.K.Sink.taken c.finish.new.out) (g.K.Sink.faults c.args.out.now)
-    (g.K.Sink.faults c.finish.new.out) c.finish.result c.finish.ensures.finished
+    (g.K.Sink.taken c.args.out.now) (g.K.Sink.taken c.decide.new.out) (g.K.Sink.faults c.args.out.now)
+    (g.K.Sink.faults c.decide.new.out) c.decide.result (c.decide.ensures.concludes (g.C.Source.left c.args.third.now))
     is_write
 
 pub returns-in-Some-clause-part : goal.returns-in-Some-clause-part
@@ -104,9 +97,8 @@ returns-in-Some-clause-part g c command is named is_write told =
     (Rose (g.A.Source.faults c.args.app.now) (g.A.Source.faults c.decide.new.app))
     (IsKept g.B.Source.left g.B.Source.faults c.args.second.now c.decide.new.second)
     (Rose (g.B.Source.faults c.args.second.now) (g.B.Source.faults c.decide.new.second))
-    c.decide.result (c.decide.ensures.decides (g.C.Source.left c.args.third.now))
-    (g.K.Sink.taken c.args.out.now) (g.K.Sink.taken c.finish.new.out) (g.K.Sink.faults c.args.out.now)
-    (g.K.Sink.faults c.finish.new.out) c.finish.result c.finish.ensures.finished
+    (g.K.Sink.taken c.args.out.now) (g.K.Sink.taken c.decide.new.out) (g.K.Sink.faults c.args.out.now)
+    (g.K.Sink.faults c.decide.new.out) c.decide.result (c.decide.ensures.concludes (g.C.Source.left c.args.third.now))
     command is named is_write told
 
 pub returns-in-None-clause-answered : goal.returns-in-None-clause-answered
