@@ -1,6 +1,6 @@
 -- From what a command does to what it is to reply.
 use Rattle.std.proofs.Common.{◌≡◌, ◌∙◌, ℕ, ◌<◌, ◌≤◌, ◌⊎◌, true, List, ◌++◌, length, Option, Some, None, inl, inr, refl, sym, subst, arith}
-use Rattle.rt_ids.specs.declared.limits.TheConstants.{SCRIPT_BYTES, TRACE_BYTES}
+use Rattle.rt_ids.specs.declared.limits.TheConstants.{SCRIPT_BYTES}
 use Rattle.rt_ids.specs.declared.status.Status.{Status}
 use Rattle.rt_ids.specs.declared.status.Status.TheVariants as status
 use Rattle.rt_ast.specs.Tree as tree
@@ -9,24 +9,20 @@ use Rattle.rt_grammar.specs.Text.{IsText}
 use Rattle.rt_app.specs.Accepted.{IsAccepted}
 use Rattle.rt_app.specs.Names.{names_of}
 use Rattle.rt_app.specs.Tree.{App}
-use Rattle.rt_baker.specs.declared.verdict.Verdict.{Verdict}
-use Rattle.rt_baker.specs.declared.verdict.Verdict.TheVariants as judged
 use Rattle.rt_build.specs.Accepted.{IsApplication}
 use Rattle.rt_build.specs.Form.{has_image}
 use Rattle.rt_sim.proofs.Good.{images_are_good}
 use Rattle.rt_script.specs.Text as script
 use Rattle.rt_script.specs.declared.refusal.ScriptRefused.{ScriptRefused}
 use Rattle.rt_script.specs.declared.refusal.ScriptRefused.TheVariants as in_script
-use Rattle.rt_trace.specs.Reading as trace
-use Rattle.rt_trace.specs.declared.refusal.TraceRefused.{TraceRefused}
-use Rattle.rt_trace.specs.declared.refusal.TraceRefused.TheVariants as in_trace
 use Rattle.rt_top.specs.Words.{Command, Run, Check, Fmt, Build, Audit, reads}
-use Rattle.rt_top.specs.SecondRefusal.{SaysScript, SaysTrace}
-use Rattle.rt_top.specs.Outputs.{check_report, Says}
+use Rattle.rt_top.specs.SecondRefusal.{SaysScript}
+use Rattle.rt_top.specs.Outputs.{check_report}
 use Rattle.rt_top.specs.Defined.{Inputs, inputs, RefusesFirst, Defined, refused, faulty, output, IsTold, IsFirstRefused, AreTold, AreReadTold}
 use Rattle.rt_top.specs.Inside.Replies.{Replies, AnswersRun, AnswersAudit}
 use Rattle.rt_top.specs.Inside.Replies as replies
-use Rattle.rt_top.specs.Inside.Decides.{Tells, Halts, meant, Lists, IsPast, is_done, is_text, is_no, IsDecided, Decides, Concludes}
+use Rattle.rt_top.specs.Inside.Decides.{Tells, Stops, Halts, meant, Lists, IsPast, is_done, is_text, is_no, AnswersTrace, IsDecided, HasFailed, Decides}
+use Rattle.rt_top.specs.Inside.Decides.{Concludes}
 use Rattle.rt_top.specs.declared.command.Command as code
 use Rattle.rt_top.specs.declared.reply.Reply.{Reply}
 use Rattle.rt_top.specs.declared.reply.Reply.TheVariants as reply
@@ -64,6 +60,12 @@ pub tells_decides : (c : Command) (t : Inputs) (first second : Type 0) (wanted :
 tells_decides c t first second wanted P means r tells =
     replies_decides c t first second (λ ended bytes. (ended ≡ wanted) × P bytes)
     (λ ended bytes p. subst (λ s. IsDecided c t s bytes) (sym p.0) (means bytes p.1)) r tells
+
+-- a command that stops since its second source failed, or for memory
+pub stops_decides : (c : Command) (first second : Type 0) → 2 ≤ reads c → (ended : Status) → Stops second ended
+    → Stops (HasFailed c first second) ended
+stops_decides c first second two ended (inl is) = inl is
+stops_decides c first second two ended (inr (is, f)) = inr (is, inr (two, f))
 
 -- a reply of a command that reads one source, where another source is as it was
 pub only_first : (c : Command) (t : Inputs) (one : reads c ≤ 1) (failed first second : Type 0) → (failed → first) → (r : Reply) → Decides c t failed ⊥ r → Decides c t first second r
@@ -121,49 +123,38 @@ module _ (first second third : Option (List ℕ)) (app : App) (accepted : (text 
   pub audit_passes : IsFirstRefused Audit u → ⊥
   audit_passes r = application_passes r.0 r.1 app (accepted r.0 r.2) r.3
 
-  trace_decided : (refusal : TraceRefused) (line : List ℕ)
-      → ((more : List ℕ) → second ≡ Some more → trace.IsRefused (names_of app) more refusal)
-      → SaysTrace refusal line → IsDecided Audit u status.Text line
-  trace_decided refusal line met says =
-      past_decided Audit u audit_passes (omega arith) status.Text line is_text (λ text more e f.
-      faulty text more line e f (record {
-        app = app;
-        of_text = accepted text e;
-        refusal = refusal;
-        refused = met more f;
-        says = says;
-      }))
-
-  pub long_trace_decided : ((more : List ℕ) → second ≡ Some more → TRACE_BYTES < length more) → (line : List ℕ)
-      → SaysTrace in_trace.TooLong line → IsDecided Audit u status.Text line
-  long_trace_decided long line says = trace_decided in_trace.TooLong line long says
-
-  pub audit_decided : (own : List ℕ) → ((more : List ℕ) → second ≡ Some more → own ≡ more) → (ended : Status)
-      (bytes : List ℕ) → AnswersAudit app own ended bytes → IsDecided Audit u ended bytes
-  audit_decided own same s b (replies.judged shown ended bytes read (verdict, is, says)) =
-      past_decided Audit u audit_passes (omega arith) ended bytes (is_past verdict says) (λ text more e f.
-      output ended bytes (
-        text,
-        more,
-        e,
-        f,
-        record {
-          app = app;
-          of_text = accepted text e;
-          trace = shown;
-          read = subst (λ m. trace.IsTraceText (names_of app) m shown) (same more f) read;
-          verdict = verdict;
-          is = is;
-          says = says;
-        },
-      ))
+  pub trace_decided : (ended : Status) (bytes : List ℕ) → AnswersTrace app second ended bytes
+      → IsDecided Audit u ended bytes
+  trace_decided ended bytes a =
+      past_decided Audit u audit_passes (omega arith) ended bytes a.past
+      (λ text more e f. at text more e f ended bytes (a.answers more f))
     where
-      is_past : (v : Verdict) → Says shown v ended bytes → IsPast ended
-      is_past judged.Yes s = subst IsPast (sym s.0) is_done
-      is_past (judged.No n) s = subst IsPast (sym s.0) is_no
-  audit_decided own same s b (replies.refused refusal line met says) =
-      trace_decided refusal line
-      (λ more f. subst (λ m. trace.IsRefused (names_of app) m refusal) (same more f) met) says
+      at : (text more : List ℕ) → first ≡ Some text → second ≡ Some more → (s : Status) (b : List ℕ)
+          → AnswersAudit app more s b → Defined Audit u s b
+      at text more e f s b (replies.judged shown s' b' read (verdict, is, says)) =
+          output s b (
+            text,
+            more,
+            e,
+            f,
+            record {
+              app = app;
+              of_text = accepted text e;
+              trace = shown;
+              read = read;
+              verdict = verdict;
+              is = is;
+              says = says;
+            },
+          )
+      at text more e f s b (replies.refused refusal line met says) =
+          faulty text more line e f (record {
+            app = app;
+            of_text = accepted text e;
+            refusal = refusal;
+            refused = met;
+            says = says;
+          })
 
   -- a listing
   pub listed_decided : IsAccepted app → has_image app ≡ true → (bytes : List ℕ) → Lists app bytes

@@ -9,3 +9,4 @@ mod Refused
 mod Listed
 mod Ran
 mod Audited
+mod Auditing

@@ -1,3 +1,4 @@
 -- What the private parts of the top call say of their ends.
 pub mod Replies
 pub mod Decides
+pub mod Auditor

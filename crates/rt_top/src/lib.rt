@@ -2,6 +2,7 @@
 #![tactic(auto)]
 
 mod audit;
+mod auditor;
 mod build;
 mod check;
 mod command;

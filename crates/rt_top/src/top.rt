@@ -40,10 +40,13 @@ pub fn rtic<R: Threads + Sync, A: Source, B: Source, C: Source, K: Sink + Send, 
     // application and shows just these events, sections are exclusive, no lock is found taken, waiting and stack keep
     // within the bounds that `check` prints, nothing traps, and a shared resource is touched only where it may be.
     //
-    // `audit` takes every accepted application, and judges a trace, whatever made it. With `yes N` and `Done` the trace,
-    // of N items, is a run of Baker's machine on the application with each depth within the stack bound, so sections
-    // were exclusive, no lock was found taken, and waiting kept within its bound. With `no N` and `No` it is none, and N
-    // is the number of the first item that is wrong, from 1, or one more than there are items where only the total is.
+    // `audit` takes every accepted application, and judges a trace, whatever made it. With `yes N` and `Done` the
+    // trace, of N items, is a run of Baker's machine on the application with each depth within the stack bound, so
+    // sections were exclusive, no lock was found taken, and waiting kept within its bound. Also every spawn was full
+    // exactly where the capacity was out, messages started first in, first out, fired in order and not before their
+    // instant, and ready and due messages were served; of `run` and `build` likewise for every list of events. With
+    // `no N` and `No` it is none, and N is the number of the first item that is wrong, from 1, or one more than there
+    // are items where only the total is.
     ensures answered { (c : Command) → IsBuilt c → Names (texts words.now) c → IsAnswer result →
         let t = inputs (A.left app.old) (B.left second.old) (C.left third.old) in
         AreReadTold c t result → WroteAll c t result (K.taken out.old) (K.taken out.new) }

@@ -16,7 +16,7 @@ use Rattle.rt_top.specs.Words as word
 use Rattle.rt_top.specs.Refusal.{refusal_line}
 use Rattle.rt_top.specs.Ends.{Wrote}
 use Rattle.rt_top.specs.Defined.{Inputs, Defined, IsFirstRefused, AreReadTold}
-use Rattle.rt_top.specs.Inside.Replies.{Gives, Replies}
+use Rattle.rt_top.specs.Inside.Replies.{Gives, Replies, AnswersAudit}
 use Rattle.rt_top.specs.declared.command.Command.{Command}
 use Rattle.rt_top.specs.declared.command.Command.TheVariants as command
 use Rattle.rt_top.specs.declared.reply.Reply.{Reply}
@@ -58,6 +58,11 @@ pub data IsPast : Status → Type 0 where
   is_done : IsPast status.Done
   is_text : IsPast status.Text
   is_no : IsPast status.No
+
+-- what `audit` answers to what its source holds, where it tells that
+pub record AnswersTrace (app : App) (told : Option (List ℕ)) (ended : Status) (bytes : List ℕ) : Type 0 where
+  pub past : IsPast ended
+  pub answers : (more : List ℕ) → told ≡ Some more → AnswersAudit app more ended bytes
 
 -- These bytes and this status are due: the first text is refused, or is not, and the status tells which.
 pub record IsDecided (c : word.Command) (t : Inputs) (ended : Status) (bytes : List ℕ) : Type 0 where

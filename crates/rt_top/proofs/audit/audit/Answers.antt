@@ -1,15 +1,13 @@
-use Rattle.std.proofs.Common.{◌∙◌, refl, arith}
-use Rattle.rt_ids.specs.declared.status.Status.TheVariants as status
+use Rattle.std.proofs.Common.{refl, arith}
 use Rattle.rt_outside.specs.Faults.{Rose}
 use Rattle.rt_app.specs.View.{app_of}
-use Rattle.rt_trace.specs.declared.refusal.TraceRefused.TheVariants as in_trace
 use Rattle.rt_top.specs.Words.{Audit}
 use Rattle.rt_top.specs.Refusal.{RefusesApplication}
-use Rattle.rt_top.specs.SecondRefusal.{SaysTrace}
 use Rattle.rt_top.specs.Ends.{IsKept}
 use Rattle.rt_top.specs.Defined.{inputs}
-use Rattle.rt_top.specs.Inside.Replies.{AnswersAudit}
-use Rattle.rt_top.proofs.Deciding.{halts_decides, replies_decides, tells_decides, audit_passes, audit_decided, long_trace_decided}
+use Rattle.rt_top.specs.Inside.Decides.{Stops, AnswersTrace, IsDecided, HasFailed}
+use Rattle.rt_top.proofs.Deciding.{halts_decides, stops_decides, audit_passes, trace_decided}
+use Rattle.rt_top.proofs.Giving.{gives_as}
 use Rattle.rt_top.proofs.audit.audit.Goals as goal
 
 pub returns-in-Err-clause-decides : goal.returns-in-Err-clause-decides
@@ -21,37 +19,17 @@ returns-in-Err-clause-decides g c third =
     (λ h. (h, record { has_all = refl; no_fault = refl }))
     c.in-Err.reply c.in-Err.ensures.halts
 
-pub returns-in-Ok-Some-clause-decides : goal.returns-in-Ok-Some-clause-decides
-returns-in-Ok-Some-clause-decides g c third =
-    replies_decides Audit (inputs (g.A.Source.left c.args.app.now) (g.B.Source.left c.args.second.now) third)
-    (Rose (g.A.Source.faults c.args.app.now) (g.A.Source.faults c.read_accepted.new.app) × IsKept g.B.Source.left g.B.Source.faults c.args.second.now c.read_second.new.second)
-    (Rose (g.B.Source.faults c.args.second.now) (g.B.Source.faults c.read_second.new.second))
-    (AnswersAudit (app_of c.in-Ok.accepted) c.deref.result.now)
-    (audit_decided (g.A.Source.left c.args.app.now) (g.B.Source.left c.args.second.now) third (app_of c.in-Ok.accepted)
-    (λ text told. c.in-Ok.ensures.accepted text told) c.deref.result.now
-    (λ more heard. c.deref.ensures.value ∙ (rw c.in-Ok-Some.field-0-is at c.in-Ok-Some.ensures.whole more heard)))
-    c.audit_text.result c.audit_text.ensures
-
-pub returns-in-Ok-Some-clause-kept : goal.returns-in-Ok-Some-clause-kept
-returns-in-Ok-Some-clause-kept g c third r =
-    absurd (audit_passes (g.A.Source.left c.args.app.now) (g.B.Source.left c.args.second.now) third (app_of c.in-Ok.accepted)
-    (λ text told. c.in-Ok.ensures.accepted text told) r)
-
-pub returns-in-Ok-None-clause-decides : goal.returns-in-Ok-None-clause-decides
-returns-in-Ok-None-clause-decides g c third =
-    tells_decides Audit (inputs (g.A.Source.left c.args.app.now) (g.B.Source.left c.args.second.now) third)
-    (Rose (g.A.Source.faults c.args.app.now) (g.A.Source.faults c.read_accepted.new.app) × IsKept g.B.Source.left g.B.Source.faults c.args.second.now c.read_second.new.second)
-    (Rose (g.B.Source.faults c.args.second.now) (g.B.Source.faults c.read_second.new.second))
-    status.Text (SaysTrace in_trace.TooLong)
-    (long_trace_decided (g.A.Source.left c.args.app.now) (g.B.Source.left c.args.second.now) third (app_of c.in-Ok.accepted)
-    (λ text told. c.in-Ok.ensures.accepted text told)
-    (λ more heard. rw c.in-Ok-None.field-0-is at c.in-Ok-None.ensures.long more heard))
-    c.refuse_trace.result c.refuse_trace.ensures
-
-pub returns-in-Ok-None-clause-kept : goal.returns-in-Ok-None-clause-kept
-returns-in-Ok-None-clause-kept g c third r =
-    absurd (audit_passes (g.A.Source.left c.args.app.now) (g.B.Source.left c.args.second.now) third (app_of c.in-Ok.accepted)
-    (λ text told. c.in-Ok.ensures.accepted text told) r)
+pub returns-clause-decides : goal.returns-clause-decides
+returns-clause-decides g c third =
+    let both : Type 0 = Rose (g.A.Source.faults c.args.app.now) (g.A.Source.faults c.read_accepted.new.app)
+    × IsKept g.B.Source.left g.B.Source.faults c.args.second.now c.audit_source.new.second in
+    let second : Type 0 = Rose (g.B.Source.faults c.args.second.now) (g.B.Source.faults c.audit_source.new.second) in
+    gives_as (AnswersTrace (app_of c.in-Ok.accepted) (g.B.Source.left c.args.second.now))
+    (IsDecided Audit (inputs (g.A.Source.left c.args.app.now) (g.B.Source.left c.args.second.now) third))
+    (Stops second) (Stops (HasFailed Audit both second))
+    (trace_decided (g.A.Source.left c.args.app.now) (g.B.Source.left c.args.second.now) third (app_of c.in-Ok.accepted)
+    (λ text told. c.in-Ok.ensures.accepted text told))
+    (stops_decides Audit both second (omega arith)) c.audit_source.result c.audit_source.ensures.answers
 
 pub returns-clause-kept : goal.returns-clause-kept
 returns-clause-kept g c third r =

@@ -1,0 +1,170 @@
+-- How an auditor goes on by a line, and how it ends.
+use Rattle.std.proofs.Common.{◌≡◌, ℕ, suc, ◌+◌, ◌<◌, ◌≤◌, ◌^◌, ◌==◌, Bool, true, false, if◌then◌else◌, List, [], ◌∷◌, ◌++◌, length, Option, Some, None, inr, sym, ap}
+use Rattle.std.proofs.Common.{subst, ◌∙◌, arith, append_assoc, append-nil, length-append}
+use Rattle.rt_ids.specs.Names.{Names}
+use Rattle.rt_ids.specs.declared.limits.TheConstants.{TRACE_BYTES}
+use Rattle.std.proofs.lemmas.List.Splits.{length-slice_split}
+use Rattle.std.proofs.lemmas.List.Sums.{count_by-le-length}
+use Rattle.rt_ids.specs.Lists.{is_empty}
+use Rattle.rt_lines.specs.Parts.{parts, lines_of_parts, lines}
+use Rattle.rt_app.specs.Names.{names_of}
+use Rattle.rt_app.specs.Tree.{App}
+use Rattle.rt_app.specs.View.{app_of}
+use Rattle.rt_baker.specs.Audit.{IsVerdict}
+use Rattle.rt_baker.specs.Judge.{HasJudged, MayTake}
+use Rattle.rt_baker.specs.declared.judge.Judge.{Judge}
+use Rattle.rt_baker.specs.declared.verdict.Verdict.{Verdict}
+use Rattle.rt_moves.specs.declared.machine.Machine.{Machine}
+use Rattle.rt_trace.specs.Reader.{HasRead, ReadsMore, RefusesEnd, RefusesLine, RefusesMore}
+use Rattle.rt_trace.specs.Reading.{IsRefused, IsTraceText, IsWrongBehind}
+use Rattle.rt_trace.specs.Trace.{Trace}
+use Rattle.rt_trace.specs.declared.item.Item.{Item}
+use Rattle.rt_trace.specs.declared.operand.Wrong.TheVariants as wrong
+use Rattle.rt_trace.specs.declared.reader.TraceReader.{TraceReader}
+use Rattle.rt_trace.specs.declared.refusal.TraceRefused.{TraceRefused}
+use Rattle.rt_trace.specs.declared.refusal.TraceRefused.TheVariants as refused
+use Rattle.rt_trace.proofs.Standing.{unended_text}
+use Rattle.rt_top.specs.Inside.Auditor.{Goes, Refuses, Stands, HasAudited, IsJudgedText}
+
+module _ (app : App) (names : Names) (ls : List (List ℕ)) (line : List ℕ) (old new : TraceReader) where
+  -- a line that tells no item
+  pub goes_silent : (judge : Judge) → ReadsMore names old line None new → Goes app names ls old judge
+      → Goes app names (ls ++ line ∷ []) new judge
+  goes_silent judge reads g = record {
+    items = g.items;
+    few = omega (arith, g.few, length-append ls (line ∷ []));
+    read =
+        subst (λ (is : List Item). HasRead names (ls ++ line ∷ []) is new) (append-nil g.items) (reads ls g.items g.read);
+    judged = g.judged;
+  }
+
+  -- and one that tells an item
+  pub goes_on : (item : Item) (before after : Judge) → ReadsMore names old line (Some item) new
+      → ((items : List Item) → HasJudged app items before → HasJudged app (items ++ item ∷ []) after)
+      → Goes app names ls old before → Goes app names (ls ++ line ∷ []) new after
+  goes_on item before after reads judges g = record {
+    items = g.items ++ item ∷ [];
+    few = omega (arith, g.few, length-append g.items (item ∷ []), length-append ls (line ∷ []));
+    read = reads ls g.items g.read;
+    judged = judges g.items g.judged;
+  }
+
+  -- a line that is wrong
+  pub line_refuses : (judge : Judge) (number : ℕ) (refusal : TraceRefused) → suc (length ls) ≡ number
+      → RefusesMore names old line number refusal → Goes app names ls old judge
+      → Refuses names (ls ++ line ∷ []) refusal
+  line_refuses judge number refusal counted refuses g = record {
+    number = number;
+    refused = λ behind.
+        subst (λ (all : List (List ℕ)). RefusesLine names all number refusal) (sym (append_assoc ls (line ∷ []) behind))
+        (refuses ls behind g.items counted g.read);
+  }
+
+-- a line behind a wrong one
+pub refuses_on : (names : Names) (ls : List (List ℕ)) (line : List ℕ) (refusal : TraceRefused)
+    → Refuses names ls refusal → Refuses names (ls ++ line ∷ []) refusal
+refuses_on names ls line refusal r = record {
+  number = r.number;
+  refused = λ behind.
+      subst (λ (all : List (List ℕ)). RefusesLine names all r.number refusal) (sym (append_assoc ls (line ∷ []) behind))
+      (r.refused (line ∷ behind));
+}
+
+-- and where that is kept
+pub stands_on : (app : App) (names : Names) (ls : List (List ℕ)) (line : List ℕ) (reader : TraceReader) (judge : Judge)
+    (refusing : Option TraceRefused) (refusal : TraceRefused) → refusing ≡ Some refusal
+    → Stands app names ls reader judge refusing → Stands app names (ls ++ line ∷ []) reader judge refusing
+stands_on app names ls line reader judge None refusal some h = absurd cc
+stands_on app names ls line reader judge (Some kept) refusal some h = refuses_on names ls line kept h
+
+few_parts : (ps : List (List ℕ)) → length (lines_of_parts ps) ≤ length ps
+few_parts [] = omega arith
+few_parts (x ∷ []) =
+    elim (is_empty x) as (λ b. length (if b then [] else x ∷ []) ≤ 1) [ true ↦ omega arith | false ↦ omega arith ]
+few_parts (x ∷ y ∷ more) = omega (arith, few_parts (y ∷ more))
+
+-- a text has one line more than it has bytes at most
+pub few_lines : (text : List ℕ) → length (lines text) ≤ length text + 1
+few_lines text =
+    omega (
+      arith,
+      few_parts (parts 10 text),
+      length-slice_split (λ b. b == 10) text,
+      count_by-le-length (λ b. b == 10) text,
+    )
+
+-- there are so few lines that another item may come
+pub may_take : (app : App) (names : Names) (ls : List (List ℕ)) (reader : TraceReader) (judge : Judge) (number : ℕ)
+    → suc (length ls) ≡ number → number < 2 ^ 32 → Goes app names ls reader judge → MayTake app judge
+may_take app names ls reader judge number counted small g = record {
+  items = g.items;
+  judged = g.judged;
+  few = omega (arith, g.few, counted, small);
+}
+
+line_refused : (names : Names) (text : List ℕ) (number : ℕ) (r : TraceRefused) → length text ≤ TRACE_BYTES
+    → RefusesLine names (lines text) number r → IsRefused names text r
+line_refused names text number refused.TooLong short h = absurd h
+line_refused names text number (refused.BadLine n) short h = record {
+  short = short;
+  wrong_line = inr (subst (λ (k : ℕ). IsWrongBehind names (lines text) k wrong.Form) (sym h.0) h.1);
+}
+line_refused names text number (refused.UnknownName n) short h = record {
+  short = short;
+  wrong_line = inr (subst (λ (k : ℕ). IsWrongBehind names (lines text) k wrong.Name) (sym h.0) h.1);
+}
+line_refused names text number refused.NoMemory short h = tt
+
+some_same : (a b : App) → Some a ≡ Some b → a ≡ b
+some_same a b e = cc
+
+-- behind all lines of a text
+module _ (chosen : Option App) (names : Names) (machine : Machine) (reader : TraceReader) (judge : Judge)
+    (refusing : Option TraceRefused) (app : App) (text : List ℕ) (is : chosen ≡ Some app)
+    (short : length text ≤ TRACE_BYTES)
+    (h : HasAudited chosen names machine reader judge refusing (lines text)) where
+  same_app : app_of machine.code.now.app.now ≡ app
+  same_app = some_same (app_of machine.code.now.app.now) app (sym h.chose ∙ is)
+
+  same_names : names ≡ names_of app
+  same_names = h.named ∙ ap names_of same_app
+
+  pub end_wrong : (refusal : TraceRefused) → refusing ≡ Some refusal → IsRefused (names_of app) text refusal
+  end_wrong refusal wrong =
+      let stands : Refuses names (lines text) refusal =
+      subst (λ (r : Option TraceRefused). Stands (app_of machine.code.now.app.now) names (lines text) reader judge r) wrong
+      h.stands in
+      subst (λ (n : Names). IsRefused n text refusal) same_names
+      (line_refused names text stands.number refusal short
+      (subst (λ (all : List (List ℕ)). RefusesLine names all stands.number refusal) (append-nil (lines text))
+      (stands.refused [])))
+
+  goes : refusing ≡ None → Goes (app_of machine.code.now.app.now) names (lines text) reader judge
+  goes none =
+      subst (λ (r : Option TraceRefused). Stands (app_of machine.code.now.app.now) names (lines text) reader judge r) none
+      h.stands
+
+  pub end_unended : refusing ≡ None → (count : ℕ) (refusal : TraceRefused) → length (lines text) ≡ count
+      → ((names : Names) (ls : List (List ℕ)) (items : List Item) → length ls ≡ count → HasRead names ls items reader
+      → RefusesEnd ls refusal) → IsRefused (names_of app) text refusal
+  end_unended none count refusal counted refuses =
+      subst (λ (n : Names). IsRefused n text refusal) same_names
+      (unended_text names text (goes none).items reader count refusal short counted (goes none).read refuses)
+
+  pub end_judged : refusing ≡ None → (total : Option ℕ) (verdict : Verdict) (count : ℕ)
+      → ((names : Names) (text : List ℕ) (items : List Item) → length text ≤ TRACE_BYTES
+      → HasRead names (lines text) items reader → IsTraceText names text (record { items = items; total = total }))
+      → ((items : List Item) → HasJudged (app_of machine.code.now.app.now) items judge
+      → IsVerdict (app_of machine.code.now.app.now) (record { items = items; total = total }) verdict)
+      → ((a : App) (items : List Item) → HasJudged a items judge → count ≡ length items)
+      → IsJudgedText app text verdict count
+  end_judged none total verdict count whole judges counts =
+      let g = goes none in
+      let shown : Trace = record { items = g.items; total = total } in
+      record {
+        trace = shown;
+        read =
+            subst (λ (n : Names). IsTraceText n text shown) same_names (whole names text g.items short g.read);
+        is = subst (λ (a : App). IsVerdict a shown verdict) same_app (judges g.items g.judged);
+        counted = counts (app_of machine.code.now.app.now) g.items g.judged;
+      }

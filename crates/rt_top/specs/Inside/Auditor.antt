@@ -1,0 +1,50 @@
+-- What an auditor keeps behind the lines that came.
+use Rattle.std.specs.Prelude.{◌≡◌, ◌≤◌, ℕ, List, ◌++◌, length, Option, Some, None}
+use Rattle.rt_ids.specs.Names.{Names}
+use Rattle.rt_app.specs.Names.{names_of}
+use Rattle.rt_app.specs.Tree.{App}
+use Rattle.rt_app.specs.View.{app_of}
+use Rattle.rt_baker.specs.Audit.{IsVerdict}
+use Rattle.rt_baker.specs.Judge.{HasJudged}
+use Rattle.rt_baker.specs.declared.judge.Judge.{Judge}
+use Rattle.rt_baker.specs.declared.verdict.Verdict.{Verdict}
+use Rattle.rt_moves.specs.Machine.{IsMachine}
+use Rattle.rt_moves.specs.declared.machine.Machine.{Machine}
+use Rattle.rt_trace.specs.Reader.{HasRead, RefusesLine}
+use Rattle.rt_trace.specs.Reading.{IsTraceText}
+use Rattle.rt_trace.specs.Trace.{Trace}
+use Rattle.rt_trace.specs.declared.item.Item.{Item}
+use Rattle.rt_trace.specs.declared.reader.TraceReader.{TraceReader}
+use Rattle.rt_trace.specs.declared.refusal.TraceRefused.{TraceRefused}
+
+-- no line is wrong, and the items that the lines tell were judged
+pub record Goes (app : App) (names : Names) (ls : List (List ℕ)) (reader : TraceReader) (judge : Judge) : Type 0 where
+  pub items : List Item
+  pub few : length items ≤ length ls
+  pub read : HasRead names ls items reader
+  pub judged : HasJudged app items judge
+
+-- one of the lines is wrong, and is refused so whatever stands behind them
+pub record Refuses (names : Names) (ls : List (List ℕ)) (refusal : TraceRefused) : Type 0 where
+  pub number : ℕ
+  pub refused : (behind : List (List ℕ)) → RefusesLine names (ls ++ behind) number refusal
+
+-- no line is wrong, or the first that is is refused so
+abbrev pub Stands : App → Names → List (List ℕ) → TraceReader → Judge → Option TraceRefused → Type 0
+Stands app names ls reader judge None = Goes app names ls reader judge
+Stands app names ls reader judge (Some refusal) = Refuses names ls refusal
+
+-- These lines came of a trace of the chosen application.
+pub record HasAudited (chosen : Option App) (names : Names) (machine : Machine) (reader : TraceReader) (judge : Judge)
+    (refused : Option TraceRefused) (ls : List (List ℕ)) : Type 0 where
+  pub follows : IsMachine machine
+  pub chose : chosen ≡ Some (app_of machine.code.now.app.now)
+  pub named : names ≡ names_of (app_of machine.code.now.app.now)
+  pub stands : Stands (app_of machine.code.now.app.now) names ls reader judge refused
+
+-- The text is that of a trace of so many items, and this is the verdict on it.
+pub record IsJudgedText (app : App) (text : List ℕ) (verdict : Verdict) (count : ℕ) : Type 0 where
+  pub trace : Trace
+  pub read : IsTraceText (names_of app) text trace
+  pub is : IsVerdict app trace verdict
+  pub counted : count ≡ length trace.items
