@@ -1,5 +1,6 @@
 #!/usr/bin/env python3
-"""Prints the times of `rtic run` beside a plain simulator, and of `rtic audit` beside `wc -w` and a plain reader.
+"""Prints the times of `rtic run` beside a plain simulator, of `rtic audit` beside `wc -w` and a plain reader, and the
+memory of both as their input grows.
 
     python3 running.py PROGRAM SIMULATOR READER FOLDER
 
@@ -18,6 +19,9 @@ TURNS = 5
 EVENTS = 1_000_000
 # The greatest number of an interrupt.
 LAST = 495
+# Interrupts that are pended at once.
+CROWD = 60
+MEGABYTE = 1 << 20
 
 BODIES = """\
 idle(shared = [low], local = [turns]) { lock low { turns = turns + low; } }
@@ -64,6 +68,10 @@ def application(irqs, last, name):
     if name == "messages":
         declared = interrupts(["SLOW", "FAST", "HIGH", "LOW"], irqs, last)
         return f"app bench(bits = 4, dispatchers = [HIGH, LOW]);\n{declared}{MESSAGES}"
+    if name == "crowded":
+        crowd = [f"K{n}" for n in range(CROWD)]
+        tasks = [f"task k{n}(binds = K{n}, priority = {1 + n % 15}) {{ emit {n}; }}\n" for n in range(CROWD)]
+        return f"app bench(bits = 4);\n{interrupts(crowd, irqs, last)}{''.join(tasks)}"
     bodies = BODIES[BODIES.index("task") :] if name == "waiting" else BODIES
     declared = interrupts(["SLOW", "FAST"], irqs, last)
     return f"app bench(bits = 4);\n{declared}shared {{ low = 1, high = 2 }}\nlocal {{ turns = 0 }}\n{bodies}"
@@ -105,19 +113,31 @@ def measure_run(program, simulator, folder, irqs, last, name, script):
     words = [program, "run", app, events]
     seconds, other = turns(words, [simulator, listing, events])
     print(
-        f"run, {name}, {irqs} interrupts up to {last}, {EVENTS} events: {seconds * 1000:.0f} ms, {seconds / other:.2f} times a "
-        f"plain simulator ({other * 1000:.0f} ms); {peak(words, folder)} KiB for {os.path.getsize(ours) // 1024} KiB "
-        "of output"
+        f"run, {name}, {irqs} interrupts up to {last}, {EVENTS} events: {seconds * 1000:.0f} ms, "
+        f"{seconds / other:.2f} times a plain simulator ({other * 1000:.0f} ms); {peak(words, folder)} KiB "
+        f"for {os.path.getsize(ours) // 1024} KiB of output"
     )
 
 
-def trace_of(program, folder, app, items):
-    """A trace of so many items: rounds of one pend of each task and sixty steps, each as `rtic run` has it."""
+def measure_memory(program, folder):
+    """The peak memory of a short run and of a long one."""
+    app = write(folder, "app", application(2, 1, "spinning"))
+    sizes = [peak([program, "run", app, write(folder, "script", f"step {n}\n")], folder) for n in (10_000, 1_000_000)]
+    print(f"run, spinning: {sizes[0]} KiB for 10000 steps, {sizes[1]} KiB for 1000000")
+
+
+def rounds_of(program, folder, app):
+    """The items of one pend of each task and sixty steps, as `rtic run` has them: the first, and the others by step."""
     once = write(folder, "script", "step 1\npend SLOW\nstep 9\npend FAST\nstep 60\n")
     told = subprocess.run([program, "run", app, once], capture_output=True, check=True).stdout.decode("ascii")
     rows = [line.split(" ", 1) for line in told.split("\ntrace\n")[1].splitlines()]
-    rounds = [(int(step) - 1, what) for step, what in rows[1:-1]]
-    lines, at = [f"{rows[0][0]} {rows[0][1]}"], 1
+    return " ".join(rows[0]), [(int(step) - 1, what) for step, what in rows[1:-1]]
+
+
+def trace_of(program, folder, app, items):
+    """A trace of so many items: such rounds, one behind the other."""
+    first, rounds = rounds_of(program, folder, app)
+    lines, at = [first], 1
     while len(lines) < items:
         lines += [f"{at + step} {what}" for step, what in rounds]
         at += 69
@@ -125,21 +145,57 @@ def trace_of(program, folder, app, items):
     return write(folder, "trace", "\n".join(lines) + "\n")
 
 
-def measure_audit(program, reader, folder, items):
-    app = write(folder, "app", application(2, 1, "waiting"))
+def audit_of(program, app, trace):
+    return subprocess.run([program, "audit", app, trace], capture_output=True, check=False).stdout.decode("ascii")
+
+
+def measure_audit(program, reader, folder, irqs, last, items):
+    """Prints a line, and returns the nanoseconds that an item takes."""
+    app = write(folder, "app", application(irqs, last, "waiting"))
     trace = trace_of(program, folder, app, items)
-    told = subprocess.run([program, "audit", app, trace], capture_output=True, check=False).stdout
-    if told != f"yes {items}\n".encode("ascii"):
+    told = audit_of(program, app, trace)
+    if told != f"yes {items}\n":
         sys.exit(f"running.py: the audit of {items} items says {told}")
     words = [program, "audit", app, trace]
     seconds, counted, read = turns(words, ["wc", "-w", trace], [reader, trace])
-    memory = peak(words, folder) * 1024
     size = os.path.getsize(trace)
     print(
-        f"audit, {items} items, {size // 1024} KiB: {seconds * 1000:.0f} ms, {seconds / items * 1e9:.0f} ns an item, "
-        f"1/{seconds / counted:.1f} of the speed of wc -w, {seconds / read:.1f} times a plain reader; "
-        f"{(memory - size) / items:.0f} bytes of memory an item beside the text"
+        f"audit, {irqs} interrupts up to {last}, {items} items, {size // 1024} KiB: {seconds * 1000:.0f} ms, "
+        f"{seconds / items * 1e9:.0f} ns an item, 1/{seconds / counted:.1f} of the speed of wc -w, "
+        f"{seconds / read:.1f} times a plain reader; {peak(words, folder)} KiB"
     )
+    return seconds / items
+
+
+def write_long(folder, name, size, first, rounds, last):
+    """A trace of about so many bytes: its path, and how many items it has. The last line is this one."""
+    path, items, at = os.path.join(folder, name), 1, 1
+    with open(path, "w", encoding="ascii") as to:
+        to.write(f"{first}\n")
+        while to.tell() < size:
+            for _ in range(1000):
+                to.write("".join(f"{at + step} {what}\n" for step, what in rounds))
+                at += 69
+                items += len(rounds)
+        to.write(f"{at} {last}\n")
+    return path, items + 1
+
+
+def measure_long_audits(program, folder):
+    """The peak memory of audits of a short trace and of a long one, right and with a fault in the last line."""
+    app = write(folder, "app", application(2, 1, "waiting"))
+    first, rounds = rounds_of(program, folder, app)
+    memory = []
+    for size in MEGABYTE, 200 * MEGABYTE:
+        trace, items = write_long(folder, "long", size, first, rounds, "tick")
+        seconds = run([program, "audit", app, trace])
+        right = audit_of(program, app, trace)
+        memory.append(peak([program, "audit", app, trace], folder))
+        wrong = audit_of(program, app, write_long(folder, "long", size, first, rounds, "emit 1")[0])
+        if (right, wrong) != (f"yes {items}\n", f"no {items}\n"):
+            sys.exit(f"running.py: audits of {items} items say {right} and {wrong}")
+        print(f"audit, {items} items, {size // MEGABYTE} MiB: {seconds:.2f} s, {memory[-1]} KiB")
+    print(f"audit: {memory[1] - memory[0]} KiB more for two hundred times the trace")
 
 
 def main(program, simulator, reader, folder):
@@ -153,8 +209,15 @@ def main(program, simulator, reader, folder):
     for irqs, last in (4, 3), (240, 239), (240, LAST):
         if takes(program, folder, last):
             measure_run(program, simulator, folder, irqs, last, "messages", messages)
-    for items in 500_000, 1_000_000:
-        measure_audit(program, reader, folder, items)
+    for irqs, last in (CROWD, CROWD - 1), (240, 239), (240, LAST):
+        if takes(program, folder, last):
+            crowd = "".join(f"pend K{n}\n" for n in range(CROWD)) + "step 440\n"
+            measure_run(program, simulator, folder, irqs, last, "crowded", crowd * (EVENTS // 500))
+    measure_memory(program, folder)
+    few = measure_audit(program, reader, folder, 2, 1, EVENTS)
+    many = measure_audit(program, reader, folder, 240, LAST, EVENTS)
+    print(f"an item with 240 declared interrupts takes {many / few:.2f} times one with 2")
+    measure_long_audits(program, folder)
 
 
 main(*sys.argv[1:])

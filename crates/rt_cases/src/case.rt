@@ -3,13 +3,13 @@ use crate::unread::Unread;
 use std::alloc::Global;
 
 /// A case of a table: its name, and texts by the names of its parts.
-#[derive(Debug, Drop)]
+#[derive(Drop)]
 pub struct Case {
     name: String,
     parts: Vec<Part>,
 }
 
-#[derive(Debug, Drop)]
+#[derive(Drop)]
 struct Part {
     name: String,
     text: Vec<u8>,

@@ -2,7 +2,7 @@ use crate::escape::push_text;
 use std::alloc::{AllocError, Global};
 
 /// What a line adds to a part.
-#[derive(Clone, Copy, Debug, PartialEq, Eq)]
+#[derive(Clone, Copy, PartialEq, Eq)]
 pub(crate) enum Piece<'a> {
     /// A line as it stands.
     Line(&'a str),

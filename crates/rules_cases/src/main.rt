@@ -3,6 +3,7 @@
 // implementation.
 #![tactic(auto)]
 
+mod failing;
 mod messages;
 mod tokens;
 
@@ -44,6 +45,19 @@ fn run_messages<R: Threads + Sync + Files + Print + AllocGlobal>(rt: &R, file: &
     Ok(())
 }
 
+/// Prints a line for each case of runs whose writes fail in turn.
+fn run_failing<R: Threads + Sync + Files + Print + AllocGlobal>(rt: &R, file: &str) -> Result<()> {
+    let text = fs::read_to_string(rt, file)?;
+    for case in &cases(rt.alloc(), text.as_str())? {
+        println!(rt;
+            "{}: {}",
+            case.name(),
+            failing::verdict(rt, rt.alloc(), case)?
+        )?;
+    }
+    Ok(())
+}
+
 /// Prints a line for each case of the table of tokens.
 fn run_tokens<R: Files + Print + AllocGlobal>(rt: &R, file: &str) -> Result<()> {
     let text = fs::read_to_string(rt, file)?;
@@ -63,6 +77,7 @@ fn main(rt: HostRuntime) -> Result<()> {
     run(&rt, "runs", "run app script")?;
     run(&rt, "builds", "build app")?;
     run_messages(&rt, "messages")?;
+    run_failing(&rt, "failing")?;
     run(&rt, "scripts", "run app script")?;
     run(&rt, "audits", "audit app trace")?;
     run(&rt, "commands", "")
