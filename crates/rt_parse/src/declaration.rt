@@ -1,4 +1,4 @@
-// The parser of declarations: the head, interrupts, the monotonic, resources, and what bodies list of them.
+// The parser of declarations, bodies and the whole application.
 
 ghost use Rattle.std.specs.Prelude.{◌≡◌, ◌-◌, ◌&&◌, [], ◌∷◌, codes, length, map, not, is_none};
 ghost use Rattle.rt_lex.specs.Token.{is_this_sign, is_this_word};

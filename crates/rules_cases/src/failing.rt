@@ -40,7 +40,11 @@ fn told_of_writes<R: Threads + Sync>(
     for write in 0..WRITES {
         let ran = ran(rt, alloc, case, &[write])?;
         if ran.status.number() == 0 {
-            return Ok(if write < least { "there are fewer writes" } else { "ok" });
+            return Ok(if write < least {
+                "there are fewer writes"
+            } else {
+                "ok"
+            });
         }
         if !is_cut(&ran, whole) {
             return Ok("a write that fails leaves something else");
