@@ -1,5 +1,5 @@
 -- Where resources and local resources lie in memory, by the numbers of their cells.
-use Rattle.std.proofs.Common.{◌≡◌, ℕ, zero, suc, ◌+◌, ◌<◌, ◌≤◌, Bool, true, false, List, [], ◌∷◌, ◌++◌, length, map, flat_map, Some, option_map, slice_get, refl, sym, ap, subst, ◌∙◌, arith, inl, inr, if◌then◌else◌}
+use Rattle.std.proofs.Common.{◌≡◌, ℕ, zero, suc, ◌+◌, ◌<◌, ◌≤◌, Bool, true, false, List, [], ◌∷◌, ◌++◌, length, map, flat_map, Option, Some, None, option_map, slice_get, refl, sym, ap, subst, ◌∙◌, arith, inl, inr, if◌then◌else◌}
 use Rattle.std.specs.Prelude.{codes}
 use Rattle.std.specs.List.{AllByRecursion, range_with_len}
 use Rattle.std.proofs.lemmas.Option.{slice_get-map, slice_get_within}
@@ -11,9 +11,10 @@ use Rattle.rt_ids.specs.Storage.{Home, At, In, Nowhere}
 use Rattle.rt_ids.specs.declared.ids.Section.TheVariants as section
 use Rattle.rt_app.specs.declared.app.Shared.{Shared}
 use Rattle.rt_app.specs.declared.app.Local.{Local}
+use Rattle.rt_app.specs.declared.app.Mono.{Mono}
 use Rattle.rt_app.specs.Tree.{Task, App}
-use Rattle.rt_app.specs.Level.{is_software, levels}
-use Rattle.rt_app.specs.Layout.{Cell, resource_cells, local_cells, free_cells, place_cells, task_cells, ready_cells, ready_room, memory, resource_at, local_at, home_of, row_of, layout}
+use Rattle.rt_app.specs.Level.{is_software, levels, armed_messages}
+use Rattle.rt_app.specs.Layout.{Cell, resource_cells, local_cells, free_cells, place_cells, task_cells, ready_cells, ready_room, timer_column, timer_cells, memory, resource_at, local_at, home_of, row_of, layout}
 use Rattle.rt_app.proofs.Members.{made_of}
 
 abbrev pub resource_cell : ℕ → Shared → Cell
@@ -53,9 +54,13 @@ IsOfQueues Nowhere = Unit {0}
 abbrev AreOfQueues : List Cell → Type 0
 AreOfQueues = AllByRecursion (λ cell. IsOfQueues cell.home)
 
+-- what is made of each number
+pub all_made : {X : Type 0} (P : X → Type 0) (f : ℕ → X) (ks : List ℕ) → ((k : ℕ) → P (f k)) → AllByRecursion P (map f ks)
+all_made P f [] each = tt
+all_made P f (k ∷ ks) each = (each k, all_made P f ks each)
+
 all_of_queues : (f : ℕ → Cell) (ks : List ℕ) → ((k : ℕ) → IsOfQueues (f k).home) → AreOfQueues (map f ks)
-all_of_queues f [] each = tt
-all_of_queues f (k ∷ ks) each = (each k, all_of_queues f ks each)
+all_of_queues f ks each = all_made (λ cell. IsOfQueues cell.home) f ks each
 
 places_of_queues : (n : ℕ) (t : Task) (ks : List ℕ) → AreOfQueues (flat_map (place_cells n t) ks)
 places_of_queues n t [] = tt
@@ -73,9 +78,24 @@ ready_of_queues : (app : App) (ps : List ℕ) → AreOfQueues (flat_map (ready_c
 ready_of_queues app [] = tt
 ready_of_queues app (p ∷ ps) = all_append _ (ready_cells app p) (flat_map (ready_cells app) ps) (tt, (tt, all_of_queues _ (range_with_len 0 (ready_room app p)) (λ j. tt))) (ready_of_queues app ps)
 
+column_of_queues : (app : App) (name : List ℕ) → AreOfQueues (timer_column app name)
+column_of_queues app name = all_of_queues _ (range_with_len 0 (armed_messages app)) (λ k. tt)
+
+timer_of_queues : (app : App) (o : Option Mono) → AreOfQueues (timer_cells app o)
+timer_of_queues app None = tt
+timer_of_queues app (Some mono) =
+    let column = column_of_queues app in
+    let last = all_append _ (timer_column app (codes "handle")) (timer_column app (codes "heap")) (column (codes "handle")) (column (codes "heap")) in
+    let more = all_append _ (timer_column app (codes "arming")) _ (column (codes "arming")) last in
+    (tt, (tt, (tt, all_append _ (timer_column app (codes "at")) _ (column (codes "at")) more)))
+
 module _ (app : App) where
+  -- the cells of ready queues and of the timer queue
+  abbrev pub on_ready : List Cell
+  on_ready = flat_map (ready_cells app) (levels app) ++ timer_cells app app.mono
+
   abbrev pub on_queues : List Cell
-  on_queues = task_cells 0 app.tasks ++ flat_map (ready_cells app) (levels app)
+  on_queues = task_cells 0 app.tasks ++ on_ready
 
   abbrev pub on_locals : List Cell
   on_locals = local_cells 0 app.locals ++ on_queues
@@ -126,7 +146,9 @@ module _ (app : App) where
     AsQueue : (k : ℕ) → c ≡ length app.shared + length app.locals + k → slice_get on_queues k ≡ Some cell → IsOfQueues cell.home → Lies c cell
 
   on_queues_alone : AllByRecursion (λ cell. IsOfQueues cell.home) on_queues
-  on_queues_alone = all_append _ (task_cells 0 app.tasks) (flat_map (ready_cells app) (levels app)) (tasks_of_queues 0 app.tasks) (ready_of_queues app (levels app))
+  on_queues_alone =
+      all_append _ (task_cells 0 app.tasks) on_ready (tasks_of_queues 0 app.tasks)
+      (all_append _ (flat_map (ready_cells app) (levels app)) (timer_cells app app.mono) (ready_of_queues app (levels app)) (timer_of_queues app app.mono))
 
   pub lies : (c : ℕ) (cell : Cell) → slice_get (memory app) c ≡ Some cell → Lies c cell
   lies c cell at = elim (at_either (resource_cells 0 app.shared) on_locals c cell at) [

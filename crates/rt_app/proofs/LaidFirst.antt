@@ -1,5 +1,5 @@
 -- What the cells of all holders spell after reset: resources their first values, no place is out, and no message is ready.
-use Rattle.std.proofs.Common.{◌≡◌, ℕ, zero, suc, ◌+◌, ◌-◌, ◌<◌, true, List, [], length, map, Some, option_map, slice_get, get_or, Contains, refl, sym, ap, subst, ◌∙◌, arith}
+use Rattle.std.proofs.Common.{◌≡◌, ℕ, zero, suc, ◌+◌, ◌-◌, ◌*◌, ◌<◌, IsSome, true, List, [], length, map, Some, option_map, slice_get, get_or, Contains, refl, sym, ap, subst, ◌∙◌, arith}
 use Rattle.std.specs.List.{AllByRecursion, range_with_len}
 use Rattle.std.proofs.lemmas.Option.{same_Some, none-some, slice_get_within}
 use Rattle.rt_lemmas.proofs.Places.{read_at, there_is}
@@ -9,12 +9,13 @@ use Rattle.rt_ids.specs.Content.{Content, Number, Messages, Delays, nothing_arme
 use Rattle.rt_ids.specs.Entry.{Entry}
 use Rattle.rt_ids.specs.declared.ids.Section.TheVariants as section
 use Rattle.rt_app.specs.Tree.{Task, App}
-use Rattle.rt_app.specs.Level.{is_software, levels}
+use Rattle.rt_app.specs.Level.{is_software, levels, armed_messages}
 use Rattle.rt_app.specs.Sending.{capacity_of}
-use Rattle.rt_app.specs.Layout.{Cell, memory, resource_at, local_at, free_at, ready_at}
-use Rattle.rt_app.specs.Holding.{SpellsFree, SpellsReady, Spells, IsHeld}
+use Rattle.rt_app.specs.Layout.{Cell, memory, resource_at, local_at, free_at, ready_at, timer_at, armings_at, given_at}
+use Rattle.rt_app.specs.Holding.{SpellsFree, SpellsReady, SpellsTimer, Spells, IsHeld}
 use Rattle.rt_app.proofs.Laid.{resource_cell, local_cell, resource_lies, local_lies}
 use Rattle.rt_app.proofs.LaidQueues.{many, mapped, capacity_is, free_count_lies, free_place_lies, ready_head_lies, ready_count_lies}
+use Rattle.rt_app.proofs.LaidTimer.{timer_cell_lies}
 use Rattle.rt_app.proofs.Spelling.{the_task}
 
 -- Cells after reset, the places in each queue, and what they spell. A place with a greater number is taken first.
@@ -78,13 +79,41 @@ module _ (app : App) where
         ring = λ i e at. absurd (none-some e at);
       }
 
+  -- a cell of the timer queue
+  timer_zero : IsSome app.mono → (c j : ℕ) → c ≡ timer_at app + j → j < 3 + 4 * armed_messages app → first_cells app c ≡ 0
+  timer_zero timed c j is within =
+      let one = timer_cell_lies app timed j within in
+      ap (first_cells app) is ∙ (first_at (timer_at app + j) one.0 one.1 ∙ one.2.0)
+
+  timer_first : IsSome app.mono → SpellsTimer app (first_cells app) [] (Delays nothing_armed)
+  timer_first timed = record {
+    timed = nothing_armed;
+    is = refl;
+    messages = refl;
+    handled = record { given = tt; once = λ i j a b at there same. absurd (none-some a at) };
+    places = tt;
+    room = omega arith;
+    count = timer_zero timed (timer_at app) 0 (omega arith) (omega arith);
+    armings = timer_zero timed (armings_at app) 1 (omega arith) (omega arith);
+    given = timer_zero timed (given_at app) 2 (omega arith) (omega arith);
+    heap = [];
+    column = λ i e at. absurd (none-some e at);
+    arranged = record {
+      alike = λ e. refl;
+      long = refl;
+      order = λ j some within. absurd (omega arith);
+      rising = λ i j a b at there less. absurd (none-some a at);
+      below = tt;
+    };
+  }
+
   pub spelled_first : (h : Holder) → IsHeld app h → Spells app (first_cells app) h (first_queues app h) (first_contents app h)
   spelled_first (Guarded (section.Res r)) has =
       let one = there_is app.shared r has in
       ap (λ o. Number (or_zero (option_map (λ s. s.first) o))) one.1 ∙ ap Number (sym (first_at (resource_at app r) (resource_cell r one.0) (resource_lies app r one.0 one.1)))
   spelled_first (Guarded (section.Free n)) has = let task = the_task is_software app n has in free_first n task.0 task.1 task.2
   spelled_first (Guarded (section.Ready p)) has = ready_first p has
-  spelled_first (Guarded section.Timer) has = tt
+  spelled_first (Guarded section.Timer) has = timer_first has
   spelled_first (Own n) has =
       let one = there_is app.locals n has in
       ap (λ o. Number (or_zero (option_map (λ l. l.first) o))) one.1 ∙ ap Number (sym (first_at (local_at app n) (local_cell n one.0) (local_lies app n one.0 one.1)))

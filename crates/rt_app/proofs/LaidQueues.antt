@@ -15,9 +15,9 @@ use Rattle.rt_ids.specs.declared.ids.Section.TheVariants as section
 use Rattle.rt_app.specs.Tree.{Task, App}
 use Rattle.rt_app.specs.Level.{is_software, levels}
 use Rattle.rt_app.specs.Sending.{capacity_of}
-use Rattle.rt_app.specs.Layout.{Cell, resource_cells, local_cells, free_cells, place_cells, task_cells, ready_cells, ready_room, memory, free_at, inputs_at, ready_at, home_of}
+use Rattle.rt_app.specs.Layout.{Cell, resource_cells, local_cells, free_cells, place_cells, task_cells, ready_cells, ready_room, timer_cells, memory, free_at, inputs_at, ready_at, home_of}
 use Rattle.rt_app.proofs.Rising.{IsRising, those_rise}
-use Rattle.rt_app.proofs.Laid.{length-resource_cells, length-local_cells, on_queues, on_locals}
+use Rattle.rt_app.proofs.Laid.{length-resource_cells, length-local_cells, on_ready, on_queues, on_locals}
 
 -- all things that one function makes of the first numbers
 pub many : {X : Type 0} (f : ℕ → X) (n : ℕ) → length (map f (range_with_len 0 n)) ≡ n
@@ -102,7 +102,7 @@ level_at f (q ∷ ps) p x rising is within = elim (contains_cases q ps p is) [
 
 module _ (app : App) where
   -- behind resources and local resources
-  queue_at : (c x : ℕ) → c ≡ length app.shared + length app.locals + x → slice_get (memory app) c ≡ slice_get (on_queues app) x
+  pub queue_at : (c x : ℕ) → c ≡ length app.shared + length app.locals + x → slice_get (memory app) c ≡ slice_get (on_queues app) x
   queue_at c x is =
       at_back (resource_cells 0 app.shared) (on_locals app) c (length app.locals + x) (omega (arith, length-resource_cells 0 app.shared))
       ∙ at_back (local_cells 0 app.locals) (on_queues app) (length app.locals + x) x (omega (arith, length-local_cells 0 app.locals))
@@ -116,14 +116,14 @@ module _ (app : App) where
       task_at 0 app.tasks n t x at (omega (arith, slice_get_within (queues_of n t) x cell is, ap (λ m. length (queues_of m t)) e))
       ∙ (ap (λ m. slice_get (queues_of m t) x) e ∙ is) in
       queue_at (free_at app n + x) (length (task_cells 0 (take n app.tasks)) + x) (omega arith)
-      ∙ (at_front (task_cells 0 app.tasks) (flat_map (ready_cells app) (levels app)) (length (task_cells 0 (take n app.tasks)) + x)
+      ∙ (at_front (task_cells 0 app.tasks) (on_ready app) (length (task_cells 0 (take n app.tasks)) + x)
       (slice_get_within (task_cells 0 app.tasks) (length (task_cells 0 (take n app.tasks)) + x) cell here)
       ∙ here)
 
   pub capacity_is : (n : ℕ) (t : Task) → slice_get app.tasks n ≡ Some t → capacity_of app n ≡ t.capacity
   capacity_is n t at = ap (λ o. or_zero (option_map (λ t. t.capacity) o)) at
 
-  home_is : (c : ℕ) (cell : Cell) → slice_get (memory app) c ≡ Some cell → home_of app c ≡ cell.home
+  pub home_is : (c : ℕ) (cell : Cell) → slice_get (memory app) c ≡ Some cell → home_of app c ≡ cell.home
   home_is c cell at = read_at (λ cell. cell.home) (memory app) c cell Nowhere at
 
   module _ (n : ℕ) (t : Task) (at : slice_get app.tasks n ≡ Some t) (software : is_software t ≡ true) where
@@ -181,9 +181,11 @@ module _ (app : App) where
     in_ready : (j : ℕ) (cell : Cell) → j < 2 + ready_room app p → slice_get (ready_cells app p) j ≡ Some cell → slice_get (memory app) (ready_at app p + j) ≡ Some cell
     in_ready j cell within there =
         let below = flat_map (ready_cells app) (filter (λ q. nat_lt q p) (levels app)) in
+        let readies = flat_map (ready_cells app) (levels app) in
+        let here : slice_get readies (length below + j) ≡ Some cell = level_at (ready_cells app) (levels app) p j (those_rise _ 256) is (omega (arith, length-ready_cells)) ∙ there in
         queue_at (ready_at app p + j) (length (task_cells 0 app.tasks) + (length below + j)) (omega arith)
-        ∙ (at_back (task_cells 0 app.tasks) (flat_map (ready_cells app) (levels app)) (length (task_cells 0 app.tasks) + (length below + j)) (length below + j) refl
-        ∙ (level_at (ready_cells app) (levels app) p j (those_rise _ 256) is (omega (arith, length-ready_cells)) ∙ there))
+        ∙ (at_back (task_cells 0 app.tasks) (on_ready app) (length (task_cells 0 app.tasks) + (length below + j)) (length below + j) refl
+        ∙ (at_front readies (timer_cells app app.mono) (length below + j) (slice_get_within readies (length below + j) cell here) ∙ here))
 
     pub ready_head_lies : slice_get (memory app) (ready_at app p) ≡ Some (ready_cell (codes "head"))
     ready_head_lies = let e : ready_at app p ≡ ready_at app p + 0 = omega arith in ap (slice_get (memory app)) e ∙ in_ready 0 (ready_cell (codes "head")) (omega arith) refl

@@ -20,6 +20,11 @@ pub mod SoundStack
 pub mod Sound
 pub mod Laid
 pub mod LaidQueues
+pub mod LaidTimer
+pub mod Counting
+pub mod Arranged
+pub mod ArmedPlaces
+pub mod TimerCeilings
 pub mod Spelling
 mod RowParts
 mod RowsActions
@@ -27,4 +32,5 @@ mod RowsMessages
 mod RowsHandles
 mod RowsNumbers
 mod RowsLayout
+mod RowsTimer
 pub mod LaidFirst

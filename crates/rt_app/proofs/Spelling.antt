@@ -1,45 +1,48 @@
 -- What a holder's cells spell depends on the cells that belong to it, and on those of the places in its queue, alone. It is said of
--- holders that the application has: a resource, a local resource, the places of a software task, a level of software tasks.
-use Rattle.std.proofs.Common.{◌≡◌, ◌⊎◌, ℕ, zero, suc, ◌+◌, ◌-◌, ◌*◌, ◌%◌, ◌==◌, ◌<◌, ◌≤◌, Bool, true, false, List, [], ◌∷◌, length, map, Some, None, option_map, slice_get, Contains, refl, sym, ap, ◌∙◌, arith, inl, inr}
-use Rattle.std.specs.Prelude.{cond}
+-- holders that the application has: a resource, a local resource, the places of a software task, a level of software tasks,
+-- the timer queue.
+use Rattle.std.proofs.Common.{◌≡◌, ◌⊎◌, ℕ, zero, suc, ◌+◌, ◌-◌, ◌*◌, ◌%◌, ◌==◌, ◌<◌, ◌≤◌, Bool, true, false, List, [], ◌∷◌, length, map, Some, None, IsSome, option_map, slice_get, Contains, refl, sym, ap, ◌∙◌, arith, inl, inr}
 use Rattle.std.specs.List.{AllByRecursion, range_with_len}
-use Rattle.std.proofs.lemmas.Bool.Decides.{nat_tests}
-use Rattle.std.proofs.lemmas.Option.{same_Some, none-some, slice_get_within}
-use Rattle.std.proofs.lemmas.List.Sums.{sum_by-cons}
+use Rattle.std.proofs.lemmas.Option.{slice_get_within}
 use Rattle.rt_lemmas.proofs.Bools.{and_left}
 use Rattle.rt_lemmas.proofs.Membership.{all_at}
 use Rattle.rt_ids.specs.Lists.{is_some_and, or_zero}
 use Rattle.rt_ids.specs.Holder.{Holder, Guarded, Own}
 use Rattle.rt_ids.specs.Content.{Content, Number, Messages}
-use Rattle.rt_ids.specs.Entry.{Entry, is_same_entry, count}
+use Rattle.rt_ids.specs.Entry.{Entry, count}
 use Rattle.rt_ids.specs.Storage.{Runner, Starting, AtLevel, At, In}
 use Rattle.rt_ids.specs.declared.ids.Section.TheVariants as section
 use Rattle.rt_app.specs.Tree.{Task, App}
-use Rattle.rt_app.specs.Level.{is_software, is_of_level, levels}
+use Rattle.rt_app.specs.Level.{is_software, is_of_level, levels, is_armed, armed_messages}
 use Rattle.rt_app.specs.Sending.{capacity_of}
-use Rattle.rt_app.specs.Layout.{resource_at, local_at, free_at, inputs_at, ready_at, ready_room, home_of}
-use Rattle.rt_app.specs.Holding.{arguments_of, message_at, SpellsFree, SpellsReady, Spells, is_kept, IsHeld}
+use Rattle.rt_app.specs.Layout.{resource_at, local_at, free_at, inputs_at, ready_at, ready_room, timer_at, home_of}
+use Rattle.rt_app.specs.Holding.{arguments_of, message_at, armed_place, instant_at, arming_at, handle_at, armed_at}
+use Rattle.rt_app.specs.Holding.{SpellsFree, SpellsReady, SpellsTimer, Spells, is_kept, IsHeld}
 use Rattle.rt_app.proofs.Laid.{resource_is_home, local_is_home}
 use Rattle.rt_app.proofs.LaidQueues.{free_is_home, input_is_home, ready_is_home}
+use Rattle.rt_app.proofs.LaidTimer.{timer_is_home}
+use Rattle.rt_app.proofs.Counting.{counted}
+use Rattle.rt_app.proofs.ArmedPlaces.{armed_place_within}
+use Rattle.rt_app.proofs.Arranged.{arranged_alike}
 
 -- The cells of a holder are what they were, and, where no runner keeps it, those of the places in its queue.
 abbrev pub IsLeft : App → Holder → List Entry → (ℕ → ℕ) → (ℕ → ℕ) → Type 0
 IsLeft app h entries before after =
     (c : ℕ) → (home_of app c ≡ At h) ⊎ (((who : Runner) → is_kept app who h ≡ false) × ((e : Entry) × (home_of app c ≡ In e) × (0 < count e entries))) → after c ≡ before c
 
+-- a place of a software task that may be armed
+abbrev pub IsTimedPlace : App → Entry → Type 0
+IsTimedPlace app e =
+    (is_armed app e.task ≡ true) × (is_some_and is_software (slice_get app.tasks e.task) ≡ true)
+    × (e.place < capacity_of app e.task)
+
 no_runner : (app : App) (p : ℕ) (who : Runner) → is_kept app who (Guarded (section.Ready p)) ≡ false
 no_runner app p Starting = refl
 no_runner app p (AtLevel q) = refl
 
-is_itself : (e : Entry) → is_same_entry e e ≡ true
-is_itself e = grind (arith, nat_tests)
-
-stands : (entries : List Entry) (i : ℕ) (e : Entry) → slice_get entries i ≡ Some e → 0 < count e entries
-stands [] i e at = absurd (none-some e at)
-stands (x ∷ entries) zero e at =
-    let here : is_same_entry e x ≡ true = ap (is_same_entry e) (same_Some x e at) ∙ is_itself e in
-    omega (arith, sum_by-cons (λ x. cond (is_same_entry e x) 1 0) x entries, ap {B = ℕ} (λ b. cond b 1 0) here)
-stands (x ∷ entries) (suc i) e at = let rest = stands entries i e at in omega (arith, sum_by-cons (λ x. cond (is_same_entry e x) 1 0) x entries)
+no_keeper : (app : App) (who : Runner) → is_kept app who (Guarded section.Timer) ≡ false
+no_keeper app Starting = refl
+no_keeper app (AtLevel q) = refl
 
 pub the_task : (test : Task → Bool) (app : App) (n : ℕ) → is_some_and test (slice_get app.tasks n) ≡ true → (t : Task) × (slice_get app.tasks n ≡ Some t) × (test t ≡ true)
 the_task test app n is = go (slice_get app.tasks n) refl is
@@ -84,23 +87,38 @@ module _ (app : App) (before after : ℕ → ℕ) (entries : List Entry) where
   ready_left : (p : ℕ) → Contains (levels app) p → IsLeft app (Guarded (section.Ready p)) entries before after → (j : ℕ) → j < 2 + ready_room app p → after (ready_at app p + j) ≡ before (ready_at app p + j)
   ready_left p is left j within = left (ready_at app p + j) (inl (ready_is_home app p is j within))
 
+  -- the message of a place in the queue of a holder that no runner keeps
+  message_kept : (h : Holder) → ((who : Runner) → is_kept app who h ≡ false) → IsLeft app h entries before after
+      → (i : ℕ) (e : Entry) → slice_get entries i ≡ Some e → (t : Task) → slice_get app.tasks e.task ≡ Some t
+      → is_software t ≡ true → e.place < capacity_of app e.task → message_at app before e ≡ message_at app after e
+  message_kept h unkept left i e is t there software below =
+      let capacity : capacity_of app e.task ≡ t.capacity = ap (λ o. or_zero (option_map (λ t. t.capacity) o)) there in
+      let arguments : arguments_of app e.task ≡ t.args = ap (λ o. or_zero (option_map (λ t. t.args) o)) there in
+      let place : e.place < t.capacity = omega arith in
+      let first = inputs_at app e.task + e.place * arguments_of app e.task in
+      let same : (k : ℕ) → k < arguments_of app e.task → before (first + k) ≡ after (first + k) =
+      λ k less.
+      (let d : first + k ≡ inputs_at app e.task + e.place * t.args + k =
+      ap (λ a. inputs_at app e.task + e.place * a + k) arguments in
+      sym (left (first + k) (inr (
+        unkept,
+        (
+          e,
+          ap (home_of app) d
+              ∙ input_is_home app e.task t there software e.place k place (omega arith),
+          counted entries i e is,
+        ),
+      )))) in
+      ap (λ args. record { task = e.task; args = args }) (map_range_alike before after first (arguments_of app e.task) same)
+
   message_left : (p : ℕ) → IsLeft app (Guarded (section.Ready p)) entries before after
       → AllByRecursion (λ e. (is_some_and (is_of_level p) (slice_get app.tasks e.task) ≡ true) × (e.place < capacity_of app e.task)) entries
       → (i : ℕ) (e : Entry) → slice_get entries i ≡ Some e → message_at app before e ≡ message_at app after e
   message_left p left all i e is =
       let here = all_at (λ e. (is_some_and (is_of_level p) (slice_get app.tasks e.task) ≡ true) × (e.place < capacity_of app e.task)) entries i e all is in
       let task = the_task (is_of_level p) app e.task here.0 in
-      let t = task.0 in
-      let software = and_left (is_software t) (t.priority == p) task.2 in
-      let capacity : capacity_of app e.task ≡ t.capacity = ap (λ o. or_zero (option_map (λ t. t.capacity) o)) task.1 in
-      let arguments : arguments_of app e.task ≡ t.args = ap (λ o. or_zero (option_map (λ t. t.args) o)) task.1 in
-      let place : e.place < t.capacity = let h = here.1 in omega arith in
-      let first = inputs_at app e.task + e.place * arguments_of app e.task in
-      let same : (k : ℕ) → k < arguments_of app e.task → before (first + k) ≡ after (first + k) =
-      λ k less.
-      (let d : first + k ≡ inputs_at app e.task + e.place * t.args + k = ap (λ a. inputs_at app e.task + e.place * a + k) arguments in
-      sym (left (first + k) (inr (no_runner app p, (e, ap (home_of app) d ∙ input_is_home app e.task t task.1 software e.place k place (omega arith), stands entries i e is))))) in
-      ap (λ args. record { task = e.task; args = args }) (map_range_alike before after first (arguments_of app e.task) same)
+      let software = and_left (is_software task.0) (task.0.priority == p) task.2 in
+      message_kept (Guarded (section.Ready p)) (no_runner app p) left i e is task.0 task.1 software here.1
 
   spells_ready : (p : ℕ) (content : Content) → Contains (levels app) p → IsLeft app (Guarded (section.Ready p)) entries before after → SpellsReady app before p entries content → SpellsReady app after p entries content
   spells_ready p content is left spells =
@@ -124,11 +142,68 @@ module _ (app : App) (before after : ℕ → ℕ) (entries : List Entry) where
             ap (λ h. after (ready_at app p + 2 + (h + i) % size)) head ∙ (ap after d ∙ (same (2 + j) (omega arith) ∙ (ap before (sym d) ∙ spells.ring i e at))));
       }
 
+  spells_timer : (content : Content) → IsSome app.mono → IsLeft app (Guarded section.Timer) entries before after
+      → SpellsTimer app before entries content → SpellsTimer app after entries content
+  spells_timer content timed left spells =
+      record {
+        timed = spells.timed;
+        is = spells.is;
+        messages = spells.messages ∙ map_alike_at (armed_at app before) (armed_at app after) entries armed;
+        handled = spells.handled;
+        places = spells.places;
+        room = spells.room;
+        count = same (timer_at app) 0 (omega arith) (omega arith) ∙ spells.count;
+        armings = same (timer_at app + 1) 1 (omega arith) (omega arith) ∙ spells.armings;
+        given = same (timer_at app + 2) 2 (omega arith) (omega arith) ∙ spells.given;
+        heap = spells.heap;
+        column = λ i e at. (let within = slice_get_within spells.heap i e at in
+            let long = spells.arranged.long in
+            let room = spells.room in
+            same _ (3 + 3 * armed_messages app + i) (omega arith) (omega arith) ∙ spells.column i e at);
+        arranged = arranged_alike (instant_at app before) (arming_at app before) (instant_at app after)
+            (arming_at app after) (spells.timed.given + spells.timed.moved) spells.heap entries
+            (λ i e at. instant i e at) (λ i e at. arming i e at) spells.arranged;
+      }
+    where
+      same : (c j : ℕ) → c ≡ timer_at app + j → j < 3 + 4 * armed_messages app → after c ≡ before c
+      same c j is within = left c (inl (ap (home_of app) is ∙ timer_is_home app timed j within))
+
+      place : (i : ℕ) (e : Entry) → slice_get entries i ≡ Some e → IsTimedPlace app e
+      place i e at = all_at (IsTimedPlace app) entries i e spells.places at
+
+      row : (i : ℕ) (e : Entry) → slice_get entries i ≡ Some e → armed_place app e < armed_messages app
+      row i e at =
+          let here = place i e at in
+          armed_place_within app e (record { armed = here.0; within = here.2 })
+
+      instant : (i : ℕ) (e : Entry) → slice_get entries i ≡ Some e → instant_at app before e ≡ instant_at app after e
+      instant i e at =
+          let less = row i e at in sym (same _ (3 + armed_place app e) (omega arith) (omega arith))
+
+      arming : (i : ℕ) (e : Entry) → slice_get entries i ≡ Some e → arming_at app before e ≡ arming_at app after e
+      arming i e at =
+          let less = row i e at in
+          sym (same _ (3 + armed_messages app + armed_place app e) (omega arith) (omega arith))
+
+      handle : (i : ℕ) (e : Entry) → slice_get entries i ≡ Some e → handle_at app before e ≡ handle_at app after e
+      handle i e at =
+          let less = row i e at in
+          sym (same _ (3 + 2 * armed_messages app + armed_place app e) (omega arith) (omega arith))
+
+      armed : (i : ℕ) (e : Entry) → slice_get entries i ≡ Some e → armed_at app before e ≡ armed_at app after e
+      armed i e at =
+          let here = place i e at in
+          let task = the_task is_software app e.task here.1 in
+          let message = message_kept (Guarded section.Timer) (no_keeper app) left i e at task.0 task.1 task.2 here.2 in
+          let a = instant i e at in
+          let h = handle i e at in
+          λ k. record { instant = a k; message = message k; handle = h k }
+
 -- whatever else changes
 pub spells_by_its_own : (app : App) (h : Holder) (before after : ℕ → ℕ) (entries : List Entry) (content : Content) → IsHeld app h → IsLeft app h entries before after
     → Spells app before h entries content → Spells app after h entries content
 spells_by_its_own app (Guarded (section.Res r)) before after entries content has left spells = spells ∙ ap Number (sym (left (resource_at app r) (inl (resource_is_home app r has))))
 spells_by_its_own app (Guarded (section.Free n)) before after entries content has left spells = let task = the_task is_software app n has in spells_free app before after entries n task.0 content task.1 task.2 left spells
 spells_by_its_own app (Guarded (section.Ready p)) before after entries content has left spells = spells_ready app before after entries p content has left spells
-spells_by_its_own app (Guarded section.Timer) before after entries content has left spells = tt
+spells_by_its_own app (Guarded section.Timer) before after entries content has left spells = spells_timer app before after entries content has left spells
 spells_by_its_own app (Own n) before after entries content has left spells = spells ∙ ap Number (sym (left (local_at app n) (inl (local_is_home app n has))))

@@ -72,7 +72,8 @@ module _ (app : App) where
       act_all (Fires a.message ∷ SetsAlarm ∷ Leaves section.Timer
       ∷ ready_actions app (task_priority app a.message.task) a.message ++ Returns ∷ []) nothing
 
-  -- The timer handler, with a section of this cost: by the clock it makes the least armed message ready, where it is due.
+  -- The timer handler, with a section of this cost: by the clock it makes the least armed message ready, where it is
+  -- due.
   abbrev pub timer_doing_in : ℕ → Rest
   timer_doing_in cost =
       act (Enters section.Timer cost)

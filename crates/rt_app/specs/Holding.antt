@@ -1,20 +1,19 @@
 -- How what resources and queues hold is spelled in memory, who keeps what without a section, and all of it as the
 -- storage that code stands over. That a job reaches a resource in its critical section alone is RTIC's (the RTIC 1
--- book, resources); how queues lie in cells is this project's own. What the cells of the timer queue spell comes with
--- its code.
+-- book, resources); how queues lie in cells is this project's own.
 use Rattle.std.specs.Prelude.{◌≡◌, ℕ, ◌+◌, ◌-◌, ◌*◌, ◌%◌, ◌==◌, ◌<◌, ◌≤◌, nat_lt, Bool, true, false, not, ◌&&◌, List}
 use Rattle.std.specs.Prelude.{length, map, slice_get, Some, option_map, Contains, IsSome}
 use Rattle.std.specs.List.{AllByRecursion, list_any, range_with_len}
 use Rattle.rt_ids.specs.Lists.{is_some_and, or_zero, then_from}
 use Rattle.rt_ids.specs.Holder.{Holder, Guarded, Own}
-use Rattle.rt_ids.specs.Content.{Content, Number, Messages, Message}
+use Rattle.rt_ids.specs.Content.{Content, Number, Messages, Delays, Message, Armed, Timed}
 use Rattle.rt_ids.specs.Entry.{Entry}
 use Rattle.rt_ids.specs.Priority.{hardware}
 use Rattle.rt_ids.specs.Storage.{Storage, Runner, Starting, AtLevel}
 use Rattle.rt_ids.specs.declared.ids.Section.TheVariants as section
 use Rattle.rt_app.specs.Tree.{App}
 use Rattle.rt_app.specs.Bodies.{Member, members}
-use Rattle.rt_app.specs.Level.{is_software, is_of_level, levels}
+use Rattle.rt_app.specs.Level.{is_software, is_of_level, levels, is_armed, armed_messages, armed_before}
 use Rattle.rt_app.specs.Ceiling.{ceiling, lists}
 use Rattle.rt_app.specs.Declarations.{owns}
 use Rattle.rt_app.specs.Statements.{is_init}
@@ -22,10 +21,18 @@ use Rattle.rt_app.specs.Listing.{is_lock_free, listings}
 use Rattle.rt_app.specs.Handlers.{irq_number}
 use Rattle.rt_app.specs.Sending.{capacity_of}
 use Rattle.rt_app.specs.Layout.{resource_at, local_at, free_at, inputs_at, ready_at, ready_room, home_of}
+use Rattle.rt_app.specs.Layout.{timer_at, armings_at, given_at, instants_at, numbers_at, handles_at, heap_at}
+use Rattle.rt_app.specs.Handled.{AreHandled}
+use Rattle.rt_app.specs.Heap.{IsArranged}
 
 -- a message as one word of a queue's cell: its task, and its place below 16
 abbrev pub message_word : Entry → ℕ
 message_word e = 16 * e.task + e.place
+
+-- a place of a task that may be armed as a number below the number of messages that may be: the row of its cells in the
+-- columns of the timer queue
+abbrev pub armed_place : App → Entry → ℕ
+armed_place app e = armed_before app e.task + e.place
 
 -- how many arguments a task takes
 abbrev pub arguments_of : App → ℕ → ℕ
@@ -59,13 +66,44 @@ module _ (app : App) (cells : ℕ → ℕ) where
     pub ring : (i : ℕ) (e : Entry) → slice_get entries i ≡ Some e
         → cells (ready_at app p + 2 + (cells (ready_at app p) + i) % ready_room app p) ≡ message_word e
 
+  -- what the columns of the timer queue have for a message
+  abbrev pub instant_at : Entry → ℕ
+  instant_at e = cells (instants_at app + armed_place app e)
+
+  abbrev pub arming_at : Entry → ℕ
+  arming_at e = cells (numbers_at app + armed_place app e)
+
+  abbrev pub handle_at : Entry → ℕ
+  handle_at e = cells (handles_at app + armed_place app e)
+
+  abbrev pub armed_at : Entry → Armed
+  armed_at e = record { instant = instant_at e; message = message_at e; handle = handle_at e }
+
+  -- The armed messages, in order of their last arming. Their places lie as a heap, by instant and arming.
+  pub record SpellsTimer (entries : List Entry) (content : Content) : Type 0 where
+    pub timed : Timed
+    pub is : content ≡ Delays timed
+    pub messages : timed.armed ≡ map armed_at entries
+    pub handled : AreHandled timed
+    pub places : AllByRecursion
+        (λ e. (is_armed app e.task ≡ true) × (is_some_and is_software (slice_get app.tasks e.task) ≡ true)
+        × (e.place < capacity_of app e.task))
+        entries
+    pub room : length entries ≤ armed_messages app
+    pub count : cells (timer_at app) ≡ length entries
+    pub armings : cells (armings_at app) ≡ timed.given + timed.moved
+    pub given : cells (given_at app) ≡ timed.given
+    pub heap : List Entry
+    pub column : (i : ℕ) (e : Entry) → slice_get heap i ≡ Some e → cells (heap_at app + i) ≡ armed_place app e
+    pub arranged : IsArranged instant_at arming_at (timed.given + timed.moved) heap entries
+
   -- what the cells of a holder spell, where the messages of these places stand in its queue
   abbrev pub Spells : Holder → List Entry → Content → Type 0
   Spells (Guarded (section.Res r)) entries content = content ≡ Number (cells (resource_at app r))
   Spells (Own n) entries content = content ≡ Number (cells (local_at app n))
   Spells (Guarded (section.Free n)) entries content = SpellsFree n entries content
   Spells (Guarded (section.Ready p)) entries content = SpellsReady p entries content
-  Spells (Guarded section.Timer) entries content = Unit {0}
+  Spells (Guarded section.Timer) entries content = SpellsTimer entries content
 
 module _ (app : App) where
   -- whether a body that runs at a level, `init` aside, passes

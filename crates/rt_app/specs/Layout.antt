@@ -1,9 +1,9 @@
--- Where resources, places, messages and ready queues lie in memory: one list of cells, so that no cell belongs to two
--- things. First come the shared resources, a cell each, then the local ones, then for each software task its free
--- places and the arguments of each of its places, then for each level of software tasks its ready queue. The order is
--- this project's own, and the timer queue has no cells yet. The code keeps the numbers of first cells.
+-- Where resources, places, messages and queues lie in memory: one list of cells, so that no cell belongs to two things.
+-- First come the shared resources, a cell each, then the local ones, then for each software task its free places and
+-- the arguments of each of its places, then for each level of software tasks its ready queue, and at last the timer
+-- queue. The order is this project's own. The code keeps the numbers of first cells.
 use Rattle.std.specs.Prelude.{ℕ, ◌+◌, Bool, ◌&&◌, nat_lt, List, [], ◌∷◌, ◌++◌, codes, decimal, length, map, flat_map}
-use Rattle.std.specs.Prelude.{filter, sum_by, take, slice_index_or, if◌then◌else◌}
+use Rattle.std.specs.Prelude.{filter, sum_by, take, slice_index_or, if◌then◌else◌, Option, Some, None}
 use Rattle.std.specs.List.{range_with_len}
 use Rattle.rt_ids.specs.Holder.{Guarded, Own}
 use Rattle.rt_ids.specs.Storage.{Home, At, In, Nowhere}
@@ -11,8 +11,9 @@ use Rattle.rt_ids.specs.declared.cell.CellRow.{CellRow}
 use Rattle.rt_ids.specs.declared.ids.Section.TheVariants as section
 use Rattle.rt_app.specs.declared.app.Shared.{Shared}
 use Rattle.rt_app.specs.declared.app.Local.{Local}
+use Rattle.rt_app.specs.declared.app.Mono.{Mono}
 use Rattle.rt_app.specs.Tree.{Task, App}
-use Rattle.rt_app.specs.Level.{is_software, is_of_level, levels}
+use Rattle.rt_app.specs.Level.{is_software, is_of_level, levels, armed_messages}
 use Rattle.rt_app.specs.Sending.{capacity_of}
 
 -- a cell of memory
@@ -74,11 +75,33 @@ ready_cells app p =
     cell (codes "head") ∷ cell (codes "count")
     ∷ map (λ k. cell (codes "at." ++ decimal k)) (range_with_len 0 (ready_room app p))
 
+abbrev pub timer_cell : List ℕ → Cell
+timer_cell name = record { name = codes "timer." ++ name; first = 0; home = At (Guarded section.Timer) }
+
+-- a cell for each message that may be armed
+abbrev pub timer_column : App → List ℕ → List Cell
+timer_column app name = map (λ k. timer_cell (name ++ codes "." ++ decimal k)) (range_with_len 0 (armed_messages app))
+
+-- The timer queue: how many messages are armed, how often one was armed so far, first and later, and how often first.
+-- Then for each place of the tasks that may be armed the instant of its message, the number of its last arming and its
+-- handle; these three stay where they are. At last a heap of the places of armed messages.
+abbrev pub timer_queue_cells : App → List Cell
+timer_queue_cells app =
+    timer_cell (codes "count") ∷ timer_cell (codes "armings") ∷ timer_cell (codes "given")
+    ∷ (timer_column app (codes "at") ++ (timer_column app (codes "arming")
+    ++ (timer_column app (codes "handle") ++ timer_column app (codes "heap"))))
+
+-- where there is a monotonic
+abbrev pub timer_cells : App → Option Mono → List Cell
+timer_cells app None = []
+timer_cells app (Some mono) = timer_queue_cells app
+
 -- all cells, by number
 abbrev pub memory : App → List Cell
 memory app =
     resource_cells 0 app.shared
-    ++ (local_cells 0 app.locals ++ (task_cells 0 app.tasks ++ flat_map (ready_cells app) (levels app)))
+    ++ (local_cells 0 app.locals ++ (task_cells 0 app.tasks
+    ++ (flat_map (ready_cells app) (levels app) ++ timer_cells app app.mono)))
 
 -- The numbers of first cells: of a resource, of a local resource, of the free places of a task, of the arguments of its
 -- places, of the ready queue of a level.
@@ -102,6 +125,36 @@ abbrev pub ready_at : App → ℕ → ℕ
 ready_at app p =
     length app.shared + length app.locals + length (task_cells 0 app.tasks)
     + length (flat_map (ready_cells app) (filter (λ q. nat_lt q p) (levels app)))
+
+-- The first cell of the timer queue, behind all ready queues: how many messages are armed. Then come the counts of
+-- armings and of handles, and the columns.
+abbrev pub timer_at : App → ℕ
+timer_at app =
+    length app.shared + length app.locals + length (task_cells 0 app.tasks)
+    + length (flat_map (ready_cells app) (levels app))
+
+abbrev pub armings_at : App → ℕ
+armings_at app = timer_at app + 1
+
+abbrev pub given_at : App → ℕ
+given_at app = timer_at app + 2
+
+abbrev pub instants_at : App → ℕ
+instants_at app = timer_at app + 3
+
+abbrev pub numbers_at : App → ℕ
+numbers_at app = instants_at app + armed_messages app
+
+abbrev pub handles_at : App → ℕ
+handles_at app = numbers_at app + armed_messages app
+
+abbrev pub heap_at : App → ℕ
+heap_at app = handles_at app + armed_messages app
+
+-- the first cell of the timer queue, where there is a monotonic
+abbrev pub timed_at : App → Option Mono → ℕ
+timed_at app None = 0
+timed_at app (Some mono) = timer_at app
 
 -- what the cell of this number belongs to
 abbrev pub home_of : App → ℕ → Home
@@ -136,5 +189,5 @@ layout app = record {
   inputs = numbers_of has_inputs (inputs_at app) 0 app.tasks;
   free = numbers_of is_software (free_at app) 0 app.tasks;
   ready = map (ready_at app) (levels app);
-  timer = 0;
+  timer = timed_at app app.mono;
 }

@@ -1,7 +1,7 @@
 -- Software tasks, the levels that dispatchers serve, and the tasks whose messages can be armed (the RTIC 1 book,
 -- software tasks and the monotonic). The code keeps a table by priority for the levels, and one by task for the armed
 -- tasks.
-use Rattle.std.specs.Prelude.{ℕ, ◌+◌, ◌==◌, Bool, ◌&&◌, is_none, List, [], ◌∷◌, count_by, if◌then◌else◌}
+use Rattle.std.specs.Prelude.{ℕ, ◌+◌, ◌==◌, Bool, ◌&&◌, is_none, List, [], ◌∷◌, count_by, take, if◌then◌else◌}
 use Rattle.std.specs.List.{list_any}
 use Rattle.rt_ids.specs.Lists.{those_below}
 use Rattle.rt_app.specs.declared.costs.TheConstants.{PRIORITIES}
@@ -54,3 +54,7 @@ armed_messages app = armed_capacities app 0 app.tasks
 -- how many tasks are named in a `spawn_after`
 abbrev pub armed_tasks : App → ℕ
 armed_tasks app = armed_count app 0 app.tasks
+
+-- the capacities of such tasks before this one
+abbrev pub armed_before : App → ℕ → ℕ
+armed_before app n = armed_capacities app 0 (take n app.tasks)

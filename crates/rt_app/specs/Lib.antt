@@ -30,5 +30,7 @@ pub mod Accepted
 pub mod Sound
 pub mod Acceptance
 pub mod Layout
+pub mod Handled
+pub mod Heap
 pub mod Holding
 pub mod Plan

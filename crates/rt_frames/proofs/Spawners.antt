@@ -1,8 +1,11 @@
 -- The tasks that bodies arm, as the flags of all their spawns, and what is summed over them.
-use Rattle.std.proofs.Common.{◌≡◌, ℕ, ◌+◌, ◌<◌, ◌≤◌, ◌==◌, Bool, true, false, ◌&&◌, ◌||◌, List, [], ◌∷◌, ◌++◌, length, get_or, drop, min, ⊎_elim, map, filter, flat_map, Option, Some, None, refl, sym, ap, ◌∙◌, cond, if◌then◌else◌, leb, arith}
+use Rattle.std.proofs.Common.{◌≡◌, ℕ, ◌+◌, ◌<◌, ◌≤◌, ◌==◌, Bool, true, false, ◌&&◌, ◌||◌, List, [], ◌∷◌, ◌++◌, length}
+use Rattle.std.proofs.Common.{get_or, take, drop, suc, min, add-zero, ⊎_elim, map, filter, flat_map, Option, Some}
+use Rattle.std.proofs.Common.{None, refl, sym, ap, ◌∙◌, cond, if◌then◌else◌, leb, arith}
 use Rattle.std.specs.List.{list_any}
 use Rattle.std.specs.Int.{from_bool}
-use Rattle.std.proofs.lemmas.List.{get_or_past, drop_all}
+use Rattle.std.proofs.lemmas.List.{get_or_past, drop_all, take-map, map_more, take-take, take-append-drop, length-map}
+use Rattle.std.proofs.lemmas.List.{length-take, length-take-le}
 use Rattle.std.proofs.lemmas.List.Folds.{list_any-append}
 use Rattle.std.proofs.lemmas.Bool.Decides.{leb_tells}
 use Rattle.std.proofs.Math.Bool.{or-false}
@@ -99,12 +102,60 @@ count_none : (app : App) (flags : List Bool) → HasFlags flags (is_armed app) �
 count_none app flags has n [] h = refl
 count_none app flags has n (t ∷ ts) h = rw (none_armed app flags has n h) (rw (count_none app flags has (n + 1) ts (omega arith)) refl)
 
--- the tasks that are left where none is left that can be armed
-pub capacities_left : (app : App) (flags : List Bool) → HasFlags flags (is_armed app) → (ts : List code.Task) (n : ℕ) → min (length ts) 256 ≤ n → armed_capacities app n (map task_of (drop n ts)) ≡ 0
-capacities_left app flags has ts n h = ⊎_elim
-    (λ (t : leb 256 n ≡ true × (256 ≤ n)). capacities_none app flags has n (map task_of (drop n ts)) t.1)
-    (λ (t : leb 256 n ≡ false × (n < 256)). ap (λ us. armed_capacities app n (map task_of us)) (drop_all n ts (omega arith)))
-    (leb_tells 256 n)
+module _ (app : App) (flags : List Bool) (has : HasFlags flags (is_armed app)) where
+  -- the tasks that are left where none is left that can be armed
+  capacities_left : (ts : List Task) (n : ℕ) → min (length ts) 256 ≤ n → armed_capacities app n (drop n ts) ≡ 0
+  capacities_left ts n h = ⊎_elim
+      (λ (t : leb 256 n ≡ true × (256 ≤ n)). capacities_none app flags has n (drop n ts) t.1)
+      (λ (t : leb 256 n ≡ false × (n < 256)). ap (armed_capacities app n) (drop_all n ts (omega arith)))
+      (leb_tells 256 n)
+
+  capacities_append : (n : ℕ) (xs ys : List Task)
+      → armed_capacities app n (xs ++ ys) ≡ armed_capacities app n xs + armed_capacities app (n + length xs) ys
+  capacities_append n [] ys =
+      let e : n ≡ n + 0 = omega arith in
+      omega (arith, ap (λ k. armed_capacities app k ys) e)
+  capacities_append n (x ∷ xs) ys =
+      let e : n + 1 + length xs ≡ n + suc (length xs) = omega arith in
+      omega (arith, capacities_append (n + 1) xs ys, ap (λ k. armed_capacities app k ys) e)
+
+  -- one task more
+  pub before_more : (ts : List code.Task) (n : ℕ) (t : code.Task) → n < length ts → t ≡ get_or ts n t
+      → armed_capacities app 0 (take (n + 1) (map task_of ts))
+      ≡ armed_capacities app 0 (take n (map task_of ts)) + (if get_or flags n false then (task_of t).capacity else 0)
+  before_more ts n t within is =
+      let before = map task_of (take n ts) in
+      let next = task_of (get_or ts n t) in
+      let few : length (take n ts) ≡ n = length-take-le n ts (omega arith) in
+      let here : 0 + length before ≡ n = omega (arith, length-map (take n ts) task_of) in
+      let own : ℕ = if get_or flags n false then (task_of t).capacity else 0 in
+      let own_is : armed_capacities app (0 + length before) (next ∷ []) ≡ own =
+      ap (λ k. armed_capacities app k (next ∷ [])) here
+      ∙ (ap (λ b. (if b then next.capacity else 0) + 0) (sym (has.flag n))
+      ∙ (ap (λ u. (if get_or flags n false then (task_of u).capacity else 0) + 0) (sym is) ∙ add-zero own)) in
+      omega (
+        arith,
+        ap (armed_capacities app 0) (take-map task_of (n + 1) ts),
+        ap (armed_capacities app 0) (take-map task_of n ts),
+        ap (armed_capacities app 0) (map_more task_of ts n t within),
+        capacities_append 0 before (next ∷ []),
+      )
+
+  -- those of a number that no flag goes beyond are those of any further one
+  pub before_all : (ts : List Task) (end n : ℕ) → min (min end (length ts)) 256 ≤ n → n ≤ end → n ≤ length ts
+      → armed_capacities app 0 (take n ts) ≡ armed_capacities app 0 (take end ts)
+  before_all ts end n most less within =
+      let front = take end ts in
+      let same = take-take n end ts less in
+      let here : 0 + length (take n front) ≡ n = omega (arith, ap length same, length-take-le n ts within) in
+      omega (
+        arith,
+        ap (armed_capacities app 0) (take-append-drop n front),
+        ap (armed_capacities app 0) same,
+        capacities_append 0 (take n front) (drop n front),
+        ap (λ k. armed_capacities app k (drop n front)) here,
+        capacities_left front n (omega (arith, length-take end ts)),
+      )
 
 pub count_left : (app : App) (flags : List Bool) → HasFlags flags (is_armed app) → (ts : List code.Task) (n : ℕ) → min (length ts) 256 ≤ n → armed_count app n (map task_of (drop n ts)) ≡ 0
 count_left app flags has ts n h = ⊎_elim

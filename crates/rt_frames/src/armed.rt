@@ -112,17 +112,26 @@ fn armed_capacity(task: &Task, is_armed: bool) -> u32
     }
 }
 
+/// How many messages of the tasks below this number may be armed at once.
+pub(crate) fn messages_before(app: &App, armed: &Flags, end: usize) -> u32
+    requires { HasFlags armed.now (level.is_armed (app_of app.now)) }
+    ensures value { result ≡ level.armed_before (app_of app.now) end }
+    ensures few { result ≤ MOST_ARMED }
+{
+    let mut messages: u32 = 0;
+    for number in 0..end.min(app.tasks.len()).min(NUMBERS) {
+        messages += armed_capacity(&app.tasks[number], armed[number]);
+    }
+    messages
+}
+
 /// How many messages may be armed at once.
 pub(crate) fn armed_messages(app: &App, armed: &Flags) -> u32
     requires { HasFlags armed.now (level.is_armed (app_of app.now)) }
     ensures value { result ≡ level.armed_messages (app_of app.now) }
     ensures few { result ≤ MOST_ARMED }
 {
-    let mut messages: u32 = 0;
-    for number in 0..app.tasks.len().min(NUMBERS) {
-        messages += armed_capacity(&app.tasks[number], armed[number]);
-    }
-    messages
+    messages_before(app, armed, app.tasks.len())
 }
 
 /// How many tasks are named in a `spawn_after`.

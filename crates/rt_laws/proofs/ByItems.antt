@@ -142,10 +142,15 @@ module _ (app : App) where
   silent_steps zero labels = omega arith
   silent_steps (suc k) labels = let inner = silent_steps k labels in omega arith
 
-  runs_append : (before behind : List Label) (s : State) → RunsOn app s before
+  pub runs_append : (before behind : List Label) (s : State) → RunsOn app s before
       → RunsOn app (after_all app s before) behind → RunsOn app s (before ++ behind)
   runs_append [] behind s runs more = more
   runs_append (label ∷ before) behind s runs more = (runs.0, runs_append before behind (after app s label) runs.1 more)
+
+  pub after_append : (before behind : List Label) (s : State)
+      → after_all app s (before ++ behind) ≡ after_all app (after_all app s before) behind
+  after_append [] behind s = refl
+  after_append (label ∷ before) behind s = after_append before behind (after app s label)
 
   item_of_label : (owing : Bool) (w : What) (m : ℕ) (labels : List Label)
       → items_of m (label_of owing w ∷ labels) ≡ record { step = m; what = w } ∷ items_of

@@ -20,9 +20,8 @@ use Rattle.rt_app.specs.declared.app.Mono.{Mono}
 use Rattle.rt_app.specs.Tree.{Spawn, Body, Task, App}
 use Rattle.rt_app.specs.Variables.{variables}
 use Rattle.rt_app.specs.Bodies.{Member, members, task_priority}
-use Rattle.rt_app.specs.Spawned.{spawns, arms_message, target}
-use Rattle.rt_app.specs.Level.{is_software, is_of_level, is_armed, arms, holds, levels}
-use Rattle.rt_app.specs.Ceiling.{ceiling, arms_level, mover_priority}
+use Rattle.rt_app.specs.Level.{is_software, is_of_level, is_armed, levels}
+use Rattle.rt_app.specs.Ceiling.{ceiling}
 use Rattle.rt_app.specs.BodyCost.{dispatcher_section_cost, timer_section_cost}
 use Rattle.rt_app.specs.Waiting.{Critical, waiting_bound, holds_off, sections, block_sections, idle_sections, tasks_sections, dispatcher_sections, moved_sections, handler_sections, ready_section, free_section}
 use Rattle.rt_app.specs.Handlers.{Service, services, dispatcher_of, bound_service, task_services, dispatcher_service, timer_service}
@@ -32,6 +31,7 @@ use Rattle.rt_app.specs.Accepted.{IsAccepted}
 use Rattle.rt_app.specs.Acceptance.{IsSound}
 use Rattle.rt_app.proofs.Sound.{accepted_are_sound}
 use Rattle.rt_app.proofs.SoundCeilings.{those_all}
+use Rattle.rt_app.proofs.TimerCeilings.{timer_within, mover_within}
 use Rattle.rt_laws.specs.State.{Role, Init, Idle, Serving}
 use Rattle.rt_laws.proofs.Fine.{OfLevel, IsTimedOne, Queued, IsCounted, EntersFine, IsFine, FineRest, AllFine, first_fine, act_fine, acts_fine}
 use Rattle.rt_laws.proofs.FineBodies.{level_is, block_fine}
@@ -52,10 +52,6 @@ some_passing test (Some x) h = (x, refl, h)
 all_hold : (a b c : Bool) → a ≡ true → b ≡ true → c ≡ true → (a && b && c) ≡ true
 all_hold a b c x y z = rw (x, y, z) refl
 
-any_weaker : {X : Type 0} (f g : X → Bool) → ((x : X) → f x ≡ true → g x ≡ true) → (xs : List X)
-    → list_any f xs ≡ true → list_any g xs ≡ true
-any_weaker f g weaker xs is = let one = any_one f xs is in any_passes g xs one.0 one.1 one.2 (weaker one.1 one.3)
-
 of_level : (p : ℕ) (t : Task) → is_of_level p t ≡ true → (is_software t ≡ true) × (t.priority ≡ p)
 of_level p t is = let parts = and_parts (is_software t) (t.priority == p) is in (parts.0, eqb-true t.priority p parts.1)
 
@@ -67,6 +63,17 @@ thread_member b = record { id = body.Idle; priority = 0; args = 0; body = b }
 
 abbrev init_member : Body → Member
 init_member b = record { id = body.Init; priority = 0; args = 0; body = b }
+
+-- where something holds of each armed message, it holds of one that is due
+pub due_holds : (app : App) (P : Armed → Type 0) (time : ℕ) (armed : List Armed) → AllByRecursion P armed
+    → IfSome (due app time armed) P
+due_holds app P time armed all = by (least armed) (λ a is. find_has P _ armed a all is)
+  where
+    by : (o : Option Armed) → ((a : Armed) → o ≡ Some a → P a)
+        → IfSome (then_from o (λ a. if nat_le a.instant time then Some a else None)) P
+    by None each = tt
+    by (Some a) each =
+        elim (nat_le a.instant time) as (λ b. IfSome (if b then Some a else None) P) [ true ↦ each a refl | false ↦ tt ]
 
 module _ (app : App) where
   -- no section costs more than the bound of a priority that it may hold off
@@ -298,12 +305,8 @@ module _ (app : App) (accepted : IsAccepted app) where
         let level : p ≡ found.0.priority = level_is app n found.0 found.1 in
         let of_it : OfLevel app p a.message = ap (is_some_and (is_of_level p)) found.1
         ∙ and_both (is_software found.0) (found.0.priority == p) found.2 (eq-eqb found.0.priority p (sym level)) in
-        let moves : mover_priority app p app.mono ≡ mono.priority =
-        ap (mover_priority app p) is ∙ ap (λ b. if b then mono.priority else 0)
-        (any_weaker (holds (arms n)) (holds (arms_level app p))
-        (λ m. any_weaker (arms n) (arms_level app p) (moves_level n p of_it) (spawns m.body.block))
-        (members app) timed.0) in
-        let least : mono.priority ≤ ceiling app (section.Ready p) = omega arith in
+        let least : mono.priority ≤ ceiling app (section.Ready p) =
+        mover_within app mono is n p of_it timed.0 in
         let bounded : AllByRecursion (Bounded app) (moved app mono.priority n found.0) =
         subst (λ i. AllByRecursion (Bounded app) (moved app mono.priority i found.0)) (zero_plus n)
         (moved_bounded app mono.priority 0 n app.tasks found.0
@@ -359,19 +362,9 @@ module _ (app : App) (accepted : IsAccepted app) where
                 )
                 by false test same = absurd (none-some a same)
 
-        moves_level : (n p : ℕ) → is_some_and (is_of_level p) (slice_get app.tasks n) ≡ true → (s : Spawn)
-            → arms n s ≡ true → arms_level app p s ≡ true
-        moves_level n p level s is =
-            let parts = and_parts (arms_message s) (target s == n) is in
-            and_both (arms_message s) _ parts.0
-            (subst (λ k. is_some_and (is_of_level p) (slice_get app.tasks k) ≡ true)
-            (sym (eqb-true (target s) n parts.1)) level)
-
     timer_fine : (mono : Mono) → app.mono ≡ Some mono → FineServing mono.priority [] (timer_doing app)
     timer_fine mono is =
-        let here : or_zero (option_map (λ (m : Mono). m.priority) app.mono) ≡ mono.priority =
-        ap (λ o. or_zero (option_map (λ (m : Mono). m.priority) o)) is in
-        let least : mono.priority ≤ ceiling app section.Timer = omega arith in
+        let least : mono.priority ≤ ceiling app section.Timer = timer_within app mono is in
         let enters : EntersFine app (Serving irq) mono.priority [] section.Timer (timer_section_cost app) =
         enters_alone app irq mono.priority section.Timer (timer_section_cost app) least
         (subst (λ o. AllByRecursion (Bounded app) (handler_sections app o)) is (handlers_bounded app)).0 in
@@ -388,20 +381,9 @@ module _ (app : App) (accepted : IsAccepted app) where
             (λ x queue. refl),
             tt,
             λ time xs r alike. fire_fine mono is (due app time (delays (xs (Guarded section.Timer))))
-                (due_timed time (delays (xs (Guarded section.Timer))) r.timer) time xs r refl,
+                (due_holds app (IsTimedOne app) time (delays (xs (Guarded section.Timer))) r.timer) time xs r refl,
           ),
         )
-      where
-        only_due : (time : ℕ) (o : Option Armed) → ((a : Armed) → o ≡ Some a → IsTimedOne app a)
-            → IfSome (then_from o (λ a. if nat_le a.instant time then Some a else None)) (IsTimedOne app)
-        only_due time None timed = tt
-        only_due time (Some a) timed =
-            elim (nat_le a.instant time) as
-            (λ b. IfSome (if b then Some a else None) (IsTimedOne app)) [ true ↦ timed a refl | false ↦ tt ]
-
-        due_timed : (time : ℕ) (armed : List Armed) → AllByRecursion (IsTimedOne app) armed
-            → IfSome (due app time armed) (IsTimedOne app)
-        due_timed time armed all = only_due time (least armed) (λ a is. find_has (IsTimedOne app) _ armed a all is)
 
     -- each handler, at the priority that it is served at
     abbrev FineService : Service → Type 0

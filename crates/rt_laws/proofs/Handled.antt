@@ -5,7 +5,7 @@ use Rattle.std.proofs.lemmas.Option.{same_Some, none-some}
 use Rattle.rt_lemmas.proofs.Membership.{all_append, all_at}
 use Rattle.rt_lemmas.proofs.Lists.{find_has}
 use Rattle.rt_ids.specs.Content.{Message, Armed, Timed, has_handle, armed_as, without_handle, postponed, with_armed, with_moved}
-use Rattle.rt_laws.specs.Handles.{AreHandled}
+use Rattle.rt_app.specs.Handled.{AreHandled}
 
 -- of a list of armed messages no two have one handle
 abbrev pub AreApart : List Armed → Type 0

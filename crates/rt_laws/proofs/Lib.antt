@@ -16,6 +16,8 @@ pub mod Order
 pub mod Pending
 pub mod Steps
 pub mod Happens
+pub mod OneAction
+pub mod Armings
 pub mod Free
 pub mod Waiting
 pub mod Serving

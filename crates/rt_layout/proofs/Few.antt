@@ -1,5 +1,7 @@
 -- An application within the limits has few cells.
-use Rattle.std.proofs.Common.{◌≡◌, ℕ, zero, suc, ◌+◌, ◌*◌, ◌<◌, ◌≤◌, ◌==◌, Bool, true, false, List, [], ◌∷◌, ◌++◌, length, map, flat_map, filter, append-nil, ap, ◌∙◌, arith, if◌then◌else◌}
+use Rattle.std.proofs.Common.{◌≡◌, ℕ, zero, suc, ◌+◌, ◌*◌, ◌<◌, ◌≤◌, ◌==◌, Bool, true, false, List, [], ◌∷◌, ◌++◌}
+use Rattle.std.proofs.Common.{length, map, flat_map, filter, Option, Some, None, append-nil, ap, ◌∙◌, arith}
+use Rattle.std.proofs.Common.{if◌then◌else◌}
 use Rattle.std.specs.Prelude.{◌&&◌, nat_lt, sum_by, cond}
 use Rattle.std.specs.List.{AllByRecursion, range_with_len, list_any}
 use Rattle.std.proofs.lemmas.Bool.Decides.{nat_tests}
@@ -9,11 +11,14 @@ use Rattle.std.proofs.lemmas.List.Sums.{sum_by-cons}
 use Rattle.std.proofs.lemmas.List.FromFn.{length-range_with_len}
 use Rattle.rt_ids.specs.Lists.{those_below}
 use Rattle.rt_app.specs.Tree.{Task, App}
-use Rattle.rt_app.specs.Level.{is_software, is_of_level, levels}
+use Rattle.rt_app.specs.declared.app.Mono.{Mono}
+use Rattle.rt_app.specs.Level.{is_software, is_of_level, levels, is_armed, armed_capacities, armed_messages}
 use Rattle.rt_app.specs.Limits.{KeepsTaskLimits, KeepsLimits}
 use Rattle.rt_app.specs.Accepted.{IsAccepted}
-use Rattle.rt_app.specs.Layout.{Cell, free_cells, place_cells, task_cells, ready_cells, ready_room, resource_cells, local_cells, memory}
-use Rattle.rt_app.proofs.Laid.{length-resource_cells, length-local_cells}
+use Rattle.rt_app.specs.Layout.{Cell, free_cells, place_cells, task_cells, ready_cells, ready_room, timer_cells}
+use Rattle.rt_app.specs.Layout.{resource_cells, local_cells, memory}
+use Rattle.rt_app.proofs.Laid.{length-resource_cells, length-local_cells, on_ready, on_queues, on_locals}
+use Rattle.rt_app.proofs.LaidTimer.{length-timer_queue_cells}
 
 many : {X : Type 0} (f : ℕ → X) (n : ℕ) → length (map f (range_with_len 0 n)) ≡ n
 many f n = length-map (range_with_len 0 n) f ∙ length-range_with_len 0 n
@@ -103,23 +108,38 @@ few_ready app (suc n) = go (list_any (is_of_level n) app.tasks) (few_ready app n
     )
     go false rest = omega (arith, ap (λ ps. length (flat_map (ready_cells app) ps)) (append-nil before), below_next n app.tasks)
 
+few_armed : (app : App) (n : ℕ) (ts : List Task) → AllByRecursion KeepsTaskLimits ts
+    → armed_capacities app n ts ≤ 16 * length ts
+few_armed app n [] limits = omega arith
+few_armed app n (t ∷ ts) limits = go (is_armed app n) (few_armed app (n + 1) ts limits.1)
+  where
+    go : (b : Bool) → armed_capacities app (n + 1) ts ≤ 16 * length ts
+        → (if b then t.capacity else 0) + armed_capacities app (n + 1) ts ≤ 16 * length (t ∷ ts)
+    go true rest = let most = limits.0.most_capacity in omega arith
+    go false rest = omega arith
+
+few_timer : (app : App) (o : Option Mono) → length (timer_cells app o) ≤ 3 + 4 * armed_messages app
+few_timer app None = omega arith
+few_timer app (Some mono) = omega (arith, length-timer_queue_cells app)
+
 pub few_cells : (app : App) → KeepsLimits app → length (memory app) < 16384
 few_cells app limits =
     let shared = limits.shared in
     let locals = limits.locals in
     let tasks = limits.few_tasks in
-    let queues = task_cells 0 app.tasks ++ flat_map (ready_cells app) (levels app) in
-    let on_locals = local_cells 0 app.locals ++ queues in
     omega (
       arith,
-      length-append (resource_cells 0 app.shared) on_locals,
-      length-append (local_cells 0 app.locals) queues,
-      length-append (task_cells 0 app.tasks) (flat_map (ready_cells app) (levels app)),
+      length-append (resource_cells 0 app.shared) (on_locals app),
+      length-append (local_cells 0 app.locals) (on_queues app),
+      length-append (task_cells 0 app.tasks) (on_ready app),
+      length-append (flat_map (ready_cells app) (levels app)) (timer_cells app app.mono),
       length-resource_cells 0 app.shared,
       length-local_cells 0 app.locals,
       few_tasks 0 app.tasks limits.tasks,
       few_ready app 256,
       few_capacities (is_below 256) app.tasks limits.tasks,
+      few_timer app app.mono,
+      few_armed app 0 app.tasks limits.tasks,
     )
 
 pub cells_are_few : (app : App) → IsAccepted app → length (memory app) < 16384

@@ -1,5 +1,7 @@
--- What a layout has after the queues of a task, of tasks, of levels.
-use Rattle.std.proofs.Common.{◌≡◌, ℕ, suc, ◌+◌, ◌<◌, Bool, true, false, List, [], ◌∷◌, ◌++◌, length, map, flat_map, take, get_or, refl, sym, ap, ◌∙◌, append_assoc, append-nil, if◌then◌else◌, arith}
+-- What a layout has after the queues of a task, of tasks, of levels, and after the timer queue.
+use Rattle.std.proofs.Common.{◌≡◌, ℕ, suc, ◌+◌, ◌<◌, Bool, true, false, List, [], ◌∷◌, ◌++◌, length, map, flat_map}
+use Rattle.std.proofs.Common.{take, get_or, Option, Some, None, refl, sym, ap, ◌∙◌, append_assoc, append-nil}
+use Rattle.std.proofs.Common.{if◌then◌else◌, arith}
 use Rattle.std.specs.Prelude.{nat_lt, ◌&&◌}
 use Rattle.std.specs.List.{range_with_len, fold}
 use Rattle.std.proofs.lemmas.List.{length-append, length-map}
@@ -8,12 +10,13 @@ use Rattle.std.proofs.lemmas.List.Folds.{length-flat_map-take}
 use Rattle.rt_lemmas.proofs.Lists.{fold_leaves, flat_map-map}
 use Rattle.rt_ids.specs.declared.cell.CellRow.{CellRow}
 use Rattle.rt_app.specs.declared.app.Task as declared
+use Rattle.rt_app.specs.declared.app.Mono.{Mono}
 use Rattle.rt_app.specs.Tree.{Task}
 use Rattle.rt_app.specs.View.{task_of}
 use Rattle.rt_app.specs.Level.{is_software}
 use Rattle.rt_app.specs.Layout.{Layout, has_inputs}
-use Rattle.rt_layout.specs.Inside.Rows.{free_rows, input_rows, queue_rows, task_rows, ready_rows}
-use Rattle.rt_layout.specs.Inside.Growing.{with_queues, skipped, with_task, with_level}
+use Rattle.rt_layout.specs.Inside.Rows.{free_rows, input_rows, queue_rows, task_rows, ready_rows, timed_rows}
+use Rattle.rt_layout.specs.Inside.Growing.{with_queues, skipped, with_task, with_level, with_mono}
 use Rattle.rt_layout.proofs.Rows.{grown}
 
 length-free_rows : (t : Task) → length (free_rows t) ≡ suc t.capacity
@@ -117,6 +120,23 @@ module _ (room : ℕ → ℕ) where
 
   pub levels_timer : (l : Layout) (ps : List ℕ) → (fold level_grown l ps).timer ≡ l.timer
   levels_timer l ps = fold_leaves level_grown (λ l. l.timer) (λ l p. refl) l ps
+
+module _ (room : ℕ) (l : Layout) where
+  pub mono_cells : (o : Option Mono) → (with_mono room o l).cells ≡ l.cells ++ timed_rows room o
+  mono_cells None = sym (append-nil l.cells)
+  mono_cells (Some mono) = refl
+
+  pub mono_inputs : (o : Option Mono) → (with_mono room o l).inputs ≡ l.inputs
+  mono_inputs None = refl
+  mono_inputs (Some mono) = refl
+
+  pub mono_free : (o : Option Mono) → (with_mono room o l).free ≡ l.free
+  mono_free None = refl
+  mono_free (Some mono) = refl
+
+  pub mono_ready : (o : Option Mono) → (with_mono room o l).ready ≡ l.ready
+  mono_ready None = refl
+  mono_ready (Some mono) = refl
 
 -- what all tasks leave room for, those so far and the next leave room for
 pub few_with_next : (old l : Layout) (tasks : List declared.Task) (i : ℕ) (t : declared.Task) → i < length tasks → t ≡ get_or tasks i t → l ≡ fold with_task old (map task_of (take i tasks))

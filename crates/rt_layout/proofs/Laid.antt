@@ -1,5 +1,7 @@
 -- The layout that the code makes is the one that is defined, and the numbers of its cells are small.
-use Rattle.std.proofs.Common.{◌≡◌, ℕ, zero, suc, ◌+◌, ◌-◌, ◌<◌, ◌≤◌, Bool, true, false, List, [], ◌∷◌, ◌++◌, length, map, flat_map, filter, refl, sym, ap, subst, ◌∙◌, append_assoc, if◌then◌else◌, arith, add-one}
+use Rattle.std.proofs.Common.{◌≡◌, ℕ, zero, suc, ◌+◌, ◌-◌, ◌<◌, ◌≤◌, Bool, true, false, List, [], ◌∷◌, ◌++◌, length}
+use Rattle.std.proofs.Common.{map, flat_map, filter, Option, Some, None, refl, sym, ap, subst, ◌∙◌, append_assoc}
+use Rattle.std.proofs.Common.{if◌then◌else◌, arith, add-one}
 use Rattle.std.specs.Prelude.{nat_lt, slice_index, ◌||◌, sum_by}
 use Rattle.std.specs.List.{AllByRecursion, fold, list_any}
 use Rattle.std.proofs.lemmas.Bool.{lt-ltb, le-ltb}
@@ -11,16 +13,21 @@ use Rattle.rt_ids.specs.Lists.{those_below}
 use Rattle.rt_ids.specs.declared.cell.CellRow.{CellRow}
 use Rattle.rt_app.specs.declared.app.App as code
 use Rattle.rt_app.specs.declared.app.Task as code_task
+use Rattle.rt_app.specs.declared.app.Mono.{Mono}
 use Rattle.rt_app.specs.Tree.{Task, App}
 use Rattle.rt_app.specs.View.{task_of, app_of}
-use Rattle.rt_app.specs.Level.{is_of_level, levels}
+use Rattle.rt_app.specs.Level.{is_of_level, levels, armed_messages}
 use Rattle.rt_app.specs.Limits.{KeepsTaskLimits, KeepsLimits}
-use Rattle.rt_app.specs.Layout.{Layout, layout, memory, row_of, ready_room}
-use Rattle.rt_layout.specs.Inside.Rows.{resource_row, local_row, task_rows, ready_rows}
+use Rattle.rt_app.specs.Layout.{Layout, layout, memory, row_of, ready_room, timed_at}
+use Rattle.rt_layout.specs.Inside.Rows.{resource_row, local_row, task_rows, ready_rows, timed_rows}
 use Rattle.rt_layout.specs.Inside.Rooms.{room_of, HasRooms}
-use Rattle.rt_layout.specs.Inside.Growing.{none, with_resources, with_task, with_level, with_levels, roomy}
-use Rattle.rt_layout.proofs.Growing.{free_from, inputs_from, rows_of_levels, ready_from, tasks_cells, tasks_free, tasks_inputs, tasks_ready, tasks_timer, levels_cells, levels_ready, levels_inputs, levels_free, levels_timer}
-use Rattle.rt_layout.proofs.Laying.{rows_are, free_are, inputs_are, ready_are, those_next, those_none, those_less}
+use Rattle.rt_layout.specs.Inside.Growing.{none, with_resources, with_task, with_level, with_levels, roomy, with_mono}
+use Rattle.rt_layout.proofs.Growing.{free_from, inputs_from, rows_of_levels, ready_from, tasks_cells, tasks_free}
+use Rattle.rt_layout.proofs.Growing.{tasks_inputs, tasks_ready, tasks_timer, levels_cells, levels_ready}
+use Rattle.rt_layout.proofs.Growing.{levels_inputs, levels_free, levels_timer, mono_cells, mono_inputs, mono_free}
+use Rattle.rt_layout.proofs.Growing.{mono_ready}
+use Rattle.rt_layout.proofs.Laying.{rows_are, free_are, inputs_are, ready_are, length-task_cells, length-ready}
+use Rattle.rt_layout.proofs.Laying.{those_next, those_none, those_less}
 use Rattle.rt_layout.proofs.Few.{few_cells}
 
 those_alike : (a b : ℕ → Bool) (n : ℕ) → ((p : ℕ) → p < n → a p ≡ b p) → those_below a n ≡ those_below b n
@@ -49,6 +56,9 @@ ready_alike f g at [] same = refl
 ready_alike f g at (p ∷ ps) same =
     ap (λ n. at ∷ ready_from f (at + length (ready_rows p n)) ps) same.0 ∙ ap (λ rest. at ∷ rest) (ready_alike f g (at + length (ready_rows p (g p))) ps same.1)
 
+regrouped : (a b c d e : List CellRow) → (((a ++ b) ++ c) ++ d) ++ e ≡ a ++ (b ++ (c ++ (d ++ e)))
+regrouped a b c d e = simp append_assoc
+
 module _ (app : App) where
   abbrev resources : List CellRow
   resources = map resource_row app.shared ++ map local_row app.locals
@@ -60,6 +70,10 @@ module _ (app : App) where
   length-resources =
       omega (arith, length-append (map resource_row app.shared) (map local_row app.locals), length-map app.shared resource_row, length-map app.locals local_row)
 
+  -- the rows of the timer queue
+  abbrev on_timer : List CellRow
+  on_timer = timed_rows (armed_messages app) app.mono
+
   pub few_rows : KeepsLimits app → length resources + length queues + length (rows_of_levels (ready_room app) (levels app)) < 16384
   few_rows limits =
       let on_levels = rows_of_levels (ready_room app) (levels app) in
@@ -68,9 +82,10 @@ module _ (app : App) where
         few_cells app limits,
         length-map (memory app) row_of,
         ap length (rows_are app),
-        length-append (map resource_row app.shared) (map local_row app.locals ++ (queues ++ on_levels)),
-        length-append (map local_row app.locals) (queues ++ on_levels),
-        length-append queues on_levels,
+        length-append (map resource_row app.shared) (map local_row app.locals ++ (queues ++ (on_levels ++ on_timer))),
+        length-append (map local_row app.locals) (queues ++ (on_levels ++ on_timer)),
+        length-append queues (on_levels ++ on_timer),
+        length-append on_levels on_timer,
         length-append (map resource_row app.shared) (map local_row app.locals),
       )
 
@@ -90,41 +105,80 @@ module _ (app : App) where
     pub on_levels_are : rows_of_levels room (roomy rooms 256) ≡ rows_of_levels (ready_room app) (levels app)
     on_levels_are = ap (rows_of_levels room) roomy_are ∙ rows_alike room (ready_room app) (levels app) rooms_are
 
-    cells_are : (with_levels rooms on_tasks 256).cells ≡ map row_of (memory app)
+    abbrev on_all_levels : Layout
+    on_all_levels = with_levels rooms on_tasks 256
+
+    abbrev whole : Layout
+    whole = with_mono (armed_messages app) app.mono on_all_levels
+
+    levels_are : on_all_levels.cells ≡ (resources ++ queues) ++ rows_of_levels room (roomy rooms 256)
+    levels_are =
+        levels_cells room on_tasks (roomy rooms 256)
+        ∙ ap (λ cells. cells ++ rows_of_levels room (roomy rooms 256)) (tasks_cells (with_resources none app) app.tasks)
+
+    cells_are : whole.cells ≡ map row_of (memory app)
     cells_are =
         let on_levels = rows_of_levels room (roomy rooms 256) in
-        levels_cells room on_tasks (roomy rooms 256)
-        ∙ (ap (λ cells. cells ++ on_levels) (tasks_cells (with_resources none app) app.tasks)
-        ∙ (append_assoc resources queues on_levels
-        ∙ (append_assoc (map resource_row app.shared) (map local_row app.locals) (queues ++ on_levels)
-        ∙ (ap (λ rows. map resource_row app.shared ++ (map local_row app.locals ++ (queues ++ rows))) on_levels_are ∙ sym (rows_are app)))))
+        mono_cells (armed_messages app) on_all_levels app.mono
+        ∙ (ap (λ cells. cells ++ on_timer) levels_are
+        ∙ (regrouped (map resource_row app.shared) (map local_row app.locals) queues on_levels on_timer
+        ∙ (ap (λ rows. map resource_row app.shared ++ (map local_row app.locals ++ (queues ++ (rows ++ on_timer))))
+        on_levels_are ∙ sym (rows_are app))))
 
-    inputs_numbers : (with_levels rooms on_tasks 256).inputs ≡ (layout app).inputs
+    inputs_numbers : whole.inputs ≡ (layout app).inputs
     inputs_numbers =
-        levels_inputs room on_tasks (roomy rooms 256)
-        ∙ (tasks_inputs (with_resources none app) app.tasks ∙ (ap (λ k. inputs_from k app.tasks) length-resources ∙ sym (inputs_are app)))
+        mono_inputs (armed_messages app) on_all_levels app.mono
+        ∙ (levels_inputs room on_tasks (roomy rooms 256)
+        ∙ (tasks_inputs (with_resources none app) app.tasks
+        ∙ (ap (λ k. inputs_from k app.tasks) length-resources ∙ sym (inputs_are app))))
 
-    free_numbers : (with_levels rooms on_tasks 256).free ≡ (layout app).free
+    free_numbers : whole.free ≡ (layout app).free
     free_numbers =
-        levels_free room on_tasks (roomy rooms 256)
-        ∙ (tasks_free (with_resources none app) app.tasks ∙ (ap (λ k. free_from k app.tasks) length-resources ∙ sym (free_are app)))
+        mono_free (armed_messages app) on_all_levels app.mono
+        ∙ (levels_free room on_tasks (roomy rooms 256)
+        ∙ (tasks_free (with_resources none app) app.tasks
+        ∙ (ap (λ k. free_from k app.tasks) length-resources ∙ sym (free_are app))))
 
     length-on_tasks : length on_tasks.cells ≡ length app.shared + length app.locals + length queues
     length-on_tasks = omega (arith, ap length (tasks_cells (with_resources none app) app.tasks), length-append resources queues, length-resources)
 
-    ready_numbers : (with_levels rooms on_tasks 256).ready ≡ (layout app).ready
+    ready_numbers : whole.ready ≡ (layout app).ready
     ready_numbers =
-        levels_ready room on_tasks (roomy rooms 256)
+        mono_ready (armed_messages app) on_all_levels app.mono
+        ∙ (levels_ready room on_tasks (roomy rooms 256)
         ∙ (ap (λ before. before ++ ready_from room (length on_tasks.cells) (roomy rooms 256)) (tasks_ready (with_resources none app) app.tasks)
         ∙ (ap (λ k. ready_from room k (roomy rooms 256)) length-on_tasks
         ∙ (ap (ready_from room (length app.shared + length app.locals + length queues)) roomy_are
-        ∙ (ready_alike room (ready_room app) _ (levels app) rooms_are ∙ sym (ready_are app)))))
+        ∙ (ready_alike room (ready_room app) _ (levels app) rooms_are ∙ sym (ready_are app))))))
 
-    timer_number : (with_levels rooms on_tasks 256).timer ≡ 0
-    timer_number = levels_timer room on_tasks (roomy rooms 256) ∙ tasks_timer (with_resources none app) app.tasks
+    length-levels : length on_all_levels.cells
+        ≡ length resources + length queues + length (rows_of_levels (ready_room app) (levels app))
+    length-levels = omega (
+      arith,
+      ap length levels_are,
+      length-append (resources ++ queues) (rows_of_levels room (roomy rooms 256)),
+      length-append resources queues,
+      ap length on_levels_are,
+    )
 
-    pub laid : with_levels rooms on_tasks 256 ≡ layout app
+    timer_number : whole.timer ≡ timed_at app app.mono
+    timer_number = go app.mono
+      where
+        go : (o : Option Mono) → (with_mono (armed_messages app) o on_all_levels).timer ≡ timed_at app o
+        go None = levels_timer room on_tasks (roomy rooms 256) ∙ tasks_timer (with_resources none app) app.tasks
+        go (Some mono) = omega (
+          arith,
+          length-levels,
+          length-resources,
+          length-task_cells app app.tasks,
+          length-ready app (levels app),
+        )
+
+    pub laid : whole ≡ layout app
     laid = λ i. record { cells = cells_are i; inputs = inputs_numbers i; free = free_numbers i; ready = ready_numbers i; timer = timer_number i }
+
+    pub few_after_levels : length on_all_levels.cells < 65536
+    few_after_levels = omega (arith, few_rows limits, length-levels)
 
     pub few_after_tasks : length on_tasks.cells + length (rows_of_levels room (roomy rooms 256)) < 65536
     few_after_tasks = omega (arith, few_rows limits, length-on_tasks, length-resources, ap length on_levels_are)
@@ -208,5 +262,16 @@ module _ (app : code.App) (start first : Layout) (tasks : List code_task.Task) (
     pub levels_fit : length second.cells + length (rows_of_levels (slice_index rooms) (roomy rooms 256)) < 65536
     levels_fit = omega (arith, ap (λ l. length l.cells) second_is, few_after_tasks (app_of app) limits rooms has_rooms)
 
-    pub all_laid : (last : Layout) → last ≡ with_levels rooms second 256 → last ≡ layout (app_of app)
-    all_laid last is = is ∙ (ap (λ l. with_levels rooms l 256) second_is ∙ laid (app_of app) limits rooms has_rooms)
+    module _ (third : Layout) (grows_again : third ≡ with_levels rooms second 256) where
+      third_is : third ≡ with_levels rooms (on_tasks (app_of app)) 256
+      third_is = grows_again ∙ ap (λ l. with_levels rooms l 256) second_is
+
+      pub timer_fits : length third.cells < 65536
+      timer_fits =
+          omega (arith, ap (λ l. length l.cells) third_is, few_after_levels (app_of app) limits rooms has_rooms)
+
+      pub all_laid : (last : Layout) → last ≡ with_mono (armed_messages (app_of app)) app.mono third
+          → last ≡ layout (app_of app)
+      all_laid last is =
+          is ∙ (ap (with_mono (armed_messages (app_of app)) app.mono) third_is
+          ∙ laid (app_of app) limits rooms has_rooms)

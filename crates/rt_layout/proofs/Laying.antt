@@ -1,5 +1,7 @@
 -- The layout that has grown by all queues is the one that is defined.
-use Rattle.std.proofs.Common.{◌≡◌, ℕ, zero, suc, ◌+◌, ◌<◌, ◌≤◌, Bool, true, false, List, [], ◌∷◌, ◌++◌, length, map, flat_map, filter, take, get_or, Some, option_map, slice_get, refl, sym, ap, subst, ◌∙◌, append_assoc, append-nil, if◌then◌else◌, inl, inr, arith}
+use Rattle.std.proofs.Common.{◌≡◌, ℕ, zero, suc, ◌+◌, ◌<◌, ◌≤◌, Bool, true, false, List, [], ◌∷◌, ◌++◌, length, map}
+use Rattle.std.proofs.Common.{flat_map, filter, take, get_or, Option, Some, None, option_map, slice_get, refl, sym}
+use Rattle.std.proofs.Common.{ap, subst, ◌∙◌, append_assoc, append-nil, if◌then◌else◌, inl, inr, arith}
 use Rattle.std.specs.Prelude.{codes, decimal, nat_lt}
 use Rattle.std.specs.List.{AllByRecursion, range_with_len, list_any}
 use Rattle.std.proofs.lemmas.Bool.{lt-ltb, le-ltb, cases_lt}
@@ -11,14 +13,20 @@ use Rattle.rt_lemmas.proofs.Lists.{map_alike, flat_map_next}
 use Rattle.rt_ids.specs.Lists.{those_below, or_zero}
 use Rattle.rt_app.specs.declared.app.Shared.{Shared}
 use Rattle.rt_app.specs.declared.app.Local.{Local}
+use Rattle.rt_app.specs.declared.app.Mono.{Mono}
 use Rattle.rt_app.specs.Tree.{Task, App}
-use Rattle.rt_app.specs.Level.{is_software, is_of_level, levels}
-use Rattle.rt_app.specs.Layout.{Cell, memory, row_of, resource_cells, local_cells, free_cells, place_cells, task_cells, ready_cells, ready_room, free_at, inputs_at, ready_at, has_inputs, numbers_of}
+use Rattle.rt_app.specs.Level.{is_software, is_of_level, levels, armed_messages}
+use Rattle.rt_app.specs.Layout.{Cell, memory, row_of, resource_cells, local_cells, free_cells, place_cells}
+use Rattle.rt_app.specs.Layout.{task_cells, ready_cells, ready_room, timer_column, timer_cells, free_at, inputs_at}
+use Rattle.rt_app.specs.Layout.{ready_at, has_inputs, numbers_of}
 use Rattle.rt_app.proofs.SoundCeilings.{those_all}
+use Rattle.rt_app.proofs.Laid.{on_ready, on_queues, on_locals}
 use Rattle.rt_ids.specs.Holder.{Guarded}
 use Rattle.rt_ids.specs.Storage.{At}
 use Rattle.rt_ids.specs.declared.ids.Section.TheVariants as section
-use Rattle.rt_layout.specs.Inside.Rows.{row, task_front, resource_row, local_row, free_rows, input_rows, queue_rows, task_rows, ready_front, ready_rows}
+use Rattle.rt_ids.specs.declared.cell.CellRow.{CellRow}
+use Rattle.rt_layout.specs.Inside.Rows.{row, task_front, resource_row, local_row, free_rows, input_rows, queue_rows}
+use Rattle.rt_layout.specs.Inside.Rows.{task_rows, ready_front, ready_rows, zero_rows, timed_rows}
 use Rattle.rt_layout.proofs.Growing.{free_from, inputs_from, rows_of_levels, ready_from}
 
 resource_rows_are : (r : ℕ) (ss : List Shared) → map row_of (resource_cells r ss) ≡ map resource_row ss
@@ -72,19 +80,38 @@ module _ (app : App) where
       ∙ (ap (λ rows. rows ++ map row_of (flat_map (ready_cells app) ps)) (level_rows_are p)
       ∙ ap (λ rows. ready_rows p (ready_room app p) ++ rows) (ready_rows_are ps))
 
+  -- the columns of the timer queue, whose names are known
+  column_rows_are : (name front : List ℕ)
+      → ((k : ℕ) → codes "timer." ++ (name ++ codes "." ++ decimal k) ≡ front ++ decimal k)
+      → map row_of (timer_column app name) ≡ zero_rows front (armed_messages app)
+  column_rows_are name front same =
+      map-map row_of _ (range_with_len 0 (armed_messages app))
+      ∙ map_alike _ _ (λ k. ap (λ name. row name 0) (same k)) (range_with_len 0 (armed_messages app))
+
+  both_rows : (cells more : List Cell) (rows others : List CellRow) → map row_of cells ≡ rows
+      → map row_of more ≡ others → map row_of (cells ++ more) ≡ rows ++ others
+  both_rows cells more rows others first second =
+      map-append row_of cells more ∙ (ap (λ xs. xs ++ map row_of more) first ∙ ap (λ xs. rows ++ xs) second)
+
+  timer_rows_are : (o : Option Mono) → map row_of (timer_cells app o) ≡ timed_rows (armed_messages app) o
+  timer_rows_are None = refl
+  timer_rows_are (Some mono) =
+      let instants = column_rows_are (codes "at") (codes "timer.at.") (λ k. refl) in
+      let armings = column_rows_are (codes "arming") (codes "timer.arming.") (λ k. refl) in
+      let handles = column_rows_are (codes "handle") (codes "timer.handle.") (λ k. refl) in
+      let heap = column_rows_are (codes "heap") (codes "timer.heap.") (λ k. refl) in
+      ap (λ rows. row (codes "timer.count") 0 ∷ row (codes "timer.armings") 0 ∷ row (codes "timer.given") 0 ∷ rows)
+      (both_rows _ _ _ _ instants (both_rows _ _ _ _ armings (both_rows _ _ _ _ handles heap)))
+
   pub rows_are : map row_of (memory app)
-      ≡ map resource_row app.shared ++ (map local_row app.locals ++ (flat_map task_rows app.tasks ++ rows_of_levels (ready_room app) (levels app)))
+      ≡ map resource_row app.shared
+      ++ (map local_row app.locals ++ (flat_map task_rows app.tasks
+      ++ (rows_of_levels (ready_room app) (levels app) ++ timed_rows (armed_messages app) app.mono)))
   rows_are =
-      let on_levels = flat_map (ready_cells app) (levels app) in
-      let on_queues = task_cells 0 app.tasks ++ on_levels in
-      let queues : map row_of on_queues ≡ flat_map task_rows app.tasks ++ rows_of_levels (ready_room app) (levels app) =
-      map-append row_of (task_cells 0 app.tasks) on_levels
-      ∙ (ap (λ rows. rows ++ map row_of on_levels) (task_rows_are 0 app.tasks) ∙ ap (λ rows. flat_map task_rows app.tasks ++ rows) (ready_rows_are (levels app))) in
-      let locals : map row_of (local_cells 0 app.locals ++ on_queues) ≡ map local_row app.locals ++ (flat_map task_rows app.tasks ++ rows_of_levels (ready_room app) (levels app)) =
-      map-append row_of (local_cells 0 app.locals) on_queues
-      ∙ (ap (λ rows. rows ++ map row_of on_queues) (local_rows_are 0 app.locals) ∙ ap (λ rows. map local_row app.locals ++ rows) queues) in
-      map-append row_of (resource_cells 0 app.shared) (local_cells 0 app.locals ++ on_queues)
-      ∙ (ap (λ rows. rows ++ map row_of (local_cells 0 app.locals ++ on_queues)) (resource_rows_are 0 app.shared) ∙ ap (λ rows. map resource_row app.shared ++ rows) locals)
+      both_rows _ (on_locals app) _ _ (resource_rows_are 0 app.shared)
+      (both_rows _ (on_queues app) _ _ (local_rows_are 0 app.locals)
+      (both_rows _ (on_ready app) _ _ (task_rows_are 0 app.tasks)
+      (both_rows _ _ _ _ (ready_rows_are (levels app)) (timer_rows_are app.mono))))
 
 -- numbers of first cells, task by task
 software_free : (at : ℕ → ℕ) (n : ℕ) (ts : List Task) → ((k : ℕ) (t : Task) → slice_get ts k ≡ Some t → at (n + suc k) ≡ at (n + k) + length (task_rows t))
@@ -116,7 +143,7 @@ software_inputs at inputs n (t ∷ ts) next =
     ∙ ap (λ k. inputs_from k ts) step)
 
 module _ (app : App) where
-  length-task_cells : (ts : List Task) → length (task_cells 0 ts) ≡ length (flat_map task_rows ts)
+  pub length-task_cells : (ts : List Task) → length (task_cells 0 ts) ≡ length (flat_map task_rows ts)
   length-task_cells ts = sym (length-map (task_cells 0 ts) row_of) ∙ ap length (task_rows_are 0 ts)
 
   free_next : (k : ℕ) (t : Task) → slice_get app.tasks k ≡ Some t → free_at app (suc k) ≡ free_at app k + length (task_rows t)
@@ -209,7 +236,8 @@ module _ (app : App) where
   abbrev is_level : ℕ → Bool
   is_level p = list_any (is_of_level p) app.tasks
 
-  length-ready : (ps : List ℕ) → length (flat_map (ready_cells app) ps) ≡ length (rows_of_levels (ready_room app) ps)
+  pub length-ready : (ps : List ℕ)
+      → length (flat_map (ready_cells app) ps) ≡ length (rows_of_levels (ready_room app) ps)
   length-ready ps = sym (length-map (flat_map (ready_cells app) ps) row_of) ∙ ap length (ready_rows_are app ps)
 
   pub ready_are : map (ready_at app) (levels app) ≡ ready_from (ready_room app) (length app.shared + length app.locals + length (flat_map task_rows app.tasks)) (levels app)

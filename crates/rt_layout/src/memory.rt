@@ -1,18 +1,20 @@
 ghost use Rattle.std.specs.Prelude.{◌≡◌, ◌+◌, ◌^◌, ◌<◌, nat_lt, length, map, flat_map, if◌then◌else◌, IfOk, OnOk};
 ghost use Rattle.std.specs.List.{fold};
 ghost use Rattle.rt_app.specs.declared.costs.TheConstants.{PRIORITIES};
+ghost use Rattle.rt_app.specs.Level.{armed_messages};
 ghost use Rattle.rt_app.specs.Limits.{KeepsLimits};
 ghost use Rattle.rt_app.specs.View.{task_of, app_of};
 ghost use Rattle.rt_app.specs.Layout.{layout};
 ghost use Rattle.rt_layout.specs.Inside.Rows.{queue_rows, task_rows};
 ghost use Rattle.rt_layout.specs.Inside.Growing.{none, with_resources, with_queues, skipped, with_task, with_level};
-ghost use Rattle.rt_layout.specs.Inside.Growing.{with_levels, levels_rows};
+ghost use Rattle.rt_layout.specs.Inside.Growing.{with_levels, levels_rows, with_timer, with_mono};
 
-use crate::queues::{push_free, push_inputs, push_ready};
+use crate::queues::{push_free, push_inputs, push_ready, push_timer};
 use crate::resources::{push_locals, push_resources};
 use crate::rooms::{Rooms, rooms};
 use rt_app::costs::PRIORITIES;
 use rt_app::{App, Layout, Task};
+use rt_frames::ArmedRows;
 use rt_ids::NoMemory;
 use std::alloc::Global;
 
@@ -94,6 +96,26 @@ fn push_levels(alloc: Global, layout: &mut Layout, rooms: &Rooms) -> Result<(), 
     Ok(())
 }
 
+/// Appends the timer queue with room for so many messages.
+fn push_timer_queue(alloc: Global, layout: &mut Layout, room: u32) -> Result<(), NoMemory>
+    requires room { length layout.old.cells < 2 ^ 16 }
+    ensures { OnOk result (layout.new ≡ with_timer room layout.old) }
+{
+    layout.timer = layout.cells.len() as u16;
+    push_timer(alloc, &mut layout.cells, room)
+}
+
+/// Appends the timer queue of an application, where there is a monotonic.
+fn push_mono(alloc: Global, layout: &mut Layout, app: &App) -> Result<(), NoMemory>
+    requires room { length layout.old.cells < 2 ^ 16 }
+    ensures { OnOk result (layout.new ≡ with_mono (armed_messages (app_of app.now)) app.now.mono layout.old) }
+{
+    match &app.mono {
+        None => Ok(()),
+        Some(_mono) => push_timer_queue(alloc, layout, ArmedRows::of(app).messages()),
+    }
+}
+
 /// A layout without cells.
 fn empty(alloc: Global) -> Layout
     ensures { result ≡ none }
@@ -126,5 +148,6 @@ pub fn layout(alloc: Global, app: &App) -> Result<Layout, NoMemory>
     push_tasks(alloc, &mut layout, &app.tasks)?;
     let rooms = rooms(&app.tasks);
     push_levels(alloc, &mut layout, &rooms)?;
+    push_mono(alloc, &mut layout, app)?;
     Ok(layout)
 }

@@ -133,3 +133,26 @@ pub(crate) fn push_ready(
     push_bytes(&mut front, b"at.")?;
     push_zeros(alloc, cells, &front, room)
 }
+
+/// Appends the counts of the timer queue: how many messages are armed, how often one was armed, first and later, and
+/// how often first.
+fn push_counts(alloc: Global, cells: &mut Vec<CellRow>) -> Result<(), NoMemory>
+    ensures { OnOk result (cells.new.items ≡ cells.old.items ++ rows.timer_counts) }
+{
+    push_cell(alloc, cells, b"timer.count", 0)?;
+    push_cell(alloc, cells, b"timer.armings", 0)?;
+    push_cell(alloc, cells, b"timer.given", 0)?;
+    Ok(())
+}
+
+/// Appends the timer queue with room for so many messages.
+pub(crate) fn push_timer(alloc: Global, cells: &mut Vec<CellRow>, room: u32) -> Result<(), NoMemory>
+    ensures { OnOk result (cells.new.items ≡ cells.old.items ++ rows.timer_rows room) }
+{
+    push_counts(alloc, cells)?;
+    push_zeros(alloc, cells, b"timer.at.", room)?;
+    push_zeros(alloc, cells, b"timer.arming.", room)?;
+    push_zeros(alloc, cells, b"timer.handle.", room)?;
+    push_zeros(alloc, cells, b"timer.heap.", room)?;
+    Ok(())
+}

@@ -1,12 +1,14 @@
--- A layout that grows by the queues of a task, and by the ready queue of a level.
+-- A layout that grows by the queues of a task, by the ready queue of a level, and by the timer queue.
 use Rattle.std.specs.Prelude.{ℕ, ◌+◌, nat_lt, List, [], ◌∷◌, ◌++◌, length, map, flat_map, slice_index, if◌then◌else◌}
+use Rattle.std.specs.Prelude.{Option, Some, None}
 use Rattle.std.specs.List.{fold}
 use Rattle.rt_ids.specs.Lists.{those_below}
 use Rattle.rt_ids.specs.declared.cell.CellRow.{CellRow}
+use Rattle.rt_app.specs.declared.app.Mono.{Mono}
 use Rattle.rt_app.specs.Tree.{Task, App}
 use Rattle.rt_app.specs.Level.{is_software}
 use Rattle.rt_app.specs.Layout.{Layout}
-use Rattle.rt_layout.specs.Inside.Rows.{resource_row, local_row, queue_rows, ready_rows}
+use Rattle.rt_layout.specs.Inside.Rows.{resource_row, local_row, queue_rows, ready_rows, timer_rows}
 
 abbrev pub none : Layout
 none = record { cells = []; inputs = []; free = []; ready = []; timer = 0 }
@@ -62,3 +64,18 @@ with_levels rooms l n = fold (λ l p. with_level l p (slice_index rooms p)) l (r
 
 abbrev pub levels_rows : List ℕ → ℕ → List CellRow
 levels_rows rooms n = flat_map (λ p. ready_rows p (slice_index rooms p)) (roomy rooms n)
+
+-- with room for so many armed messages
+abbrev pub with_timer : ℕ → Layout → Layout
+with_timer room l = record {
+  cells = l.cells ++ timer_rows room;
+  inputs = l.inputs;
+  free = l.free;
+  ready = l.ready;
+  timer = length l.cells;
+}
+
+-- where there is a monotonic
+abbrev pub with_mono : ℕ → Option Mono → Layout → Layout
+with_mono room None l = l
+with_mono room (Some mono) l = with_timer room l

@@ -1,9 +1,10 @@
 -- The rows of cells as the code appends them, without what they belong to.
-use Rattle.std.specs.Prelude.{ℕ, List, [], ◌∷◌, ◌++◌, codes, decimal, map, flat_map, if◌then◌else◌}
+use Rattle.std.specs.Prelude.{ℕ, List, [], ◌∷◌, ◌++◌, codes, decimal, map, flat_map, Option, Some, None, if◌then◌else◌}
 use Rattle.std.specs.List.{range_with_len}
 use Rattle.rt_ids.specs.declared.cell.CellRow.{CellRow}
 use Rattle.rt_app.specs.declared.app.Shared.{Shared}
 use Rattle.rt_app.specs.declared.app.Local.{Local}
+use Rattle.rt_app.specs.declared.app.Mono.{Mono}
 use Rattle.rt_app.specs.Tree.{Task}
 use Rattle.rt_app.specs.Level.{is_software}
 
@@ -49,3 +50,18 @@ ready_rows p room =
     row (ready_front p ++ codes "head") 0
     ∷ row (ready_front p ++ codes "count") 0
     ∷ zero_rows (ready_front p ++ codes "at.") room
+
+-- of the timer queue, with room for so many messages
+abbrev pub timer_counts : List CellRow
+timer_counts = row (codes "timer.count") 0 ∷ row (codes "timer.armings") 0 ∷ row (codes "timer.given") 0 ∷ []
+
+abbrev pub timer_rows : ℕ → List CellRow
+timer_rows room =
+    timer_counts
+    ++ (zero_rows (codes "timer.at.") room ++ (zero_rows (codes "timer.arming.") room
+    ++ (zero_rows (codes "timer.handle.") room ++ zero_rows (codes "timer.heap.") room)))
+
+-- where there is a monotonic
+abbrev pub timed_rows : ℕ → Option Mono → List CellRow
+timed_rows room None = []
+timed_rows room (Some mono) = timer_rows room
