@@ -50,7 +50,7 @@ use Rattle.rt_gen_disp.proofs.Sizes.{choice_long}
 use Rattle.rt_gen_disp.proofs.Spots.{dispatching, alone, SavedApart, frame}
 use Rattle.rt_gen_disp.proofs.Steps.{sets, calculates, goes_on, jumps_at_zero}
 use Rattle.rt_gen_disp.proofs.Stored.{saved_apart}
-use Rattle.rt_gen_disp.proofs.Places.{entry_at}
+use Rattle.rt_gen_queue.proofs.Giving.{entry_at}
 use Rattle.rt_gen_disp.proofs.Kept.{open_here}
 use Rattle.rt_gen_disp.proofs.Frames.{times}
 use Rattle.rt_gen_disp.proofs.Loading.{all_load}

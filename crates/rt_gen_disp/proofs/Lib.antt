@@ -2,7 +2,6 @@ pub mod Spots
 pub mod Steps
 pub mod Stored
 pub mod Rings
-pub mod Places
 pub mod Kept
 pub mod Frames
 pub mod Sizes

@@ -15,13 +15,13 @@ use Rattle.rt_code.specs.declared.instr.Instr.TheVariants as instr
 use Rattle.rt_code.proofs.Mine.{queue_counts}
 use Rattle.rt_gen_queue.specs.Line.{Line, plain, HasCode}
 use Rattle.rt_gen_queue.proofs.Owning.{home_as, place_in_memory}
-use Rattle.rt_gen_queue.proofs.Places.{count_more, one_itself}
+use Rattle.rt_app.proofs.Counting.{count_more, one_itself}
 use Rattle.rt_gen_queue.proofs.Spots.{Setting, Here, spot}
 use Rattle.rt_gen_queue.proofs.Steps.{S}
 use Rattle.rt_gen_disp.specs.Code.{argument_lines}
 use Rattle.rt_gen_disp.proofs.Spots.{SavedApart, frame}
 use Rattle.rt_gen_disp.proofs.Steps.{loads_at}
-use Rattle.rt_gen_disp.proofs.Places.{entry_at}
+use Rattle.rt_gen_queue.proofs.Giving.{entry_at}
 
 -- an entry in the queue of an open section is the job's own
 pub mine_queued : (s : Spot) (x : Section) (e : Entry) (es : List Entry) → is_open s.held x ≡ true

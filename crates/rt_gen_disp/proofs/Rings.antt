@@ -16,10 +16,9 @@ use Rattle.rt_app.specs.Layout.{memory, home_of, ready_at, ready_room}
 use Rattle.rt_app.specs.Holding.{message_at, message_word, SpellsReady}
 use Rattle.rt_app.proofs.LaidQueues.{ready_is_home}
 use Rattle.rt_gen_queue.proofs.Numbers.{small_rest}
-use Rattle.rt_gen_queue.proofs.Owning.{at_in_memory}
+use Rattle.rt_gen_queue.proofs.Owning.{apart, at_in_memory}
 use Rattle.rt_gen_queue.proofs.Places.{IsPlaceOf}
 use Rattle.rt_gen_queue.proofs.Queues.{message_alike}
-use Rattle.rt_gen_disp.proofs.Stored.{apart}
 
 -- messages are what the cells of their places hold
 messages_alike : (app : App) (p : ℕ) (before after : ℕ → ℕ) (es : List Entry) → AllByRecursion (IsPlaceOf app p) es

@@ -54,8 +54,8 @@ use Rattle.rt_gen_disp.proofs.Steps.{calculates, loads, stores_at, goes_on, jump
 use Rattle.rt_gen_disp.proofs.Steps.{enters, returns}
 use Rattle.rt_gen_disp.proofs.Stored.{slot_there, saved_apart, frame_saves, opens_as, mask_is, within_free}
 use Rattle.rt_gen_disp.proofs.Stored.{for_free, for_ready, spelled_on}
-use Rattle.rt_gen_disp.proofs.Places as places
-use Rattle.rt_gen_disp.proofs.Places.{entry_at, Returned}
+use Rattle.rt_gen_queue.proofs.Giving as places
+use Rattle.rt_gen_queue.proofs.Giving.{entry_at, Returned}
 use Rattle.rt_gen_disp.proofs.Kept.{open_here, reads_here, no_queue}
 use Rattle.rt_gen_disp.proofs.Kept.{spelled_agreed, spelled_put, spelled_taken}
 use Rattle.rt_gen_disp.proofs.Frames.{frame_fits, frame_long, frame_begins, words_enough}

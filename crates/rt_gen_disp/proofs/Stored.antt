@@ -1,5 +1,5 @@
 -- What of the storage of an application a dispatcher needs: how its sections open, and what its level keeps.
-use Rattle.std.proofs.Common.{◌≡◌, ◌≢◌, ℕ, ◌+◌, ◌^◌, ◌<◌, ◌≤◌, ◌==◌, ◌||◌, max, nat_le, Bool, true, false}
+use Rattle.std.proofs.Common.{◌≡◌, ℕ, ◌+◌, ◌^◌, ◌<◌, ◌≤◌, ◌==◌, ◌||◌, max, nat_le, Bool, true, false}
 use Rattle.std.proofs.Common.{List, [], length, slice_get, slice_index, Contains, refl, ap, sym, ◌∙◌}
 use Rattle.std.proofs.Common.{arith, Some, if◌then◌else◌}
 use Rattle.std.specs.List.{AllByRecursion}
@@ -8,7 +8,7 @@ use Rattle.rt_ids.specs.Lists.{is_some_and}
 use Rattle.rt_ids.specs.Holder.{Holder, Guarded, Own}
 use Rattle.rt_ids.specs.Content.{Content, Number, Values}
 use Rattle.rt_ids.specs.Entry.{Entry}
-use Rattle.rt_ids.specs.Storage.{Home, At, AtLevel}
+use Rattle.rt_ids.specs.Storage.{At, AtLevel}
 use Rattle.rt_ids.specs.declared.ids.Section.{Section}
 use Rattle.rt_ids.specs.declared.ids.Section.TheVariants as section
 use Rattle.rt_app.specs.Tree.{Task, App}
@@ -72,10 +72,6 @@ module _ (app : App) where
       → IsWithin (storage app) (AtLevel level) (AtLevel level) (section.Free n)
   unfolding storage
   within_free level n less = less
-
-  -- cells that belong to different things are different
-  pub apart : (a b : ℕ) (x y : Home) → home_of app a ≡ x → home_of app b ≡ y → ¬ (x ≡ y) → a ≢ b
-  apart a b x y first second differ same = differ (sym first ∙ ap (home_of app) same ∙ second)
 
   -- queues that are given back, by what their cells spell
   pub for_ready : (p : ℕ) (cells : ℕ → ℕ) (entries : List Entry) (content : Content) → Contains (levels app) p

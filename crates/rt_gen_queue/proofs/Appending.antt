@@ -14,7 +14,7 @@ use Rattle.rt_gen_queue.specs.Line.{IsNameable, Line}
 use Rattle.rt_gen_queue.specs.SpawnLines.{take_lines, fill_lines, ready_lines, end_lines, spawn_lines}
 use Rattle.rt_gen_queue.specs.SpawnCode.{target_of, spawn_code}
 use Rattle.rt_gen_queue.specs.declared.target.Target.{Target}
-use Rattle.rt_gen_queue.specs.Inside.Making.{Made, Appends}
+use Rattle.rt_gen_queue.specs.Making.{Made, Appends}
 use Rattle.rt_gen_queue.proofs.Facts.{Spawned, arguments, few_arguments}
 use Rattle.rt_gen_queue.proofs.Placing.{spawn_long}
 use Rattle.rt_gen_queue.proofs.Named.{spawn_named}

@@ -20,3 +20,4 @@ pub mod Planned
 pub mod Rooms
 pub mod Stores
 pub mod Appending
+pub mod Giving

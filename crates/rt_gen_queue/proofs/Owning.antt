@@ -1,5 +1,5 @@
 -- What a job owns of the queues: their cells where their section is opens, and nothing of them where it is not.
-use Rattle.std.proofs.Common.{◌≡◌, ℕ, ◌<◌, ◌||◌, Bool, true, false, if◌then◌else◌, List, ◌∷◌}
+use Rattle.std.proofs.Common.{◌≡◌, ◌≢◌, ℕ, ◌<◌, ◌||◌, Bool, true, false, if◌then◌else◌, List, ◌∷◌}
 use Rattle.std.proofs.Common.{length, slice_index, refl, sym, ap, subst, ◌∙◌}
 use Rattle.std.proofs.lemmas.Option.{slice_get_within}
 use Rattle.rt_lemmas.proofs.Bools.{or_left, or_neither}
@@ -12,18 +12,18 @@ use Rattle.rt_ids.specs.declared.ids.Section.{Section}
 use Rattle.rt_ids.specs.declared.ids.Section.TheVariants as section
 use Rattle.rt_app.specs.Tree.{App}
 use Rattle.rt_app.specs.Layout.{memory, home_of}
-use Rattle.rt_app.specs.Holding.{storage, SpellsFree, SpellsReady}
+use Rattle.rt_app.specs.Holding.{storage, SpellsFree, SpellsReady, SpellsTimer}
 use Rattle.rt_code.specs.Acting.{with_queue}
 use Rattle.rt_code.specs.Masking.{NobodyKeeps}
 use Rattle.rt_code.specs.Owning.{Held, Spot, is_open, reads, MayLoad, MayStore, Agree, LeavesMine}
 use Rattle.rt_code.proofs.Mine.{one_section, same_section, owns_reads, owns_open, reads_more}
 
--- the sections of queues that a spawn enters
+-- the sections of queues
 abbrev pub IsQueue : Section → Type 0
 IsQueue (section.Res r) = ⊥
 IsQueue (section.Free n) = Unit {0}
 IsQueue (section.Ready p) = Unit {0}
-IsQueue section.Timer = ⊥
+IsQueue section.Timer = Unit {0}
 
 kept_none : (app : App) (who : Runner) (x : Section) → IsQueue x → (storage app).is_kept who (Guarded x) ≡ false
 unfolding storage
@@ -32,7 +32,8 @@ kept_none app Starting (section.Free n) queue = refl
 kept_none app (AtLevel p) (section.Free n) queue = refl
 kept_none app Starting (section.Ready p) queue = refl
 kept_none app (AtLevel q) (section.Ready p) queue = refl
-kept_none app who section.Timer queue = absurd queue
+kept_none app Starting section.Timer queue = refl
+kept_none app (AtLevel q) section.Timer queue = refl
 
 constant_none : (app : App) (who : Runner) (x : Section) → IsQueue x
     → (storage app).is_constant who (Guarded x) ≡ false
@@ -42,7 +43,8 @@ constant_none app Starting (section.Free n) queue = refl
 constant_none app (AtLevel p) (section.Free n) queue = refl
 constant_none app Starting (section.Ready p) queue = refl
 constant_none app (AtLevel q) (section.Ready p) queue = refl
-constant_none app who section.Timer queue = absurd queue
+constant_none app Starting section.Timer queue = refl
+constant_none app (AtLevel q) section.Timer queue = refl
 
 pub nobody_keeps : (app : App) (who runner : Runner) (x : Section) → IsQueue x
     → NobodyKeeps (storage app) who runner x
@@ -75,6 +77,21 @@ pub ready_given : (app : App) (p : ℕ) (cells other : ℕ → ℕ) (entries mor
     → (storage app).Spells (Guarded (section.Ready p)) cells entries content
 unfolding storage
 ready_given app p cells other entries more content before old spells = (old.0, spells)
+
+pub timer_spelled : (app : App) (cells : ℕ → ℕ) (entries : List Entry) (content : Content)
+    → (storage app).Spells (Guarded section.Timer) cells entries content → SpellsTimer app cells entries content
+unfolding storage
+timer_spelled app cells entries content spells = spells.1
+
+pub timer_given : (app : App) (cells other : ℕ → ℕ) (entries more : List Entry) (content before : Content)
+    → (storage app).Spells (Guarded section.Timer) other more before → SpellsTimer app cells entries content
+    → (storage app).Spells (Guarded section.Timer) cells entries content
+unfolding storage
+timer_given app cells other entries more content before old spells = (old.0, spells)
+
+-- cells that belong to different things are different
+pub apart : (app : App) (a b : ℕ) (x y : Home) → home_of app a ≡ x → home_of app b ≡ y → ¬ (x ≡ y) → a ≢ b
+apart app a b x y first second differ same = differ (sym first ∙ ap (home_of app) same ∙ second)
 
 -- a cell that belongs to something is in memory
 pub in_memory : (app : App) (c : ℕ) (home : Home) → home_of app c ≡ home → ¬ (Nowhere ≡ home)

@@ -1,14 +1,11 @@
 -- How many places a level has, and that a list of different ones is no longer.
-use Rattle.std.proofs.Common.{◌≡◌, ℕ, zero, suc, ◌+◌, ◌*◌, ◌<◌, ◌≤◌, ◌==◌, Bool, true, false, cond}
+use Rattle.std.proofs.Common.{◌≡◌, ℕ, zero, suc, ◌+◌, ◌*◌, ◌<◌, ◌≤◌, Bool, true, false, cond}
 use Rattle.std.proofs.Common.{if◌then◌else◌, List, [], ◌∷◌, ◌++◌, length, map, filter, sum_by, Some, slice_get}
-use Rattle.std.proofs.Common.{refl, sym, ap, subst, ◌∙◌, arith}
+use Rattle.std.proofs.Common.{refl, sym, ap, ◌∙◌, arith}
 use Rattle.std.specs.List.{AllByRecursion, range_with_len}
-use Rattle.std.proofs.lemmas.Bool.{eqb-true}
-use Rattle.std.proofs.lemmas.Bool.Decides.{nat_tests}
 use Rattle.std.proofs.lemmas.Option.{same_Some, none-some}
 use Rattle.std.proofs.lemmas.List.Sums.{sum_by-cons, sum_by-append}
 use Rattle.std.proofs.lemmas.List.{length-append}
-use Rattle.rt_lemmas.proofs.Bools.{and_parts}
 use Rattle.rt_ids.specs.Lists.{is_some_and}
 use Rattle.rt_ids.specs.Entry.{Entry, is_same_entry, count}
 use Rattle.rt_app.specs.Tree.{Task, App}
@@ -18,42 +15,7 @@ use Rattle.rt_app.specs.Layout.{ready_room}
 use Rattle.rt_app.specs.Limits.{KeepsTaskLimits}
 use Rattle.rt_app.proofs.LaidQueues.{many, mapped, capacity_is}
 use Rattle.rt_app.proofs.Spelling.{the_task}
-
-abbrev pub one : Entry → Entry → ℕ
-one e x = cond (is_same_entry e x) 1 0
-
-pub count_more : (e x : Entry) (xs : List Entry) → count e (x ∷ xs) ≡ one e x + count e xs
-count_more e x xs = sum_by-cons (one e) x xs
-
-pub same_entry : (e x : Entry) → is_same_entry e x ≡ true → e ≡ x
-same_entry e x is =
-    let parts = and_parts (e.task == x.task) (e.place == x.place) is in
-    ap (λ n. record { task = n; place = e.place }) (eqb-true e.task x.task parts.0)
-    ∙ ap (λ n. record { task = x.task; place = n }) (eqb-true e.place x.place parts.1)
-
-pub itself : (e : Entry) → is_same_entry e e ≡ true
-itself e = grind (arith, nat_tests)
-
-pub one_itself : (e : Entry) → one e e ≡ 1
-one_itself e = ap {B = ℕ} (λ b. cond b 1 0) (itself e)
-
-pub counted : (xs : List Entry) (i : ℕ) (e : Entry) → slice_get xs i ≡ Some e → 0 < count e xs
-counted [] i e at = absurd (none-some e at)
-counted (x ∷ xs) zero e at =
-    let here : one e x ≡ 1 = ap (one e) (same_Some x e at) ∙ one_itself e in
-    omega (arith, count_more e x xs, here)
-counted (x ∷ xs) (suc i) e at = let rest = counted xs i e at in omega (arith, count_more e x xs)
-
--- what holds of all holds of one that is counted
-pub all_counted : (P : Entry → Type 0) (xs : List Entry) (e : Entry) → AllByRecursion P xs → 0 < count e xs → P e
-all_counted P [] e all some = absurd (omega arith)
-all_counted P (x ∷ xs) e all some =
-    go (is_same_entry e x) refl
-    (λ none. all_counted P xs e all.1 (omega (arith, count_more e x xs, none)))
-  where
-    go : (b : Bool) → is_same_entry e x ≡ b → (one e x ≡ 0 → P e) → P e
-    go true is rest = subst P (sym (same_entry e x is)) all.0
-    go false is rest = rest (ap {B = ℕ} (λ b. cond b 1 0) is)
+use Rattle.rt_app.proofs.Counting.{one, count_more, same_entry, one_itself, counted, all_counted}
 
 -- a list without one that stands in it
 abbrev without : Entry → List Entry → List Entry
@@ -92,54 +54,68 @@ fits (x ∷ xs) all least =
     fits xs (without x all) (λ y. omega (arith, least y, count_more y x xs, others.counts y)) in
     omega (arith, rest, others.long)
 
--- all places of the tasks of a level, of those from a number on
-abbrev places_of : ℕ → ℕ → List Entry
+-- a list of different ones of another list is no longer
+pub fits_once : (xs all : List Entry) → ((y : Entry) → count y xs ≤ 1)
+    → ((y : Entry) → 0 < count y xs → 0 < count y all) → length xs ≤ length all
+fits_once xs all once found = fits xs all (λ y. least (count y xs) (count y all) (once y) (found y))
+  where
+    least : (a b : ℕ) → a ≤ 1 → (0 < a → 0 < b) → a ≤ b
+    least zero b few more = omega arith
+    least (suc a) b few more = let some = more (omega arith) in omega arith
+
+-- all places of a task, and of the tasks that pass, of those from a number on
+abbrev pub places_of : ℕ → ℕ → List Entry
 places_of n capacity = map (λ k. record { task = n; place = k }) (range_with_len 0 capacity)
 
-abbrev places_from : ℕ → ℕ → List Task → List Entry
-places_from p n [] = []
-places_from p n (t ∷ ts) = (if is_of_level p t then places_of n t.capacity else []) ++ places_from p (n + 1) ts
+abbrev pub places_from : (ℕ → Task → Bool) → ℕ → List Task → List Entry
+places_from test n [] = []
+places_from test n (t ∷ ts) = (if test n t then places_of n t.capacity else []) ++ places_from test (n + 1) ts
 
-places_long : (p n : ℕ) (ts : List Task)
-    → length (places_from p n ts) ≡ sum_by (λ t. t.capacity) (filter (is_of_level p) ts)
-places_long p n [] = refl
-places_long p n (t ∷ ts) = go (is_of_level p t) (places_long p (n + 1) ts)
+pub places_long : (test : Task → Bool) (n : ℕ) (ts : List Task)
+    → length (places_from (λ n t. test t) n ts) ≡ sum_by (λ t. t.capacity) (filter test ts)
+places_long test n [] = refl
+places_long test n (t ∷ ts) = go (test t) (places_long test (n + 1) ts)
   where
-    go : (b : Bool) → length (places_from p (n + 1) ts) ≡ sum_by (λ t. t.capacity) (filter (is_of_level p) ts)
-        → length ((if b then places_of n t.capacity else []) ++ places_from p (n + 1) ts)
-        ≡ sum_by (λ t. t.capacity) (if b then t ∷ filter (is_of_level p) ts else filter (is_of_level p) ts)
+    go : (b : Bool) → length (places_from (λ n t. test t) (n + 1) ts) ≡ sum_by (λ t. t.capacity) (filter test ts)
+        → length ((if b then places_of n t.capacity else []) ++ places_from (λ n t. test t) (n + 1) ts)
+        ≡ sum_by (λ t. t.capacity) (if b then t ∷ filter test ts else filter test ts)
     go true rest =
         omega (
           arith,
-          length-append (places_of n t.capacity) (places_from p (n + 1) ts),
+          length-append (places_of n t.capacity) (places_from (λ n t. test t) (n + 1) ts),
           many {X = Entry} (λ k. record { task = n; place = k }) t.capacity,
           rest,
-          sum_by-cons (λ (t : Task). t.capacity) t (filter (is_of_level p) ts),
+          sum_by-cons (λ (t : Task). t.capacity) t (filter test ts),
         )
     go false rest = rest
 
-stands_in : (p n : ℕ) (ts : List Task) (i : ℕ) (t : Task) (e : Entry) → slice_get ts i ≡ Some t
-    → is_of_level p t ≡ true → e.task ≡ n + i → e.place < t.capacity → 0 < count e (places_from p n ts)
-stands_in p n [] i t e at level task place = absurd (none-some t at)
-stands_in p n (u ∷ ts) zero t e at level task place =
+-- a place of a task that passes is among them
+pub stands_in : (test : ℕ → Task → Bool) (n : ℕ) (ts : List Task) (i : ℕ) (t : Task) (e : Entry)
+    → slice_get ts i ≡ Some t → test (n + i) t ≡ true → e.task ≡ n + i → e.place < t.capacity
+    → 0 < count e (places_from test n ts)
+stands_in test n [] i t e at passes task place = absurd (none-some t at)
+stands_in test n (u ∷ ts) zero t e at passes task place =
     let same : u ≡ t = same_Some u t at in
-    let chosen : (if is_of_level p u then places_of n u.capacity else []) ≡ places_of n t.capacity =
-    ap (λ u. if is_of_level p u then places_of n u.capacity else []) same
-    ∙ ap (λ (b : Bool). if b then places_of n t.capacity else []) level in
+    let first : n ≡ n + 0 = omega arith in
+    let chosen : (if test n u then places_of n u.capacity else []) ≡ places_of n t.capacity =
+    ap (λ u. if test n u then places_of n u.capacity else []) same
+    ∙ ap (λ (b : Bool). if b then places_of n t.capacity else []) (ap (λ k. test k t) first ∙ passes) in
     let is : e ≡ record { task = n; place = e.place } =
     (let k : e.task ≡ n = omega arith in ap (λ n. record { task = n; place = e.place }) k) in
     let stands : slice_get (places_of n t.capacity) e.place ≡ Some e =
     mapped (λ k. record { task = n; place = k }) t.capacity e.place place ∙ ap Some (sym is) in
     let some = counted (places_of n t.capacity) e.place e stands in
-    let two : count e (places_from p n (u ∷ ts))
-    ≡ count e (if is_of_level p u then places_of n u.capacity else []) + count e (places_from p (n + 1) ts) =
-    sum_by-append (one e) (if is_of_level p u then places_of n u.capacity else []) (places_from p (n + 1) ts) in
+    let two : count e (places_from test n (u ∷ ts))
+    ≡ count e (if test n u then places_of n u.capacity else []) + count e (places_from test (n + 1) ts) =
+    sum_by-append (one e) (if test n u then places_of n u.capacity else []) (places_from test (n + 1) ts) in
     omega (arith, two, ap (count e) chosen, some)
-stands_in p n (u ∷ ts) (suc i) t e at level task place =
-    let some = stands_in p (n + 1) ts i t e at level (omega arith) place in
-    let two : count e (places_from p n (u ∷ ts))
-    ≡ count e (if is_of_level p u then places_of n u.capacity else []) + count e (places_from p (n + 1) ts) =
-    sum_by-append (one e) (if is_of_level p u then places_of n u.capacity else []) (places_from p (n + 1) ts) in
+stands_in test n (u ∷ ts) (suc i) t e at passes task place =
+    let next : n + 1 + i ≡ n + suc i = omega arith in
+    let some =
+    stands_in test (n + 1) ts i t e at (ap (λ k. test k t) next ∙ passes) (omega arith) place in
+    let two : count e (places_from test n (u ∷ ts))
+    ≡ count e (if test n u then places_of n u.capacity else []) + count e (places_from test (n + 1) ts) =
+    sum_by-append (one e) (if test n u then places_of n u.capacity else []) (places_from test (n + 1) ts) in
     omega (arith, two, some)
 
 -- a place of a task of a level
@@ -151,19 +127,15 @@ IsPlaceOf app p e =
 pub ring_room : (app : App) (p : ℕ) (entries : List Entry) (e : Entry) → AllByRecursion (IsPlaceOf app p) entries
     → IsPlaceOf app p e → ((y : Entry) → count y (e ∷ entries) ≤ 1) → length entries < ready_room app p
 ring_room app p entries e all is once =
-    let found : (y : Entry) → 0 < count y (e ∷ entries) → 0 < count y (places_from p 0 app.tasks) =
+    let places : List Entry = places_from (λ n t. is_of_level p t) 0 app.tasks in
+    let found : (y : Entry) → 0 < count y (e ∷ entries) → 0 < count y places =
     (λ y some.
     let place : IsPlaceOf app p y = all_counted (IsPlaceOf app p) (e ∷ entries) y (is, all) some in
     let task = the_task (is_of_level p) app y.task place.0 in
     let capacity = capacity_is app y.task task.0 task.1 in
-    stands_in p 0 app.tasks y.task task.0 y task.1 task.2 (omega arith) (omega (arith, place.1, capacity))) in
-    let long = fits (e ∷ entries) (places_from p 0 app.tasks)
-    (λ y. least (count y (e ∷ entries)) (count y (places_from p 0 app.tasks)) (once y) (found y)) in
-    omega (arith, long, places_long p 0 app.tasks)
-  where
-    least : (a b : ℕ) → a ≤ 1 → (0 < a → 0 < b) → a ≤ b
-    least zero b few more = omega arith
-    least (suc a) b few more = let some = more (omega arith) in omega arith
+    stands_in (λ n t. is_of_level p t) 0 app.tasks y.task task.0 y task.1 task.2 (omega arith)
+    (omega (arith, place.1, capacity))) in
+    omega (arith, fits_once (e ∷ entries) places once found, places_long (is_of_level p) 0 app.tasks)
 
 -- a level has no more than 1,024
 few : (test : Task → Bool) (ts : List Task) → AllByRecursion KeepsTaskLimits ts

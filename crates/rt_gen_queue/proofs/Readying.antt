@@ -24,7 +24,8 @@ use Rattle.rt_code.proofs.Mine.{queued_more, owns_open, owns_reads, reads_more}
 use Rattle.rt_gen_queue.specs.Line.{HasCode}
 use Rattle.rt_gen_queue.specs.SpawnCode.{ready_code}
 use Rattle.rt_gen_queue.proofs.Numbers.{added, rest_of}
-use Rattle.rt_gen_queue.proofs.Places.{IsPlaceOf, count_more, one_itself, ring_room}
+use Rattle.rt_app.proofs.Counting.{count_more, one_itself}
+use Rattle.rt_gen_queue.proofs.Places.{IsPlaceOf, ring_room}
 use Rattle.rt_gen_queue.proofs.Queues.{ready_put, message_alike}
 use Rattle.rt_gen_queue.proofs.Owning.{home_as, ready_spelled, ready_given, at_in_memory, loads_open, stores_open}
 use Rattle.rt_gen_queue.proofs.Owning.{unread, is_inside, put_here, queue_here, agree_out, leaves_out}

@@ -28,7 +28,7 @@ use Rattle.rt_gen_queue.specs.Line.{Line, noted, HasCode}
 use Rattle.rt_gen_queue.specs.Guards.{leave}
 use Rattle.rt_gen_queue.specs.SpawnCode.{take_code}
 use Rattle.rt_gen_queue.proofs.Numbers.{one_less, not_zero}
-use Rattle.rt_gen_queue.proofs.Places.{count_more, one_itself}
+use Rattle.rt_app.proofs.Counting.{count_more, one_itself}
 use Rattle.rt_gen_queue.proofs.Queues.{free_taken}
 use Rattle.rt_gen_queue.proofs.Owning.{free_spelled, free_given, at_in_memory, loads_open, stores_open}
 use Rattle.rt_gen_queue.proofs.Owning.{unread, is_inside, put_here, queue_here, agree_out, leaves_out}
@@ -64,7 +64,7 @@ kept_more slot d v before mid after from to kept wrote = record {
 
 module _ (z : Setting) (task : ℕ) (t : Task) (facts : Spawned z.app task t) where
   -- inside the section, behind its first instruction
-  abbrev in_free : Here → (level slot : ℕ) → List ℕ → List ℕ → (Holder → List Entry) → Doing Values → Here
+  abbrev pub in_free : Here → (level slot : ℕ) → List ℕ → List ℕ → (Holder → List Entry) → Doing Values → Here
   in_free h level slot slots cells queues rest = record h {
     held = opened z (section.Free task) level slot ∷ h.held;
     done = suc h.done;
@@ -260,26 +260,30 @@ module _ (z : Setting) (task : ℕ) (t : Task) (facts : Spawned z.app task t) wh
             (unread app z.who h.held x tt entered.closed) agree2 agree entered.taken.agree;
       }))))))))
 
-  refused_stands : (n : ℕ) (h : Here) (level slot full : ℕ) (slots cells : List ℕ) (queues : Holder → List Entry)
-      (doing : Doing Values) (rest : Rest) (ws vs : Values)
-      → HasCode z.code (suc h.at) (taking level slot full)
-      → HasCode z.code full
-      (noted (instr.Set slot 0) (note.Full task) ∷ leave z.app (section.Free task) level (slot + 8) ∷ [])
-      → Entered h level slot slots cells queues ws vs
+  -- none is left, and the section is open
+  pub record FindsNone (h : Here) (level slot : ℕ) (after cells : List ℕ) (queues : Holder → List Entry)
+      (ws vs : Values) : Type 0 where
+    pub long : length h.cells ≡ length (memory z.app)
+    pub closed : is_open h.held (section.Free task) ≡ false
+    pub kept : Kept slot h.slots after
+    pub room : Room slot after (opened z (section.Free task) level slot ∷ h.held)
+    pub taken : TakesOver (storage z.app) z.who (section.Free task) (passed (spot z h)) vs ws cells queues
+
+  -- then the code at another address goes on
+  abbrev pub at_full : Here → (level slot full : ℕ) → List ℕ → List ℕ → (Holder → List Entry) → Doing Values → Here
+  at_full h level slot full after cells queues rest = record (in_free h level slot after cells queues rest) {
+    done = suc (suc (suc h.done));
+    at = full;
+  }
+
+  none_found : (n : ℕ) (h : Here) (level slot full : ℕ) (slots cells : List ℕ) (queues : Holder → List Entry)
+      (doing : Doing Values) (ws vs : Values)
+      → HasCode z.code (suc h.at) (taking level slot full) → Entered h level slot slots cells queues ws vs
       → queues (Guarded (section.Free task)) ≡ []
-      → doing ≡ act_all (Refuses task ∷ Leaves (section.Free task) ∷ []) rest ws
-      → ((after left : List ℕ) (more : Holder → List Entry) (us : Values)
-      → HasNone h slot vs after left more us
-      → S z n (record h {
-        done = suc (suc (suc (suc (suc h.done))));
-        slots = after;
-        at = suc (suc full);
-        cells = left;
-        queues = more;
-        rest = rest us;
-      }))
-      → S z (suc (suc (suc (suc n)))) (in_free h level slot slots cells queues doing)
-  refused_stands n h level slot full slots cells queues doing rest ws vs has behind entered are is on =
+      → ((after : List ℕ) → FindsNone h level slot after cells queues ws vs
+      → S z n (at_full h level slot full after cells queues doing))
+      → S z (suc (suc n)) (in_free h level slot slots cells queues doing)
+  none_found n h level slot full slots cells queues doing ws vs has entered are on =
       let x = section.Free task in
       let app : App = z.app in
       let end : ℕ = h.done + 8 in
@@ -298,47 +302,75 @@ module _ (z : Setting) (task : ℕ) (t : Task) (facts : Spawned z.app task t) wh
       let h2 : Here = record h1 { done = suc h1.done; slots = s2; at = suc h1.at } in
       jumps_by z true _ end h2 slot (slot + 4) full has.1.0 (omega arith) lasts r2 (omega arith, omega arith)
       (ap (λ k. k == 0) w2.here)
-      (let h3 : Here = record h2 { done = suc h2.done; at = full } in
-      refuses z _ end h3 slot slot 0 task (act_all (Leaves x ∷ []) rest) ws behind.0 (omega arith) lasts r2
+      (on s2
+      (record {
+        long = entered.long;
+        closed = entered.closed;
+        kept = kept_more slot (slot + 4) 0 h.slots slots s2 (omega arith) (omega arith)
+            (kept_start slot h.slots slots entered.beside) w2;
+        room = r2;
+        taken = entered.taken;
+      })))
+
+  -- there a note says so, and the section closes
+  refused_stands : (n : ℕ) (h : Here) (level slot full : ℕ) (slots cells : List ℕ) (queues : Holder → List Entry)
+      (doing : Doing Values) (rest : Rest) (ws vs : Values)
+      → HasCode z.code full
+      (noted (instr.Set slot 0) (note.Full task) ∷ leave z.app (section.Free task) level (slot + 8) ∷ [])
+      → Lasts (h.done + 8) h.deadlines → FindsNone h level slot slots cells queues ws vs
+      → doing ≡ act_all (Refuses task ∷ Leaves (section.Free task) ∷ []) rest ws
+      → ((after left : List ℕ) (more : Holder → List Entry) (us : Values)
+      → HasNone h slot vs after left more us
+      → S z n (record h {
+        done = suc (suc (suc (suc (suc h.done))));
+        slots = after;
+        at = suc (suc full);
+        cells = left;
+        queues = more;
+        rest = rest us;
+      }))
+      → S z (suc (suc n)) (at_full h level slot full slots cells queues doing)
+  refused_stands n h level slot full slots cells queues doing rest ws vs behind least found is on =
+      let x = section.Free task in
+      let app : App = z.app in
+      let end : ℕ = h.done + 8 in
+      let h3 : Here = at_full h level slot full slots cells queues doing in
+      let lasts : Lasts end h3.deadlines = (omega arith, least) in
+      let opens : is_open h3.held x ≡ true = is_inside app z.who h.held (opened z x level slot) x refl in
+      refuses z _ end h3 slot slot 0 task (act_all (Leaves x ∷ []) rest) ws behind.0 (omega arith) lasts found.room
       (omega arith, omega arith) opens is
       (λ s4 us w4 agree.
       let h4 : Here =
       record h3 { done = suc h3.done; slots = s4; at = suc full; rest = act_all (Leaves x ∷ []) rest us } in
-      let inside : reads (storage app) z.who h1.held (Guarded x) ≡ true =
-      owns_reads (storage app) z.who h1.held (Guarded x) (owns_open (storage app) z.who h1.held x opens) in
+      let inside : reads (storage app) z.who h3.held (Guarded x) ≡ true =
+      owns_reads (storage app) z.who h3.held (Guarded x) (owns_open (storage app) z.who h3.held x opens) in
       leaves z _ end h4 x level slot h.held (h.done + FREE_COST) h.deadlines rest us behind.1.0 (omega arith) lasts refl
       refl refl
       (subst (λ (c : Content). (storage app).Spells (Guarded x) (slice_index cells) (queues (Guarded x)) c)
-      (sym (agree (Guarded x) inside)) entered.taken.spelled)
+      (sym (agree (Guarded x) inside)) found.taken.spelled)
       (λ after agree2.
       on s4 cells queues after
       (record {
         answer = w4.here;
-        kept = λ d far. none_kept slot slots s2 s4 w2 w4 d far ∙ (kept_start slot h.slots slots entered.beside).same d
-            (outer slot d far);
-        long = w4.long ∙ w2.long ∙ entered.beside.long;
+        kept = λ d far. w4.others d (not_slot slot d far) ∙ found.kept.same d (outer slot d far);
+        long = w4.long ∙ found.kept.long;
         own = record {
-          long = entered.taken.same.long;
-          touched = entered.taken.same.touched;
-          queued = entered.taken.same.queued;
+          long = found.taken.same.long;
+          touched = found.taken.same.touched;
+          queued = found.taken.same.queued;
         };
         agree = λ holder may.
             agree2 holder may ∙ agree holder (reads_more (storage app) z.who (opened z x level slot) h.held holder may)
-            ∙ entered.taken.agree holder may;
-      })))))
+            ∙ found.taken.agree holder may;
+      })))
     where
       outer : (slot d : ℕ) → (d < slot) ⊎ (slot + 16 ≤ d) → (d < slot + 4) ⊎ (slot + 16 ≤ d)
       outer slot d (inl less) = inl (omega arith)
       outer slot d (inr more) = inr more
 
-      none_kept : (slot : ℕ) (slots s2 s4 : List ℕ) → Wrote (slot + 4) 0 slots s2 → Wrote slot 0 s2 s4 → (d : ℕ)
-          → (d < slot) ⊎ (slot + 16 ≤ d) → slice_index s4 d ≡ slice_index slots d
-      none_kept slot slots s2 s4 w2 w4 d (inl less) =
-          let one : d ≢ slot = omega arith in
-          let two : d ≢ slot + 4 = omega arith in w4.others d one ∙ w2.others d two
-      none_kept slot slots s2 s4 w2 w4 d (inr more) =
-          let one : d ≢ slot = omega arith in
-          let two : d ≢ slot + 4 = omega arith in w4.others d one ∙ w2.others d two
+      not_slot : (slot d : ℕ) → (d < slot) ⊎ (slot + 16 ≤ d) → d ≢ slot
+      not_slot slot d (inl less) = omega arith
+      not_slot slot d (inr more) = omega arith
 
   -- fewer are out than there are places where one is free
   place_left : (ws : Values) (cells : ℕ → ℕ) (e : Entry) (others : List Entry)
@@ -355,6 +387,81 @@ module _ (z : Setting) (task : ℕ) (t : Task) (facts : Spawned z.app task t) wh
       ap (λ c. nat_lt (number c) (capacity_of z.app task)) spells.out
       ∙ le-ltb (capacity_of z.app task - 0) (capacity_of z.app task) (omega arith)
 
+  -- a place is taken, or none is left and the code at another address goes on
+  pub take_begins : (n : ℕ) (h : Here) (level slot full : ℕ) (granted refused : Rest) (vs : Values)
+      → HasCode z.code h.at (take_code z.app task level slot full)
+      → length h.cells ≡ length (memory z.app) → Lasts (h.done + 8) h.deadlines
+      → MayEnter z h (section.Free task) level slot → h.rest ≡ take_place z.app task granted refused vs
+      → ((e : Entry) (after left : List ℕ) (more : Holder → List Entry) (us : Values)
+      → HasTaken h slot vs e after left more us
+      → S z n (record h {
+        done = suc (suc (suc (suc (suc (suc (suc (suc h.done)))))));
+        places = e ∷ h.places;
+        slots = after;
+        at = suc (suc (suc (suc (suc (suc (suc (suc h.at)))))));
+        cells = left;
+        queues = more;
+        rest = granted us;
+      }))
+      → ((after left : List ℕ) (more : Holder → List Entry) (ws : Values)
+      → FindsNone h level slot after left more ws vs
+      → S z (suc (suc (suc (suc (suc n))))) (at_full h level slot full after left more
+      (act_all (Refuses task ∷ Leaves (section.Free task) ∷ []) refused ws)))
+      → S z (suc (suc (suc (suc (suc (suc (suc (suc n)))))))) h
+  take_begins n h level slot full granted refused vs has long lasts may is on off =
+      let x = section.Free task in
+      let app : App = z.app in
+      let follow : Values → Doing Values =
+      λ ws. if has_place app task ws then act_all (Takes task ∷ Leaves x ∷ []) granted ws
+      else act_all (Refuses task ∷ Leaves x ∷ []) refused ws in
+      enters z _ (h.done + 8) h x level slot FREE_COST follow vs has.0 (omega arith) lasts may is
+      (λ slots ws cells queues beside room taken.
+      let entered : Entered h level slot slots cells queues ws vs =
+      record { long = long; lasts = lasts; closed = may.closed; beside = beside; room = room; taken = taken } in
+      chosen n h level slot full granted refused vs has on off slots cells queues ws entered (queues (Guarded x)) refl
+      (free_spelled app task (slice_index cells) (queues (Guarded x)) (ws (Guarded x)) taken.spelled))
+    where
+      chosen : (n : ℕ) (h : Here) (level slot full : ℕ) (granted refused : Rest) (vs : Values)
+          → HasCode z.code h.at (take_code z.app task level slot full)
+          → ((e : Entry) (after left : List ℕ) (more : Holder → List Entry) (us : Values)
+          → HasTaken h slot vs e after left more us
+          → S z n (record h {
+            done = suc (suc (suc (suc (suc (suc (suc (suc h.done)))))));
+            places = e ∷ h.places;
+            slots = after;
+            at = suc (suc (suc (suc (suc (suc (suc (suc h.at)))))));
+            cells = left;
+            queues = more;
+            rest = granted us;
+          }))
+          → ((after left : List ℕ) (more : Holder → List Entry) (ws : Values)
+          → FindsNone h level slot after left more ws vs
+          → S z (suc (suc (suc (suc (suc n))))) (at_full h level slot full after left more
+          (act_all (Refuses task ∷ Leaves (section.Free task) ∷ []) refused ws)))
+          → (slots cells : List ℕ) (queues : Holder → List Entry) (ws : Values)
+          → Entered h level slot slots cells queues ws vs
+          → (entries : List Entry) → queues (Guarded (section.Free task)) ≡ entries
+          → SpellsFree z.app (slice_index cells) task entries (ws (Guarded (section.Free task)))
+          → S z (suc (suc (suc (suc (suc (suc (suc n)))))))
+          (in_free h level slot slots cells queues
+          (if has_place z.app task ws then act_all (Takes task ∷ Leaves (section.Free task) ∷ []) granted ws
+          else act_all (Refuses task ∷ Leaves (section.Free task) ∷ []) refused ws))
+      chosen n h level slot full granted refused vs has on off slots cells queues ws entered [] are spells =
+          let is = ap (λ (b : Bool). if b then act_all (Takes task ∷ Leaves (section.Free task) ∷ []) granted ws
+          else act_all (Refuses task ∷ Leaves (section.Free task) ∷ []) refused ws)
+          (none_left ws (slice_index cells) spells) in
+          none_found (suc (suc (suc (suc (suc n))))) h level slot full slots cells queues _ ws vs has.1 entered are
+          (λ after found.
+          subst (λ (doing : Doing Values). S z (suc (suc (suc (suc (suc n)))))
+          (at_full h level slot full after cells queues doing)) (sym is) (off after cells queues ws found))
+      chosen n h level slot full granted refused vs has on off slots cells queues ws entered (e ∷ others) are spells =
+          granted_stands n h level slot full slots cells queues _ granted ws vs e others has.1 entered are
+          (ap (λ (b : Bool). if b then act_all (Takes task ∷ Leaves (section.Free task) ∷ []) granted ws
+          else act_all (Refuses task ∷ Leaves (section.Free task) ∷ []) refused ws)
+          (place_left ws (slice_index cells) e others spells))
+          (λ after left more us taken. on e after left more us taken)
+
+  -- a place is taken, or none is left and the answer is 0
   pub take_stands : (n : ℕ) (h : Here) (level slot full : ℕ) (granted refused : Rest) (vs : Values)
       → HasCode z.code h.at (take_code z.app task level slot full)
       → HasCode z.code full
@@ -384,62 +491,6 @@ module _ (z : Setting) (task : ℕ) (t : Task) (facts : Spawned z.app task t) wh
       }))
       → S z (suc (suc (suc (suc (suc (suc (suc (suc n)))))))) h
   take_stands n h level slot full granted refused vs has behind long lasts may is on off =
-      let x = section.Free task in
-      let app : App = z.app in
-      let follow : Values → Doing Values =
-      λ ws. if has_place app task ws then act_all (Takes task ∷ Leaves x ∷ []) granted ws
-      else act_all (Refuses task ∷ Leaves x ∷ []) refused ws in
-      enters z _ (h.done + 8) h x level slot FREE_COST follow vs has.0 (omega arith) lasts may is
-      (λ slots ws cells queues beside room taken.
-      let entered : Entered h level slot slots cells queues ws vs =
-      record { long = long; lasts = lasts; closed = may.closed; beside = beside; room = room; taken = taken } in
-      chosen n h level slot full granted refused vs has behind on off slots cells queues ws entered
-      (queues (Guarded x)) refl
-      (free_spelled app task (slice_index cells) (queues (Guarded x)) (ws (Guarded x)) taken.spelled))
-    where
-      chosen : (n : ℕ) (h : Here) (level slot full : ℕ) (granted refused : Rest) (vs : Values)
-          → HasCode z.code h.at (take_code z.app task level slot full)
-          → HasCode z.code full
-          (noted (instr.Set slot 0) (note.Full task) ∷ leave z.app (section.Free task) level (slot + 8) ∷ [])
-          → ((e : Entry) (after left : List ℕ) (more : Holder → List Entry) (us : Values)
-          → HasTaken h slot vs e after left more us
-          → S z n (record h {
-            done = suc (suc (suc (suc (suc (suc (suc (suc h.done)))))));
-            places = e ∷ h.places;
-            slots = after;
-            at = suc (suc (suc (suc (suc (suc (suc (suc h.at)))))));
-            cells = left;
-            queues = more;
-            rest = granted us;
-          }))
-          → ((after left : List ℕ) (more : Holder → List Entry) (us : Values)
-          → HasNone h slot vs after left more us
-          → S z (suc (suc (suc n))) (record h {
-            done = suc (suc (suc (suc (suc h.done))));
-            slots = after;
-            at = suc (suc full);
-            cells = left;
-            queues = more;
-            rest = refused us;
-          }))
-          → (slots cells : List ℕ) (queues : Holder → List Entry) (ws : Values)
-          → Entered h level slot slots cells queues ws vs
-          → (entries : List Entry) → queues (Guarded (section.Free task)) ≡ entries
-          → SpellsFree z.app (slice_index cells) task entries (ws (Guarded (section.Free task)))
-          → S z (suc (suc (suc (suc (suc (suc (suc n)))))))
-          (in_free h level slot slots cells queues
-          (if has_place z.app task ws then act_all (Takes task ∷ Leaves (section.Free task) ∷ []) granted ws
-          else act_all (Refuses task ∷ Leaves (section.Free task) ∷ []) refused ws))
-      chosen n h level slot full granted refused vs has behind on off slots cells queues ws entered [] are spells =
-          refused_stands (suc (suc (suc n))) h level slot full slots cells queues _ refused ws vs has.1 behind entered
-          are
-          (ap (λ (b : Bool). if b then act_all (Takes task ∷ Leaves (section.Free task) ∷ []) granted ws
-          else act_all (Refuses task ∷ Leaves (section.Free task) ∷ []) refused ws)
-          (none_left ws (slice_index cells) spells)) off
-      chosen n h level slot full granted refused vs has behind on off slots cells queues ws entered (e ∷ others) are
-          spells =
-          granted_stands n h level slot full slots cells queues _ granted ws vs e others has.1 entered are
-          (ap (λ (b : Bool). if b then act_all (Takes task ∷ Leaves (section.Free task) ∷ []) granted ws
-          else act_all (Refuses task ∷ Leaves (section.Free task) ∷ []) refused ws)
-          (place_left ws (slice_index cells) e others spells))
-          (λ after left more us taken. on e after left more us taken)
+      take_begins n h level slot full granted refused vs has long lasts may is on
+      (λ after left more ws found.
+      refused_stands (suc (suc (suc n))) h level slot full after left more _ refused ws vs behind lasts found refl off)

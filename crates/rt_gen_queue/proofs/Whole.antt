@@ -25,7 +25,7 @@ use Rattle.rt_gen_queue.specs.Guards.{leave}
 use Rattle.rt_gen_queue.specs.SpawnCode.{take_code, fill_code, ready_code, end_code, spawn_code}
 use Rattle.rt_gen_queue.specs.Spawning.{SpawnsStand}
 use Rattle.rt_gen_queue.proofs.Numbers.{steps_and, steps_are}
-use Rattle.rt_gen_queue.proofs.Places.{count_more, one_itself}
+use Rattle.rt_app.proofs.Counting.{count_more, one_itself}
 use Rattle.rt_gen_queue.proofs.Owning.{home_as, nobody_keeps}
 use Rattle.rt_gen_queue.proofs.Facts.{Spawned, arguments, priority, few_arguments, known, free_top, ready_top, place_of}
 use Rattle.rt_gen_queue.proofs.Facts.{few_ready}
@@ -58,7 +58,7 @@ mapped_alike f g a b (suc n) same =
 
 module _ (z : Setting) (task : ℕ) (t : Task) (facts : Spawned z.app task t) where
   -- the message has the values of the slots
-  message_is : (e : Entry) (slot : ℕ) (slots before after : List ℕ) (args : List ℕ)
+  pub message_is : (e : Entry) (slot : ℕ) (slots before after : List ℕ) (args : List ℕ)
       → Filled z task t facts e 0 (arguments_of z.app task) slot slots before after → e.task ≡ task
       → slot + 16 ≤ length slots → take t.args (drop slot slots) ≡ args
       → message_at z.app (slice_index after) e ≡ record { task = task; args = args }
@@ -79,7 +79,7 @@ module _ (z : Setting) (task : ℕ) (t : Task) (facts : Spawned z.app task t) wh
       ∙ ap (λ ws. record { task = task; args = ws }) words
 
   -- With a place in its hands that was nobody's, whose cells alone it changes, a job leaves its own as it was.
-  own_filled : (h : Here) (e : Entry) (mid after last : List ℕ) (queues more : Holder → List Entry)
+  pub own_filled : (h : Here) (e : Entry) (mid after last : List ℕ) (queues more : Holder → List Entry)
       (h2 : Here)
       → mine (spot z h) e ≡ 0 → LeavesMine (storage z.app) z.who (spot z h) mid queues
       → ((c : ℕ) → ¬ (home_of z.app c ≡ In e) → slice_index after c ≡ slice_index mid c)
@@ -118,7 +118,7 @@ module _ (z : Setting) (task : ℕ) (t : Task) (facts : Spawned z.app task t) wh
           omega (arith, some, same, now, ap (count y) places, count_more y e h.places)
 
 -- the job at the first line
-abbrev start : Spot → Here
+abbrev pub start : Spot → Here
 start s = record {
   held = s.held;
   done = 0;
@@ -140,7 +140,7 @@ not_first slot d (inl less) = omega arith
 not_first slot d (inr more) = omega arith
 
 -- the arguments stand where they stood
-args_kept : (slot : ℕ) (before after : List ℕ) (count : ℕ) → count ≤ 4 → slot + 16 ≤ length before
+pub args_kept : (slot : ℕ) (before after : List ℕ) (count : ℕ) → count ≤ 4 → slot + 16 ≤ length before
     → Kept slot before after → take count (drop slot after) ≡ take count (drop slot before)
 args_kept slot before after count few long kept =
     sym (taken_is after count slot (omega (arith, kept.long)))

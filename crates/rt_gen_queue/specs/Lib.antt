@@ -5,4 +5,4 @@ pub mod Called
 pub mod SpawnLines
 pub mod SpawnCode
 pub mod Spawning
-pub mod Inside
+pub mod Making

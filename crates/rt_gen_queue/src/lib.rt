@@ -4,8 +4,8 @@
 pub mod entry;
 pub mod guard;
 mod laws;
-mod lines;
-mod parts;
+pub mod lines;
+pub mod parts;
 pub mod queue;
 pub mod spawn;
 pub mod target;
@@ -13,5 +13,7 @@ pub mod target;
 pub use entry::next_entry;
 pub use guard::Guard;
 pub use laws::spawns_stand;
+pub use lines::Lines;
 pub use queue::{ReadyQueue, queue_of};
 pub use spawn::gen_spawn;
+pub use target::{Target, find_target};

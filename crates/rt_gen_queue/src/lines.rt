@@ -1,20 +1,34 @@
 ghost use Rattle.std.specs.Prelude.{◌≡◌, ◌∷◌, [], OnOk};
-ghost use Rattle.rt_gen_queue.specs.Line.{plain};
-ghost use Rattle.rt_gen_queue.specs.Inside.Making.{Appends};
+ghost use Rattle.rt_gen_queue.specs.Line.{plain, noted};
+ghost use Rattle.rt_gen_queue.specs.Making.{Appends};
 
-use rt_code::{Instr, Line};
+use rt_code::{Instr, Line, Note};
 use rt_ids::NoMemory;
 use std::alloc::Global;
 use std::marker::Model;
 
-/// The lines of a spawn as they are generated.
+/// A line without a note.
+pub fn plain(instr: Instr) -> Line
+    ensures { result ≡ plain instr }
+{
+    (instr, None)
+}
+
+/// A line with a note.
+pub fn noted(instr: Instr, note: Note) -> Line
+    ensures { result ≡ noted instr note }
+{
+    (instr, Some(note))
+}
+
+/// Lines of code as they are generated, one behind the other.
 #[derive(Drop)]
-pub(crate) struct Lines {
+pub struct Lines {
     lines: Vec<Line>,
 }
 
 impl Model for Lines {
-    ghost use Rattle.rt_gen_queue.specs.Inside.Making.{Made};
+    ghost use Rattle.rt_gen_queue.specs.Making.{Made};
 
     ghost Value = { Made };
 
@@ -23,7 +37,7 @@ impl Model for Lines {
 
 impl Lines {
     /// No lines.
-    pub(crate) fn new(alloc: Global) -> Lines
+    pub fn new(alloc: Global) -> Lines
         ensures { result ≡ record { lines = [] } }
     {
         Lines {
@@ -31,16 +45,16 @@ impl Lines {
         }
     }
 
-    /// One more, without a note.
-    pub(crate) fn push(&mut self, instr: Instr) -> Result<(), NoMemory>
+    /// One more, without a note. An error tells that memory is used up.
+    pub fn push(&mut self, instr: Instr) -> Result<(), NoMemory>
         ensures { OnOk result (Appends self.old self.new (plain instr ∷ [])) }
     {
         self.lines.push((instr, None))?;
         Ok(())
     }
 
-    /// Some more.
-    pub(crate) fn append(&mut self, lines: &[Line]) -> Result<(), NoMemory>
+    /// Some more, in their order. An error tells that memory is used up.
+    pub fn append(&mut self, lines: &[Line]) -> Result<(), NoMemory>
         ensures { OnOk result (Appends self.old self.new lines.now) }
     {
         self.lines.extend_from_slice(lines)?;
@@ -48,7 +62,7 @@ impl Lines {
     }
 
     /// The lines.
-    pub(crate) fn as_slice(&self) -> &[Line]
+    pub fn as_slice(&self) -> &[Line]
         ensures { result.now ≡ self.now.lines }
     {
         self.lines.as_slice()

@@ -1,31 +1,17 @@
 ghost use Rattle.std.specs.Prelude.{◌≡◌, ◌+◌, ◌<◌, ◌≤◌, ◌^◌, OnOk};
 ghost use Rattle.rt_app.specs.declared.costs.TheConstants.{SPAWN_WORDS};
-ghost use Rattle.rt_gen_queue.specs.Line.{plain, noted};
 ghost use Rattle.rt_gen_queue.specs.SpawnLines as spec;
-ghost use Rattle.rt_gen_queue.specs.Inside.Making.{Appends};
+ghost use Rattle.rt_gen_queue.specs.Making.{Appends};
 
-use crate::lines::Lines;
+use crate::lines::{Lines, noted, plain};
 use crate::target::Target;
 use rt_code::{Instr, Line, Note};
 use rt_ids::limits::CAPACITY;
 use rt_ids::{NoMemory, Op, Prio, Section};
 
-/// A line without a note.
-fn plain(instr: Instr) -> Line
-    ensures { result ≡ plain instr }
-{
-    (instr, None)
-}
-
-/// A line with a note.
-fn noted(instr: Instr, note: Note) -> Line
-    ensures { result ≡ noted instr note }
-{
-    (instr, Some(note))
-}
-
-/// The lines that take a place of the task, or lead to an address where none is left.
-pub(crate) fn take(target: &Target, level: u8, slot: u32, full: u32) -> [Line; 8]
+/// The lines that take a place of the task, in a body at a level, or lead to the address `full` where none is left. The
+/// place comes into the seventh of the slots from one on; the fifth, the eighth and the ninth are used beside.
+pub fn take(target: &Target, level: u8, slot: u32, full: u32) -> [Line; 8]
     requires slots { slot + SPAWN_WORDS < 2 ^ 32 }
     ensures { result ≡ spec.take_lines target.now level slot full }
 {
@@ -68,8 +54,10 @@ fn store(target: &Target, slot: u32, lines: &mut Lines) -> Result<(), NoMemory>
     Ok(())
 }
 
-/// Appends the lines that fill the place and make the word of its message.
-pub(crate) fn fill(target: &Target, level: u8, slot: u32, lines: &mut Lines) -> Result<(), NoMemory>
+/// Appends the lines that store the arguments, which stand in the slots from one on, in the cells of the place in the
+/// seventh of these, and leave the word of its message there. The eighth is used beside. An error tells that memory is
+/// used up; then some of the lines may have been appended.
+pub fn fill(target: &Target, level: u8, slot: u32, lines: &mut Lines) -> Result<(), NoMemory>
     requires slots { slot + SPAWN_WORDS < 2 ^ 32 }
     requires few { target.now.args ≤ 4 }
     ensures { OnOk result (Appends lines.old lines.new (spec.fill_lines target.now level slot)) }
@@ -82,8 +70,9 @@ pub(crate) fn fill(target: &Target, level: u8, slot: u32, lines: &mut Lines) -> 
     lines.push(Instr::Calc(Op::Add, place, place, factor))
 }
 
-/// The lines that put the message into the ring of its level, and pend the level's dispatcher.
-pub(crate) fn ready(target: &Target, level: u8, slot: u32) -> [Line; 12]
+/// The lines that put the message whose word stands in the seventh of the slots from one on into the ring of its level,
+/// and pend the level's dispatcher, in a body at a level. The fifth to the ninth slot are used.
+pub fn ready(target: &Target, level: u8, slot: u32) -> [Line; 12]
     requires slots { slot + SPAWN_WORDS < 2 ^ 32 }
     ensures { result ≡ spec.ready_lines target.now level slot }
 {

@@ -72,7 +72,7 @@ fn levels_above(queues: &[ReadyCeiling], level: u8) -> usize
 }
 
 /// The number of an interrupt, by its place, and 0 where it is not declared.
-fn irq_number(irqs: &[IrqDecl], irq: u8) -> Irq
+pub fn irq_number(irqs: &[IrqDecl], irq: u8) -> Irq
     ensures { result ≡ or_zero (option_map (λ d. d.number) (slice_get irqs.now irq)) }
 {
     match irqs.get(usize::from(irq)) {

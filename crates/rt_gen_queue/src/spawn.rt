@@ -11,7 +11,7 @@ ghost use Rattle.rt_app.specs.declared.costs.TheConstants.{SPAWN_COST};
 ghost use Rattle.rt_gen_queue.specs.Line.{IsNameable};
 ghost use Rattle.rt_gen_queue.specs.SpawnLines.{spawn_lines};
 ghost use Rattle.rt_gen_queue.specs.SpawnCode.{spawn_code};
-ghost use Rattle.rt_gen_queue.specs.Inside.Making.{Appends};
+ghost use Rattle.rt_gen_queue.specs.Making.{Appends};
 
 use crate::lines::Lines;
 use crate::parts::{answer, fill, ready, take};

@@ -60,8 +60,8 @@ fn target_of(plan: &Plan<'_>, task: TaskId, declared: &Task) -> Target
     }
 }
 
-/// What the code of a spawn of a software task is made of.
-pub(crate) fn find_target(plan: &Plan<'_>, task: TaskId) -> Target
+/// What the code of a spawn of a software task is made of. A task takes at most four arguments.
+pub fn find_target(plan: &Plan<'_>, task: TaskId) -> Target
     requires accepted { IsAccepted (app_of plan.now.app.now) }
     requires planned { IsPlan plan.now }
     requires software { is_some_and is_software (slice_get (app_of plan.now.app.now).tasks task) ≡ true }

@@ -1,4 +1,4 @@
--- The lines of a spawn as they are generated, one behind the other.
+-- Lines as they are generated, one behind the other, as for a spawn.
 use Rattle.std.specs.Prelude.{◌≡◌, ◌++◌, List}
 use Rattle.rt_gen_queue.specs.Line.{Line}
 

@@ -15,9 +15,9 @@ use Rattle.rt_app.specs.Layout.{memory, free_at, home_of}
 use Rattle.rt_app.specs.Holding.{SpellsFree}
 use Rattle.rt_app.proofs.LaidQueues.{many, mapped, capacity_is, free_is_home}
 use Rattle.rt_gen_queue.proofs.Facts.{Spawned}
-use Rattle.rt_gen_queue.proofs.Owning.{at_in_memory}
-use Rattle.rt_gen_queue.proofs.Places.{count_more, counted, all_counted, fits}
-use Rattle.rt_gen_disp.proofs.Stored.{apart}
+use Rattle.rt_gen_queue.proofs.Owning.{apart, at_in_memory}
+use Rattle.rt_app.proofs.Counting.{count_more, counted, all_counted}
+use Rattle.rt_gen_queue.proofs.Places.{fits}
 
 -- a place of a task
 abbrev pub entry_at : ℕ → ℕ → Entry

@@ -1,2 +1,0 @@
--- What serves the contracts of private functions alone.
-pub mod Making
