@@ -1,0 +1,89 @@
+-- How many turns of the loop downwards the timer handler takes: for each binary digit of the number of messages, or for
+-- each message, whichever are fewer. So its section is within both of its costs.
+use Rattle.std.proofs.Common.{◌≡◌, ℕ, zero, suc, ◌+◌, ◌-◌, ◌*◌, ◌^◌, ◌<◌, ◌≤◌, Bool, true, false, List, [], ◌∷◌}
+use Rattle.std.proofs.Common.{length, if◌then◌else◌, arith, inl, inr}
+use Rattle.std.specs.List.{AllByRecursion}
+use Rattle.std.proofs.lemmas.Bool.{cases_lt}
+use Rattle.rt_app.specs.Accepted.{IsAccepted}
+use Rattle.rt_app.specs.Level.{is_armed, armed_capacities, armed_count, armed_messages, armed_tasks}
+use Rattle.rt_app.specs.Limits.{KeepsTaskLimits}
+use Rattle.rt_app.specs.Tree.{Task, App}
+use Rattle.rt_gen_timer.specs.TimerCalls.{IsSectionCost}
+use Rattle.rt_gen_timer.proofs.Calling.{reach_enough}
+use Rattle.rt_gen_timer.proofs.Removing.{reach_is}
+use Rattle.rt_gen_timer.proofs.Rising.{rise_reach}
+
+module _ (app : App) where
+  -- a task that may be armed has a place at least
+  counts_within : (n : ℕ) (ts : List Task) → AllByRecursion KeepsTaskLimits ts
+      → armed_count app n ts ≤ armed_capacities app n ts
+  counts_within n [] all = omega arith
+  counts_within n (t ∷ ts) all =
+      omega (arith, one (is_armed app n) t.capacity all.0.least_capacity, counts_within (n + 1) ts all.1)
+    where
+      one : (b : Bool) (c : ℕ) → 1 ≤ c → (if b then 1 else 0) ≤ (if b then c else 0)
+      one true c least = least
+      one false c least = omega arith
+
+  counts_few : (n : ℕ) (ts : List Task) → armed_count app n ts ≤ length ts
+  counts_few n [] = omega arith
+  counts_few n (t ∷ ts) = omega (arith, one (is_armed app n), counts_few (n + 1) ts)
+    where
+      one : (b : Bool) → (if b then 1 else 0) ≤ 1
+      one true = omega arith
+      one false = omega arith
+
+-- the steps of the choices are within those of the digits
+few_tries : (digits tasks : ℕ) → tasks < 2 ^ digits → tasks ≤ 64 → 3 * tasks ≤ 24 + 33 * digits
+few_tries zero tasks less few = omega arith
+few_tries (suc zero) tasks less few = omega arith
+few_tries (suc (suc zero)) tasks less few = omega arith
+few_tries (suc (suc (suc zero))) tasks less few = omega arith
+few_tries (suc (suc (suc (suc zero)))) tasks less few = omega arith
+few_tries (suc (suc (suc (suc (suc zero))))) tasks less few = omega arith
+few_tries (suc (suc (suc (suc (suc (suc digits)))))) tasks less few = omega arith
+
+-- so many turns are enough where a message is armed, and within a cost of the section
+pub record AreSinks (app : App) (cost : ℕ) : Type 0 where
+  pub turns : ℕ
+  pub reach : armed_messages app ≤ rise_reach turns
+  pub few : turns < armed_messages app
+  pub enough : 71 + 31 * turns + 3 * armed_tasks app ≤ cost
+
+pub sinks_for : (app : App) (cost : ℕ) → IsAccepted app → IsSectionCost app cost → 0 < armed_messages app
+    → AreSinks app cost
+sinks_for app cost accepted costs some =
+    let few : armed_tasks app ≤ 64 =
+    omega (arith, counts_few app 0 app.tasks, accepted.limits.few_tasks) in
+    let within : armed_tasks app ≤ armed_messages app = counts_within app 0 app.tasks accepted.limits.tasks in
+    let n : ℕ = armed_messages app in
+    let by_messages : 71 + 31 * (n - 1) + 3 * armed_tasks app ≤ cost → AreSinks app cost =
+    λ enough. record {
+      turns = n - 1;
+      reach = omega (arith, reach_enough (n - 1));
+      few = omega arith;
+      enough = enough;
+    } in
+    elim costs [
+      | inl is ↦ by_messages (omega (arith, is))
+      | inr (digits, below, is) ↦
+          elim (cases_lt n digits) [
+            | inl less ↦ by_messages (omega (arith, is))
+            | inr most ↦ by_digits digits below is few within most
+          ]
+    ]
+  where
+    by_digits : (digits : ℕ) → armed_messages app < 2 ^ digits → cost ≡ 64 + 64 * digits → armed_tasks app ≤ 64
+        → armed_tasks app ≤ armed_messages app → digits ≤ armed_messages app → AreSinks app cost
+    by_digits zero below is few within most = absurd (omega arith)
+    by_digits (suc turns) below is few within most = record {
+      turns = turns;
+      reach = omega (arith, reach_is turns);
+      few = omega arith;
+      enough = omega (arith, is, few_tries (suc turns) (armed_tasks app) (omega arith) few);
+    }
+
+-- where none is due the section is shorter than any cost
+pub idle_enough : (app : App) (cost : ℕ) → IsSectionCost app cost → 16 ≤ cost
+idle_enough app cost (inl is) = omega (arith, is)
+idle_enough app cost (inr (digits, below, is)) = omega (arith, is)

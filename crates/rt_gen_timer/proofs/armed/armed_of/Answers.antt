@@ -1,0 +1,15 @@
+use Rattle.std.proofs.Common.{ap, arith}
+use Rattle.rt_app.specs.Level.{armed_before}
+use Rattle.rt_app.specs.View.{app_of}
+use Rattle.rt_app.specs.declared.app.App.{App}
+use Rattle.rt_app.proofs.ArmedPlaces.{few_before}
+use Rattle.rt_gen_timer.proofs.armed.armed_of.Goals as goal
+
+pub returns-clause-few_before : goal.returns-clause-few_before
+returns-clause-few_before c =
+    omega (
+      arith,
+      c.first.ensures.value,
+      ap (λ (a : App). armed_before (app_of a) c.args.task) c.requires.rows,
+      few_before (app_of c.args.plan.now.app.now) c.requires.accepted c.args.task,
+    )

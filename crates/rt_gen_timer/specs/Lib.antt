@@ -1,0 +1,4 @@
+pub mod TimerLines
+pub mod TimerCode
+pub mod TimerCalls
+pub mod Inside

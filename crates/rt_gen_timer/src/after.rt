@@ -1,0 +1,55 @@
+ghost use Rattle.std.specs.Prelude.{◌≡◌, ◌+◌, ◌*◌, ◌<◌, ◌≤◌, ◌^◌, OnOk};
+ghost use Rattle.rt_ids.specs.declared.limits.TheConstants.{CAPACITY, TASKS};
+ghost use Rattle.rt_app.specs.declared.costs.TheConstants.{TIMER_QUEUE_WORDS};
+ghost use Rattle.rt_gen_queue.specs.Making.{Appends};
+ghost use Rattle.rt_gen_timer.specs.TimerLines as spec;
+
+use crate::armed::ArmedTask;
+use crate::emitter::Emitter;
+use crate::slots::{ANSWER, ARGUMENTS, MASK};
+use rt_code::{Instr, Line, Note};
+use rt_gen_queue::Lines;
+use rt_gen_queue::parts::{fill, take};
+use rt_ids::{NoMemory, Section};
+
+impl Emitter {
+    /// The lines behind a message that is armed, with the answer 0 where no place is left.
+    fn full(&self, armed: &ArmedTask, level: u8, end: u32) -> [Line; 3]
+        requires slots { self.now.slot + TIMER_QUEUE_WORDS < 2 ^ 32 }
+        ensures { result ≡ spec.full_lines self.now.queue self.now.slot level armed.now end }
+    {
+        let task = armed.target.task;
+        let closing = armed.target.guard.closing(level, self.slot + MASK);
+        [
+            (Instr::Jump(end), None),
+            (Instr::Set(self.slot + ANSWER, 0), Some(Note::Full(task))),
+            (closing, Some(Note::Leave(Section::Free(task)))),
+        ]
+    }
+
+    /// Appends the lines of a `spawn_after`.
+    pub(crate) fn push_after(
+        &self,
+        armed: &ArmedTask,
+        level: u8,
+        at: u32,
+        lines: &mut Lines,
+    ) -> Result<(), NoMemory>
+        requires few { self.now.queue.messages ≤ CAPACITY * TASKS }
+        requires slots { self.now.slot + TIMER_QUEUE_WORDS < 2 ^ 32 }
+        requires room { at + 65 < 2 ^ 32 }
+        requires arguments { armed.now.target.args ≤ 4 }
+        requires before { armed.now.first ≤ CAPACITY * armed.now.target.task }
+        ensures { OnOk result (Appends lines.old lines.new
+            (spec.after_lines self.now.queue self.now.slot level armed.now at)) }
+    {
+        let args = u32::from(armed.target.args);
+        let first = self.slot + ARGUMENTS;
+        let full = at + (59 + args);
+        lines.append(&take(&armed.target, level, first, full))?;
+        fill(&armed.target, level, first, lines)?;
+        self.push_arm(armed, level, at + (12 + args), lines)?;
+        lines.append(&self.full(armed, level, full + 2))?;
+        Ok(())
+    }
+}

@@ -1,0 +1,154 @@
+ghost use Rattle.std.specs.Prelude.{◌≡◌, ◌+◌, ◌*◌, ◌<◌, ◌≤◌, ◌^◌, ◌++◌, true, length, drop, slice_get, Some, IsSome, IfOk};
+ghost use Rattle.std.specs.Prelude.{OnOk, OnErr};
+ghost use Rattle.std.specs.List.{AllByRecursion};
+ghost use Rattle.rt_ids.specs.Lists.{is_some_and};
+ghost use Rattle.rt_ids.specs.declared.limits.TheConstants.{CAPACITY, TASKS};
+ghost use Rattle.rt_app.specs.Accepted.{IsAccepted};
+ghost use Rattle.rt_app.specs.Level.{is_software};
+ghost use Rattle.rt_app.specs.Names.{names_of};
+ghost use Rattle.rt_app.specs.Plan.{IsPlan};
+ghost use Rattle.rt_app.specs.View.{app_of};
+ghost use Rattle.rt_app.specs.declared.costs.TheConstants.{SPAWN_AFTER_COST, HANDLE_COST, TIMER_QUEUE_WORDS};
+ghost use Rattle.rt_gen_queue.specs.Line.{IsNameable};
+ghost use Rattle.rt_gen_timer.specs.TimerCode as spec;
+ghost use Rattle.rt_gen_timer.specs.declared.generate.TheConstants.{MANY_LINES};
+
+use crate::armed::armed_of;
+use crate::emitter::Emitter;
+use crate::queue::queue_of;
+use rt_app::Plan;
+use rt_app::costs::TIMER_QUEUE_WORDS;
+use rt_code::Line;
+use rt_frames::ArmedRows;
+use rt_gen_queue::Lines;
+use rt_ids::{NoMemory, TaskId};
+use std::alloc::Global;
+
+/// More lines than a call has.
+pub(crate) const MANY_LINES: u32 = 128;
+
+/// What writes the code of an application's calls from a slot on. Where the slots or the lines from an address on have
+/// no 32 bits there is no memory for so much code either.
+pub(crate) fn emitter_of(
+    plan: &Plan<'_>,
+    rows: &ArmedRows<'_>,
+    slot: u32,
+    entry: u32,
+) -> Result<Emitter, NoMemory>
+    requires accepted { IsAccepted (app_of plan.now.app.now) }
+    requires planned { IsPlan plan.now }
+    requires rows { rows.now ≡ plan.now.app.now }
+    requires timed { IsSome (app_of plan.now.app.now).mono }
+    ensures queue { IfOk result (λ emitter. emitter.queue ≡ spec.queue_of (app_of plan.now.app.now)) }
+    ensures slot { IfOk result (λ emitter. emitter.slot ≡ slot) }
+    ensures few { IfOk result (λ emitter. emitter.queue.messages ≤ CAPACITY * TASKS) }
+    ensures slots { OnOk result (slot + TIMER_QUEUE_WORDS < 2 ^ 32) }
+    ensures room { OnOk result (entry + MANY_LINES < 2 ^ 32) }
+{
+    slot.checked_add(TIMER_QUEUE_WORDS).ok_or(NoMemory)?;
+    entry.checked_add(MANY_LINES).ok_or(NoMemory)?;
+    let mono = plan.app.mono.unwrap();
+    let queue = queue_of(plan, rows, mono);
+    Ok(Emitter { queue, slot })
+}
+
+/// Appends the code of a `spawn_after` of a software task, at a static level, to code; its first line will stand at the
+/// address `entry`. The delay and then the arguments stand in the slots from one on. It takes a place of the task and
+/// arms its message; the answer comes into the first slot: the message's handle, or 0 where no place is left. It
+/// writes the 24 slots from there on alone. Its lines name only what the application declares, and there are at most
+/// 192 of them. An error leaves the code as it was.
+pub fn gen_after(
+    alloc: Global,
+    plan: &Plan<'_>,
+    rows: &ArmedRows<'_>,
+    task: TaskId,
+    level: u8,
+    slot: u32,
+    entry: u32,
+    code: &mut Vec<Line>,
+) -> Result<(), NoMemory>
+    requires accepted { IsAccepted (app_of plan.now.app.now) }
+    requires planned { IsPlan plan.now }
+    requires rows { rows.now ≡ plan.now.app.now }
+    requires timed { IsSome (app_of plan.now.app.now).mono }
+    requires software { is_some_and is_software (slice_get (app_of plan.now.app.now).tasks task) ≡ true }
+    ensures code { OnOk result (code.new.items ≡ code.old.items
+        ++ spec.after_code (app_of plan.now.app.now) task level slot entry) }
+    ensures size { OnOk result (length code.new.items ≤ length code.old.items + SPAWN_AFTER_COST) }
+    ensures lines { OnOk result (AllByRecursion (IsNameable (names_of (app_of plan.now.app.now)))
+        (drop (length code.old.items) code.new.items)) }
+    ensures left { OnErr result (code.new.items ≡ code.old.items) }
+{
+    let emitter = emitter_of(plan, rows, slot, entry)?;
+    let mut lines = Lines::new(alloc);
+    emitter.push_after(&armed_of(plan, rows, task), level, entry, &mut lines)?;
+    code.extend_from_slice(lines.as_slice())?;
+    Ok(())
+}
+
+/// Appends the code of a `cancel` of a message of a software task, at a static level, to code; its first line will
+/// stand at the address `entry`. The handle stands in a slot, into which the answer comes: 0 where an armed message of
+/// the task had the handle and was taken back, else 1. It writes the 24 slots from there on alone. Its lines name only
+/// what the application declares, and there are at most 256 of them. An error leaves the code as it was.
+pub fn gen_cancel(
+    alloc: Global,
+    plan: &Plan<'_>,
+    rows: &ArmedRows<'_>,
+    task: TaskId,
+    level: u8,
+    slot: u32,
+    entry: u32,
+    code: &mut Vec<Line>,
+) -> Result<(), NoMemory>
+    requires accepted { IsAccepted (app_of plan.now.app.now) }
+    requires planned { IsPlan plan.now }
+    requires rows { rows.now ≡ plan.now.app.now }
+    requires timed { IsSome (app_of plan.now.app.now).mono }
+    requires software { is_some_and is_software (slice_get (app_of plan.now.app.now).tasks task) ≡ true }
+    ensures code { OnOk result (code.new.items ≡ code.old.items
+        ++ spec.cancel_code (app_of plan.now.app.now) task level slot entry) }
+    ensures size { OnOk result (length code.new.items ≤ length code.old.items + HANDLE_COST) }
+    ensures lines { OnOk result (AllByRecursion (IsNameable (names_of (app_of plan.now.app.now)))
+        (drop (length code.old.items) code.new.items)) }
+    ensures left { OnErr result (code.new.items ≡ code.old.items) }
+{
+    let emitter = emitter_of(plan, rows, slot, entry)?;
+    let mut lines = Lines::new(alloc);
+    emitter.push_cancel(&armed_of(plan, rows, task), level, entry, &mut lines)?;
+    code.extend_from_slice(lines.as_slice())?;
+    Ok(())
+}
+
+/// Appends the code of a `reschedule_after` of a message of a software task, at a static level, to code; its first line
+/// will stand at the address `entry`. The delay and then the handle stand in the slots from one on. The answer comes
+/// into the first: 0 where an armed message of the task had the handle and waits anew, else 1. It writes the 24 slots
+/// from there on alone. Its lines name only what the application declares, and there are at most 256 of them. An error
+/// leaves the code as it was.
+pub fn gen_move(
+    alloc: Global,
+    plan: &Plan<'_>,
+    rows: &ArmedRows<'_>,
+    task: TaskId,
+    level: u8,
+    slot: u32,
+    entry: u32,
+    code: &mut Vec<Line>,
+) -> Result<(), NoMemory>
+    requires accepted { IsAccepted (app_of plan.now.app.now) }
+    requires planned { IsPlan plan.now }
+    requires rows { rows.now ≡ plan.now.app.now }
+    requires timed { IsSome (app_of plan.now.app.now).mono }
+    requires software { is_some_and is_software (slice_get (app_of plan.now.app.now).tasks task) ≡ true }
+    ensures code { OnOk result (code.new.items ≡ code.old.items
+        ++ spec.move_code (app_of plan.now.app.now) task level slot entry) }
+    ensures size { OnOk result (length code.new.items ≤ length code.old.items + HANDLE_COST) }
+    ensures lines { OnOk result (AllByRecursion (IsNameable (names_of (app_of plan.now.app.now)))
+        (drop (length code.old.items) code.new.items)) }
+    ensures left { OnErr result (code.new.items ≡ code.old.items) }
+{
+    let emitter = emitter_of(plan, rows, slot, entry)?;
+    let mut lines = Lines::new(alloc);
+    emitter.push_move(&armed_of(plan, rows, task), level, entry, &mut lines)?;
+    code.extend_from_slice(lines.as_slice())?;
+    Ok(())
+}
