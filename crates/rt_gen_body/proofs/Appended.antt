@@ -1,5 +1,5 @@
 -- What holds of code once a body's lines have been generated and put behind it.
-use Rattle.std.proofs.Common.{◌≡◌, sym, ap, subst, ◌∙◌, ℕ, ◌+◌, ◌≤◌, true, List, [], ◌++◌, length, take, drop, arith}
+use Rattle.std.proofs.Common.{◌≡◌, sym, ap, subst, ◌∙◌, ℕ, ◌+◌, ◌≤◌, List, [], ◌++◌, length, take, drop, arith}
 use Rattle.std.proofs.Common.{length-append}
 use Rattle.std.specs.List.{AllByRecursion}
 use Rattle.std.proofs.lemmas.List.{take-append-drop, drop_at}
@@ -8,7 +8,6 @@ use Rattle.rt_ids.specs.declared.ids.BodyId.{BodyId}
 use Rattle.rt_app.specs.Tree.{App}
 use Rattle.rt_app.specs.Bodies.{member_at, body_at}
 use Rattle.rt_app.specs.BodyCost.{size_measure, cost_of}
-use Rattle.rt_app.specs.Handlers.{has_no_monotonic}
 use Rattle.rt_app.specs.Names.{names_of}
 use Rattle.rt_app.specs.Accepted.{IsAccepted}
 use Rattle.rt_gen_queue.specs.Line.{IsNameable, Line}
@@ -55,11 +54,10 @@ module _ (app : App) (accepted : IsAccepted app) (id : BodyId) (front new slice 
       ap (λ (l : List Line). length l) appended_is ∙ length-append front code in
       omega (arith, long, code_short app accepted id entry)
 
-  pub appended_stands : has_no_monotonic app ≡ true → IsBodyOf app id
-      → BodyStands app id new entry
-  appended_stands monotonic of_app =
+  pub appended_stands : IsBodyOf app id → BodyStands app id new entry
+  appended_stands of_app =
       let there : new ≡ front ++ code_of app id (member_at app id) (length front) =
       appended_is ∙ ap (λ n. front ++ code_of app id (member_at app id) n) begins in
       subst (λ n. BodyStands app id new n) (sym begins)
       (subst (λ (code : List Line). BodyStands app id code (length front)) (sym there)
-      (generated_stands app accepted monotonic front id of_app))
+      (generated_stands app accepted front id of_app))

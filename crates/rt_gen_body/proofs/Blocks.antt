@@ -1,16 +1,14 @@
 -- The code of every block stands: it does what the block means, within the block's steps.
-use Rattle.std.proofs.Common.{◌≡◌, ◌≢◌, ℕ, zero, suc, ◌+◌, ◌-◌, ◌*◌, ◌^◌, ◌<◌, ◌≤◌, max, true, Option, Some, None, List}
+use Rattle.std.proofs.Common.{◌≡◌, ◌≢◌, ℕ, zero, suc, ◌+◌, ◌-◌, ◌*◌, ◌^◌, ◌<◌, ◌≤◌, max, true, Option, List}
 use Rattle.std.proofs.Common.{◌∷◌, ◌++◌, length, slice_set, Contains, refl, ap, sym, ◌∙◌, subst, inl, inr, arith}
 use Rattle.std.proofs.Common.{length-append, length-set, get_or-set_same, get_or-set_other}
 use Rattle.std.proofs.Math.Nat.{suc-mul}
-use Rattle.std.proofs.lemmas.Option.{none-some}
 use Rattle.rt_ids.specs.Content.{Values}
 use Rattle.rt_ids.specs.Doing.{Doing}
 use Rattle.rt_ids.specs.Storage.{Runner}
 use Rattle.rt_ids.specs.declared.limits.TheConstants.{BODY_COST}
-use Rattle.rt_app.specs.declared.app.Mono.{Mono}
 use Rattle.rt_app.specs.Tree.{Statement, Bind, Assign, Branch, Repeat, Locked, Emit, Pend, Spawns, Calc, Now, Call}
-use Rattle.rt_app.specs.Tree.{Spawn, Soon, After, Cancel, Move}
+use Rattle.rt_app.specs.Tree.{Spawn}
 use Rattle.rt_app.specs.Spawned.{statement_spawns, spawns}
 use Rattle.rt_app.specs.Layout.{memory}
 use Rattle.rt_app.specs.Holding.{storage}
@@ -39,7 +37,7 @@ use Rattle.rt_gen_queue.proofs.Placing.{code_front, code_behind}
 use Rattle.rt_gen_body.proofs.Owning.{LaysOut}
 use Rattle.rt_gen_body.proofs.Facts.{Facts}
 use Rattle.rt_gen_body.proofs.Settled.{listed_by, Fits, Behind}
-use Rattle.rt_gen_body.proofs.Simple.{renamed, Ready', sets_variable, emits_value, assigns, pends}
+use Rattle.rt_gen_body.proofs.Simple.{renamed, Ready', sets_variable, binds_time, emits_value, assigns, pends}
 use Rattle.rt_gen_body.proofs.Loops.{BlockStands, loop_turns, spent, head_code, tail_code}
 use Rattle.rt_gen_body.proofs.Sections.{locks}
 use Rattle.rt_gen_body.proofs.Branches.{chooses_one, chooses_two}
@@ -82,9 +80,6 @@ spent_is (suc turns) block = omega (arith, spent_is turns block, suc-mul turns (
 spent_some : (turns block : ℕ) → zero < turns → block + 6 ≤ spent turns block
 spent_some zero block some = absurd (omega arith)
 spent_some (suc turns) block some = omega arith
-
-no_mono : (mono : Option Mono) → mono ≡ None → (m : Mono) × (mono ≡ Some m) → ⊥
-no_mono mono none some = none-some some.0 (sym none ∙ some.1)
 
 -- what a statement and a block ask of the frame, and that they are short
 pub record RoomFor (top words expressions spawning : ℕ) (app : App) (s : Statement) (count lock : ℕ) : Type 0 where
@@ -238,25 +233,19 @@ module _ (code : List Line) (bodies : List BodyRow) (thread : ℕ) (who : Runner
         (λ y here. elim (contains_cases count visible y here) [ inl e ↦ inl (x_is ∙ e) | inr old ↦ inr old ]) is on
     statement_stands (Bind x (Now at)) count visible fixed locked level lock room sound placed below fixed_below fits n
         k h vars vs later fuel has lasts ready is on =
-        absurd (no_mono app.mono facts.no_clock sound.1)
-    statement_stands (Bind x (Call (Soon task args at))) count visible fixed locked level lock room sound placed below
-        fixed_below fits n k h vars vs later fuel has lasts ready is on =
         let x_is : x ≡ count = sound.0 in
-        binds_sent code bodies thread who caller app m words top lays c facts x task args at n k h visible fixed vars vs
-        locked level lock later (behind app (listed_by m) count visible (Bind x (Call (Soon task args at)))) fuel has
-        lasts ready fits room.depth (room.sends (Soon task args at) (0, refl))
-        (λ y here. let less = fixed_below y here in omega (arith, room.variables)) sound.1 placed.1
-        (omega (arith, room.variables)) (λ here. let less = fixed_below x here in omega arith)
+        binds_time (storage app) code bodies thread who caller app m (length (memory app)) words top lays c facts x n k
+        h visible fixed vars vs locked level lock later (behind app (listed_by m) count visible (Bind x (Now at))) fuel
+        has lasts ready fits (omega (arith, room.variables)) (λ here. let less = fixed_below x here in omega arith)
         (λ y here. elim (contains_cases count visible y here) [ inl e ↦ inl (x_is ∙ e) | inr old ↦ inr old ]) is on
-    statement_stands (Bind x (Call (After word delay task args at))) count visible fixed locked level lock room sound
-        placed below fixed_below fits n k h vars vs later fuel has lasts ready is on =
-        absurd (no_mono app.mono facts.no_clock sound.1.4)
-    statement_stands (Bind x (Call (Cancel word task handle at))) count visible fixed locked level lock room sound
-        placed below fixed_below fits n k h vars vs later fuel has lasts ready is on =
-        absurd (no_mono app.mono facts.no_clock sound.1.1.timed)
-    statement_stands (Bind x (Call (Move word delay task handle at))) count visible fixed locked level lock room sound
-        placed below fixed_below fits n k h vars vs later fuel has lasts ready is on =
-        absurd (no_mono app.mono facts.no_clock sound.1.1.timed)
+    statement_stands (Bind x (Call p)) count visible fixed locked level lock room sound placed below fixed_below fits n
+        k h vars vs later fuel has lasts ready is on =
+        let x_is : x ≡ count = sound.0 in
+        binds_sent code bodies thread who caller app m words top lays c facts x p n k h visible fixed vars vs locked
+        level lock later (behind app (listed_by m) count visible (Bind x (Call p))) fuel has lasts ready fits room.depth
+        (room.sends p (0, refl)) (λ y here. let less = fixed_below y here in omega (arith, room.variables)) sound.1
+        placed.1 (omega (arith, room.variables)) (λ here. let less = fixed_below x here in omega arith)
+        (λ y here. elim (contains_cases count visible y here) [ inl e ↦ inl (x_is ∙ e) | inr old ↦ inr old ]) is on
     statement_stands (Assign x e at) count visible fixed locked level lock room sound placed below fixed_below fits n k
         h vars vs later fuel has lasts ready is on =
         assigns (storage app) code bodies thread who caller app m (length (memory app)) words top lays c facts x e at n
@@ -391,23 +380,13 @@ module _ (code : List Line) (bodies : List BodyRow) (thread : ℕ) (who : Runner
         pends (storage app) code bodies thread who caller app m (length (memory app)) words top lays c facts i n k h
         visible fixed vars vs locked
         level lock later fuel has lasts ready sound is on
-    statement_stands (Spawns (Soon task args at)) count visible fixed locked level lock room sound placed below
-        fixed_below fits n k h vars vs later fuel has lasts ready is on =
-        sends code bodies thread who caller app m words top lays c facts task args at n k h visible fixed vars vs locked
-        level lock (λ granted. later vars) fuel has lasts ready fits room.depth
-        (room.sends (Soon task args at) (0, refl))
+    statement_stands (Spawns p) count visible fixed locked level lock room sound placed below fixed_below fits n k h
+        vars vs later fuel has lasts ready is on =
+        sends code bodies thread who caller app m words top lays c facts p n k h visible fixed vars vs locked level lock
+        (λ answer. later vars) fuel has lasts ready fits room.depth (room.sends p (0, refl))
         (λ y here. let less = fixed_below y here in omega (arith, room.variables)) sound placed is
-        (λ granted j done to slots cells queues ws fuel2 within to_is answer settled.
+        (λ answer j done to slots cells queues ws fuel2 within to_is answered settled.
         on j done to slots cells vars queues ws fuel2 within to_is settled)
-    statement_stands (Spawns (After word delay task args at)) count visible fixed locked level lock room sound placed
-        below fixed_below fits n k h vars vs later fuel has lasts ready is on =
-        absurd (no_mono app.mono facts.no_clock sound.4)
-    statement_stands (Spawns (Cancel word task handle at)) count visible fixed locked level lock room sound placed
-        below fixed_below fits n k h vars vs later fuel has lasts ready is on =
-        absurd (no_mono app.mono facts.no_clock sound.1.timed)
-    statement_stands (Spawns (Move word delay task handle at)) count visible fixed locked level lock room sound placed
-        below fixed_below fits n k h vars vs later fuel has lasts ready is on =
-        absurd (no_mono app.mono facts.no_clock sound.1.timed)
 
     pub block_stands : (b : Block) (count : ℕ) (visible fixed locked : List ℕ) (level lock : ℕ)
         → RoomForBlock top words c.expressions c.spawns app b count lock → IsSoundBlock app m count locked fixed b

@@ -13,9 +13,8 @@ use Rattle.rt_ids.specs.declared.ids.Section.{Section}
 use Rattle.rt_ids.specs.declared.ids.Section.TheVariants as section
 use Rattle.rt_app.specs.Limits.{statements_in, statements_of}
 use Rattle.rt_app.specs.Tree as tree
-use Rattle.rt_app.specs.View.{expression_of, spawn_of, statement_of, block_of}
+use Rattle.rt_app.specs.View.{expression_of, statement_of, block_of}
 use Rattle.rt_app.specs.declared.expr.Expr.{Expr}
-use Rattle.rt_app.specs.declared.stmt.Spawn.{Spawn}
 use Rattle.rt_app.specs.declared.stmt.Stmt.{Stmt}
 use Rattle.rt_code.specs.Masking.{opening, closing}
 use Rattle.rt_code.specs.declared.instr.Instr.{Instr}
@@ -26,7 +25,7 @@ use Rattle.rt_gen_queue.specs.Guards.{kind_of, enter_line, leave_line}
 use Rattle.rt_gen_queue.specs.SpawnCode.{spawn_code}
 use Rattle.rt_gen_queue.specs.declared.guard.Guard.{Guard}
 use Rattle.rt_gen_body.specs.Inside.Values.{Context, next_slot, value_code, expression_code, arguments_code}
-use Rattle.rt_gen_body.specs.Inside.Simple.{message_code, send_code}
+use Rattle.rt_gen_body.specs.Inside.Simple.{message_code, values_code, goes_code, send_code}
 use Rattle.rt_gen_body.specs.Inside.Blocks.{guard_at, one_code, two_code, first_code, loop_front, loop_back}
 use Rattle.rt_gen_body.specs.Inside.Blocks.{loop_code, lock_code, statement_code, block_code}
 use Rattle.rt_gen_body.specs.Inside.Lines.{Lines, next_address, Appends, EndsWith}
@@ -300,19 +299,13 @@ code_emitted a entry at old new code is here made =
     ∙ ap (λ (ls : List Line). the_lines a.entry (ls ++ code at)) (ap (λ (l : Lines). l.lines) is)
     ∙ ap (λ n. the_lines a.entry (a.lines ++ code n)) here
 
--- the lines of a spawn, whose arguments come first
-pub sent : (c : Context) (level : ℕ) (a b d : Lines) (s : Spawn) (task at : ℕ) (es read : List Expr)
-    → spawn_of s ≡ tree.Soon task (map expression_of es) at → read ≡ es
-    → Appends a b (arguments_code c (map expression_of read) c.spawns)
-    → Appends b d (message_code c level (next_address b) task)
-    → Appends a d (send_code c level (next_address a) (spawn_of s))
-sent c level a b d s task at es read is same e f =
-    let front : List Line = arguments_code c (map expression_of es) c.spawns in
-    let first : Appends a b front =
-    subst (λ (xs : List Expr). Appends a b (arguments_code c (map expression_of xs) c.spawns)) same e in
-    subst (λ (t : tree.Spawn). Appends a d (send_code c level (next_address a) t)) (sym is)
-    (appends_both a b d front (message_code c level (next_address a + length front) task) first
-    (subst (λ n. Appends b d (message_code c level n task)) (next_behind a b front first) f))
+-- the lines of a spawn, whose values come first
+pub sent : (c : Context) (level : ℕ) (a b d : Lines) (s : tree.Spawn) → Appends a b (values_code c s)
+    → Appends b d (goes_code c level (next_address b) s) → Appends a d (send_code c level (next_address a) s)
+sent c level a b d s first then_goes =
+    let front : List Line = values_code c s in
+    appends_both a b d front (goes_code c level (next_address a + length front) s) first
+    (subst (λ n. Appends b d (goes_code c level n s)) (next_behind a b front first) then_goes)
 
 at_within : (xs : List Stmt) (i : ℕ) (x : Stmt) → i < length xs
     → statements_in (statement_of (get_or xs i x)) ≤ statements_of (block_of xs)

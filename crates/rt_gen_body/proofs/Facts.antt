@@ -1,6 +1,6 @@
 -- What is known of a body and of what its code is generated with.
 use Rattle.std.proofs.Common.{◌≡◌, ℕ, ◌^◌, ◌<◌, ◌≤◌, max, true, List, ◌∷◌, length, map}
-use Rattle.std.proofs.Common.{slice_index, subst, arith, None}
+use Rattle.std.proofs.Common.{slice_index, subst, arith}
 use Rattle.rt_ids.specs.Lists.{greatest, or_zero}
 use Rattle.rt_ids.specs.Holder.{Guarded, Own}
 use Rattle.rt_ids.specs.Storage.{Storage, Runner, Starting, AtLevel}
@@ -63,5 +63,3 @@ pub record Facts (st : Storage) (who : Runner) (app : App) (m : Member) (c : Con
   pub enters : (x : Section) → m.priority ≤ ceiling app x → IsWithin st who who x
   pub accepted : IsAccepted app
   pub of_app : c.app ≡ app
-  -- no monotonic
-  pub no_clock : app.mono ≡ None

@@ -1,5 +1,5 @@
 -- How the code of a body comes about.
-use Rattle.std.proofs.Common.{true, zero, suc, ◌≡◌, refl, sym, ap, subst, ◌∙◌, ℕ, ◌+◌, ◌≤◌, ◌<◌}
+use Rattle.std.proofs.Common.{zero, suc, ◌≡◌, refl, sym, ap, subst, ◌∙◌, ℕ, ◌+◌, ◌≤◌, ◌<◌}
 use Rattle.std.proofs.Common.{◌^◌, List, [], ◌++◌, length, map, slice_get, get_or, Option, Some, None, option_map}
 use Rattle.std.proofs.Common.{arith}
 use Rattle.std.specs.List.{AllByRecursion, range_with_len}
@@ -15,7 +15,6 @@ use Rattle.rt_app.specs.declared.app.Task as row
 use Rattle.rt_ids.specs.declared.ids.Section.TheVariants as section
 use Rattle.rt_app.specs.declared.plan.Plan.{Plan}
 use Rattle.rt_app.specs.Tree.{Task, App}
-use Rattle.rt_app.specs.Handlers.{has_no_monotonic}
 use Rattle.rt_app.specs.BodyCost.{cost_measure, body_cost}
 use Rattle.rt_app.specs.Layout.{memory}
 use Rattle.rt_app.specs.Holding.{storage}
@@ -118,7 +117,7 @@ guards_are plan planned bits tops guards same is made =
     ∙ map-map (guarded app.bits) (λ r. ceiling app (section.Res r)) (range_with_len 0 (length app.shared))
 
 -- what is generated behind other code stands
-module _ (app : App) (accepted : IsAccepted app) (no_monotonic : has_no_monotonic app ≡ true) (front : List Line) where
+module _ (app : App) (accepted : IsAccepted app) (front : List Line) where
   abbrev task_lines : ℕ → Option Task → List Line
   task_lines n o =
       front ++ code_of app (body.Task n)
@@ -133,13 +132,13 @@ module _ (app : App) (accepted : IsAccepted app) (no_monotonic : has_no_monotoni
         subst (λ (o : Option Task). StandsFrom (storage app) (task_lines n o ++ more) bodies thread (AtLevel t.priority)
         (length (memory app)) (frame_words t.args t.body) (length front) (body_cost (cost_measure app) t.body)
         (task_doing app n [] (act Returns nothing))) (sym at)
-        (task_stands app accepted (accepted_are_sound app accepted) no_monotonic front n t at hardware
+        (task_stands app accepted (accepted_are_sound app accepted) front n t at hardware
         (omega arith) more bodies thread);
     called = λ t at software.
         let short = frame_short t n at in
         subst (λ (o : Option Task). CalledBodyStands app n (task_lines n o ++ more) (row_for (λ k. length front) n t))
         (sym at)
-        (called_stands app accepted (accepted_are_sound app accepted) no_monotonic front n t at software
+        (called_stands app accepted (accepted_are_sound app accepted) front n t at software
         (omega arith) more);
   }
     where
@@ -151,7 +150,7 @@ module _ (app : App) (accepted : IsAccepted app) (no_monotonic : has_no_monotoni
   pub generated_stands : (id : BodyId) → IsBodyOf app id
       → BodyStands app id (front ++ code_of app id (member_at app id) (length front)) (length front)
   generated_stands body.Init of_app =
-      init_stands app accepted (accepted_are_sound app accepted) no_monotonic front app.init refl
+      init_stands app accepted (accepted_are_sound app accepted) front app.init refl
   generated_stands body.Idle of_app =
-      idle_stands app accepted (accepted_are_sound app accepted) no_monotonic front app.idle refl
+      idle_stands app accepted (accepted_are_sound app accepted) front app.idle refl
   generated_stands (body.Task n) of_app = task_of_code n

@@ -3,21 +3,21 @@ use Rattle.std.proofs.Common.{◌≡◌, ℕ, suc, ◌<◌, ◌==◌, Bool, true
 use Rattle.std.proofs.Common.{length, slice_get, slice_index, slice_set, refl, ap, sym, ◌∙◌, subst}
 use Rattle.rt_ids.specs.Operation.{operate}
 use Rattle.rt_ids.specs.Content.{Values}
-use Rattle.rt_ids.specs.Action.{Emits, Posts}
+use Rattle.rt_ids.specs.Action.{Emits, Posts, Clocks}
 use Rattle.rt_ids.specs.Doing.{Doing, does}
 use Rattle.rt_ids.specs.Storage.{Storage, Runner}
 use Rattle.rt_ids.specs.declared.op.Op.{Op}
 use Rattle.rt_code.specs.Effect.{next}
 use Rattle.rt_code.specs.Owning.{Spot, MayLoad, MayStore, Agree}
-use Rattle.rt_code.specs.Processor.{Processor, Leads}
-use Rattle.rt_code.specs.Standing.{Asks, processor_of}
+use Rattle.rt_code.specs.Processor.{Processor, Effect, Leads}
+use Rattle.rt_code.specs.Standing.{Stands, Asks, Goes, passed, processor_of}
 use Rattle.rt_code.specs.declared.image.BodyRow.{BodyRow}
 use Rattle.rt_code.specs.declared.instr.Instr.TheVariants as instr
 use Rattle.rt_code.specs.declared.processor.Request.TheVariants as request
 use Rattle.rt_code.proofs.Done.{effect_is_done}
 use Rattle.rt_gen_queue.specs.Line.{Line, plain}
 use Rattle.rt_gen_body.proofs.Spots.{Lasts, Here, spot, SavedBetween, Apart, kept_apart, kept_same}
-use Rattle.rt_gen_body.proofs.Steps.{S, one_there, two_there, three_there, silent, acting}
+use Rattle.rt_gen_body.proofs.Steps.{S, one_there, two_there, three_there, by_line, at_passed, silent, acting}
 
 module _ (st : Storage) (code : List Line) (bodies : List BodyRow) (thread : ℕ) (who : Runner)
     (caller : Option (List ℕ)) where
@@ -173,3 +173,39 @@ module _ (st : Storage) (code : List Line) (bodies : List BodyRow) (thread : ℕ
       (Posts irq) rest values here lasts is refl
       (λ time b m. effect_is_done (instr.Post irq) time (processor_of (spot caller h) b m) refl refl)
       (λ spot later acts. acts) on
+
+  -- a slot gets the time
+  pub clocks : (n : ℕ) (h : Here) (d low high : ℕ) (rest : ℕ → Values → Doing Values) (values : Values)
+      → slice_get code h.at ≡ Some (plain (instr.Clock d)) → Lasts (suc h.done) h.deadlines
+      → d < length h.slots → Apart low high d → SavedBetween low high h.held → h.rest ≡ does Clocks values rest
+      → ((time : ℕ) (vs : Values) → Agree st who h.held vs values
+      → S st code bodies thread who caller n (record h {
+        done = suc h.done;
+        slots = slice_set h.slots d time;
+        at = suc h.at;
+        rest = rest time vs;
+      }))
+      → S st code bodies thread who caller (suc n) h
+  clocks n h d low high rest values here lasts there apart between is on =
+      by_line st code bodies thread who caller n h (instr.Clock d) None here lasts
+      (record {
+        touches = tt;
+        goes = λ time b m early.
+            let after : List ℕ = slice_set h.slots d time in
+            subst (λ (e : Effect). Goes st code bodies thread who None b m (passed (spot caller h))
+            (Stands st code bodies thread who n) e)
+            (sym (effect_is_done (instr.Clock d) time (processor_of (spot caller h) b m) refl
+            (one_there d (length h.slots) there))) (
+              refl,
+              refl,
+              kept_apart h.held h.slots low high d time apart between,
+              record {
+                values = values;
+                follows = rest;
+                is = is;
+                on = λ vs agree.
+                    at_passed st code bodies thread who caller n
+                    (record h { slots = after; at = suc h.at; rest = rest time vs }) (on time vs agree);
+              },
+            );
+      })

@@ -10,6 +10,7 @@ pub mod Settled
 pub mod Simple
 pub mod Loops
 pub mod Sections
+pub mod Going
 pub mod Sending
 pub mod Branches
 pub mod Blocks

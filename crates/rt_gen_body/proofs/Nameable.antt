@@ -1,10 +1,11 @@
 -- The lines of a body name only what the application declares.
 use Rattle.std.proofs.Common.{◌≡◌, ℕ, ◌+◌, ◌<◌, ◌==◌, Bool, true, false, if◌then◌else◌, Option, Some, None}
 use Rattle.std.proofs.Common.{List, [], ◌∷◌, ◌++◌, length, map, slice_get, slice_index, IsSome, refl, sym, subst}
-use Rattle.std.proofs.Common.{arith, eq-eqb}
+use Rattle.std.proofs.Common.{arith, eq-eqb, is_some}
 use Rattle.std.specs.List.{AllByRecursion}
 use Rattle.std.proofs.lemmas.List.{length-map}
 use Rattle.std.proofs.lemmas.Option.{slice_get_within}
+use Rattle.rt_lemmas.proofs.Bools.{and_left, and_right}
 use Rattle.rt_lemmas.proofs.Lists.{found, some_at, mapped_at}
 use Rattle.rt_lemmas.proofs.Membership.{all_append}
 use Rattle.rt_lemmas.proofs.Places.{read_at}
@@ -35,11 +36,16 @@ use Rattle.rt_gen_queue.specs.Guards.{leave_line}
 use Rattle.rt_gen_queue.specs.SpawnCode.{spawn_code}
 use Rattle.rt_gen_body.specs.Inside.Values.{Context, next_slot, load, store, expression_code, value_code}
 use Rattle.rt_gen_body.specs.Inside.Values.{arguments_code}
-use Rattle.rt_gen_body.specs.Inside.Simple.{bind_code, message_code, send_code}
+use Rattle.rt_gen_timer.specs.TimerCode.{queue_of, after_code, cancel_code, move_code}
+use Rattle.rt_gen_timer.proofs.Generated.{spawned, timer_named}
+use Rattle.rt_gen_timer.proofs.Named.{after_named, cancel_named, move_named}
+use Rattle.rt_gen_body.specs.Inside.Simple.{bind_code, is_timed, message_code, delayed_code, cancelled_code}
+use Rattle.rt_gen_body.specs.Inside.Simple.{moved_code, values_of, goes_code, send_code}
 use Rattle.rt_gen_body.specs.Inside.Blocks.{guard_at, branch_code, loop_back, loop_code, lock_code, statement_code}
 use Rattle.rt_gen_body.specs.Inside.Blocks.{block_code}
 use Rattle.rt_gen_body.specs.Inside.Whole.{context_of, level_of, end_code, blocks_of, code_of}
 use Rattle.rt_gen_queue.proofs.Masks.{enter_named, leave_named}
+use Rattle.rt_gen_queue.proofs.Facts.{Spawned}
 use Rattle.rt_gen_queue.proofs.Named.{spawn_named}
 
 -- each declared interrupt stands in the names, with its number
@@ -61,12 +67,15 @@ pub resource_named : (app : App) (r : ℕ) → r < length app.shared → HasSect
 resource_named app r within = omega (arith, length-map app.shared (λ s. s.name))
 
 -- the lines of the spawns of a context
-abbrev pub HasNamedSpawns : App → Context → Type 0
-HasNamedSpawns app c =
-    (level at task : ℕ) → AllByRecursion (IsNameable (names_of app)) (message_code c level at task)
+pub record HasNamedSpawns (app : App) (c : Context) : Type 0 where
+  pub message : (level at task : ℕ) → AllByRecursion (IsNameable (names_of app)) (message_code c level at task)
+  pub delayed : (level at task : ℕ) → AllByRecursion (IsNameable (names_of app)) (delayed_code c level at task)
+  pub cancelled : (level at task : ℕ) → AllByRecursion (IsNameable (names_of app)) (cancelled_code c level at task)
+  pub moved : (level at task : ℕ) → AllByRecursion (IsNameable (names_of app)) (moved_code c level at task)
 
-pub spawns_named : (app : App) (m : Member) → IsAccepted app → HasNamedSpawns app (context_of app m)
-spawns_named app m accepted level at task = go (slice_get app.tasks task) refl
+messages_named : (app : App) (m : Member) → IsAccepted app → (level at task : ℕ)
+    → AllByRecursion (IsNameable (names_of app)) (message_code (context_of app m) level at task)
+messages_named app m accepted level at task = go (slice_get app.tasks task) refl
   where
     slot : ℕ
     slot = first_spawn_slot m.args m.body
@@ -81,6 +90,37 @@ spawns_named app m accepted level at task = go (slice_get app.tasks task) refl
         one false software = tt
         one true software =
             spawn_named app task t (record { accepted = accepted; at = is; software = software }) level slot at
+
+-- lines that stand where a test passes
+named_if : (app : App) (b : Bool) (lines : List Line)
+    → (b ≡ true → AllByRecursion (IsNameable (names_of app)) lines)
+    → AllByRecursion (IsNameable (names_of app)) (if b then lines else [])
+named_if app true lines named = named refl
+named_if app false lines named = tt
+
+module _ (app : App) (m : Member) (accepted : IsAccepted app) where
+  abbrev slot_of : ℕ
+  slot_of = first_spawn_slot m.args m.body
+
+  known : (task : ℕ) → is_timed (context_of app m) task ≡ true
+      → (t : Task) × (HasIrq (names_of app) (queue_of app).irq) × (Spawned app task t)
+  known task timed =
+      let there = and_left (is_some app.mono) (is_some_and is_software (slice_get app.tasks task)) timed in
+      let one = spawned app task accepted
+      (and_right (is_some app.mono) (is_some_and is_software (slice_get app.tasks task)) timed) in
+      (one.0, timer_named app accepted there, one.1)
+
+  pub spawns_named : HasNamedSpawns app (context_of app m)
+  spawns_named = record {
+    message = messages_named app m accepted;
+    delayed = λ level at task. named_if app (is_timed (context_of app m) task) (after_code app task level slot_of at)
+        (λ timed. let one = known task timed in after_named app one.1 slot_of level task one.0 one.2 at);
+    cancelled = λ level at task. named_if app (is_timed (context_of app m) task)
+        (cancel_code app task level slot_of at)
+        (λ timed. let one = known task timed in cancel_named app one.1 slot_of level task one.0 one.2 at);
+    moved = λ level at task. named_if app (is_timed (context_of app m) task) (move_code app task level slot_of at)
+        (λ timed. let one = known task timed in move_named app one.1 slot_of level task one.0 one.2 at);
+  }
 
 module _ (app : App) (c : Context) (numbers : (i : ℕ) → i < length app.irqs
     → HasIrq (names_of app) (slice_index c.numbers i)) (named_spawns : HasNamedSpawns app c) where
@@ -127,14 +167,17 @@ module _ (app : App) (c : Context) (numbers : (i : ℕ) → i < length app.irqs
       all_append IsNamed (expression_code c e slot c.expressions) (arguments_code c es (next_slot slot))
       (expression_named e slot c.expressions) (arguments_named es (next_slot slot))
 
+  goes_named : (level at : ℕ) (s : Spawn) → AreNamed (goes_code c level at s)
+  goes_named level at (Soon task args place) = named_spawns.message level at task
+  goes_named level at (After word delay task args place) = named_spawns.delayed level at task
+  goes_named level at (Cancel word task handle place) = named_spawns.cancelled level at task
+  goes_named level at (Move word delay task handle place) = named_spawns.moved level at task
+
   send_named : (level at : ℕ) (s : Spawn) → AreNamed (send_code c level at s)
-  send_named level at (Soon task args place) =
-      let front : List Line = arguments_code c args c.spawns in
-      all_append IsNamed front (message_code c level (at + length front) task) (arguments_named args c.spawns)
-      (named_spawns level (at + length front) task)
-  send_named level at (After word delay task args place) = tt
-  send_named level at (Cancel word task handle place) = tt
-  send_named level at (Move word delay task handle place) = tt
+  send_named level at s =
+      let front : List Line = arguments_code c (values_of s) c.spawns in
+      all_append IsNamed front (goes_code c level (at + length front) s) (arguments_named (values_of s) c.spawns)
+      (goes_named level (at + length front) s)
 
   bind_named : (level at x : ℕ) (v : Value) → AreNamed (bind_code c level at x v)
   bind_named level at x (Calc e) =

@@ -15,7 +15,6 @@ use Rattle.rt_app.specs.Level.{is_software}
 use Rattle.rt_app.specs.BodyCost.{cost_measure, body_cost, cost_of}
 use Rattle.rt_app.specs.Frame.{first_lock_slot, frame_words}
 use Rattle.rt_app.specs.Stack.{thread_frame, thread_words}
-use Rattle.rt_app.specs.Handlers.{has_no_monotonic}
 use Rattle.rt_app.specs.Layout.{memory}
 use Rattle.rt_app.specs.Holding.{storage}
 use Rattle.rt_app.specs.Sending.{act}
@@ -105,8 +104,7 @@ end_there app id front more =
     (sym (append_assoc front (end_code app id (length front) ∷ []) more))
     (code_there front (end_code app id (length front) ∷ []) more)
 
-module _ (app : App) (accepted : IsAccepted app) (sound : IsSound app) (no_monotonic : has_no_monotonic app ≡ true)
-    (front : List Line) where
+module _ (app : App) (accepted : IsAccepted app) (sound : IsSound app) (front : List Line) where
   abbrev of_init : Body → Member
   of_init b = record { id = body.Init; priority = 0; args = 0; body = b }
 
@@ -155,7 +153,7 @@ module _ (app : App) (accepted : IsAccepted app) (sound : IsSound app) (no_monot
       let there = body_there app m front more in
       whole_stands app accepted sound m body.Init Starting ((front ++ lines) ++ more) bodies (length (front ++ lines))
       (length front) (thread_words app) (Ends body.Init) at refl
-      (init_facts app accepted sound no_monotonic m (has_body app accepted body.Init m at).is_one refl) (omega arith)
+      (init_facts app accepted sound m (has_body app accepted body.Init m at).is_one refl) (omega arith)
       (code_front ((front ++ lines) ++ more) (length front) blocks (end_code app body.Init (length front) ∷ []) there)
       (omega (arith, frame)) word
       (init_last app ((front ++ lines) ++ more) bodies (length (front ++ lines)) (length front + length blocks)
@@ -183,7 +181,7 @@ module _ (app : App) (accepted : IsAccepted app) (sound : IsSound app) (no_monot
       let there = body_there app m front more in
       whole_stands app accepted sound m body.Idle (AtLevel 0) ((front ++ lines) ++ more) bodies (length front)
       (length front) (thread_words app) (Ends body.Idle) at refl
-      (level_facts app accepted sound no_monotonic m (has_body app accepted body.Idle m at).is_one refl)
+      (level_facts app accepted sound m (has_body app accepted body.Idle m at).is_one refl)
       (omega arith)
       (code_front ((front ++ lines) ++ more) (length front) blocks (end_code app body.Idle (length front) ∷ []) there)
       (omega (arith, frame)) word
@@ -214,7 +212,7 @@ module _ (app : App) (accepted : IsAccepted app) (sound : IsSound app) (no_monot
       (act Returns nothing))) (sym is)
       (whole_stands app accepted sound m (body.Task n) (AtLevel t.priority) ((front ++ lines) ++ more) bodies thread
       (length front) (frame_words t.args t.body) Returns at no_args
-      (level_facts app accepted sound no_monotonic m (has_body app accepted (body.Task n) m at).is_one refl)
+      (level_facts app accepted sound m (has_body app accepted (body.Task n) m at).is_one refl)
       (omega arith)
       (code_front ((front ++ lines) ++ more) (length front) blocks (last ∷ []) there)
       (omega arith) short
@@ -238,7 +236,7 @@ module _ (app : App) (accepted : IsAccepted app) (sound : IsSound app) (no_monot
       subst (λ (o : Option Task). CalledTaskStands app n o code (row_for (λ k. length front) n t)) (sym is)
       (λ bodies thread steps frame behind goes left slots cells queues vs enough long known.
       let facts : Facts (storage app) (AtLevel t.priority) app m (context_of app m) =
-      level_facts app accepted sound no_monotonic m (has_body app accepted (body.Task n) m at).is_one refl in
+      level_facts app accepted sound m (has_body app accepted (body.Task n) m at).is_one refl in
       let level : LevelIs app.bits (storage app) (AtLevel t.priority) [] t.priority = omega arith in
       let few = few_steps app accepted sound m (body.Task n) (AtLevel t.priority) (Some frame) code bodies thread
       (length front) (frame_words t.args t.body) at facts level in

@@ -7,7 +7,8 @@ use Rattle.std.proofs.lemmas.Bool.Decides.{nat_tests}
 use Rattle.rt_ids.specs.Lists.{or_zero}
 use Rattle.rt_ids.specs.Holder.{Holder, Guarded, Own}
 use Rattle.rt_ids.specs.Content.{Values, Number, put_at}
-use Rattle.rt_ids.specs.Doing.{Doing}
+use Rattle.rt_ids.specs.Action.{Clocks}
+use Rattle.rt_ids.specs.Doing.{Doing, does}
 use Rattle.rt_ids.specs.Storage.{Storage, Runner, Home, At}
 use Rattle.rt_ids.specs.declared.ids.Section.TheVariants as section
 use Rattle.rt_app.specs.declared.expr.Atom.{Atom}
@@ -27,7 +28,7 @@ use Rattle.rt_gen_queue.specs.Line.{Line, plain, HasCode}
 use Rattle.rt_gen_body.specs.Inside.Values.{Context, value_code, store}
 use Rattle.rt_gen_body.proofs.Spots.{Lasts, lasts_less, Here, spot}
 use Rattle.rt_gen_body.proofs.Steps.{S}
-use Rattle.rt_gen_body.proofs.Instructions.{copies, stores, emits, posts}
+use Rattle.rt_gen_body.proofs.Instructions.{copies, stores, emits, posts, clocks}
 use Rattle.rt_gen_queue.proofs.Placing.{code_front, code_behind}
 use Rattle.rt_gen_body.proofs.Owning.{LaysOut, IsSpelled}
 use Rattle.rt_gen_body.proofs.Expressions.{one_deep}
@@ -330,3 +331,32 @@ module _ (st : Storage) (code : List Line) (bodies : List BodyRow) (thread : ℕ
         variables = ready.variables;
         kept = λ y inside. refl;
       }) agree)))
+
+  -- a variable gets the time
+  pub binds_time : (x n k : ℕ) (h : Here) (visible fixed vars : List ℕ) (vs : Values) (locked : List ℕ)
+      (level lock : ℕ) (later : List ℕ → Values → Doing Values) (more : List ℕ)
+      → 2 + n ≤ k → HasCode code h.at (plain (instr.Clock x) ∷ []) → Lasts (h.done + 2) h.deadlines
+      → Ready' h visible vars vs locked level lock
+      → Fits st code bodies thread who caller app m memory words top lays c facts lock
+      → x < c.expressions → ¬ Contains fixed x → ((y : ℕ) → Contains more y → (x ≡ y) ⊎ Contains visible y)
+      → h.rest ≡ does Clocks vs (λ time. later (slice_set vars x time))
+      → Behind st code bodies thread who caller app m memory words top lays c facts n h 2 1 more fixed later
+      → S st code bodies thread who caller k h
+  binds_time x n k h visible fixed vars vs locked level lock later more fuel has lasts ready fits within changes cases
+      is on =
+      let k_is : suc (k - 1) ≡ k = omega arith in
+      let there : x < length h.slots = omega (arith, ready.frame, fits.floor, fits.low, fits.high) in
+      subst (λ (j : ℕ). S st code bodies thread who caller j h) k_is
+      (clocks st code bodies thread who caller (k - 1) h x top lock (λ time. later (slice_set vars x time)) vs has.0
+      (lasts_less (suc h.done) (h.done + 2) h.deadlines (omega arith) lasts) there
+      (inl (omega (arith, fits.floor))) ready.saved is
+      (λ time ws agree.
+      on (k - 1) (suc h.done) (suc h.at) (slice_set h.slots x time) h.cells (slice_set vars x time) h.queues ws
+      (omega arith) (omega arith) (omega arith)
+      (settled_set h.held h.slots visible fixed vars ws time time x h.slots h.cells
+      (agreed h visible fixed vars vs ws h.slots (record {
+        known = ready.known;
+        frame = ready.frame;
+        variables = ready.variables;
+        kept = λ y inside. refl;
+      }) agree) refl within (omega (arith, fits.floor, fits.low, fits.high)) changes more cases)))

@@ -1,6 +1,6 @@
 -- The code of a body is no longer than the rule on sizes counts for it.
 use Rattle.std.proofs.Common.{◌≡◌, ℕ, zero, suc, ◌+◌, ◌≤◌, max, Bool, true, false, if◌then◌else◌, Option, Some, None}
-use Rattle.std.proofs.Common.{option_map, List, [], ◌∷◌, ◌++◌}
+use Rattle.std.proofs.Common.{option_map, is_some, List, [], ◌∷◌, ◌++◌}
 use Rattle.std.proofs.Common.{length, slice_get, sum_by, refl, ap, subst, arith, length-append}
 use Rattle.std.proofs.lemmas.List.Sums.{sum_by-cons, sum_by-append}
 use Rattle.std.proofs.lemmas.Option.{none-some, same_Some}
@@ -16,8 +16,9 @@ use Rattle.rt_app.specs.Bodies.{Member, thread_members, task_members, members, m
 use Rattle.rt_app.specs.BodyCost.{size_measure, body_cost, cost_of}
 use Rattle.rt_app.specs.Frame.{first_lock_slot, first_spawn_slot}
 use Rattle.rt_app.specs.Steps.{expression_steps, expressions_steps, spawn_steps, statement_steps, block_steps}
-use Rattle.rt_app.specs.declared.costs.TheConstants.{SPAWN_COST}
+use Rattle.rt_app.specs.declared.costs.TheConstants.{SPAWN_COST, SPAWN_AFTER_COST, HANDLE_COST}
 use Rattle.rt_app.specs.Level.{is_software}
+use Rattle.rt_lemmas.proofs.Bools.{and_right}
 use Rattle.rt_ids.specs.Lists.{is_some_and}
 use Rattle.rt_app.proofs.Capping.{cap_steps}
 use Rattle.rt_app.proofs.Members.{has_body}
@@ -27,18 +28,41 @@ use Rattle.rt_gen_queue.specs.Line.{Line, plain}
 use Rattle.rt_gen_queue.specs.Guards.{leave_line}
 use Rattle.rt_gen_queue.specs.SpawnCode.{spawn_code}
 use Rattle.rt_gen_body.specs.Inside.Values.{Context, next_slot, expression_code, value_code, arguments_code}
-use Rattle.rt_gen_body.specs.Inside.Simple.{message_code, send_code}
+use Rattle.rt_gen_timer.specs.TimerCode.{after_code, cancel_code, move_code}
+use Rattle.rt_gen_timer.proofs.Generated.{spawned, after_short}
+use Rattle.rt_gen_body.specs.Inside.Simple.{is_timed, message_code, delayed_code, cancelled_code, moved_code}
+use Rattle.rt_gen_body.specs.Inside.Simple.{values_of, goes_code, send_code}
 use Rattle.rt_gen_body.specs.Inside.Blocks.{guard_at, branch_code, loop_back, statement_code, block_code}
 use Rattle.rt_gen_body.specs.Inside.Whole.{context_of, level_of, end_code, blocks_of, code_of}
 use Rattle.rt_gen_queue.proofs.Facts.{Spawned, arguments, few_arguments}
 use Rattle.rt_gen_queue.proofs.Placing.{spawn_long}
 
--- a spawn's own lines are few
-abbrev pub HasFewLines : Context → Type 0
-HasFewLines c = (level at task : ℕ) → length (message_code c level at task) ≤ SPAWN_COST
+-- a spawn's own lines are few, and so are those of a `spawn_after`, a `cancel` and a `reschedule_after`
+pub record HasFewLines (c : Context) : Type 0 where
+  pub message : (level at task : ℕ) → length (message_code c level at task) ≤ SPAWN_COST
+  pub delayed : (level at task : ℕ) → length (delayed_code c level at task) ≤ SPAWN_AFTER_COST
+  pub cancelled : (level at task : ℕ) → length (cancelled_code c level at task) ≤ HANDLE_COST
+  pub moved : (level at task : ℕ) → length (moved_code c level at task) ≤ HANDLE_COST
 
-pub has_few : (app : App) (m : Member) → IsAccepted app → HasFewLines (context_of app m)
-has_few app m accepted level at task = go (slice_get app.tasks task) refl
+-- lines that stand where a test passes
+length_if : (b : Bool) (lines : List Line) (most : ℕ) → (b ≡ true → length lines ≤ most)
+    → length (if b then lines else []) ≤ most
+length_if true lines most few = few refl
+length_if false lines most few = omega arith
+
+few_delayed : (app : App) (m : Member) → IsAccepted app → (level at task : ℕ)
+    → length (delayed_code (context_of app m) level at task) ≤ SPAWN_AFTER_COST
+few_delayed app m accepted level at task =
+    length_if (is_timed (context_of app m) task) (after_code app task level (first_spawn_slot m.args m.body) at)
+    SPAWN_AFTER_COST
+    (λ timed.
+    let one = spawned app task accepted
+    (and_right (is_some app.mono) (is_some_and is_software (slice_get app.tasks task)) timed) in
+    omega (arith, after_short app task level (first_spawn_slot m.args m.body) at one.0 one.1))
+
+few_messages : (app : App) (m : Member) → IsAccepted app → (level at task : ℕ)
+    → length (message_code (context_of app m) level at task) ≤ SPAWN_COST
+few_messages app m accepted level at task = go (slice_get app.tasks task) refl
   where
     go : (o : Option Task) → slice_get app.tasks task ≡ o
         → length (if is_some_and is_software o
@@ -57,6 +81,16 @@ has_few app m accepted level at task = go (slice_get app.tasks task) refl
               arguments app task t spawned,
               few_arguments app task t spawned,
             )
+
+pub has_few : (app : App) (m : Member) → IsAccepted app → HasFewLines (context_of app m)
+has_few app m accepted = record {
+  message = few_messages app m accepted;
+  delayed = few_delayed app m accepted;
+  cancelled = λ level at task. length_if (is_timed (context_of app m) task)
+      (cancel_code app task level (first_spawn_slot m.args m.body) at) HANDLE_COST (λ timed. omega arith);
+  moved = λ level at task. length_if (is_timed (context_of app m) task)
+      (move_code app task level (first_spawn_slot m.args m.body) at) HANDLE_COST (λ timed. omega arith);
+}
 
 module _ (app : App) (c : Context) (few_lines : HasFewLines c) where
   abbrev size : Block → ℕ
@@ -93,18 +127,23 @@ module _ (app : App) (c : Context) (few_lines : HasFewLines c) where
         arguments_size es (next_slot slot),
       )
 
+  -- what goes behind the values
+  goes_size : (s : Spawn) (level at : ℕ)
+      → length (goes_code c level at s) + expressions_steps (values_of s) ≤ spawn_steps (size_measure app) s
+  goes_size (Soon task args place) level at = omega (arith, few_lines.message level at task)
+  goes_size (After word delay task args place) level at = omega (arith, few_lines.delayed level at task)
+  goes_size (Cancel word task handle place) level at = omega (arith, few_lines.cancelled level at task)
+  goes_size (Move word delay task handle place) level at = omega (arith, few_lines.moved level at task)
+
   send_size : (s : Spawn) (level at : ℕ) → length (send_code c level at s) ≤ spawn_steps (size_measure app) s
-  send_size (Soon task args place) level at =
-      let front : List Line = arguments_code c args c.spawns in
+  send_size s level at =
+      let front : List Line = arguments_code c (values_of s) c.spawns in
       omega (
         arith,
-        length-append front (message_code c level (at + length front) task),
-        arguments_size args c.spawns,
-        few_lines level (at + length front) task,
+        length-append front (goes_code c level (at + length front) s),
+        arguments_size (values_of s) c.spawns,
+        goes_size s level (at + length front),
       )
-  send_size (After word delay task args place) level at = omega arith
-  send_size (Cancel word task handle place) level at = omega arith
-  send_size (Move word delay task handle place) level at = omega arith
 
   branch_size : (at : ℕ) (first second : ℕ → List Line) (b : Block) (m n : ℕ) → ((a : ℕ) → length (first a) ≤ m)
       → ((a : ℕ) → length (second a) ≤ n)

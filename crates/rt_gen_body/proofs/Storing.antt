@@ -1,6 +1,6 @@
 -- The storage of an application lays resources out, and what a body may do with it.
-use Rattle.std.proofs.Common.{◌≡◌, ℕ, zero, suc, ◌+◌, ◌<◌, ◌==◌, ◌&&◌, ◌||◌, not, Bool, true, false, Option, Some, None}
-use Rattle.std.proofs.Common.{option_map, is_none, List, [], ◌∷◌, length, map, find, flat_map, if◌then◌else◌, slice_get}
+use Rattle.std.proofs.Common.{◌≡◌, ℕ, zero, suc, ◌+◌, ◌<◌, ◌==◌, ◌&&◌, ◌||◌, not, Bool, true, false, Some}
+use Rattle.std.proofs.Common.{option_map, List, [], ◌∷◌, length, map, find, flat_map, if◌then◌else◌, slice_get}
 use Rattle.std.proofs.Common.{slice_index, slice_index_or, Contains, refl, ap, sym, ◌∙◌, subst, inl, inr, arith}
 use Rattle.std.specs.List.{list_any, range_with_len}
 use Rattle.std.proofs.lemmas.Bool.{lt-ltb, eqb-true}
@@ -16,7 +16,6 @@ use Rattle.rt_ids.specs.Storage.{Starting, AtLevel}
 use Rattle.rt_ids.specs.declared.ids.BodyId.TheVariants as body
 use Rattle.rt_ids.specs.declared.ids.Section.TheVariants as section
 use Rattle.rt_app.specs.declared.app.IrqDecl.{IrqDecl}
-use Rattle.rt_app.specs.declared.app.Mono.{Mono}
 use Rattle.rt_app.specs.declared.body.Listed.{Listed}
 use Rattle.rt_app.specs.declared.body.Owned.{Owned}
 use Rattle.rt_app.specs.Tree.{App}
@@ -25,7 +24,6 @@ use Rattle.rt_app.specs.Ceiling.{lists}
 use Rattle.rt_app.specs.Declarations.{owns as owns_local}
 use Rattle.rt_app.specs.Statements.{is_init, listing_in, is_lockable, is_free}
 use Rattle.rt_app.specs.Listing.{listings, is_lock_free}
-use Rattle.rt_app.specs.Handlers.{has_no_monotonic}
 use Rattle.rt_app.specs.Accepted.{IsAccepted}
 use Rattle.rt_app.specs.Holding.{is_some_at, is_kept, is_constant, storage}
 use Rattle.rt_app.specs.Sound.{IsSoundLock}
@@ -115,15 +113,8 @@ some_at app m test (i, at) no_start passes =
     same : (p : ℕ) → ((p == p) && true) ≡ true
     same p = grind (arith, nat_tests)
 
-module _ (app : App) (accepted : IsAccepted app) (sound : IsSound app) (no_monotonic : has_no_monotonic app ≡ true)
-    (m : Member) (member : IsIn (members app) m) where
-  no_mono : app.mono ≡ None
-  no_mono = none_is app.mono no_monotonic
-    where
-      none_is : (o : Option Mono) → is_none o ≡ true → o ≡ None
-      none_is None is = refl
-      none_is (Some mono) is = absurd cc
-
+module _ (app : App) (accepted : IsAccepted app) (sound : IsSound app) (m : Member)
+    (member : IsIn (members app) m) where
   -- it owns the local resources that it lists
   owns_listed : (n : ℕ) → Contains (map (λ o. o.local) m.body.local) n → owns_local n m ≡ true
   owns_listed n listed = list_any_map m.body.local (any_contained n (map (λ o. o.local) m.body.local) listed)
@@ -165,7 +156,6 @@ module _ (app : App) (accepted : IsAccepted app) (sound : IsSound app) (no_monot
         enters = λ x less. tt;
         accepted = accepted;
         of_app = refl;
-        no_clock = no_mono;
       }
 
   -- a resource that it reaches without a lock
@@ -267,7 +257,6 @@ module _ (app : App) (accepted : IsAccepted app) (sound : IsSound app) (no_monot
         enters = λ x less. less;
         accepted = accepted;
         of_app = refl;
-        no_clock = no_mono;
       }
     where
       merged : (a b c : Bool) → (b || c) ≡ true → ((a || b) || c) ≡ true

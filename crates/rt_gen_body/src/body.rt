@@ -6,7 +6,6 @@ ghost use Rattle.std.specs.List.{AllByRecursion};
 ghost use Rattle.rt_app.specs.Accepted.{IsAccepted};
 ghost use Rattle.rt_app.specs.Bodies.{body_at, member_at};
 ghost use Rattle.rt_app.specs.BodyCost.{size_measure, cost_of};
-ghost use Rattle.rt_app.specs.Handlers.{has_no_monotonic};
 ghost use Rattle.rt_app.specs.Limits.{KeepsBodyLimits};
 ghost use Rattle.rt_app.specs.Names.{names_of};
 ghost use Rattle.rt_app.specs.Plan.{IsPlan};
@@ -22,7 +21,7 @@ use crate::generator::Generator;
 use crate::lines::Lines;
 use rt_app::{App, Body, Plan};
 use rt_code::{Instr, Line, Note};
-use rt_frames::Slots;
+use rt_frames::{ArmedRows, Slots};
 use rt_gen_queue::{Guard, next_entry};
 use rt_ids::limits::ARGUMENTS;
 use rt_ids::{BodyId, NoMemory, TaskId};
@@ -46,6 +45,7 @@ fn guards(alloc: Global, bits: u8, ceilings: &[u8]) -> Result<Vec<Guard>, NoMemo
 #[derive(Clone, Copy)]
 struct Source<'a> {
     plan: &'a Plan<'a>,
+    rows: &'a ArmedRows<'a>,
     guards: &'a [Guard],
     level: u8,
 }
@@ -68,6 +68,7 @@ fn blocks(
 ) -> Result<(), NoMemory>
     requires accepted { IsAccepted (app_of source.now.plan.now.app.now) }
     requires planned { IsPlan source.now.plan.now }
+    requires rows { source.now.rows.now ≡ source.now.plan.now.app.now }
     requires few { args ≤ ARGUMENTS }
     requires limits { KeepsBodyLimits (body_of body.now) }
     ensures { OnOk result (Appends lines.old lines.new
@@ -79,6 +80,7 @@ fn blocks(
     let generator = Generator {
         alloc,
         plan,
+        rows: source.rows,
         guards: source.guards,
         locals: u16::try_from(plan.app.shared.len()).ok().ok_or(NoMemory)?,
         expressions: slots.expressions,
@@ -91,12 +93,14 @@ fn blocks(
 fn declared(
     alloc: Global,
     plan: &Plan<'_>,
+    rows: &ArmedRows<'_>,
     guards: &[Guard],
     id: BodyId,
     lines: &mut Lines,
 ) -> Result<(), NoMemory>
     requires accepted { IsAccepted (app_of plan.now.app.now) }
     requires planned { IsPlan plan.now }
+    requires rows { rows.now ≡ plan.now.app.now }
     requires guards { guards.now ≡ guards_of (app_of plan.now.app.now) }
     ensures { OnOk result (Appends lines.old lines.new
         (blocks_of (app_of plan.now.app.now) (member_at (app_of plan.now.app.now) id) (next_address lines.old))) }
@@ -110,6 +114,7 @@ fn declared(
                     alloc,
                     &Source {
                         plan,
+                        rows,
                         guards,
                         level,
                     },
@@ -125,6 +130,7 @@ fn declared(
                 alloc,
                 &Source {
                     plan,
+                    rows,
                     guards,
                     level: 0,
                 },
@@ -141,6 +147,7 @@ fn declared(
                     alloc,
                     &Source {
                         plan,
+                        rows,
                         guards,
                         level,
                     },
@@ -155,7 +162,7 @@ fn declared(
 }
 
 /// Whether dispatchers call the task.
-fn is_called(app: &App, number: TaskId) -> bool
+pub(crate) fn is_called(app: &App, number: TaskId) -> bool
     ensures { result ≡ is_some_and is_software (slice_get (app_of app.now).tasks number) }
 {
     match app.task(number) {
@@ -182,31 +189,40 @@ fn end(app: &App, id: &BodyId, entry: u32, lines: &mut Lines) -> Result<(), NoMe
 }
 
 /// All lines of a body.
-fn generate(alloc: Global, plan: &Plan<'_>, id: BodyId, lines: &mut Lines) -> Result<(), NoMemory>
+fn generate(
+    alloc: Global,
+    plan: &Plan<'_>,
+    rows: &ArmedRows<'_>,
+    id: BodyId,
+    lines: &mut Lines,
+) -> Result<(), NoMemory>
     requires accepted { IsAccepted (app_of plan.now.app.now) }
     requires planned { IsPlan plan.now }
+    requires rows { rows.now ≡ plan.now.app.now }
     ensures { OnOk result (Appends lines.old lines.new
         (code_of (app_of plan.now.app.now) id (member_at (app_of plan.now.app.now) id) (next_address lines.old))) }
 {
     let guards = guards(alloc, plan.app.bits, &plan.ceil.shared)?;
     let entry = lines.next_address()?;
-    declared(alloc, plan, &guards, id, lines)?;
+    declared(alloc, plan, rows, &guards, id, lines)?;
     end(plan.app, &id, entry, lines)
 }
 
 /// Appends the code of a body of an application to code, and answers the address where it begins. Its lines name only
 /// what the application declares, and there are no more of them than the rule on sizes counts for the body: one for
-/// `init` or `idle` where it is not declared. In code of an application without a monotonic it stands there, whatever
-/// is appended later: `init` leads to what stands behind it, `idle` back to its first instruction, a task that is bound
-/// to an interrupt returns, and one that dispatchers call goes back. An error leaves the code as it was.
+/// `init` or `idle` where it is not declared. It stands there, whatever is appended later: `init` leads to what stands
+/// behind it, `idle` back to its first instruction, a task that is bound to an interrupt returns, and one that
+/// dispatchers call goes back. An error leaves the code as it was.
 pub fn gen_body(
     alloc: Global,
     plan: &Plan<'_>,
+    rows: &ArmedRows<'_>,
     id: BodyId,
     code: &mut Vec<Line>,
 ) -> Result<u32, NoMemory>
     requires accepted { IsAccepted (app_of plan.now.app.now) }
     requires planned { IsPlan plan.now }
+    requires rows { rows.now ≡ plan.now.app.now }
     requires of_app { IsBodyOf (app_of plan.now.app.now) id }
     ensures entry { IfOk result (λ entry. entry ≡ length code.old.items) }
     ensures kept { IfOk result (λ entry. take entry code.new.items ≡ code.old.items) }
@@ -214,13 +230,12 @@ pub fn gen_body(
         (drop entry code.new.items)) }
     ensures size { OnOk result (length code.new.items ≤ length code.old.items
         + cost_of (size_measure (app_of plan.now.app.now)) (body_at (app_of plan.now.app.now) id)) }
-    ensures stands { has_no_monotonic (app_of plan.now.app.now) ≡ true
-        → IfOk result (λ entry. BodyStands (app_of plan.now.app.now) id code.new.items entry) }
+    ensures stands { IfOk result (λ entry. BodyStands (app_of plan.now.app.now) id code.new.items entry) }
     ensures left { OnErr result (code.new.items ≡ code.old.items) }
 {
     let entry = next_entry(code)?;
     let mut lines = Lines::new(alloc, entry);
-    generate(alloc, plan, id, &mut lines)?;
+    generate(alloc, plan, rows, id, &mut lines)?;
     code.extend_from_slice(lines.as_slice())?;
     Ok(entry)
 }

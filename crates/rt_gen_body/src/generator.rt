@@ -7,6 +7,7 @@ ghost use Rattle.rt_gen_body.specs.Inside.Lines.{next_address, Appends};
 use crate::lines::Lines;
 use rt_app::{Atom, Expr, Plan, Value};
 use rt_code::Instr;
+use rt_frames::ArmedRows;
 use rt_gen_queue::Guard;
 use rt_ids::NoMemory;
 use std::alloc::Global;
@@ -16,6 +17,8 @@ use std::alloc::Global;
 pub(crate) struct Generator<'a> {
     pub(crate) alloc: Global,
     pub(crate) plan: &'a Plan<'a>,
+    /// Of the messages that may be armed.
+    pub(crate) rows: &'a ArmedRows<'a>,
     /// Of each shared resource.
     pub(crate) guards: &'a [Guard],
     /// The cell of the first local resource; the shared ones stand before it.

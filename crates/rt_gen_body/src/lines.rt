@@ -3,12 +3,15 @@ ghost use Rattle.rt_ids.specs.Lists.{is_some_and};
 ghost use Rattle.rt_app.specs.Level.{is_software};
 ghost use Rattle.rt_gen_queue.specs.Line.{plain, noted};
 ghost use Rattle.rt_gen_queue.specs.SpawnCode.{spawn_code};
+ghost use Rattle.rt_gen_timer.specs.TimerCode.{after_code, cancel_code, move_code};
 ghost use Rattle.rt_gen_body.specs.Inside.Generating.{context, IsReady};
+ghost use Rattle.rt_gen_body.specs.Inside.Simple.{is_timed};
 ghost use Rattle.rt_gen_body.specs.Inside.Lines.{next_address, Appends};
 
 use crate::generator::Generator;
 use rt_code::{Instr, Line, Note};
 use rt_gen_queue::{gen_spawn, next_entry};
+use rt_gen_timer::{gen_after, gen_cancel, gen_move};
 use rt_ids::{NoMemory, TaskId};
 use std::alloc::Global;
 use std::marker::Model;
@@ -101,6 +104,83 @@ impl Lines {
         gen_spawn(
             generator.alloc,
             generator.plan,
+            task,
+            level,
+            generator.spawns,
+            entry,
+            &mut self.lines,
+        )
+    }
+
+    /// The lines of the `spawn_after` of a software task, whose delay and arguments stand in the slots from one on, at a
+    /// static level.
+    pub(crate) fn push_after(
+        &mut self,
+        generator: &Generator<'_>,
+        level: u8,
+        task: TaskId,
+    ) -> Result<(), NoMemory>
+        requires ready { IsReady generator.now }
+        requires timed { is_timed (context generator.now) task ≡ true }
+        ensures { OnOk result (Appends self.old self.new
+            (after_code (context generator.now).app task level generator.now.spawns (next_address self.old))) }
+    {
+        let entry = self.next_address()?;
+        gen_after(
+            generator.alloc,
+            generator.plan,
+            generator.rows,
+            task,
+            level,
+            generator.spawns,
+            entry,
+            &mut self.lines,
+        )
+    }
+
+    /// The lines of the `cancel` of a message of a software task, whose handle stands in a slot, at a static level.
+    pub(crate) fn push_cancel(
+        &mut self,
+        generator: &Generator<'_>,
+        level: u8,
+        task: TaskId,
+    ) -> Result<(), NoMemory>
+        requires ready { IsReady generator.now }
+        requires timed { is_timed (context generator.now) task ≡ true }
+        ensures { OnOk result (Appends self.old self.new
+            (cancel_code (context generator.now).app task level generator.now.spawns (next_address self.old))) }
+    {
+        let entry = self.next_address()?;
+        gen_cancel(
+            generator.alloc,
+            generator.plan,
+            generator.rows,
+            task,
+            level,
+            generator.spawns,
+            entry,
+            &mut self.lines,
+        )
+    }
+
+    /// The lines of the `reschedule_after` of a message of a software task, whose delay and handle stand in the slots
+    /// from one on, at a static level.
+    pub(crate) fn push_move(
+        &mut self,
+        generator: &Generator<'_>,
+        level: u8,
+        task: TaskId,
+    ) -> Result<(), NoMemory>
+        requires ready { IsReady generator.now }
+        requires timed { is_timed (context generator.now) task ≡ true }
+        ensures { OnOk result (Appends self.old self.new
+            (move_code (context generator.now).app task level generator.now.spawns (next_address self.old))) }
+    {
+        let entry = self.next_address()?;
+        gen_move(
+            generator.alloc,
+            generator.plan,
+            generator.rows,
             task,
             level,
             generator.spawns,

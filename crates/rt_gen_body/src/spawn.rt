@@ -5,6 +5,7 @@ ghost use Rattle.rt_gen_body.specs.Inside.Simple as simple;
 ghost use Rattle.rt_gen_body.specs.Inside.Lines.{next_address, Appends};
 ghost use Rattle.rt_gen_body.specs.Inside.Generating.{context, IsReady};
 
+use crate::body::is_called;
 use crate::generator::{Generator, next_slot};
 use crate::lines::Lines;
 use rt_app::{Expr, Spawn, Task};
@@ -56,20 +57,93 @@ impl<'a> Generator<'a> {
         }
     }
 
-    /// A spawn, at a static level. One after a delay, a cancel and a move have no code yet.
+    /// Whether there is a timer queue that holds messages of a task.
+    fn is_timed(&self, number: TaskId) -> bool
+        ensures { result ≡ simple.is_timed (context self.now) number }
+    {
+        self.plan.app.mono.is_some() && is_called(self.plan.app, number)
+    }
+
+    /// What goes of a `spawn_after` whose delay and arguments are there, at a static level.
+    fn delayed(&self, level: u8, number: TaskId, code: &mut Lines) -> Result<(), NoMemory>
+        requires { IsReady self.now }
+        ensures { OnOk result (Appends code.old code.new
+            (simple.delayed_code (context self.now) level (next_address code.old) number)) }
+    {
+        if self.is_timed(number) {
+            code.push_after(self, level, number)
+        } else {
+            Ok(())
+        }
+    }
+
+    /// Of a `cancel` whose handle is there.
+    fn cancelled(&self, level: u8, number: TaskId, code: &mut Lines) -> Result<(), NoMemory>
+        requires { IsReady self.now }
+        ensures { OnOk result (Appends code.old code.new
+            (simple.cancelled_code (context self.now) level (next_address code.old) number)) }
+    {
+        if self.is_timed(number) {
+            code.push_cancel(self, level, number)
+        } else {
+            Ok(())
+        }
+    }
+
+    /// Of a `reschedule_after` whose delay and handle are there.
+    fn moved(&self, level: u8, number: TaskId, code: &mut Lines) -> Result<(), NoMemory>
+        requires { IsReady self.now }
+        ensures { OnOk result (Appends code.old code.new
+            (simple.moved_code (context self.now) level (next_address code.old) number)) }
+    {
+        if self.is_timed(number) {
+            code.push_move(self, level, number)
+        } else {
+            Ok(())
+        }
+    }
+
+    /// The values of a spawn come into the slots of spawns, in the order of the text.
+    fn values(&self, spawn: &Spawn, code: &mut Lines) -> Result<(), NoMemory>
+        ensures { OnOk result (Appends code.old code.new
+            (simple.values_code (context self.now) (spawn_of spawn.now))) }
+    {
+        let (first, free) = (self.spawns, self.expressions);
+        match spawn {
+            Spawn::Soon(_task, args, _at) => self.arguments(args, first, code),
+            Spawn::After(_word, delay, _task, args, _at) => {
+                self.expression(delay, first, free, code)?;
+                self.arguments(args, next_slot(first), code)
+            }
+            Spawn::Cancel(_word, _task, handle, _at) => self.expression(handle, first, free, code),
+            Spawn::Move(_word, delay, _task, handle, _at) => {
+                self.expression(delay, first, free, code)?;
+                self.expression(handle, next_slot(first), free, code)
+            }
+        }
+    }
+
+    /// What goes of a spawn whose values are there, at a static level.
+    fn goes(&self, level: u8, spawn: &Spawn, code: &mut Lines) -> Result<(), NoMemory>
+        requires { IsReady self.now }
+        ensures { OnOk result (Appends code.old code.new
+            (simple.goes_code (context self.now) level (next_address code.old) (spawn_of spawn.now))) }
+    {
+        match spawn {
+            Spawn::Soon(task, _args, _at) => self.message(level, *task, code),
+            Spawn::After(_word, _delay, task, _args, _at) => self.delayed(level, *task, code),
+            Spawn::Cancel(_word, task, _handle, _at) => self.cancelled(level, *task, code),
+            Spawn::Move(_word, _delay, task, _handle, _at) => self.moved(level, *task, code),
+        }
+    }
+
+    /// A spawn, at a static level.
     pub(crate) fn send(&self, level: u8, spawn: &Spawn, code: &mut Lines) -> Result<(), NoMemory>
         requires { IsReady self.now }
         ensures { OnOk result (Appends code.old code.new
             (simple.send_code (context self.now) level (next_address code.old) (spawn_of spawn.now))) }
     {
-        match spawn {
-            Spawn::Soon(task, args, _at) => {
-                self.arguments(args, self.spawns, code)?;
-                self.message(level, *task, code)
-            }
-            Spawn::After(_word, _delay, _task, _args, _at) => Ok(()),
-            Spawn::Cancel(_word, _task, _handle, _at) => Ok(()),
-            Spawn::Move(_word, _delay, _task, _handle, _at) => Ok(()),
-        }
+        self.values(spawn, code)?;
+        self.goes(level, spawn, code)
     }
 }

@@ -1,5 +1,5 @@
 -- What a generator has, as the context of the definitions.
-use Rattle.std.specs.Prelude.{ℕ, List, map, length}
+use Rattle.std.specs.Prelude.{◌≡◌, ℕ, List, map, length}
 use Rattle.rt_app.specs.Accepted.{IsAccepted}
 use Rattle.rt_app.specs.Frame.{first_expression_slot, first_lock_slot, first_spawn_slot}
 use Rattle.rt_app.specs.Plan.{IsPlan}
@@ -25,6 +25,8 @@ context g = record {
 pub record IsReady (g : Generator) : Type 0 where
   pub accepted : IsAccepted (app_of g.plan.now.app.now)
   pub planned : IsPlan g.plan.now
+  -- and by the rows of its messages that may be armed
+  pub rows : g.rows.now ≡ g.plan.now.app.now
 
 -- the blocks of a body with so many arguments, at a level, in an application whose resources are guarded so
 abbrev pub slots_code : App → List Guard → ℕ → ℕ → Body → ℕ → List Line

@@ -1,6 +1,6 @@
 -- The code of the statements that hold no block, instruction by instruction: spawns, bindings, assignments, and what is
 -- emitted.
-use Rattle.std.specs.Prelude.{ℕ, ◌+◌, List, [], ◌∷◌, ◌++◌, length, slice_get, if◌then◌else◌}
+use Rattle.std.specs.Prelude.{ℕ, ◌+◌, Bool, ◌&&◌, is_some, List, [], ◌∷◌, ◌++◌, length, slice_get, if◌then◌else◌}
 use Rattle.rt_ids.specs.Lists.{is_some_and}
 use Rattle.rt_app.specs.declared.expr.Atom.{Atom}
 use Rattle.rt_app.specs.Level.{is_software}
@@ -8,7 +8,15 @@ use Rattle.rt_app.specs.Tree.{Expression, Spawn, Soon, After, Cancel, Move, Valu
 use Rattle.rt_code.specs.declared.instr.Instr.TheVariants as instr
 use Rattle.rt_gen_queue.specs.Line.{Line, plain}
 use Rattle.rt_gen_queue.specs.SpawnCode.{spawn_code}
+use Rattle.rt_gen_timer.specs.TimerCode.{after_code, cancel_code, move_code}
 use Rattle.rt_gen_body.specs.Inside.Values.{Context, store, value_code, arguments_code}
+
+-- the values that a spawn goes with
+abbrev pub values_of : Spawn → List Expression
+values_of (Soon n args place) = args
+values_of (After word delay n args place) = delay ∷ args
+values_of (Cancel word n handle place) = handle ∷ []
+values_of (Move word delay n handle place) = delay ∷ handle ∷ []
 
 module _ (c : Context) where
   -- a spawn whose arguments are there, at a static level, from an address on; none of what is no software task
@@ -16,14 +24,35 @@ module _ (c : Context) where
   message_code level at n =
       if is_some_and is_software (slice_get c.app.tasks n) then spawn_code c.app n level c.spawns at else []
 
-  -- A spawn after a delay, a cancel and a move have no code yet.
+  -- whether there is a timer queue that holds messages of a task
+  abbrev pub is_timed : ℕ → Bool
+  is_timed n = is_some c.app.mono && is_some_and is_software (slice_get c.app.tasks n)
+
+  -- likewise a `spawn_after`, a `cancel` and a `reschedule_after`, whose delay, arguments and handle are there
+  abbrev pub delayed_code : ℕ → ℕ → ℕ → List Line
+  delayed_code level at n = if is_timed n then after_code c.app n level c.spawns at else []
+
+  abbrev pub cancelled_code : ℕ → ℕ → ℕ → List Line
+  cancelled_code level at n = if is_timed n then cancel_code c.app n level c.spawns at else []
+
+  abbrev pub moved_code : ℕ → ℕ → ℕ → List Line
+  moved_code level at n = if is_timed n then move_code c.app n level c.spawns at else []
+
+  -- The values of a spawn come into the slots of spawns from the first on, in the order of the text.
+  abbrev pub values_code : Spawn → List Line
+  values_code s = arguments_code c (values_of s) c.spawns
+
+  -- what goes once they are there
+  abbrev pub goes_code : ℕ → ℕ → Spawn → List Line
+  goes_code level at (Soon n args place) = message_code level at n
+  goes_code level at (After word delay n args place) = delayed_code level at n
+  goes_code level at (Cancel word n handle place) = cancelled_code level at n
+  goes_code level at (Move word delay n handle place) = moved_code level at n
+
   abbrev pub send_code : ℕ → ℕ → Spawn → List Line
-  send_code level at (Soon n args place) =
-      let front : List Line = arguments_code c args c.spawns in
-      front ++ message_code level (at + length front) n
-  send_code level at (After word delay n args place) = []
-  send_code level at (Cancel word n handle place) = []
-  send_code level at (Move word delay n handle place) = []
+  send_code level at s =
+      let front : List Line = values_code s in
+      front ++ goes_code level (at + length front) s
 
   abbrev pub bind_code : ℕ → ℕ → ℕ → Value → List Line
   bind_code level at x (Calc e) = value_code c e ++ plain (instr.Copy x c.expressions) ∷ []

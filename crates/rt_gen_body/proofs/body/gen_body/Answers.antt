@@ -26,7 +26,7 @@ returns-clause-size c =
     c.in_ok-extend_from_slice.was)
 
 pub returns-clause-stands : goal.returns-clause-stands
-returns-clause-stands c = λ monotonic.
+returns-clause-stands c =
     appended_stands (app_of c.args.plan.now.app.now) c.requires.accepted c.args.id c.args.code.now.items
     c.extend_from_slice.new.self.items c.as_slice.result.now c.new-lines.result c.generate.new.lines c.in_ok-entry.entry
     (c.in_ok-entry.ensures ∙ ap (λ (l : List Line). length l) c.deref.ensures.value) c.new-lines.ensures
@@ -34,4 +34,4 @@ returns-clause-stands c = λ monotonic.
     (c.extend_from_slice.ensures.items
     ∙ ap (λ r. if is_ok r then c.args.code.now.items ++ c.as_slice.result.now else c.args.code.now.items)
     c.in_ok-extend_from_slice.was)
-    monotonic c.requires.of_app
+    c.requires.of_app

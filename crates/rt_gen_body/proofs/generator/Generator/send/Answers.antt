@@ -1,20 +1,18 @@
-use Rattle.std.proofs.Common.{ap}
 use Rattle.rt_lemmas.proofs.Results.{on_ok_weaker}
 use Rattle.rt_app.specs.View.{spawn_of}
-use Rattle.rt_gen_body.specs.Inside.Simple.{message_code, send_code}
+use Rattle.rt_gen_body.specs.Inside.Simple.{goes_code, send_code}
 use Rattle.rt_gen_body.specs.Inside.Lines.{next_address, Appends}
 use Rattle.rt_gen_body.specs.Inside.Generating.{context}
 use Rattle.rt_gen_body.proofs.Emitted.{sent}
 use Rattle.rt_gen_body.proofs.generator.Generator.send.Goals as goal
 
-pub returns-in_ok-arguments-in-Soon : goal.returns-in_ok-arguments-in-Soon
-returns-in_ok-arguments-in-Soon c =
-    on_ok_weaker c.message.result
-    (Appends c.arguments.new.code c.message.new.code
-    (message_code (context c.args.self.now) c.args.level (next_address c.arguments.new.code) c.in-Soon.task))
-    (Appends c.args.code.now c.message.new.code
+pub returns : goal.returns
+returns c =
+    on_ok_weaker c.goes.result
+    (Appends c.values.new.code c.goes.new.code
+    (goes_code (context c.args.self.now) c.args.level (next_address c.values.new.code) (spawn_of c.args.spawn.now)))
+    (Appends c.args.code.now c.goes.new.code
     (send_code (context c.args.self.now) c.args.level (next_address c.args.code.now) (spawn_of c.args.spawn.now)))
-    (λ last. sent (context c.args.self.now) c.args.level c.args.code.now c.arguments.new.code c.message.new.code
-    c.args.spawn.now c.in-Soon.task c.in-Soon._at c.in-Soon.args.items c.deref.result.now (ap spawn_of c.in-Soon.is)
-    c.deref.ensures.value c.in_ok-arguments-in-Soon.ensures last)
-    c.message.ensures
+    (sent (context c.args.self.now) c.args.level c.args.code.now c.values.new.code c.goes.new.code
+    (spawn_of c.args.spawn.now) c.in_ok-values.ensures)
+    c.goes.ensures
