@@ -11,20 +11,11 @@ use Rattle.rt_laws.specs.Allowed.{after}
 use Rattle.rt_laws.specs.Run.{RunsOn}
 use Rattle.rt_laws.specs.ByItems.{label_of, done_after, after_all, silent, Comes}
 use Rattle.rt_laws.specs.Counts.{AreWithin}
+use Rattle.rt_laws.proofs.ByItems.{runs_append, after_append}
 use Rattle.rt_laws.proofs.Counting.{counts_rise_by_one}
 use Rattle.rt_baker.specs.Judge.{state_behind, AllCome}
 
 module _ (app : App) where
-  runs_append : (before behind : List Label) (s : State) → RunsOn app s before
-      → RunsOn app (after_all app s before) behind → RunsOn app s (before ++ behind)
-  runs_append [] behind s runs more = more
-  runs_append (label ∷ before) behind s runs more = (runs.0, runs_append before behind (after app s label) runs.1 more)
-
-  after_append : (before behind : List Label) (s : State)
-      → after_all app s (before ++ behind) ≡ after_all app (after_all app s before) behind
-  after_append [] behind s = refl
-  after_append (label ∷ before) behind s = after_append before behind (after app s label)
-
   -- a run from the start leads to the state
   record Reaches (s : State) : Type 0 where
     labels : List Label
@@ -37,8 +28,9 @@ module _ (app : App) where
   further : (s : State) (more : List Label) → Reaches s → RunsOn app s more → Reaches (after_all app s more)
   further s more r runs = record {
     labels = r.labels ++ more;
-    runs = runs_append r.labels more (first app) r.runs (subst (λ (u : State). RunsOn app u more) (sym r.leads) runs);
-    leads = after_append r.labels more (first app) ∙ ap (λ (u : State). after_all app u more) r.leads;
+    runs = runs_append app r.labels more (first app) r.runs
+        (subst (λ (u : State). RunsOn app u more) (sym r.leads) runs);
+    leads = after_append app r.labels more (first app) ∙ ap (λ (u : State). after_all app u more) r.leads;
   }
 
   pub silent_within : (k n : ℕ) (s : State) → AreWithin n s → AreWithin n (after_all app s (silent k))

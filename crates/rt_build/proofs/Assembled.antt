@@ -1,5 +1,5 @@
 -- What the parts of an image make of it.
-use Rattle.std.proofs.Common.{◌≡◌, ℕ, ◌<◌, ◌≤◌, Bool, true, false, not, List, [], ◌++◌, length, append-nil, Some}
+use Rattle.std.proofs.Common.{◌≡◌, ℕ, ◌<◌, ◌≤◌, Bool, true, false, not, List, [], ◌++◌, length, append-nil, Some, inl}
 use Rattle.std.proofs.Common.{slice_index, slice_get, Contains, refl, sym, ap, subst, ◌∙◌, arith}
 use Rattle.std.specs.List.{AllByRecursion}
 use Rattle.std.proofs.lemmas.Option.{slice_get_within}
@@ -8,12 +8,12 @@ use Rattle.rt_ids.specs.Names.{Names}
 use Rattle.rt_ids.specs.Storage.{Starting}
 use Rattle.rt_ids.specs.declared.limits.TheConstants.{CODE_SIZE}
 use Rattle.rt_app.specs.declared.app.App as code
+use Rattle.rt_app.specs.declared.app.Mono.{Mono}
 use Rattle.rt_app.specs.declared.plan.Plan.{Plan}
 use Rattle.rt_app.specs.Tree.{Task, App}
-use Rattle.rt_app.specs.BodyCost.{cost_measure, cost_of}
+use Rattle.rt_app.specs.BodyCost.{cost_measure, cost_of, timer_section_cost}
 use Rattle.rt_app.specs.Doings.{init_doing}
 use Rattle.rt_app.specs.Accepted.{IsAccepted}
-use Rattle.rt_app.specs.Handlers.{has_no_monotonic}
 use Rattle.rt_app.specs.Plan.{IsPlan}
 use Rattle.rt_app.specs.Holding.{storage}
 use Rattle.rt_app.specs.Layout.{Layout, memory}
@@ -32,10 +32,11 @@ use Rattle.rt_code.specs.declared.image.IrqRow.{IrqRow}
 use Rattle.rt_gen_queue.specs.Line.{Line, IsNameable}
 use Rattle.rt_gen_body.specs.Bodies.{DeclaredStands}
 use Rattle.rt_gen_queue.specs.Called.{rows_for}
+use Rattle.rt_gen_timer.proofs.Timers.{timers_stand}
 use Rattle.rt_build.specs.Entries.{Entries, irq_rows}
 use Rattle.rt_build.specs.Image.{IdleStands, HasTables, HasCode, IsImageOf}
-use Rattle.rt_build.specs.Inside.Plan.{IsUntimedPlan}
-use Rattle.rt_build.specs.Inside.Code.{HasDispatcher, IsCodeOf, entries_of}
+use Rattle.rt_build.specs.Inside.Plan.{IsAcceptedPlan}
+use Rattle.rt_build.specs.Inside.Code.{HasDispatcher, HasHandler, IsCodeOf, entries_of}
 use Rattle.rt_build.specs.declared.code.Code.{Code}
 use Rattle.rt_build.proofs.Dispatched.{dispatcher_stands}
 use Rattle.rt_build.proofs.Entries.{dispatcher_entry}
@@ -50,11 +51,10 @@ pub record IsMade (app : App) (img : Image) : Type 0 where
   pub lines : HasLines img
 
 -- the plan of an application that may be built
-pub untimed_plan : (plan : Plan) (source : code.App) → plan.app.now ≡ source → IsAccepted (app_of source)
-    → has_no_monotonic (app_of source) ≡ true → IsPlan plan → IsUntimedPlan plan
-untimed_plan plan source of_app accepted monotonic planned = record {
+pub accepted_plan : (plan : Plan) (source : code.App) → plan.app.now ≡ source → IsAccepted (app_of source)
+    → IsPlan plan → IsAcceptedPlan plan
+accepted_plan plan source of_app accepted planned = record {
   accepted = subst (λ (a : code.App). IsAccepted (app_of a)) (sym of_app) accepted;
-  monotonic = subst (λ (a : code.App). has_no_monotonic (app_of a) ≡ true) (sym of_app) monotonic;
   planned = planned;
 }
 
@@ -71,7 +71,7 @@ module _ (plan : Plan) (made : Code) (words bytes : ℕ) (irqs : List IrqRow) (b
       code = made.lines.items;
       names = names;
     })
-    (planned : IsUntimedPlan plan) where
+    (planned : IsAcceptedPlan plan) where
   abbrev app : App
   app = app_of plan.app.now
 
@@ -118,6 +118,10 @@ module _ (plan : Plan) (made : Code) (words bytes : ℕ) (irqs : List IrqRow) (b
         (subst (λ (all : List Line). HasDispatcher app p all (slice_index made.dispatchers.items place.0)) whole_code
         (coded.dispatchers place.0 (omega (arith, coded.entries.of_levels)) p place.1 []))
 
+    handler_there : (mono : Mono) → app.mono ≡ Some mono → HasHandler app mono.priority img.code made.timer
+    handler_there mono is =
+        subst (λ (all : List Line). HasHandler app mono.priority all made.timer) whole_code (coded.timer mono is [])
+
     has_code : HasTables app at img → HasCode app at img
     has_code tabled = record {
       init = λ bodies. subst (λ (all : List Line). StandsFrom (storage app) all bodies made.idle Starting
@@ -128,6 +132,8 @@ module _ (plan : Plan) (made : Code) (words bytes : ℕ) (irqs : List IrqRow) (b
       tasks = λ n t there hardware. (tasks_stand n t there).bound t there hardware;
       dispatchers = λ p is thread. dispatcher_stands app planned.accepted at img.code tasks_stand p is img.bodies
           tabled.bodies (dispatchers_there p is).there thread;
+      timer = λ mono is. timers_stand app planned.accepted mono is (timer_section_cost app) (inl refl) img.code made.timer
+          (handler_there mono is).there;
     }
 
     assembled : HasTables app at img → IsMade app img

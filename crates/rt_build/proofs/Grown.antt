@@ -5,7 +5,7 @@ use Rattle.std.proofs.Common.{subst, ◌∙◌, arith, append_assoc, append-nil}
 use Rattle.std.proofs.Common.{length-append, inl, inr}
 use Rattle.std.specs.List.{AllByRecursion}
 use Rattle.std.proofs.lemmas.Bool.{cases_lt, eqb-true, eqb-false}
-use Rattle.std.proofs.lemmas.Option.{get_or_from_slice_get, same_Some, slice_get_within}
+use Rattle.std.proofs.lemmas.Option.{get_or_from_slice_get, same_Some, none-some, slice_get_within}
 use Rattle.std.proofs.lemmas.List.Sums.{sum_by-append, sum_by-cons}
 use Rattle.std.proofs.lemmas.List.{take_more, take-append-drop, take_all, drop_all, drop_at, get_or_append_left}
 use Rattle.std.proofs.lemmas.List.{get_or_push, length_push}
@@ -14,6 +14,7 @@ use Rattle.rt_lemmas.proofs.Membership.{all_append}
 use Rattle.rt_lemmas.proofs.Places.{at_back}
 use Rattle.rt_ids.specs.Storage.{Starting, AtLevel}
 use Rattle.rt_ids.specs.declared.ids.BodyId.TheVariants as body
+use Rattle.rt_app.specs.declared.app.Mono.{Mono}
 use Rattle.rt_app.specs.Tree.{Body, Task, App}
 use Rattle.rt_app.specs.BodyCost.{cost_measure, size_measure, body_cost, cost_of, dispatcher_size}
 use Rattle.rt_app.specs.Doings.{init_doing, idle_doing}
@@ -28,10 +29,12 @@ use Rattle.rt_code.specs.declared.instr.Instr.TheVariants as instr
 use Rattle.rt_gen_queue.specs.Line.{Line, HasCode, IsNameable}
 use Rattle.rt_gen_body.specs.Bodies.{BodyStands, DeclaredStands}
 use Rattle.rt_gen_disp.specs.Code.{dispatcher_code}
+use Rattle.rt_gen_timer.specs.TimerCode.{timer_code}
 use Rattle.rt_gen_queue.proofs.Placing.{code_there}
 use Rattle.rt_build.specs.Image.{IdleStands}
 use Rattle.rt_build.specs.Inside.Code.{IsKept, Adds, is_of_kind, kind_size, HasThread, HasTasksBelow, HasTasks}
 use Rattle.rt_build.specs.Inside.Code.{TellsTask, LeavesOthers, HasDispatcher, HasDispatchers}
+use Rattle.rt_build.specs.Inside.Code.{HasHandler, HasTimer}
 use Rattle.rt_build.specs.declared.code.Kind.{Kind}
 use Rattle.rt_build.specs.declared.code.Kind.TheVariants.{Hardware, Software}
 
@@ -171,6 +174,18 @@ pub written : (size : ℕ) (before after : List ℕ) → length after ≡ length
 written size before after long is =
     ap (λ (back : List ℕ). take size (after ++ back)) (drop_all (length after) before (omega (arith, long)))
     ∙ (ap (take size) (append-nil after) ∙ take_all size after (omega (arith, long, is)))
+
+-- lines that are put behind code stand there
+code_put : (before after lines : List Line) (entry : ℕ) → entry ≡ length before → take entry after ≡ before
+    → drop entry after ≡ lines → (more : List Line) → HasCode (after ++ more) entry lines
+code_put before after lines entry at kept put more =
+    let all : before ++ lines ≡ after =
+    ap (λ (front : List Line). front ++ lines) (sym kept)
+    ∙ (ap (λ (back : List Line). take entry after ++ back) (sym put) ∙ take-append-drop entry after) in
+    subst (λ (to : ℕ). HasCode (after ++ more) to lines) (sym at)
+    (subst (λ (code : List Line). HasCode code (length before) lines)
+    (sym (append_assoc before lines more) ∙ ap (λ (front : List Line). front ++ more) all)
+    (code_there before lines more))
 
 -- a hardware task is no software task
 pub hardware_apart : (t : Task) → is_of_kind Hardware t ≡ true → is_of_kind Software t ≡ false
@@ -329,18 +344,21 @@ module _ (app : App) where
         (same_Some p q (sym there ∙ (ap (slice_get (levels app)) (sym counted) ∙ at))) stands)),
   )
 
+-- the code of the timer handler, put behind code where there is a monotonic, stands there; where there is none, no code
+-- is put there
+module _ (app : App) (entry : ℕ) where
+  pub timer_put : (mono : Mono) (before after : List Line) → app.mono ≡ Some mono → entry ≡ length before
+      → take entry after ≡ before → drop entry after ≡ timer_code app mono.priority entry → HasTimer app after entry
+  timer_put mono before after timed at kept put other is more =
+      subst (λ (m : Mono). HasHandler app m.priority (after ++ more) entry) (same_Some mono other (sym timed ∙ is))
+      (record { there = code_put before after (timer_code app mono.priority entry) entry at kept put more })
+
+  pub timer_absent : (lines : List Line) → app.mono ≡ None → HasTimer app lines entry
+  timer_absent lines none mono is more = absurd (none-some mono (sym none ∙ is))
+
 -- the code of a dispatcher, put behind code, stands there
 pub dispatcher_put : (app : App) (level entry : ℕ) (before after : List Line) → entry ≡ length before
     → take entry after ≡ before → drop entry after ≡ dispatcher_code app level entry
     → (more : List Line) → HasDispatcher app level (after ++ more) entry
 dispatcher_put app level entry before after at kept put more =
-    let lines : List Line = dispatcher_code app level entry in
-    let all : before ++ lines ≡ after =
-    ap (λ (front : List Line). front ++ lines) (sym kept)
-    ∙ (ap (λ (back : List Line). take entry after ++ back) (sym put) ∙ take-append-drop entry after) in
-    record {
-      there = subst (λ (to : ℕ). HasCode (after ++ more) to lines) (sym at)
-          (subst (λ (code : List Line). HasCode code (length before) lines)
-          (sym (append_assoc before lines more) ∙ ap (λ (front : List Line). front ++ more) all)
-          (code_there before lines more));
-    }
+    record { there = code_put before after (dispatcher_code app level entry) entry at kept put more }

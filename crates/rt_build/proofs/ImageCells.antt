@@ -1,7 +1,7 @@
 -- The cells of an image: resources are found by their names, each name is one word, and there are few.
 use Rattle.std.proofs.Common.{◌≡◌, ℕ, zero, suc, ◌+◌, ◌/◌, ◌%◌, ◌<◌, ◌==◌, Bool, true, false, cond, List, []}
-use Rattle.std.proofs.Common.{◌∷◌, ◌++◌, length, map, flat_map, get_or, Some, slice_get, Contains, codes, decimal, refl}
-use Rattle.std.proofs.Common.{sym, ap, ◌∙◌, arith, if◌then◌else◌}
+use Rattle.std.proofs.Common.{◌∷◌, ◌++◌, length, map, flat_map, get_or, Option, Some, None, slice_get, Contains, codes}
+use Rattle.std.proofs.Common.{decimal, refl, sym, ap, ◌∙◌, arith, if◌then◌else◌}
 use Rattle.std.specs.Fmt.{digits, digits_onto, digit_glyph}
 use Rattle.std.specs.Prelude.{bytes_eq}
 use Rattle.std.specs.List.{AllByRecursion, list_any, position_or_len, range_with_len}
@@ -20,15 +20,16 @@ use Rattle.rt_ids.specs.Word.{IsName}
 use Rattle.rt_ids.specs.declared.cell.CellRow.{CellRow}
 use Rattle.rt_app.specs.declared.app.Shared.{Shared}
 use Rattle.rt_app.specs.declared.app.Local.{Local}
+use Rattle.rt_app.specs.declared.app.Mono.{Mono}
 use Rattle.rt_app.specs.Tree.{Task, App}
 use Rattle.rt_app.specs.Accepted.{IsAccepted}
 use Rattle.rt_app.specs.Acceptance.{IsSound}
 use Rattle.rt_app.specs.Layout.{Cell, resource_cells, local_cells, free_cells, place_cells, task_cells, ready_cells}
-use Rattle.rt_app.specs.Layout.{ready_room, memory, layout, row_of}
-use Rattle.rt_app.specs.Level.{is_software, levels}
+use Rattle.rt_app.specs.Layout.{ready_room, timer_cell, timer_column, timer_cells, memory, layout, row_of}
+use Rattle.rt_app.specs.Level.{is_software, levels, armed_messages}
 use Rattle.rt_app.specs.Names.{HasNames}
 use Rattle.rt_app.proofs.Different.{different_none}
-use Rattle.rt_app.proofs.Laid.{resource_row}
+use Rattle.rt_app.proofs.Laid.{resource_row, on_ready, on_queues, on_locals}
 use Rattle.rt_code.specs.Image.{Image}
 use Rattle.rt_code.specs.Cells.{cell_named, resource_cell}
 use Rattle.rt_code.specs.Listable.{blanks, IsWord, IsPlain}
@@ -220,16 +221,42 @@ ready_words app p =
       ),
     )
 
+timer_word : (name : List ℕ) → IsWord name → HasWord (timer_cell name)
+timer_word name word = joined (codes "timer.") name (literal (codes "timer.") refl) word
+
+column_words : (app : App) (name : List ℕ) → IsWord name → AllByRecursion HasWord (timer_column app name)
+column_words app name word =
+    each_of _ (range_with_len 0 (armed_messages app))
+    (λ k. timer_word (name ++ codes "." ++ decimal k)
+    (joined (name ++ codes ".") (decimal k) (joined name (codes ".") word dot) (decimal_word k)))
+
+timer_words : (app : App) (o : Option Mono) → AllByRecursion HasWord (timer_cells app o)
+timer_words app None = tt
+timer_words app (Some mono) =
+    let handles = all_append HasWord (timer_column app (codes "handle")) (timer_column app (codes "heap"))
+    (column_words app (codes "handle") (literal (codes "handle") refl))
+    (column_words app (codes "heap") (literal (codes "heap") refl)) in
+    let numbers = all_append HasWord (timer_column app (codes "arming"))
+    (timer_column app (codes "handle") ++ timer_column app (codes "heap"))
+    (column_words app (codes "arming") (literal (codes "arming") refl)) handles in
+    let instants = all_append HasWord (timer_column app (codes "at"))
+    (timer_column app (codes "arming") ++ (timer_column app (codes "handle") ++ timer_column app (codes "heap")))
+    (column_words app (codes "at") (literal (codes "at") refl)) numbers in (
+      timer_word (codes "count") (literal (codes "count") refl),
+      (
+        timer_word (codes "armings") (literal (codes "armings") refl),
+        (timer_word (codes "given") (literal (codes "given") refl), instants),
+      ),
+    )
+
 pub words : (app : App) → HasNames app → AllByRecursion (λ cell. IsWord cell.name) (layout app).cells
 words app named =
     all_map row_of HasWord (λ (cell : CellRow). IsWord cell.name) (λ cell is. is) (memory app)
-    (all_append HasWord (resource_cells 0 app.shared)
-    (local_cells 0 app.locals ++ (task_cells 0 app.tasks ++ flat_map (ready_cells app) (levels app)))
-    (resource_words 0 app.shared named.shared)
-    (all_append HasWord (local_cells 0 app.locals) (task_cells 0 app.tasks ++ flat_map (ready_cells app) (levels app))
-    (local_words 0 app.locals named.locals)
-    (all_append HasWord (task_cells 0 app.tasks) (flat_map (ready_cells app) (levels app))
-    (task_words 0 app.tasks named.tasks) (each_made (ready_cells app) (ready_words app) (levels app)))))
+    (all_append HasWord (resource_cells 0 app.shared) (on_locals app) (resource_words 0 app.shared named.shared)
+    (all_append HasWord (local_cells 0 app.locals) (on_queues app) (local_words 0 app.locals named.locals)
+    (all_append HasWord (task_cells 0 app.tasks) (on_ready app) (task_words 0 app.tasks named.tasks)
+    (all_append HasWord (flat_map (ready_cells app) (levels app)) (timer_cells app app.mono)
+    (each_made (ready_cells app) (ready_words app) (levels app)) (timer_words app app.mono)))))
 
 pub few_cells : (app : App) → IsAccepted app → length (layout app).cells < 16384
 few_cells app accepted = omega (arith, length-map (memory app) row_of, cells_are_few app accepted)

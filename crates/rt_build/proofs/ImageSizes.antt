@@ -16,7 +16,7 @@ use Rattle.rt_app.specs.Tree.{Body, Task, App}
 use Rattle.rt_app.specs.Accepted.{IsAccepted}
 use Rattle.rt_app.specs.Acceptance.{IsSound}
 use Rattle.rt_app.specs.Bodies.{Member, thread_members, task_members}
-use Rattle.rt_app.specs.BodyCost.{size_measure, body_cost, cost_of, dispatcher_size}
+use Rattle.rt_app.specs.BodyCost.{size_measure, body_cost, cost_of, dispatcher_size, timer_size}
 use Rattle.rt_app.specs.Cost.{Measure}
 use Rattle.rt_app.specs.Level.{levels}
 use Rattle.rt_app.specs.Names.{names_of}
@@ -52,7 +52,8 @@ task_sum m n (t ∷ ts) =
 
 pub all_code : (app : App) → IsSound app
     → cost_of (size_measure app) app.init + (cost_of (size_measure app) app.idle
-    + (sum_by (λ t. body_cost (size_measure app) t.body) app.tasks + sum_by (dispatcher_size app) (levels app)))
+    + (sum_by (λ t. body_cost (size_measure app) t.body) app.tasks
+    + (sum_by (dispatcher_size app) (levels app) + timer_size app app.mono)))
     ≤ CODE_SIZE
 all_code app sound =
     let m = size_measure app in

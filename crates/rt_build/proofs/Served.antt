@@ -14,12 +14,12 @@ use Rattle.rt_lemmas.proofs.Membership.{all_at, contains_here, contains_there}
 use Rattle.rt_ids.specs.Lists.{AreDifferent}
 use Rattle.rt_ids.specs.Priority.{hardware}
 use Rattle.rt_app.specs.declared.app.IrqDecl.{IrqDecl}
-use Rattle.rt_app.specs.declared.costs.TheConstants.{DISPATCHER_WORDS}
+use Rattle.rt_app.specs.declared.costs.TheConstants.{DISPATCHER_WORDS, TIMER_WORDS}
 use Rattle.rt_app.specs.Tree.{Task, App}
 use Rattle.rt_app.specs.Accepted.{IsBindingPlaced, IsTaskPlaced, IsAccepted}
 use Rattle.rt_app.specs.Acceptance.{IsSound}
 use Rattle.rt_app.specs.Frame.{frame_words}
-use Rattle.rt_app.specs.Handlers.{Runs, Dispatches, Service, services}
+use Rattle.rt_app.specs.Handlers.{Runs, Dispatches, Times, Service, services}
 use Rattle.rt_app.specs.Level.{levels}
 use Rattle.rt_app.specs.Plan.{frames}
 use Rattle.rt_app.proofs.Different.{different_apart}
@@ -133,12 +133,19 @@ module _ (app : App) (at : Entries) where
       (λ k inside. (let e : 0 + k ≡ k = omega arith in has.each k inside
       ∙ ap (λ j. Some (handler_of app at (services app) j)) (sym e))) refl
 
--- the interrupt of a service is declared
-pub declared_irq : (app : App) → IsSound app → (before behind : List Service) (s : Service)
-    → services app ≡ before ++ s ∷ behind → s.irq < length app.irqs
-declared_irq app sound before behind s are =
-    let IsPlaced : Service → Type 0 = λ s. (s.irq < length app.irqs) × (1 ≤ s.level) × (s.level ≤ 2 ^ app.bits) in
-    (all_behind IsPlaced before (s ∷ behind) (subst (AllByRecursion IsPlaced) are sound.served)).0.0
+-- the interrupt of a service is declared, and its level is a priority that there is
+module _ (app : App) (sound : IsSound app) (before behind : List Service) (s : Service)
+    (are : services app ≡ before ++ s ∷ behind) where
+  placed : (s.irq < length app.irqs) × (1 ≤ s.level) × (s.level ≤ 2 ^ app.bits)
+  placed =
+      let IsPlaced : Service → Type 0 = λ s. (s.irq < length app.irqs) × (1 ≤ s.level) × (s.level ≤ 2 ^ app.bits) in
+      (all_behind IsPlaced before (s ∷ behind) (subst (AllByRecursion IsPlaced) are sound.served)).0
+
+  pub declared_irq : s.irq < length app.irqs
+  declared_irq = placed.0
+
+  pub declared_level : (1 ≤ s.level) × (s.level ≤ 2 ^ app.bits)
+  declared_level = (placed.1, placed.2)
 
 module _ (app : App) (at : Entries) (sound : IsSound app) where
   -- an interrupt that serves nothing before serves one more
@@ -170,6 +177,12 @@ pub level_row_is : (app : App) (at : Entries) (p value entry : ℕ) → value �
     → record { value = value; entry = entry; frame = DISPATCHER_WORDS } ≡ handler_row app at
     (record { irq = 0; handler = Dispatches p; level = p })
 level_row_is app at p value entry valued entered = rw (valued, entered) refl
+
+-- and how that of the monotonic serves it
+pub timer_row_is : (app : App) (at : Entries) (p value entry : ℕ) → value ≡ hardware app.bits p → entry ≡ at.timer
+    → record { value = value; entry = entry; frame = TIMER_WORDS } ≡ handler_row app at
+    (record { irq = 0; handler = Times; level = p })
+timer_row_is app at p value entry valued entered = rw (valued, entered) refl
 
 -- and the row of a task's body
 pub body_row_is : (at : Entries) (n : ℕ) (t : Task) (entry frame : ℕ) → entry ≡ at.task n

@@ -1,15 +1,15 @@
--- The services of an application before one, its own, and those behind it: of the hardware tasks, and then of the
--- levels of software tasks.
-use Rattle.std.proofs.Common.{◌≡◌, ℕ, zero, suc, ◌+◌, ◌≤◌, true, List, [], ◌∷◌, ◌++◌, length, flat_map, take, drop}
-use Rattle.std.proofs.Common.{append-nil, append_assoc, Option, Some, None, slice_get, refl, sym, ap, ◌∙◌, arith}
-use Rattle.std.specs.Prelude.{is_none}
+-- The services of an application before one, its own, and those behind it: of the hardware tasks, then of the levels
+-- of software tasks, and last of the monotonic.
+use Rattle.std.proofs.Common.{◌≡◌, ℕ, zero, suc, ◌+◌, ◌≤◌, List, [], ◌∷◌, ◌++◌, length, flat_map, take, drop}
+use Rattle.std.proofs.Common.{append-nil, append_assoc, Some, None, slice_get, refl, sym, ap, ◌∙◌, arith}
 use Rattle.std.proofs.lemmas.List.{take_all}
 use Rattle.std.proofs.lemmas.Option.{same_Some, none-some}
 use Rattle.rt_app.specs.declared.app.Mono.{Mono}
 use Rattle.rt_app.specs.Tree.{Task, App}
 use Rattle.rt_app.specs.Level.{levels}
-use Rattle.rt_app.specs.Handlers.{Runs, Dispatches, Service, bound_service, task_services, dispatcher_of}
-use Rattle.rt_app.specs.Handlers.{dispatcher_service, timer_service, services, has_no_monotonic}
+use Rattle.rt_app.specs.Handlers.{Runs, Dispatches, Times, Service, bound_service, task_services, dispatcher_of}
+use Rattle.rt_app.specs.Handlers.{dispatcher_service, timer_service, services}
+use Rattle.rt_build.specs.Inside.Tables.{untimed_services}
 
 -- the services of the tasks up to one, and those of the others
 services_split : (k n : ℕ) (ts : List Task) (t : Task) → slice_get ts n ≡ Some t
@@ -138,13 +138,21 @@ module _ (app : App) where
   pub no_levels : task_services 0 app.tasks ≡ served_below 0
   no_levels = sym (append-nil (task_services 0 app.tasks))
 
-  pub all_levels : has_no_monotonic app ≡ true → (k : ℕ) → length (levels app) ≤ k → served_below k ≡ services app
-  all_levels no_monotonic k last =
-      let tasks : List Service = task_services 0 app.tasks in
-      ap (λ ps. tasks ++ level_services ps) (take_all k (levels app) last)
-      ∙ ap (λ ss. tasks ++ ss) (sym (append-nil (level_services (levels app)))
-      ∙ ap (λ ss. level_services (levels app) ++ ss) (sym (untimed app.mono no_monotonic)))
-    where
-      untimed : (o : Option Mono) → is_none o ≡ true → timer_service o ≡ []
-      untimed None none = refl
-      untimed (Some mono) none = absurd cc
+  pub all_levels : (k : ℕ) → length (levels app) ≤ k → served_below k ≡ untimed_services app
+  all_levels k last =
+      ap (λ ps. task_services 0 app.tasks ++ level_services ps) (take_all k (levels app) last)
+
+  -- that of the monotonic is the last, where there is one
+  timer_behind : services app ≡ untimed_services app ++ timer_service app.mono
+  timer_behind =
+      sym (append_assoc (task_services 0 app.tasks) (level_services (levels app)) (timer_service app.mono))
+
+  abbrev pub timed_service : Mono → Service
+  timed_service mono = record { irq = mono.irq; handler = Times; level = mono.priority }
+
+  pub timer_last : (mono : Mono) → app.mono ≡ Some mono → services app ≡ untimed_services app ++ timed_service mono ∷ []
+  timer_last mono is = timer_behind ∙ ap (λ o. untimed_services app ++ timer_service o) is
+
+  pub no_timer : app.mono ≡ None → services app ≡ untimed_services app
+  no_timer is =
+      timer_behind ∙ (ap (λ o. untimed_services app ++ timer_service o) is ∙ append-nil (untimed_services app))

@@ -1,16 +1,18 @@
 -- What an image of an application is: its tables say what the application declares, where its interrupts are served and
 -- from which address, and at these addresses the code stands, that is, does what the bodies mean within the printed
 -- costs and in the printed frames (the RTIC 1 book: `init` runs first and then `idle`, a hardware task in its
--- interrupt, and a software task from its dispatcher). Which code that is, and where it lies, is the compiler's choice.
+-- interrupt, a software task from its dispatcher, and the monotonic has an interrupt of its own). Which code that is,
+-- and where it lies, is the compiler's choice.
 use Rattle.std.specs.Prelude.{◌≡◌, ℕ, Bool, false, List, length, map, slice_get, Option, Some, None, if◌then◌else◌}
 use Rattle.std.specs.Prelude.{Contains}
 use Rattle.rt_ids.specs.Lists.{is_some_and}
 use Rattle.rt_ids.specs.Storage.{Starting, AtLevel}
-use Rattle.rt_app.specs.declared.costs.TheConstants.{DISPATCHER_WORDS}
+use Rattle.rt_app.specs.declared.app.Mono.{Mono}
+use Rattle.rt_app.specs.declared.costs.TheConstants.{DISPATCHER_WORDS, TIMER_WORDS}
 use Rattle.rt_app.specs.Tree.{Body, Task, App}
 use Rattle.rt_app.specs.Level.{is_software, is_of_level, levels}
-use Rattle.rt_app.specs.BodyCost.{cost_measure, body_cost, cost_of, dispatcher_cost}
-use Rattle.rt_app.specs.Doings.{init_doing, idle_doing, dispatcher_doing}
+use Rattle.rt_app.specs.BodyCost.{cost_measure, body_cost, cost_of, dispatcher_cost, timer_cost}
+use Rattle.rt_app.specs.Doings.{init_doing, idle_doing, dispatcher_doing, timer_doing}
 use Rattle.rt_app.specs.Holding.{storage}
 use Rattle.rt_app.specs.Layout.{memory, layout}
 use Rattle.rt_app.specs.Names.{names_of}
@@ -51,8 +53,8 @@ module _ (app : App) (at : Entries) where
     pub irqs : img.irqs ≡ irq_rows app at 0 app.irqs
     pub bodies : img.bodies ≡ rows_for at.task 0 app.tasks
 
-  -- The thread and hardware tasks call no body, and a dispatcher those of its level alone. That a called body stands is
-  -- part of this: it is code that the dispatcher runs.
+  -- The thread, hardware tasks and the timer handler call no body, and a dispatcher those of its level alone. That a
+  -- called body stands is part of this: it is code that the dispatcher runs.
   pub record HasCode (img : Image) : Type 0 where
     pub init : (bodies : List BodyRow)
         → StandsFrom (storage app) img.code bodies at.idle Starting (length (memory app)) (thread_words app) 0
@@ -64,6 +66,10 @@ module _ (app : App) (at : Entries) where
         → StandsFrom (storage app) img.code (callable_rows app (is_of_level p) (length img.code) img.bodies) thread
         (AtLevel p) (length (memory app)) DISPATCHER_WORDS (at.dispatcher p) (dispatcher_cost app p)
         (dispatcher_doing app p)
+    -- where there is a monotonic
+    pub timer : (mono : Mono) → app.mono ≡ Some mono → (bodies : List BodyRow) (thread : ℕ)
+        → StandsFrom (storage app) img.code bodies thread (AtLevel mono.priority) (length (memory app)) TIMER_WORDS
+        at.timer (timer_cost app) (timer_doing app)
 
 -- with entries that its tables lead to, and where its code stands
 pub record IsImageOf (app : App) (img : Image) : Type 0 where

@@ -2,7 +2,7 @@ ghost use Rattle.std.specs.Prelude.{◌≡◌, slice_get, Some, true, IfOk};
 ghost use Rattle.rt_app.specs.Level.{is_software};
 ghost use Rattle.rt_app.specs.View.{app_of, task_of};
 ghost use Rattle.rt_gen_queue.specs.Called.{row_for, rows_for};
-ghost use Rattle.rt_build.specs.Inside.Plan.{IsUntimedPlan};
+ghost use Rattle.rt_build.specs.Inside.Plan.{IsAcceptedPlan};
 ghost use Rattle.rt_build.specs.Inside.Code.{HasEntries, entries_of};
 
 use crate::code::Code;
@@ -13,7 +13,7 @@ use std::alloc::Global;
 
 /// The row of the body of a software task.
 fn body_row(plan: &Plan<'_>, code: &Code, number: usize, task: &Task) -> BodyRow
-    requires plan { IsUntimedPlan plan.now }
+    requires plan { IsAcceptedPlan plan.now }
     requires entries { HasEntries (app_of plan.now.app.now) code.now }
     requires task { slice_get (app_of plan.now.app.now).tasks number ≡ Some (task_of task.now) }
     requires software { is_software (task_of task.now) ≡ true }
@@ -33,7 +33,7 @@ pub(crate) fn body_rows(
     plan: &Plan<'_>,
     code: &Code,
 ) -> Result<Vec<BodyRow>, NoMemory>
-    requires plan { IsUntimedPlan plan.now }
+    requires plan { IsAcceptedPlan plan.now }
     requires entries { HasEntries (app_of plan.now.app.now) code.now }
     ensures { let app = app_of plan.now.app.now in
         IfOk result (λ rows. rows.items ≡ rows_for (entries_of app code.now).task 0 app.tasks) }

@@ -1,6 +1,6 @@
 ghost use Rattle.std.specs.Prelude.{◌≡◌, ◌<◌, ◌≤◌, List, [], ◌∷◌, ◌++◌, length, sum_by, slice_get, Some, None};
 ghost use Rattle.std.specs.Prelude.{IfOk, OnOk};
-ghost use Rattle.rt_app.specs.BodyCost.{size_measure, cost_of, dispatcher_size};
+ghost use Rattle.rt_app.specs.BodyCost.{size_measure, cost_of, dispatcher_size, timer_size};
 ghost use Rattle.rt_app.specs.Level.{levels};
 ghost use Rattle.rt_app.specs.Tree as tree;
 ghost use Rattle.rt_app.specs.View.{app_of, task_of};
@@ -8,15 +8,17 @@ ghost use Rattle.rt_code.specs.declared.image.BodyRow.{BodyRow};
 ghost use Rattle.rt_code.specs.declared.instr.Instr.TheVariants as instr;
 ghost use Rattle.rt_gen_queue.specs.Line.{Line};
 ghost use Rattle.rt_build.specs.Image.{IdleStands};
-ghost use Rattle.rt_build.specs.Inside.Plan.{IsUntimedPlan};
+ghost use Rattle.rt_build.specs.Inside.Plan.{IsAcceptedPlan};
 ghost use Rattle.rt_build.specs.Inside.Code.{Adds, is_of_kind, kind_size, TellsTask, LeavesOthers};
-ghost use Rattle.rt_build.specs.Inside.Code.{HasTasks, HasDispatchers, IsCodeOf};
+ghost use Rattle.rt_build.specs.Inside.Code.{HasTasks, HasDispatchers, HasTimer, IsCodeOf};
 
 use rt_app::{Plan, Task};
 use rt_code::{Instr, Line};
+use rt_frames::ArmedRows;
 use rt_gen_body::gen_body;
 use rt_gen_disp::gen_dispatcher;
 use rt_gen_queue::next_entry;
+use rt_gen_timer::gen_timer;
 use rt_ids::{BodyId, NoMemory, TaskId};
 use std::alloc::Global;
 
@@ -30,6 +32,8 @@ pub(crate) struct Code {
     pub(crate) tasks: Vec<u32>,
     /// Where the dispatchers of the levels of software tasks begin, by rising level.
     pub(crate) dispatchers: Vec<u32>,
+    /// Where the timer handler begins; 0 where there is no monotonic.
+    pub(crate) timer: u32,
 }
 
 /// A task binds an interrupt, or a dispatcher calls it.
@@ -60,8 +64,14 @@ fn push_wait(lines: &mut Vec<Line>) -> Result<u32, NoMemory>
 }
 
 /// Appends what the thread does behind `init`, and answers where it begins: `idle`, or a wait where it is not declared.
-fn push_idle(alloc: Global, plan: &Plan<'_>, lines: &mut Vec<Line>) -> Result<u32, NoMemory>
-    requires { IsUntimedPlan plan.now }
+fn push_idle(
+    alloc: Global,
+    plan: &Plan<'_>,
+    rows: &ArmedRows<'_>,
+    lines: &mut Vec<Line>,
+) -> Result<u32, NoMemory>
+    requires plan { IsAcceptedPlan plan.now }
+    requires rows { rows.now ≡ plan.now.app.now }
     ensures entry { IfOk result (λ entry. entry ≡ length lines.old.items) }
     ensures adds { OnOk result (let app = app_of plan.now.app.now in
         Adds app (cost_of (size_measure app) app.idle) lines.old.items lines.new.items) }
@@ -69,7 +79,7 @@ fn push_idle(alloc: Global, plan: &Plan<'_>, lines: &mut Vec<Line>) -> Result<u3
         IdleStands (app_of plan.now.app.now) (lines.new.items ++ more) bodies entry (app_of plan.now.app.now).idle) }
 {
     match &plan.app.idle {
-        Some(_body) => gen_body(alloc, plan, BodyId::Idle, lines),
+        Some(_body) => gen_body(alloc, plan, rows, BodyId::Idle, lines),
         None => push_wait(lines),
     }
 }
@@ -78,12 +88,14 @@ fn push_idle(alloc: Global, plan: &Plan<'_>, lines: &mut Vec<Line>) -> Result<u3
 fn push_task(
     alloc: Global,
     plan: &Plan<'_>,
+    rows: &ArmedRows<'_>,
     kind: Kind,
     number: u8,
     entries: &mut [u32],
     lines: &mut Vec<Line>,
 ) -> Result<(), NoMemory>
-    requires plan { IsUntimedPlan plan.now }
+    requires plan { IsAcceptedPlan plan.now }
+    requires rows { rows.now ≡ plan.now.app.now }
     requires of_app { number < length (app_of plan.now.app.now).tasks }
     requires entries { length entries.old ≡ length (app_of plan.now.app.now).tasks }
     ensures adds { OnOk result (let app = app_of plan.now.app.now in
@@ -95,7 +107,7 @@ fn push_task(
 {
     let place = usize::from(number);
     if is_of_kind(&plan.app.tasks[place], kind) {
-        entries[place] = gen_body(alloc, plan, BodyId::Task(TaskId(number)), lines)?;
+        entries[place] = gen_body(alloc, plan, rows, BodyId::Task(TaskId(number)), lines)?;
     }
     Ok(())
 }
@@ -104,11 +116,13 @@ fn push_task(
 fn push_tasks(
     alloc: Global,
     plan: &Plan<'_>,
+    rows: &ArmedRows<'_>,
     kind: Kind,
     entries: &mut [u32],
     lines: &mut Vec<Line>,
 ) -> Result<(), NoMemory>
-    requires plan { IsUntimedPlan plan.now }
+    requires plan { IsAcceptedPlan plan.now }
+    requires rows { rows.now ≡ plan.now.app.now }
     requires entries { length entries.old ≡ length (app_of plan.now.app.now).tasks }
     ensures adds { OnOk result (let app = app_of plan.now.app.now in
         Adds app (sum_by (kind_size app kind) app.tasks) lines.old.items lines.new.items) }
@@ -116,7 +130,7 @@ fn push_tasks(
     ensures stands { OnOk result (HasTasks (app_of plan.now.app.now) lines.new.items kind entries.new) }
 {
     for number in 0..plan.app.tasks.len() {
-        push_task(alloc, plan, kind, number as u8, entries, lines)?;
+        push_task(alloc, plan, rows, kind, number as u8, entries, lines)?;
     }
     Ok(())
 }
@@ -127,7 +141,7 @@ fn push_dispatchers(
     plan: &Plan<'_>,
     lines: &mut Vec<Line>,
 ) -> Result<Vec<u32>, NoMemory>
-    requires plan { IsUntimedPlan plan.now }
+    requires plan { IsAcceptedPlan plan.now }
     ensures entries { IfOk result (λ entries. length entries.items ≡ length (levels (app_of plan.now.app.now))) }
     ensures adds { OnOk result (let app = app_of plan.now.app.now in
         Adds app (sum_by (dispatcher_size app) (levels app)) lines.old.items lines.new.items) }
@@ -141,19 +155,45 @@ fn push_dispatchers(
     Ok(entries)
 }
 
-/// Appends the code of `init`, of `idle`, of the hardware tasks, of the software tasks and of the dispatchers, one
-/// behind the other.
-fn push_parts(alloc: Global, plan: &Plan<'_>, code: &mut Code) -> Result<(), NoMemory>
-    requires plan { IsUntimedPlan plan.now }
+/// Appends the code of the timer handler where there is a monotonic, and answers where it begins; 0 where there is none.
+fn push_timer(
+    alloc: Global,
+    plan: &Plan<'_>,
+    rows: &ArmedRows<'_>,
+    lines: &mut Vec<Line>,
+) -> Result<u32, NoMemory>
+    requires plan { IsAcceptedPlan plan.now }
+    requires rows { rows.now ≡ plan.now.app.now }
+    ensures adds { OnOk result (let app = app_of plan.now.app.now in
+        Adds app (timer_size app app.mono) lines.old.items lines.new.items) }
+    ensures stands { IfOk result (λ entry. HasTimer (app_of plan.now.app.now) lines.new.items entry) }
+{
+    match plan.app.mono {
+        Some(mono) => gen_timer(alloc, plan, rows, mono, lines),
+        None => Ok(0),
+    }
+}
+
+/// Appends the code of `init`, of `idle`, of the hardware tasks, of the software tasks, of the dispatchers and of the
+/// timer handler, one behind the other.
+fn push_parts(
+    alloc: Global,
+    plan: &Plan<'_>,
+    rows: &ArmedRows<'_>,
+    code: &mut Code,
+) -> Result<(), NoMemory>
+    requires plan { IsAcceptedPlan plan.now }
+    requires rows { rows.now ≡ plan.now.app.now }
     requires empty { code.old.lines.items ≡ [] }
     requires entries { length code.old.tasks.items ≡ length (app_of plan.now.app.now).tasks }
     ensures { OnOk result (IsCodeOf (app_of plan.now.app.now) code.new) }
 {
-    gen_body(alloc, plan, BodyId::Init, &mut code.lines)?;
-    code.idle = push_idle(alloc, plan, &mut code.lines)?;
+    gen_body(alloc, plan, rows, BodyId::Init, &mut code.lines)?;
+    code.idle = push_idle(alloc, plan, rows, &mut code.lines)?;
     push_tasks(
         alloc,
         plan,
+        rows,
         Kind::Hardware,
         &mut code.tasks,
         &mut code.lines,
@@ -161,25 +201,29 @@ fn push_parts(alloc: Global, plan: &Plan<'_>, code: &mut Code) -> Result<(), NoM
     push_tasks(
         alloc,
         plan,
+        rows,
         Kind::Software,
         &mut code.tasks,
         &mut code.lines,
     )?;
     code.dispatchers = push_dispatchers(alloc, plan, &mut code.lines)?;
+    code.timer = push_timer(alloc, plan, rows, &mut code.lines)?;
     Ok(())
 }
 
 /// The code of an application.
 pub(crate) fn generate(alloc: Global, plan: &Plan<'_>) -> Result<Code, NoMemory>
-    requires { IsUntimedPlan plan.now }
+    requires { IsAcceptedPlan plan.now }
     ensures { IfOk result (λ code. IsCodeOf (app_of plan.now.app.now) code) }
 {
+    let rows = ArmedRows::of(plan.app);
     let mut code = Code {
         lines: Vec::new(alloc),
         idle: 0,
         tasks: vec![in alloc; 0; plan.app.tasks.len()]?,
         dispatchers: Vec::new(alloc),
+        timer: 0,
     };
-    push_parts(alloc, plan, &mut code)?;
+    push_parts(alloc, plan, &rows, &mut code)?;
     Ok(code)
 }

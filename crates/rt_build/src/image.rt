@@ -1,6 +1,5 @@
-ghost use Rattle.std.specs.Prelude.{◌≡◌, ℕ, ◌<◌, true, length, Some, IfOk};
+ghost use Rattle.std.specs.Prelude.{◌≡◌, ℕ, ◌<◌, length, Some, IfOk};
 ghost use Rattle.rt_app.specs.Accepted.{IsAccepted};
-ghost use Rattle.rt_app.specs.Handlers.{has_no_monotonic};
 ghost use Rattle.rt_app.specs.View.{app_of};
 ghost use Rattle.rt_build.specs.Image.{IsImageOf};
 ghost use Rattle.rt_code.specs.Cells.{resource_cell};
@@ -51,12 +50,11 @@ fn assemble(plan: Plan<'_>, code: Code, tables: Tables) -> Image
     }
 }
 
-/// The image of an application that is accepted and has no monotonic: its tables, and code that stands at the entry of
-/// each body and each dispatcher. A core runs it; its listing can be written, and so can the lines of its traces. The
-/// cell of a shared resource has the resource's own number.
+/// The image of an application that is accepted: its tables, and code that stands at the entry of each body, of each
+/// dispatcher and of the timer handler. A core runs it; its listing can be written, and so can the lines of its traces.
+/// The cell of a shared resource has the resource's own number.
 pub fn build(alloc: Global, app: &App) -> Result<Image, NoMemory>
-    requires accepted { IsAccepted (app_of app.now) }
-    requires monotonic { has_no_monotonic (app_of app.now) ≡ true }
+    requires { IsAccepted (app_of app.now) }
     ensures image { IfOk result (λ image. IsImageOf (app_of app.now) image) }
     ensures cells { IfOk result (λ image. (r : ℕ) → r < length (app_of app.now).shared
         → resource_cell image r ≡ Some r) }

@@ -3,14 +3,12 @@
 
 pub(crate) mod bodies;
 pub(crate) mod code;
-pub mod form;
 pub mod image;
 pub mod laws;
 pub(crate) mod tables;
 pub mod text;
 pub mod tree;
 
-pub use form::has_image;
 pub use image::build;
 pub use laws::code_that_stands_keeps_its_laws;
 pub use text::accept;

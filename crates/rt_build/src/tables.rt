@@ -1,20 +1,20 @@
 ghost use Rattle.std.specs.Prelude.{◌≡◌, ℕ, ◌<◌, [], length, map, slice_get, Some, false, IfOk};
 ghost use Rattle.std.specs.List.{zip};
-ghost use Rattle.rt_app.specs.Handlers.{Runs, Dispatches, Service, dispatcher_of, task_services, services};
+ghost use Rattle.rt_app.specs.Handlers.{Runs, Dispatches, Times, Service, dispatcher_of, task_services, services};
 ghost use Rattle.rt_app.specs.Level.{is_software, levels};
 ghost use Rattle.rt_app.specs.Names.{names_of};
 ghost use Rattle.rt_app.specs.Stack.{thread_words, stack_bytes};
 ghost use Rattle.rt_app.specs.View.{app_of, task_of};
 ghost use Rattle.rt_gen_queue.specs.Called.{rows_for};
 ghost use Rattle.rt_build.specs.Entries as spec;
-ghost use Rattle.rt_build.specs.Inside.Plan.{IsUntimedPlan};
+ghost use Rattle.rt_build.specs.Inside.Plan.{IsAcceptedPlan};
 ghost use Rattle.rt_build.specs.Inside.Code.{HasEntries, entries_of};
-ghost use Rattle.rt_build.specs.Inside.Tables.{HasHandlers, row_of};
+ghost use Rattle.rt_build.specs.Inside.Tables.{HasHandlers, untimed_services, row_of};
 
 use crate::bodies::body_rows;
 use crate::code::Code;
-use rt_app::costs::DISPATCHER_WORDS;
-use rt_app::{IrqDecl, Plan, Task};
+use rt_app::costs::{DISPATCHER_WORDS, TIMER_WORDS};
+use rt_app::{IrqDecl, Mono, Plan, Task};
 use rt_code::{BodyRow, Handler, IrqRow};
 use rt_frames::bounds;
 use rt_ids::{Name, Names, NoMemory, Prio};
@@ -40,7 +40,7 @@ pub(crate) struct Stack {
 
 /// What its stack takes.
 fn stack_of(alloc: Global, plan: &Plan<'_>) -> Result<Stack, NoMemory>
-    requires { IsUntimedPlan plan.now }
+    requires { IsAcceptedPlan plan.now }
     ensures words { IfOk result (λ stack. stack.thread_words ≡ thread_words (app_of plan.now.app.now)) }
     ensures bytes { IfOk result (λ stack. stack.bytes ≡ stack_bytes (app_of plan.now.app.now)) }
 {
@@ -53,7 +53,7 @@ fn stack_of(alloc: Global, plan: &Plan<'_>) -> Result<Stack, NoMemory>
 
 /// How the interrupt that a task binds serves it.
 fn handler(plan: &Plan<'_>, code: &Code, number: usize, task: &Task) -> Handler
-    requires plan { IsUntimedPlan plan.now }
+    requires plan { IsAcceptedPlan plan.now }
     requires entries { HasEntries (app_of plan.now.app.now) code.now }
     requires task { slice_get (app_of plan.now.app.now).tasks number ≡ Some (task_of task.now) }
     requires hardware { is_software (task_of task.now) ≡ false }
@@ -69,7 +69,7 @@ fn handler(plan: &Plan<'_>, code: &Code, number: usize, task: &Task) -> Handler
 
 /// How the dispatcher of the level at a place serves it.
 fn dispatcher(plan: &Plan<'_>, code: &Code, place: usize, level: u8) -> Handler
-    requires plan { IsUntimedPlan plan.now }
+    requires plan { IsAcceptedPlan plan.now }
     requires entries { HasEntries (app_of plan.now.app.now) code.now }
     requires level { slice_get (levels (app_of plan.now.app.now)) place ≡ Some level }
     ensures { let served : Service = record { irq = 0; handler = Dispatches level; level = level } in
@@ -82,9 +82,23 @@ fn dispatcher(plan: &Plan<'_>, code: &Code, place: usize, level: u8) -> Handler
     }
 }
 
+/// How the timer handler serves it.
+fn timer(plan: &Plan<'_>, code: &Code, mono: Mono) -> Handler
+    requires plan { IsAcceptedPlan plan.now }
+    requires timed { (app_of plan.now.app.now).mono ≡ Some mono }
+    ensures { let served : Service = record { irq = 0; handler = Times; level = mono.priority } in
+        result ≡ spec.handler_row (app_of plan.now.app.now) (entries_of (app_of plan.now.app.now) code.now) served }
+{
+    Handler {
+        value: Prio(mono.priority).hw(plan.app.bits),
+        entry: code.timer,
+        frame: TIMER_WORDS,
+    }
+}
+
 /// The interrupt of the dispatcher of the level at a place: that of the highest level is named first.
 fn dispatcher_irq(plan: &Plan<'_>, place: usize) -> u8
-    requires plan { IsUntimedPlan plan.now }
+    requires plan { IsAcceptedPlan plan.now }
     requires of_app { place < length (levels (app_of plan.now.app.now)) }
     ensures { (p : ℕ) → slice_get (levels (app_of plan.now.app.now)) place ≡ Some p →
         dispatcher_of (app_of plan.now.app.now) p ≡ Some result }
@@ -95,7 +109,7 @@ fn dispatcher_irq(plan: &Plan<'_>, place: usize) -> u8
 
 /// Tells of each interrupt that a task binds how it serves the task.
 fn serve_tasks(plan: &Plan<'_>, code: &Code, handlers: &mut [Option<Handler>])
-    requires plan { IsUntimedPlan plan.now }
+    requires plan { IsAcceptedPlan plan.now }
     requires entries { HasEntries (app_of plan.now.app.now) code.now }
     requires none { let app = app_of plan.now.app.now in
         HasHandlers app (entries_of app code.now) [] handlers.old }
@@ -111,12 +125,12 @@ fn serve_tasks(plan: &Plan<'_>, code: &Code, handlers: &mut [Option<Handler>])
 
 /// Tells of each interrupt that has a level's dispatcher how it serves the level.
 fn serve_levels(plan: &Plan<'_>, code: &Code, handlers: &mut [Option<Handler>])
-    requires plan { IsUntimedPlan plan.now }
+    requires plan { IsAcceptedPlan plan.now }
     requires entries { HasEntries (app_of plan.now.app.now) code.now }
     requires tasks { let app = app_of plan.now.app.now in
         HasHandlers app (entries_of app code.now) (task_services 0 app.tasks) handlers.old }
     ensures { let app = app_of plan.now.app.now in
-        HasHandlers app (entries_of app code.now) (services app) handlers.new }
+        HasHandlers app (entries_of app code.now) (untimed_services app) handlers.new }
 {
     for (place, row) in plan.ceil.ready.iter().enumerate() {
         let irq = dispatcher_irq(plan, place);
@@ -124,9 +138,22 @@ fn serve_levels(plan: &Plan<'_>, code: &Code, handlers: &mut [Option<Handler>])
     }
 }
 
+/// Tells of the interrupt of the monotonic, where there is one, how it is served.
+fn serve_timer(plan: &Plan<'_>, code: &Code, handlers: &mut [Option<Handler>])
+    requires plan { IsAcceptedPlan plan.now }
+    requires others { let app = app_of plan.now.app.now in
+        HasHandlers app (entries_of app code.now) (untimed_services app) handlers.old }
+    ensures { let app = app_of plan.now.app.now in
+        HasHandlers app (entries_of app code.now) (services app) handlers.new }
+{
+    if let Some(mono) = plan.app.mono {
+        handlers[usize::from(mono.irq)] = Some(timer(plan, code, mono));
+    }
+}
+
 /// How each declared interrupt is served, where it is.
 fn handlers(alloc: Global, plan: &Plan<'_>, code: &Code) -> Result<Vec<Option<Handler>>, NoMemory>
-    requires plan { IsUntimedPlan plan.now }
+    requires plan { IsAcceptedPlan plan.now }
     requires entries { HasEntries (app_of plan.now.app.now) code.now }
     ensures { let app = app_of plan.now.app.now in
         IfOk result (λ handlers. HasHandlers app (entries_of app code.now) (services app) handlers.items) }
@@ -134,6 +161,7 @@ fn handlers(alloc: Global, plan: &Plan<'_>, code: &Code) -> Result<Vec<Option<Ha
     let mut handlers = vec![in alloc; None; plan.app.irqs.len()]?;
     serve_tasks(plan, code, &mut handlers);
     serve_levels(plan, code, &mut handlers);
+    serve_timer(plan, code, &mut handlers);
     Ok(handlers)
 }
 
@@ -166,7 +194,7 @@ fn irq_rows(
 
 /// The rows of the declared interrupts of an application of this code.
 fn rows(alloc: Global, plan: &Plan<'_>, code: &Code) -> Result<Vec<IrqRow>, NoMemory>
-    requires plan { IsUntimedPlan plan.now }
+    requires plan { IsAcceptedPlan plan.now }
     requires entries { HasEntries (app_of plan.now.app.now) code.now }
     ensures { let app = app_of plan.now.app.now in
         IfOk result (λ rows. rows.items ≡ spec.irq_rows app (entries_of app code.now) 0 app.irqs) }
@@ -177,7 +205,7 @@ fn rows(alloc: Global, plan: &Plan<'_>, code: &Code) -> Result<Vec<IrqRow>, NoMe
 
 /// The tables of an application of this code.
 pub(crate) fn tables_of(alloc: Global, plan: &Plan<'_>, code: &Code) -> Result<Tables, NoMemory>
-    requires plan { IsUntimedPlan plan.now }
+    requires plan { IsAcceptedPlan plan.now }
     requires entries { HasEntries (app_of plan.now.app.now) code.now }
     ensures words { IfOk result (λ tables. tables.stack.thread_words ≡ thread_words (app_of plan.now.app.now)) }
     ensures bytes { IfOk result (λ tables. tables.stack.bytes ≡ stack_bytes (app_of plan.now.app.now)) }

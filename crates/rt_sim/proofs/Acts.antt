@@ -1,23 +1,21 @@
 -- A plain instruction that does the running job's next action is a step of Baker's machine.
 use Rattle.std.proofs.Common.{◌≡◌, ℕ, ◌+◌, ◌||◌, ◌++◌, Bool, true, List, [], ◌∷◌, length, map, slice_set, Option, Some}
-use Rattle.std.proofs.Common.{None, refl, ap, subst, ◌∙◌, if◌then◌else◌, length-set}
+use Rattle.std.proofs.Common.{None, refl, ap, subst, ◌∙◌, length-set}
 use Rattle.std.specs.List.{list_any}
 use Rattle.rt_ids.specs.Holder.{Holder, Guarded, Own, is_same_section}
-use Rattle.rt_ids.specs.Content.{Values, delays, least_instant}
-use Rattle.rt_ids.specs.Action.{Action, Emits, Posts, Clocks, Refuses, SetsAlarm, effect}
+use Rattle.rt_ids.specs.Content.{Values}
+use Rattle.rt_ids.specs.Action.{Action, Emits, Posts, Clocks, Refuses, effect}
 use Rattle.rt_ids.specs.Doing.{Doing, over, does}
 use Rattle.rt_ids.specs.Entry.{Entry, count}
 use Rattle.rt_ids.specs.Storage.{Runner}
 use Rattle.rt_ids.specs.declared.ids.Section.{Section}
-use Rattle.rt_ids.specs.declared.ids.Section.TheVariants as section
 use Rattle.rt_app.specs.Tree.{App}
 use Rattle.rt_app.specs.Holding.{storage, is_kept}
-use Rattle.rt_code.specs.Acting.{Acts, SetsTheAlarm}
+use Rattle.rt_code.specs.Acting.{Acts}
 use Rattle.rt_code.specs.Image.{Image}
 use Rattle.rt_code.specs.Owning.{Held, Spot, owns, is_open, MayAccess, Agree}
 use Rattle.rt_code.specs.Processor.{Processor}
 use Rattle.rt_code.specs.Standing.{Stands, HaveLeft, moved, passed}
-use Rattle.rt_code.proofs.Mine.{owns_open, owns_reads}
 use Rattle.rt_core.specs.Access.{access}
 use Rattle.rt_core.specs.Core.{Core}
 use Rattle.rt_core.specs.Leading.{GoesPlainly, with_processor}
@@ -27,8 +25,8 @@ use Rattle.rt_trace.specs.declared.item.What.{What}
 use Rattle.rt_trace.specs.declared.item.What.TheVariants as what
 use Rattle.rt_laws.specs.State.{reached}
 use Rattle.rt_laws.specs.Level.{candidate}
-use Rattle.rt_laws.specs.Giving.{next_item, item_of, is_due}
-use Rattle.rt_laws.specs.Acting.{acted, alarm_set}
+use Rattle.rt_laws.specs.Giving.{next_item, item_of}
+use Rattle.rt_laws.specs.Acting.{acted}
 use Rattle.rt_laws.specs.Allowed.{Turn}
 use Rattle.rt_sim.specs.Inside.Moment.{Moment, spot_of, sections_of, job_of}
 use Rattle.rt_sim.specs.Inside.States.{core_of, state_of}
@@ -72,6 +70,7 @@ pending_fits app img thread m pending long fits = record {
   memory = fits.memory;
   once = fits.once;
   numbers = long ∙ fits.numbers;
+  alarmed = fits.alarmed;
 }
 
 module _ (app : App) (img : Image) (thread : ℕ) (m : Moment) (fits : Fits app img thread m)
@@ -147,7 +146,7 @@ module _ (app : App) (img : Image) (thread : ℕ) (m : Moment) (fits : Fits app 
       (agrees_reached app img thread (who m.running) m.running.held rest vs) spares.1
 
   -- where no queue changes
-  acts_plainly : (q : Processor) (n : ℕ) (action : Action) (answer : ℕ)
+  pub acts_plainly : (q : Processor) (n : ℕ) (action : Action) (answer : ℕ)
       → GoesPlainly (spot_of m.cells m.queues m.running) (core_of app.bits m).processor q
       → ChangesItsOwn app img thread m.running m.cells q.cells
       → (acts : Acts (storage app) m.running.rows (who m.running) action answer
@@ -213,9 +212,10 @@ module _ (app : App) (img : Image) (thread : ℕ) (m : Moment) (fits : Fits app 
       };
     }
 
-    pub clocks : step img (core_of app.bits m) ≡ (with_processor (core_of app.bits m) q, Some (what.Clock m.time))
+    pub clocks : IsEntered app Clocks m.values
+        → step img (core_of app.bits m) ≡ (with_processor (core_of app.bits m) q, Some (what.Clock m.time))
         → ActsBy Clocks m.time → Both
-    clocks is acts = record {
+    clocks known is acts = record {
       core = with_processor (core_of app.bits m) q;
       shown = Some (what.Clock m.time);
       is = is;
@@ -224,7 +224,7 @@ module _ (app : App) (img : Image) (thread : ℕ) (m : Moment) (fits : Fits app 
         moment = Behind (acts.follows m.time m.values) m.values;
         core = refl;
         state = acts_as Clocks acts.values acts.follows acts.is;
-        fits = acts_plainly q n Clocks m.time plain (changes_by _ _ is may) acts (λ vs. refl) (λ held. refl) tt;
+        fits = acts_plainly q n Clocks m.time plain (changes_by _ _ is may) acts (λ vs. refl) (λ held. refl) known;
       };
     }
 
@@ -259,35 +259,3 @@ module _ (app : App) (img : Image) (thread : ℕ) (m : Moment) (fits : Fits app 
             (acts_plainly q n (Posts irq) 0 plain (changes_by _ _ is may) acts (λ vs. refl) (λ held. refl) tt);
       };
     }
-
-    -- nothing is armed, and so no alarm is set
-    pub sets_none : step img (core_of app.bits m) ≡
-        (record (core_of app.bits m) { processor = q; alarm = None }, Some what.AlarmSet)
-        → SetsTheAlarm (storage app) m.running.rows (who m.running) None
-        (moved (passed (spot_of m.cells m.queues m.running)) q)
-        (λ t. Stands (storage app) img.code m.running.rows thread (who m.running) n t) → Both
-    sets_none is sets =
-        let acts = sets.acts in
-        let instant : least_instant (delays (m.values (Guarded section.Timer))) ≡ None
-        = ap (λ content. least_instant (delays content))
-        (agreed SetsAlarm acts.values acts.follows acts.is (Guarded section.Timer)
-        (owns_reads (storage app) (who m.running) m.running.held (Guarded section.Timer)
-        (owns_open (storage app) (who m.running) m.running.held section.Timer sets.inside)))
-        ∙ sets.least in
-        record {
-          core = record (core_of app.bits m) { processor = q; alarm = None };
-          shown = Some what.AlarmSet;
-          is = is;
-          may = (
-            turn,
-            gives_item SetsAlarm acts.values acts.follows acts.is
-                ∙ ap (λ o. Some (if is_due m.time o then what.Alarm else what.AlarmSet)) instant,
-          );
-          agrees = record {
-            moment = Behind (acts.follows 0 m.values) m.values;
-            core = refl;
-            state = acts_as SetsAlarm acts.values acts.follows acts.is
-                ∙ ap (λ o. alarm_set app o (state_of (Behind (acts.follows 0 m.values) m.values))) instant;
-            fits = acts_plainly q n SetsAlarm 0 plain (changes_by _ _ is may) acts (λ vs. refl) (λ held. refl) tt;
-          };
-        }

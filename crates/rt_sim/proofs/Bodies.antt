@@ -1,14 +1,15 @@
--- `init`, `idle`, hardware tasks and dispatchers of an accepted application without a monotonic are sparing.
-use Rattle.std.proofs.Common.{◌≡◌, ℕ, ◌==◌, Bool, true, false, List, [], ◌∷◌, slice_get, Option, Some, None, is_none}
+-- `init`, `idle`, hardware tasks, dispatchers and the timer handler of an accepted application are sparing.
+use Rattle.std.proofs.Common.{◌≡◌, ℕ, ◌==◌, Bool, true, false, List, [], ◌∷◌, slice_get}
+use Rattle.std.proofs.Common.{Option, Some, None, IfSome, is_some}
 use Rattle.std.proofs.Common.{Contains}
 use Rattle.std.proofs.Common.{option_map, refl, sym, ap, subst, ◌∙◌}
 use Rattle.std.specs.List.{AllByRecursion}
 use Rattle.std.proofs.lemmas.Bool.{eqb-true}
 use Rattle.rt_lemmas.proofs.Bools.{and_left, and_right}
-use Rattle.rt_ids.specs.Lists.{is_some_and, then_from}
+use Rattle.rt_ids.specs.Lists.{is_some_and, or_zero, then_from}
 use Rattle.rt_ids.specs.Holder.{Guarded}
-use Rattle.rt_ids.specs.Content.{Message, messages}
-use Rattle.rt_ids.specs.Action.{Action, Enters, Leaves, Posts, Starts, Frees, Returns, Ends}
+use Rattle.rt_ids.specs.Content.{Message, Armed, messages, delays}
+use Rattle.rt_ids.specs.Action.{Action, Enters, Leaves, Posts, Starts, Frees, Fires, Returns, Ends}
 use Rattle.rt_ids.specs.Storage.{Runner, Starting, AtLevel}
 use Rattle.rt_ids.specs.declared.ids.BodyId.{BodyId}
 use Rattle.rt_ids.specs.declared.ids.BodyId.TheVariants as body
@@ -19,18 +20,18 @@ use Rattle.rt_app.specs.declared.costs.TheConstants.{FREE_COST}
 use Rattle.rt_app.specs.Tree.{Body, Task, App}
 use Rattle.rt_app.specs.Accepted.{IsAccepted}
 use Rattle.rt_app.specs.Acceptance.{IsSound}
-use Rattle.rt_app.specs.Bodies.{Member, member_at}
+use Rattle.rt_app.specs.Bodies.{Member, member_at, task_priority}
 use Rattle.rt_app.specs.Doings.{nothing, declared_doing, init_doing, idle_doing, task_doing, start_doing}
-use Rattle.rt_app.specs.Doings.{dispatcher_doing}
-use Rattle.rt_app.specs.Handlers.{has_no_monotonic}
+use Rattle.rt_app.specs.Doings.{dispatcher_doing, due, fire_doing, timer_doing}
 use Rattle.rt_app.specs.Level.{is_software, is_of_level, levels}
-use Rattle.rt_app.specs.Sending.{Rest, act, act_all, dispatcher_number}
+use Rattle.rt_app.specs.Sending.{Rest, act, act_all, dispatcher_number, ready_actions, leave_timer}
 use Rattle.rt_app.proofs.Members.{has_body}
 use Rattle.rt_app.proofs.Spelling.{the_task}
+use Rattle.rt_laws.proofs.FineHandlers.{due_holds}
 use Rattle.rt_sim.specs.Inside.Sparing.{held_after, IsActionOf, SparesAlways}
 use Rattle.rt_sim.proofs.Owned.{level_there, level_owns_resource, level_owns_local, start_owns_resource}
 use Rattle.rt_sim.proofs.Owned.{start_owns_local}
-use Rattle.rt_sim.proofs.Sparings.{body_sparing}
+use Rattle.rt_sim.proofs.Sparings.{leave_sparing, ready_sparing, body_sparing}
 
 -- an action on which another rest follows, and an end alone
 then_sparing : (app : App) (who : Runner) (handles : Bool) (held : List Section) (action : Action) (rest : Rest)
@@ -42,15 +43,7 @@ end_sparing : (app : App) (who : Runner) (handles : Bool) (last : Action) → Is
     → SparesAlways app who handles [] (act last nothing)
 end_sparing app who handles last may vs = (λ h away. refl, (may, λ n ws entered. (λ h away. refl, tt)))
 
-module _ (app : App) (accepted : IsAccepted app) (sound : IsSound app)
-    (no_monotonic : has_no_monotonic app ≡ true) where
-  no_mono : app.mono ≡ None
-  no_mono = by app.mono no_monotonic
-    where
-      by : (o : Option Mono) → is_none o ≡ true → o ≡ None
-      by None is = refl
-      by (Some mono) is = absurd (cc (is))
-
+module _ (app : App) (accepted : IsAccepted app) (sound : IsSound app) where
   abbrev thread_member : BodyId → Body → Member
   thread_member id b = record { id = id; priority = 0; args = 0; body = b }
 
@@ -68,7 +61,7 @@ module _ (app : App) (accepted : IsAccepted app) (sound : IsSound app)
           let one : member_at app body.Idle ≡ Some m = ap (option_map (thread_member body.Idle)) is in
           let in_all = (has_body app accepted body.Idle m one).is_one in
           body_sparing app (AtLevel 0) false m (level_owns_resource app m in_all false refl)
-          (level_owns_local app m in_all false refl) no_mono (level_there app accepted) b []
+          (level_owns_local app m in_all false refl) (level_there app accepted) b []
           (act (Ends body.Idle) nothing)
           (sound.bodies body.Idle m one) (end_sparing app (AtLevel 0) false (Ends body.Idle) tt)
 
@@ -83,7 +76,7 @@ module _ (app : App) (accepted : IsAccepted app) (sound : IsSound app)
           let one : member_at app body.Init ≡ Some m = ap (option_map (thread_member body.Init)) is in
           let in_all = (has_body app accepted body.Init m one).is_one in
           body_sparing app Starting false m (start_owns_resource app m in_all false)
-          (start_owns_local app m in_all false refl) no_mono (level_there app accepted) b []
+          (start_owns_local app m in_all false refl) (level_there app accepted) b []
           (act (Ends body.Init) nothing)
           (sound.bodies body.Init m one) (end_sparing app Starting false (Ends body.Init) tt)
 
@@ -98,7 +91,7 @@ module _ (app : App) (accepted : IsAccepted app) (sound : IsSound app)
       let one : member_at app (body.Task k) ≡ Some m = ap (option_map (task_member k)) there in
       let in_all = (has_body app accepted (body.Task k) m one).is_one in
       body_sparing app (AtLevel t.priority) true m (level_owns_resource app m in_all true refl)
-      (level_owns_local app m in_all true refl) no_mono (level_there app accepted) t.body args rest
+      (level_owns_local app m in_all true refl) (level_there app accepted) t.body args rest
       (sound.bodies (body.Task k) m one) fine)
 
   pub task_sparing : (k : ℕ) (t : Task) → slice_get app.tasks k ≡ Some t → is_software t ≡ false
@@ -166,4 +159,47 @@ module _ (app : App) (accepted : IsAccepted app) (sound : IsSound app)
     dispatcher_sparing is vs = (
       λ h away. refl,
       (is, λ n ws entered. start_sparing (messages (ws (Guarded (section.Ready p)))) entered ws),
+    )
+
+  -- the timer handler: behind the clock a due message is of a software task, which has a level
+  abbrev IsKnown : Armed → Type 0
+  IsKnown a = is_some_and is_software (slice_get app.tasks a.message.task) ≡ true
+
+  level_of : (n : ℕ) → is_some_and is_software (slice_get app.tasks n) ≡ true
+      → Contains (levels app) (task_priority app n)
+  level_of n known =
+      let one = the_task is_software app n known in
+      let t : Task = one.0 in
+      let level : task_priority app n ≡ t.priority =
+      ap (λ o. or_zero (option_map (λ (u : Task). u.priority) o)) one.1 in
+      subst (λ p. Contains (levels app) p) (sym level) (level_there app accepted n t one.1 one.2)
+
+  module _ (mono : Mono) (is : app.mono ≡ Some mono) where
+    fire_sparing : (o : Option Armed) → IfSome o IsKnown
+        → SparesAlways app (AtLevel mono.priority) true (section.Timer ∷ []) (fire_doing app o)
+    fire_sparing None known =
+        leave_sparing app (AtLevel mono.priority) true [] (act Returns nothing)
+        (end_sparing app (AtLevel mono.priority) true Returns refl)
+    fire_sparing (Some a) known =
+        let p : ℕ = task_priority app a.message.task in
+        let behind : Rest = act_all (ready_actions app p a.message) (act Returns nothing) in
+        then_sparing app (AtLevel mono.priority) true (section.Timer ∷ []) (Fires a.message) (leave_timer app behind) tt
+        (leave_sparing app (AtLevel mono.priority) true [] behind
+        (ready_sparing app (AtLevel mono.priority) true [] p a.message (act Returns nothing)
+        (level_of a.message.task known) (end_sparing app (AtLevel mono.priority) true Returns refl)))
+
+    pub timer_sparing : SparesAlways app (AtLevel mono.priority) true [] (timer_doing app)
+    timer_sparing vs = (
+      λ h away. refl,
+      (
+        ap is_some is,
+        λ n ws entered. (
+          λ h away. refl,
+          (
+            tt,
+            λ time xs known. fire_sparing (due app time (delays (xs (Guarded section.Timer))))
+                (due_holds app IsKnown time (delays (xs (Guarded section.Timer))) known) xs,
+          ),
+        ),
+      ),
     )

@@ -196,6 +196,7 @@ module _ (app : App) (img : Image) (thread : ℕ) where
         memory = fits.memory;
         once = fits.once;
         numbers = fits.numbers;
+        alarmed = fits.alarmed;
       }
 
       room : has_room img (core_of app.bits m) calls.called.frame ≡ true
@@ -288,6 +289,7 @@ module _ (app : App) (img : Image) (thread : ℕ) where
         memory = fits.memory;
         once = fits.once;
         numbers = fits.numbers;
+        alarmed = fits.alarmed;
       }
 
       pub comes_back : step img (core_of app.bits m) ≡

@@ -20,7 +20,7 @@ same_holder (Guarded a) (Own n) is = absurd (cc (is))
 same_holder (Own n) (Guarded b) is = absurd (cc (is))
 same_holder (Own n) (Own k) is = ap (λ j. Own j) (eqb-true n k is)
 
--- how the four moves of a place count
+-- how the moves of a place count
 pub took : (e entry : Entry) (places others queue : List Entry) → queue ≡ entry ∷ others
     → count e (entry ∷ places) + count e others ≡ count e places + count e queue
 took e entry places others queue is =
@@ -41,6 +41,29 @@ pub put_before : (e entry : Entry) (places others queue : List Entry) → places
 put_before e entry places others queue is =
     let one = count_more e entry others in
     let two = count_more e entry queue in
+    let same = ap (count e) is in omega arith
+
+-- from amid a queue, and from there to its end
+pub taken_out : (e entry : Entry) (places before behind queue : List Entry) → queue ≡ before ++ entry ∷ behind
+    → count e (entry ∷ places) + count e (before ++ behind) ≡ count e places + count e queue
+taken_out e entry places before behind queue is =
+    let one = count_more e entry places in
+    let two = count_more e entry behind in
+    let rest : count e (before ++ behind) ≡ count e before + count e behind = sum_by-append _ before behind in
+    let all : count e (before ++ entry ∷ behind) ≡ count e before + count e (entry ∷ behind)
+    = sum_by-append _ before (entry ∷ behind) in
+    let same = ap (count e) is in omega arith
+
+pub put_last : (e entry : Entry) (places before behind queue : List Entry) → queue ≡ before ++ entry ∷ behind
+    → count e places + count e (before ++ (behind ++ entry ∷ [])) ≡ count e places + count e queue
+put_last e entry places before behind queue is =
+    let one = count_more e entry behind in
+    let two : count e (behind ++ entry ∷ []) ≡ count e behind + count e (entry ∷ [])
+    = sum_by-append _ behind (entry ∷ []) in
+    let rest : count e (before ++ (behind ++ entry ∷ [])) ≡ count e before + count e (behind ++ entry ∷ [])
+    = sum_by-append _ before (behind ++ entry ∷ []) in
+    let all : count e (before ++ entry ∷ behind) ≡ count e before + count e (entry ∷ behind)
+    = sum_by-append _ before (entry ∷ behind) in
     let same = ap (count e) is in omega arith
 
 -- with fewer in hands

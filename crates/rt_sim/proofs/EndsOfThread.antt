@@ -139,6 +139,7 @@ module _ (app : App) (img : Image) (thread : ℕ)
       memory = fits.memory;
       once = fewer_once m.queues (hands (m.running ∷ [])) (λ e. 0) (λ e. omega arith) fits.once;
       numbers = fits.numbers;
+      alarmed = fits.alarmed;
     }
 
     fits_waiting : app.idle ≡ None → Fits app img thread (moment_of None)
@@ -176,6 +177,7 @@ module _ (app : App) (img : Image) (thread : ℕ)
       memory = fits.memory;
       once = fewer_once m.queues (hands (m.running ∷ [])) (λ e. 0) (λ e. omega arith) fits.once;
       numbers = fits.numbers;
+      alarmed = fits.alarmed;
     }
 
     fits_thread : (o : Option Body) → app.idle ≡ o → Fits app img thread (moment_of o)

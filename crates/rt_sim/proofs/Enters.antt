@@ -1,15 +1,15 @@
 -- A section opens: the masks are set and what they were is kept, what the section guards is taken over from the others,
 -- and Baker's machine enters it.
-use Rattle.std.proofs.Common.{◌≡◌, ◌≢◌, ℕ, suc, ◌-◌, ◌<◌, inl, inr, Bool, true, false, List, [], ◌∷◌, ◌++◌, length}
-use Rattle.std.proofs.Common.{map, slice_get, slice_index, slice_set, Contains, Some, None, refl, sym, ap, subst, ◌∙◌}
-use Rattle.std.proofs.Common.{arith, length-set, get_or-set_same, get_or-set_other}
+use Rattle.std.proofs.Common.{◌≡◌, ◌≢◌, ℕ, suc, ◌+◌, ◌-◌, ◌^◌, ◌<◌, inl, inr, Bool, true, false, List, [], ◌∷◌, ◌++◌}
+use Rattle.std.proofs.Common.{length, map, slice_get, slice_index, slice_set, Contains, Some, None, refl, sym, ap}
+use Rattle.std.proofs.Common.{subst, ◌∙◌, arith, length-set, get_or-set_same, get_or-set_other}
 use Rattle.std.specs.List.{AllByRecursion}
 use Rattle.rt_lemmas.proofs.Bools.{left_of_none, true_and_false, or_neither}
 use Rattle.rt_lemmas.proofs.Lists.{all_map}
 use Rattle.rt_lemmas.proofs.Membership.{contains_here, contains_there, all_weaker}
 use Rattle.rt_ids.specs.Holder.{Guarded}
 use Rattle.rt_ids.specs.Lists.{is_some_and}
-use Rattle.rt_ids.specs.Content.{Content, Values, messages, MayArm}
+use Rattle.rt_ids.specs.Content.{Content, Number, Messages, Delays, Values, messages, timed, MayArm}
 use Rattle.rt_ids.specs.Action.{Enters}
 use Rattle.rt_ids.specs.Doing.{Doing}
 use Rattle.rt_ids.specs.Operation.{number_of}
@@ -34,6 +34,7 @@ use Rattle.rt_core.specs.Stepping.{step}
 use Rattle.rt_trace.specs.declared.item.What.TheVariants as what
 use Rattle.rt_laws.specs.State.{reached}
 use Rattle.rt_laws.specs.Level.{candidate}
+use Rattle.rt_laws.proofs.Armings.{armings}
 use Rattle.rt_sim.specs.Inside.Moment.{Part, Moment, spot_of, sections_of}
 use Rattle.rt_sim.specs.Inside.States.{core_of, state_of}
 use Rattle.rt_sim.specs.Inside.Counts.{hands}
@@ -121,16 +122,20 @@ entered_well app m (section.Ready p) cost spells =
     (λ m. is_some_and (is_of_level p) (slice_get app.tasks m.task) ≡ true) (λ e is. is.0)
     (m.queues (Guarded (section.Ready p))) spells.1.places)
 
--- what the cells of a section spell is no timer queue, where there is no monotonic
-no_timer_queue : (app : App) (m : Moment) (x : Section) → (IsHeld app (Guarded section.Timer) → ⊥)
+-- where the timer queue opens one more message may be armed
+may_arm_into : (content : Content) → (timed content).given + (timed content).moved < 2 ^ 31 → MayArm content
+may_arm_into (Number n) few = tt
+may_arm_into (Messages ms) few = tt
+may_arm_into (Delays t) few = few
+
+may_arm : (app : App) (m : Moment) (x : Section) → armings m.values < 2 ^ 31
     → (storage app).Spells (Guarded x) (slice_index m.cells) (m.queues (Guarded x)) (m.values (Guarded x))
     → MayArm (m.values (Guarded x))
 unfolding storage
-no_timer_queue app m (section.Res r) no_monotonic spells = subst (λ content. MayArm content) (sym spells.1) tt
-no_timer_queue app m (section.Free n) no_monotonic spells = subst (λ content. MayArm content) (sym spells.1.out) tt
-no_timer_queue app m (section.Ready p) no_monotonic spells =
-    subst (λ content. MayArm content) (sym spells.1.messages) tt
-no_timer_queue app m section.Timer no_monotonic spells = absurd (no_monotonic spells.0)
+may_arm app m (section.Res r) few spells = subst (λ content. MayArm content) (sym spells.1) tt
+may_arm app m (section.Free n) few spells = subst (λ content. MayArm content) (sym spells.1.out) tt
+may_arm app m (section.Ready p) few spells = subst (λ content. MayArm content) (sym spells.1.messages) tt
+may_arm app m section.Timer few spells = may_arm_into (m.values (Guarded section.Timer)) few
 
 module _ (app : App) (img : Image) (thread : ℕ) where
   -- the running job inside a section more
@@ -194,8 +199,8 @@ module _ (app : App) (img : Image) (thread : ℕ) where
     stack.1,
   )
 
-  module _ (no_monotonic : IsHeld app (Guarded section.Timer) → ⊥) (m : Moment) (fits : Fits app img thread m)
-      (works : IsWorking m.running.role) (n : ℕ)
+  module _ (m : Moment) (fits : Fits app img thread m) (works : IsWorking m.running.role)
+      (few : armings m.values < 2 ^ 31) (n : ℕ)
       (none : candidate app (state_of m) ≡ None)
       (left : HaveLeft (m.running.lefts ++ m.running.left ∷ [])) (x : Section) (i : Instr)
       (goes : GoesIn (storage app) (who m.running) x i (passed (spot_of m.cells m.queues m.running))
@@ -244,7 +249,7 @@ module _ (app : App) (img : Image) (thread : ℕ) where
       agree = agreed app img thread m fits works (Enters x goes.cost) goes.values goes.follows goes.is;
       same = record { long = refl; touched = λ cell may. refl; queued = λ h o. refl };
       spelled = spells;
-      few = no_timer_queue app m x no_monotonic spells;
+      few = may_arm app m x few spells;
       once = λ e.
           let all = open_once m.queues (hands (m.running ∷ m.below)) fits.once e x m.running.held fits.parts.0.once
           goes.once in
@@ -302,6 +307,7 @@ module _ (app : App) (img : Image) (thread : ℕ) where
       memory = fits.memory;
       once = fits.once;
       numbers = fits.numbers;
+      alarmed = fits.alarmed;
     }
 
     core_inside : (kind : Kind) → with_processor (core_of app.bits m) (opened (core_of app.bits m).processor

@@ -1,5 +1,5 @@
--- Every image of an accepted application without a monotonic is good.
-use Rattle.std.proofs.Common.{◌≡◌, ℕ, zero, suc, ◌^◌, ◌<◌, ◌≤◌, Bool, true, false, if◌then◌else◌, List, [], ◌∷◌}
+-- Every image of an accepted application is good.
+use Rattle.std.proofs.Common.{◌≡◌, ℕ, zero, suc, ◌+◌, ◌^◌, ◌<◌, ◌≤◌, Bool, true, false, if◌then◌else◌, List, [], ◌∷◌}
 use Rattle.std.proofs.Common.{length, take, slice_get, Option, Some, None, refl, sym, ap, subst, ◌∙◌, arith}
 use Rattle.std.specs.List.{AllByRecursion}
 use Rattle.std.proofs.lemmas.List.{length-map}
@@ -16,7 +16,6 @@ use Rattle.rt_trace.specs.declared.item.What.TheVariants as what
 use Rattle.rt_app.specs.Tree.{App}
 use Rattle.rt_app.specs.Accepted.{IsAccepted}
 use Rattle.rt_app.specs.Acceptance.{IsSound}
-use Rattle.rt_app.specs.Handlers.{has_no_monotonic}
 use Rattle.rt_app.specs.Layout.{resource_at}
 use Rattle.rt_app.specs.Stack.{stack_bytes}
 use Rattle.rt_app.proofs.Sound.{accepted_are_sound}
@@ -31,11 +30,12 @@ use Rattle.rt_core.proofs.Showing.{shows_its_events}
 use Rattle.rt_laws.specs.State.{Role, Init, Idle, Waiting, Serving, Job, State, first}
 use Rattle.rt_laws.specs.Giving.{gives, item_given, item_of, next_item, return_item, next_instant, is_due}
 use Rattle.rt_laws.specs.Allowed.{May, after}
-use Rattle.rt_laws.specs.ByItems.{after_all}
 use Rattle.rt_laws.specs.Run.{RunsOn}
-use Rattle.rt_laws.specs.Sight.{Sight, first_sight, sees}
+use Rattle.rt_laws.specs.Sight.{Sight, first_sight}
 use Rattle.rt_laws.proofs.Well.{StateWell}
-use Rattle.rt_laws.proofs.Happens.{first_well, happens, after_well}
+use Rattle.rt_laws.proofs.Armings.{armings, first_armings}
+use Rattle.rt_laws.proofs.Fine.{Queued}
+use Rattle.rt_laws.proofs.Happens.{first_well}
 use Rattle.rt_laws.proofs.Keeping.{runs_keep_laws}
 use Rattle.rt_laws.proofs.AllMoments.{runs_keep_messages}
 use Rattle.rt_sim.specs.Guarded.{sees_all, IsGuarded}
@@ -45,9 +45,9 @@ use Rattle.rt_sim.specs.Inside.States.{core_of, state_of}
 use Rattle.rt_sim.specs.Inside.Fits.{Fits}
 use Rattle.rt_sim.specs.Inside.Agrees.{StepsBoth}
 use Rattle.rt_sim.proofs.Access.{access_is_guarded}
-use Rattle.rt_sim.proofs.Bodies.{init_sparing, idle_sparing, task_sparing, dispatcher_sparing}
+use Rattle.rt_sim.proofs.Bodies.{init_sparing, idle_sparing, task_sparing, dispatcher_sparing, timer_sparing}
 use Rattle.rt_sim.proofs.Depth.{depth_within}
-use Rattle.rt_sim.proofs.Running.{Reaches, reaches}
+use Rattle.rt_sim.proofs.Running.{well_after, Reaches, reaches}
 use Rattle.rt_sim.proofs.Starting.{agrees_first}
 use Rattle.rt_sim.proofs.Stepping.{step_both}
 
@@ -115,31 +115,20 @@ module _ (app : App) where
   front_declared (Tick ∷ events) (suc n) declared = front_declared events n declared
   front_declared (Step ∷ events) (suc n) declared = front_declared events n declared
 
-  -- what is seen of the jobs is so behind labels
-  well_after : IsAccepted app → (labels : List Label) (s : State) (v : Sight) → StateWell app s v
-      → RunsOn app s labels → StateWell app (after_all app s labels) (sees_all app v labels)
-  well_after accepted [] s v well runs = well
-  well_after accepted (label ∷ labels) s v well runs =
-      well_after accepted labels (after app s label) (sees app v label)
-      (after_well app accepted s v well label (happens app accepted s v well label runs.0)) runs.1
-
 front_short : (events : List Event) (n : ℕ) → length (take n events) ≤ length events
 front_short events zero = omega arith
 front_short [] (suc n) = omega arith
 front_short (e ∷ events) (suc n) = omega (arith, front_short events n)
 
-module _ (app : App) (img : Image) (accepted : IsAccepted app)
-    (no_monotonic : has_no_monotonic app ≡ true) (is_image : IsImageOf app img) where
+module _ (app : App) (img : Image) (accepted : IsAccepted app) (is_image : IsImageOf app img) where
   sound : IsSound app
   sound = accepted_are_sound app accepted
 
-  steps_both : (m : Moment) → Fits app img is_image.at.idle m → m.time < 2 ^ 31
-      → StepsBoth app img is_image.at.idle (core_of app.bits m) (state_of m)
-  steps_both = step_both app img accepted sound no_monotonic is_image
-      (resource_numbers app is_image.at img is_image.tables sound)
-      (idle_sparing app accepted sound no_monotonic)
-      (task_sparing app accepted sound no_monotonic)
-      (dispatcher_sparing app accepted sound no_monotonic)
+  steps_both : (m : Moment) → Fits app img is_image.at.idle m → Queued app m.values
+      → m.time + armings m.values < 2 ^ 31 → StepsBoth app img is_image.at.idle (core_of app.bits m) (state_of m)
+  steps_both = step_both app img accepted sound is_image
+      (resource_numbers app is_image.at img is_image.tables sound) (idle_sparing app accepted sound)
+      (task_sparing app accepted sound) (dispatcher_sparing app accepted sound) (timer_sparing app accepted sound)
 
   -- the cell that the image names as a resource is the one that has it
   cell_is : (r cell : ℕ) → resource_cell img r ≡ Some cell → (r < length app.shared) × (cell ≡ resource_at app r)
@@ -156,11 +145,11 @@ module _ (app : App) (img : Image) (accepted : IsAccepted app)
       named_within (Some name) at is = omega (arith, declared, slice_get_within img.names.shared r name at)
 
   reached_by : (events : List Event) → length events < 2 ^ 31 → AreDeclared app events
-      → Reaches app img is_image.at.idle steps_both (reset img) (first app) events
+      → Reaches app accepted img is_image.at.idle steps_both (reset img) (first app) events
   reached_by events few declared =
-      reaches app img is_image.at.idle steps_both events (reset img) (first app)
-      (agrees_first app img accepted sound is_image (init_sparing app accepted sound no_monotonic))
-      (omega (arith, few)) declared
+      reaches app accepted img is_image.at.idle steps_both events (reset img) (first app) (first_sight app)
+      (agrees_first app img accepted sound is_image (init_sparing app accepted sound)) (first_well app accepted)
+      (omega (arith, few, first_armings app accepted)) declared
 
   runs_well : (events : List Event) → length events < 2 ^ 31 → AreDeclared app events → RunsWell app img events
   runs_well events few declared =
@@ -192,14 +181,15 @@ module _ (app : App) (img : Image) (accepted : IsAccepted app)
             let v : Sight = sees_all app (first_sight app) (labels img (reset img) front) in
             let early : part.agrees.moment.time < 2 ^ 31 =
             let same : (core_after img (reset img) front).time ≡ part.agrees.moment.time =
-            ap (λ (c : Core). c.time) part.agrees.core in omega (arith, same, part.time, short) in
+            ap (λ (c : Core). c.time) part.agrees.core in
+            omega (arith, same, part.time, short, first_armings app accepted) in
             subst (λ (c : Core). IsGuarded app img v.jobs (access img c)) (sym part.agrees.core)
             (access_is_guarded app img is_image.at.idle cell_is part.agrees.moment part.agrees.fits v
             (subst (λ s. StateWell app s v) part.agrees.state well) early);
       }
 
 pub images_are_good : ImagesAreGood
-images_are_good app img accepted no_monotonic is_image = record {
+images_are_good app img accepted is_image = record {
   size = is_image.tables.stack;
-  each = runs_well app img accepted no_monotonic is_image;
+  each = runs_well app img accepted is_image;
 }

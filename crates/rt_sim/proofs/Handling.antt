@@ -1,28 +1,28 @@
--- Each interrupt that is enabled has its handler in an image: a hardware task, or the dispatcher of a level. Without a
--- monotonic there is no other.
-use Rattle.std.proofs.Common.{◌≡◌, ℕ, suc, ◌+◌, ◌^◌, ◌≤◌, ◌==◌, true, false, not, List, [], ◌∷◌, length}
-use Rattle.std.proofs.Common.{flat_map, slice_get, Option, Some, None, option_map, is_none, Contains, refl, sym, ap}
-use Rattle.std.proofs.Common.{subst, ◌∙◌}
-use Rattle.std.proofs.Common.{arith, eq-eqb}
-use Rattle.std.specs.List.{AllByRecursion}
-use Rattle.rt_lemmas.proofs.Bools.{and_both, or_left}
+-- Each interrupt that is enabled has its handler in an image: a hardware task, the dispatcher of a level, or the timer
+-- handler.
+use Rattle.std.proofs.Common.{◌≡◌, ℕ, suc, ◌+◌, ◌^◌, ◌≤◌, ◌==◌, true, false, not, if◌then◌else◌, List, [], ◌∷◌}
+use Rattle.std.proofs.Common.{length, flat_map, slice_get, Option, Some, None, option_map, is_none, Contains, refl}
+use Rattle.std.proofs.Common.{sym, ap, subst, ◌∙◌, arith, eq-eqb}
+use Rattle.std.specs.List.{AllByRecursion, list_any}
+use Rattle.rt_lemmas.proofs.Bools.{and_both, or_left, or_right}
 use Rattle.rt_lemmas.proofs.Membership.{all_append, all_flat_map, all_from_members, any_passes}
-use Rattle.rt_ids.specs.Lists.{greatest}
+use Rattle.rt_ids.specs.Lists.{is_some_and, greatest}
 use Rattle.rt_ids.specs.Storage.{AtLevel}
 use Rattle.rt_ids.proofs.Greatest.{greatest_has}
 use Rattle.rt_app.specs.declared.app.Mono.{Mono}
+use Rattle.rt_app.specs.declared.costs.TheConstants.{TIMER_WORDS}
 use Rattle.rt_app.specs.Tree.{Task, App}
 use Rattle.rt_app.specs.Acceptance.{IsSound}
 use Rattle.rt_app.specs.BodyCost.{cost_measure, body_cost, cost_of}
-use Rattle.rt_app.specs.Doings.{nothing, task_doing, dispatcher_doing}
+use Rattle.rt_app.specs.Doings.{nothing, task_doing, dispatcher_doing, timer_doing}
 use Rattle.rt_app.specs.Frame.{frame_words}
-use Rattle.rt_app.specs.Handlers.{Service, Runs, Dispatches, services, task_services, bound_service, dispatcher_of}
-use Rattle.rt_app.specs.Handlers.{dispatcher_service, timer_service, has_no_monotonic}
+use Rattle.rt_app.specs.Handlers.{Service, Runs, Dispatches, Times, services, task_services, bound_service}
+use Rattle.rt_app.specs.Handlers.{dispatcher_of, dispatcher_service, timer_service}
 use Rattle.rt_app.specs.Holding.{storage}
 use Rattle.rt_app.specs.Layout.{memory}
 use Rattle.rt_app.specs.Level.{is_software, levels}
 use Rattle.rt_app.specs.Sending.{act}
-use Rattle.rt_app.specs.Stack.{is_bound_at, frames_of, is_timed_at}
+use Rattle.rt_app.specs.Stack.{is_bound_at, frames_of, is_timed_at, timer_need}
 use Rattle.rt_ids.specs.Action.{Returns}
 use Rattle.rt_build.specs.Entries.{handler_words, task_words}
 use Rattle.rt_build.specs.Image.{IsImageOf}
@@ -34,12 +34,13 @@ use Rattle.rt_sim.specs.Inside.Sparing.{SparesAlways}
 use Rattle.rt_sim.proofs.BodyRows.{no_rows, level_rows, calls_none, calls_of_level, level_handled, dispatcher_fits}
 use Rattle.rt_sim.proofs.Takes.{IsHandler}
 
-module _ (app : App) (img : Image) (sound : IsSound app) (no_monotonic : has_no_monotonic app ≡ true)
-    (is_image : IsImageOf app img)
+module _ (app : App) (img : Image) (sound : IsSound app) (is_image : IsImageOf app img)
     (sparing_task : (k : ℕ) (t : Task) → slice_get app.tasks k ≡ Some t → is_software t ≡ false
     → SparesAlways app (AtLevel t.priority) true [] (task_doing app k [] (act Returns nothing)))
     (sparing_level : (p : ℕ) → Contains (levels app) p
-    → SparesAlways app (AtLevel p) true [] (dispatcher_doing app p)) where
+    → SparesAlways app (AtLevel p) true [] (dispatcher_doing app p))
+    (sparing_timer : (mono : Mono) → app.mono ≡ Some mono
+    → SparesAlways app (AtLevel mono.priority) true [] (timer_doing app)) where
   abbrev pub IsHandled : Service → Type 0
   IsHandled v = v.level ≤ 2 ^ app.bits → IsHandler app img is_image.at.idle is_image.at v
 
@@ -82,6 +83,22 @@ module _ (app : App) (img : Image) (sound : IsSound app) (no_monotonic : has_no_
     words = dispatcher_fits app img is_image.at is_image.tables.bodies p is;
   }
 
+  of_timer : (mono : Mono) → app.mono ≡ Some mono
+      → IsHandled (record { irq = mono.irq; handler = Times; level = mono.priority })
+  of_timer mono is most =
+      let runs : is_timed_at mono.priority app ≡ true =
+      ap (is_some_and (λ (one : Mono). one.priority == mono.priority)) is ∙ eq-eqb mono.priority mono.priority refl in
+      let need_is : timer_need app mono.priority ≡ TIMER_WORDS = ap (λ b. if b then TIMER_WORDS else 0) runs in
+      record {
+        rows = no_rows app img;
+        most = most;
+        code = is_image.code.timer mono is (no_rows app img) is_image.at.idle;
+        sparing = sparing_timer mono is;
+        calls = λ irq. calls_none app img (Serving irq) mono.priority TIMER_WORDS;
+        handled = or_right (list_any (λ t. t.priority == mono.priority) app.tasks) (is_timed_at mono.priority app) runs;
+        words = omega (arith, need_is);
+      }
+
   tasks_handled : (n : ℕ) (ts : List Task) → ((k : ℕ) (t : Task) → slice_get ts k ≡ Some t → slice_get app.tasks
       (n + k) ≡ Some t) → AllByRecursion IsHandled (task_services n ts)
   tasks_handled n [] are = tt
@@ -111,8 +128,8 @@ module _ (app : App) (img : Image) (sound : IsSound app) (no_monotonic : has_no_
       all_append IsHandled (task_services 0 app.tasks) _
       (tasks_handled 0 app.tasks (λ k t is. let same : 0 + k ≡ k = omega arith in ap (slice_get app.tasks) same ∙ is))
       (all_append IsHandled (flat_map (λ p. dispatcher_service p (dispatcher_of app p)) (levels app))
-      (timer_service app.mono) levels_handled (by app.mono no_monotonic))
+      (timer_service app.mono) levels_handled (by app.mono refl))
     where
-      by : (o : Option Mono) → is_none o ≡ true → AllByRecursion IsHandled (timer_service o)
+      by : (o : Option Mono) → app.mono ≡ o → AllByRecursion IsHandled (timer_service o)
       by None is = tt
-      by (Some mono) is = absurd (cc (is))
+      by (Some mono) is = (of_timer mono is, tt)

@@ -268,6 +268,7 @@ module _ (app : App) (img : Image) (thread : ℕ) where
           memory = fits.memory;
           once = fits.once;
           numbers = fits.numbers;
+          alarmed = fits.alarmed;
         }
 
     core_outside : (kind : Kind) → with_processor (core_of app.bits m) (closed (core_of app.bits m).processor kind)

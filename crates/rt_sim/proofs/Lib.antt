@@ -3,6 +3,7 @@ pub mod Others
 pub mod Levels
 pub mod Plain
 pub mod Acts
+pub mod Alarms
 pub mod Moves
 pub mod BodyRows
 pub mod Alike

@@ -1,17 +1,19 @@
 -- A note on a plain instruction that moves a place of a message is a step of Baker's machine: a place is taken, a
--- message made ready or started, a place given back.
+-- message made ready or started, a place given back; a message is armed, fires, is taken back or put to another
+-- instant.
 use Rattle.std.proofs.Common.{◌≡◌, ℕ, ◌+◌, ◌++◌, Bool, true, false, List, [], ◌∷◌, Some, None, refl}
 use Rattle.std.proofs.Common.{ap, subst, ◌∙◌, if◌then◌else◌, arith}
 use Rattle.rt_lemmas.proofs.Bools.{true_and_false}
 use Rattle.rt_ids.specs.Holder.{Holder, Guarded, is_same_holder}
 use Rattle.rt_ids.specs.Content.{Values}
 use Rattle.rt_ids.specs.Entry.{Entry, count}
-use Rattle.rt_ids.specs.Action.{Action, Takes, Readies, Starts, Frees, effect}
+use Rattle.rt_ids.specs.Action.{Action, Takes, Readies, Starts, Frees, Arms, Fires, Cancels, Moves, effect}
 use Rattle.rt_ids.specs.declared.ids.Section.{Section}
 use Rattle.rt_ids.specs.declared.ids.Section.TheVariants as section
 use Rattle.rt_app.specs.Tree.{App}
 use Rattle.rt_app.specs.Holding.{storage}
-use Rattle.rt_code.specs.Acting.{TakesPlace, MakesReady, StartsMessage, GivesPlaceBack, with_queue}
+use Rattle.rt_code.specs.Acting.{TakesPlace, MakesReady, StartsMessage, GivesPlaceBack, ArmsMessage, FiresMessage}
+use Rattle.rt_code.specs.Acting.{CancelsMessage, MovesMessage, with_queue}
 use Rattle.rt_code.specs.Image.{Image}
 use Rattle.rt_code.specs.Owning.{Spot, is_open, MayAccess}
 use Rattle.rt_code.specs.Processor.{Processor}
@@ -29,7 +31,7 @@ use Rattle.rt_sim.specs.Inside.Counts.{hands, IsOnce}
 use Rattle.rt_sim.specs.Inside.PartFits.{who, Owns}
 use Rattle.rt_sim.specs.Inside.Fits.{Fits}
 use Rattle.rt_sim.specs.Inside.Agrees.{StepsBoth}
-use Rattle.rt_sim.proofs.Counting.{same_holder, took, put_behind, put_before, moved_once}
+use Rattle.rt_sim.proofs.Counting.{same_holder, took, put_behind, put_before, taken_out, put_last, moved_once}
 use Rattle.rt_sim.proofs.Plain.{IsWorking, moment_behind, may_turn}
 use Rattle.rt_sim.proofs.Acts.{changes_by, gives_item, acts_as, acts_fit}
 
@@ -203,6 +205,157 @@ module _ (app : App) (img : Image) (thread : ℕ) (m : Moment) (fits : Fits app 
                 (λ h away. beside x entries (m.queues h) noted.inside h away)
                 (once_behind x noted.others entries
                 (λ e. put_before e noted.entry m.running.places noted.others (m.queues (Guarded x)) noted.in_hands))
+                (λ held. refl) tt;
+          };
+        }
+
+    pub arms_message : (t slot : ℕ)
+        → (noted : ArmsMessage (storage app) m.running.rows (who m.running) t slot
+        (moved (passed (spot_of m.cells m.queues m.running)) q)
+        (λ t. Stands (storage app) img.code m.running.rows thread (who m.running) n t))
+        → step img (core_of app.bits m) ≡
+        (with_processor (core_of app.bits m) q, Some (what.Arm t noted.instant)) → Both
+    arms_message t slot noted is =
+        let acts = noted.acts in
+        let x : Section = section.Timer in
+        let action : Action = Arms noted.instant noted.message in
+        let entries : List Entry = m.queues (Guarded x) ++ noted.entry ∷ [] in
+        let queues : Holder → List Entry = with_queue m.queues x entries in
+        let vs : Values = effect action m.values in
+        record {
+          core = with_processor (core_of app.bits m) q;
+          shown = Some (what.Arm t noted.instant);
+          is = is;
+          may = (
+            may_turn app img thread m fits works none left,
+            gives_item app img thread m fits works action acts.values acts.follows acts.is
+                ∙ ap (λ k. Some (what.Arm k noted.instant)) noted.of_task.1,
+          );
+          agrees = record {
+            moment = moment_behind app img thread m q n (acts.follows 0 vs) (reached (acts.follows 0 vs) vs)
+                noted.others queues;
+            core = refl;
+            state = acts_as app img thread m fits works action acts.values acts.follows acts.is;
+            fits = acts_fit app img thread m fits works q n action 0 noted.others queues plain
+                (changes_by app img thread m fits works _ _ is may) acts
+                (λ h away. beside x _ (m.values h) noted.inside h away)
+                (λ h away. beside x entries (m.queues h) noted.inside h away)
+                (once_behind x noted.others entries
+                (λ e. put_behind e noted.entry m.running.places noted.others (m.queues (Guarded x)) noted.in_hands))
+                (λ held. refl) tt;
+          };
+        }
+
+    pub fires_message : (t : ℕ)
+        → (noted : FiresMessage (storage app) m.running.rows (who m.running) t
+        (moved (passed (spot_of m.cells m.queues m.running)) q)
+        (λ t. Stands (storage app) img.code m.running.rows thread (who m.running) n t))
+        → step img (core_of app.bits m) ≡
+        (with_processor (core_of app.bits m) q, Some (what.Fire t)) → Both
+    fires_message t noted is =
+        let acts = noted.acts in
+        let x : Section = section.Timer in
+        let action : Action = Fires noted.message in
+        let places : List Entry = noted.entry ∷ m.running.places in
+        let entries : List Entry = noted.before ++ noted.behind in
+        let queues : Holder → List Entry = with_queue m.queues x entries in
+        let vs : Values = effect action m.values in
+        record {
+          core = with_processor (core_of app.bits m) q;
+          shown = Some (what.Fire t);
+          is = is;
+          may = (
+            may_turn app img thread m fits works none left,
+            gives_item app img thread m fits works action acts.values acts.follows acts.is
+                ∙ ap (λ k. Some (what.Fire k)) noted.of_task.1,
+          );
+          agrees = record {
+            moment = moment_behind app img thread m q n (acts.follows 0 vs) (reached (acts.follows 0 vs) vs)
+                places queues;
+            core = refl;
+            state = acts_as app img thread m fits works action acts.values acts.follows acts.is;
+            fits = acts_fit app img thread m fits works q n action 0 places queues plain
+                (changes_by app img thread m fits works _ _ is may) acts
+                (λ h away. beside x _ (m.values h) noted.inside h away)
+                (λ h away. beside x entries (m.queues h) noted.inside h away)
+                (once_behind x places entries
+                (λ e. taken_out e noted.entry m.running.places noted.before noted.behind (m.queues (Guarded x))
+                noted.stands))
+                (λ held. refl) tt;
+          };
+        }
+
+    pub cancels_message : (t slot : ℕ)
+        → (noted : CancelsMessage (storage app) m.running.rows (who m.running) t slot
+        (moved (passed (spot_of m.cells m.queues m.running)) q)
+        (λ t. Stands (storage app) img.code m.running.rows thread (who m.running) n t))
+        → step img (core_of app.bits m) ≡
+        (with_processor (core_of app.bits m) q, Some (what.Cancel t noted.handle)) → Both
+    cancels_message t slot noted is =
+        let acts = noted.acts in
+        let x : Section = section.Timer in
+        let action : Action = Cancels t noted.handle in
+        let places : List Entry = noted.entry ∷ m.running.places in
+        let entries : List Entry = noted.before ++ noted.behind in
+        let queues : Holder → List Entry = with_queue m.queues x entries in
+        let vs : Values = effect action m.values in
+        record {
+          core = with_processor (core_of app.bits m) q;
+          shown = Some (what.Cancel t noted.handle);
+          is = is;
+          may = (
+            may_turn app img thread m fits works none left,
+            gives_item app img thread m fits works action acts.values acts.follows acts.is,
+          );
+          agrees = record {
+            moment = moment_behind app img thread m q n (acts.follows 0 vs) (reached (acts.follows 0 vs) vs)
+                places queues;
+            core = refl;
+            state = acts_as app img thread m fits works action acts.values acts.follows acts.is;
+            fits = acts_fit app img thread m fits works q n action 0 places queues plain
+                (changes_by app img thread m fits works _ _ is may) acts
+                (λ h away. beside x _ (m.values h) noted.inside h away)
+                (λ h away. beside x entries (m.queues h) noted.inside h away)
+                (once_behind x places entries
+                (λ e. taken_out e noted.entry m.running.places noted.before noted.behind (m.queues (Guarded x))
+                noted.stands))
+                (λ held. refl) tt;
+          };
+        }
+
+    pub moves_message : (t slot from : ℕ)
+        → (noted : MovesMessage (storage app) m.running.rows (who m.running) t slot from
+        (moved (passed (spot_of m.cells m.queues m.running)) q)
+        (λ t. Stands (storage app) img.code m.running.rows thread (who m.running) n t))
+        → step img (core_of app.bits m) ≡
+        (with_processor (core_of app.bits m) q, Some (what.Move t noted.handle noted.instant)) → Both
+    moves_message t slot from noted is =
+        let acts = noted.acts in
+        let x : Section = section.Timer in
+        let action : Action = Moves t noted.handle noted.instant in
+        let entries : List Entry = noted.before ++ (noted.behind ++ noted.entry ∷ []) in
+        let queues : Holder → List Entry = with_queue m.queues x entries in
+        let vs : Values = effect action m.values in
+        record {
+          core = with_processor (core_of app.bits m) q;
+          shown = Some (what.Move t noted.handle noted.instant);
+          is = is;
+          may = (
+            may_turn app img thread m fits works none left,
+            gives_item app img thread m fits works action acts.values acts.follows acts.is,
+          );
+          agrees = record {
+            moment = moment_behind app img thread m q n (acts.follows 0 vs) (reached (acts.follows 0 vs) vs)
+                m.running.places queues;
+            core = refl;
+            state = acts_as app img thread m fits works action acts.values acts.follows acts.is;
+            fits = acts_fit app img thread m fits works q n action 0 m.running.places queues plain
+                (changes_by app img thread m fits works _ _ is may) acts
+                (λ h away. beside x _ (m.values h) noted.inside h away)
+                (λ h away. beside x entries (m.queues h) noted.inside h away)
+                (once_behind x m.running.places entries
+                (λ e. put_last e noted.entry m.running.places noted.before noted.behind (m.queues (Guarded x))
+                noted.stands))
                 (λ held. refl) tt;
           };
         }

@@ -197,6 +197,7 @@ module _ (app : App) (img : Image) (thread : ℕ) where
       memory = plain.memory ∙ fits.memory;
       once = once;
       numbers = fits.numbers;
+      alarmed = fits.alarmed;
     }
 
     -- the running job may take a step

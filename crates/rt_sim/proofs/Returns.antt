@@ -71,6 +71,7 @@ module _ (app : App) (img : Image) (thread : ℕ) where
       once = fewer_once m.queues (hands (m.running ∷ q ∷ ps)) (hands (q ∷ ps))
           (λ e. omega arith) fits.once;
       numbers = fits.numbers;
+      alarmed = fits.alarmed;
     }
 
     pub returns_to : step img (core_of app.bits (record m { below = q ∷ ps })) ≡

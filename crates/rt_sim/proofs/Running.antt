@@ -1,63 +1,67 @@
 -- Over all events: what the core shows is a run of Baker's machine, and the two agree at the end.
-use Rattle.std.proofs.Common.{◌≡◌, ℕ, suc, ◌+◌, ◌^◌, ◌<◌, ◌≤◌, true, List, [], ◌∷◌, ◌++◌, length, slice_set, Option}
+use Rattle.std.proofs.Common.{◌≡◌, ℕ, ◌+◌, ◌^◌, ◌<◌, ◌≤◌, true, List, [], ◌∷◌, ◌++◌, length, slice_set, Option}
 use Rattle.std.proofs.Common.{refl, sym, ap, subst, ◌∙◌, arith, length-set}
 use Rattle.rt_ids.specs.Event.{Event, Arrive, Tick, Step}
 use Rattle.rt_ids.specs.Event.{steps as steps_in}
 use Rattle.rt_trace.specs.Label.{Label, Arrived, Ticked, Stepped, steps_of}
 use Rattle.rt_trace.specs.declared.item.What.{What}
 use Rattle.rt_app.specs.Tree.{App}
+use Rattle.rt_app.specs.Accepted.{IsAccepted}
 use Rattle.rt_code.specs.Image.{Image}
 use Rattle.rt_core.specs.Core.{Core}
 use Rattle.rt_core.specs.Trace.{happen, core_after, labels}
 use Rattle.rt_core.proofs.Happening.{happens_by_event}
 use Rattle.rt_core.proofs.Keeping.{step_keeps_time}
 use Rattle.rt_laws.specs.State.{State}
-use Rattle.rt_laws.specs.Allowed.{May, after}
+use Rattle.rt_laws.specs.Allowed.{after}
 use Rattle.rt_laws.specs.Run.{RunsOn}
 use Rattle.rt_laws.specs.ByItems.{after_all}
+use Rattle.rt_laws.specs.Sight.{Sight, sees}
+use Rattle.rt_laws.proofs.Armings.{armings, rises}
+use Rattle.rt_laws.proofs.ByItems.{runs_append, after_append}
+use Rattle.rt_laws.proofs.Fine.{Queued}
+use Rattle.rt_laws.proofs.Happens.{happens as happens_well, after_well}
+use Rattle.rt_laws.proofs.Well.{StateWell}
 use Rattle.rt_sim.specs.Good.{AreDeclared}
+use Rattle.rt_sim.specs.Guarded.{sees_all}
 use Rattle.rt_sim.specs.Inside.Moment.{Moment}
 use Rattle.rt_sim.specs.Inside.States.{core_of, state_of}
 use Rattle.rt_sim.specs.Inside.Fits.{Fits}
 use Rattle.rt_sim.specs.Inside.Agrees.{Agrees, StepsBoth}
 use Rattle.rt_sim.proofs.Acts.{pending_fits}
+use Rattle.rt_sim.proofs.Alarms.{ticks}
 
-module _ (app : App) (img : Image) (thread : ℕ)
-    (steps : (m : Moment) → Fits app img thread m → m.time < 2 ^ 31
+module _ (app : App) where
+  -- what is seen of the jobs is so behind labels
+  pub well_after : IsAccepted app → (labels : List Label) (s : State) (v : Sight) → StateWell app s v
+      → RunsOn app s labels → StateWell app (after_all app s labels) (sees_all app v labels)
+  well_after accepted [] s v well runs = well
+  well_after accepted (label ∷ labels) s v well runs =
+      well_after accepted labels (after app s label) (sees app v label)
+      (after_well app accepted s v well label (happens_well app accepted s v well label runs.0)) runs.1
+
+module _ (app : App) (accepted : IsAccepted app) (img : Image) (thread : ℕ)
+    (steps : (m : Moment) → Fits app img thread m → Queued app m.values → m.time + armings m.values < 2 ^ 31
     → StepsBoth app img thread (core_of app.bits m) (state_of m)) where
-  -- the time does not matter to what fits
-  time_fits : (m : Moment) (time : ℕ) → Fits app img thread m → Fits app img thread (record m { time = time })
-  time_fits m time fits = record {
-    stack = fits.stack;
-    parts = fits.parts;
-    spelled = fits.spelled;
-    basepri = fits.basepri;
-    primask = fits.primask;
-    memory = fits.memory;
-    once = fits.once;
-    numbers = fits.numbers;
-  }
-
-  -- what one event leads to
+  -- What one event leads to. It may show the alarm of a tick behind that tick. Time and armings together rise by one at
+  -- most.
   pub record Happens (c : Core) (s : State) (e : Event) : Type 0 where
     pub core : Core
-    pub label : Label
-    pub is : happen img c e ≡ (core, label ∷ [])
-    pub may : May app s label
-    pub agrees : Agrees app img thread core (after app s label)
-    pub time : core.time ≤ c.time + 1
-    pub counts : (ls : List Label) → steps_of (label ∷ ls) ≡ steps_in (e ∷ []) + steps_of ls
+    pub shown : List Label
+    pub is : happen img c e ≡ (core, shown)
+    pub runs : RunsOn app s shown
+    pub agrees : Agrees app img thread core (after_all app s shown)
+    pub time : core.time + armings (after_all app s shown).values ≤ c.time + armings s.values + 1
+    pub counts : (ls : List Label) → steps_of (shown ++ ls) ≡ steps_in (e ∷ []) + steps_of ls
 
-  abbrev IsFine : Event → Type 0
-  IsFine e = AreDeclared app (e ∷ [])
-
-  happens : (m : Moment) → Fits app img thread m → m.time < 2 ^ 31 → (e : Event) → AreDeclared app (e ∷ [])
+  happens : (m : Moment) → Fits app img thread m → (v : Sight) → StateWell app (state_of m) v
+      → m.time + armings m.values < 2 ^ 31 → (e : Event) → AreDeclared app (e ∷ [])
       → Happens (core_of app.bits m) (state_of m) e
-  happens m fits early (Arrive irq) declared = record {
+  happens m fits v well few (Arrive irq) declared = record {
     core = core_of app.bits (record m { pending = slice_set m.pending irq true });
-    label = Arrived irq;
+    shown = Arrived irq ∷ [];
     is = happens_by_event.arrive img (core_of app.bits m) irq;
-    may = (refl, declared.0);
+    runs = ((refl, declared.0), tt);
     agrees = record {
       moment = record m { pending = slice_set m.pending irq true };
       core = refl;
@@ -67,32 +71,32 @@ module _ (app : App) (img : Image) (thread : ℕ)
     time = omega arith;
     counts = λ ls. omega arith;
   }
-  happens m fits early Tick declared = record {
-    core = core_of app.bits (record m { time = suc m.time });
-    label = Ticked;
-    is = happens_by_event.tick img (core_of app.bits m);
-    may = refl;
-    agrees = record {
-      moment = record m { time = suc m.time };
-      core = refl;
-      state = refl;
-      fits =
-          time_fits m (suc m.time) fits;
-    };
-    time = omega arith;
-    counts = λ ls. omega arith;
-  }
-  happens m fits early Step declared =
-      let both = steps m fits early in
+  happens m fits v well few Tick declared =
+      let one = ticks app img thread m fits in
+      let values_same : armings (after_all app (after app (state_of m) Ticked) one.shown).values ≡ armings m.values =
+      ap (λ (s : State). armings s.values) one.state ∙ ap armings one.values in
+      record {
+        core = core_of app.bits one.moment;
+        shown = Ticked ∷ one.shown;
+        is = happens_by_event.tick img (core_of app.bits m)
+            ∙ ap (λ (r : Core × List Label). (r.0, Ticked ∷ r.1)) one.is;
+        runs = (refl, one.runs);
+        agrees = record { moment = one.moment; core = refl; state = one.state; fits = one.fits };
+        time = omega (arith, one.time, values_same);
+        counts = λ ls. omega (arith, one.silent ls);
+      }
+  happens m fits v well few Step declared =
+      let both = steps m fits well.queued few in
+      let kept : both.core.time ≡ m.time = ap (λ (r : Core × Option What). r.0.time) (sym both.is)
+      ∙ step_keeps_time img (core_of app.bits m) in
       record {
         core = both.core;
-        label = Stepped both.shown;
+        shown = Stepped both.shown ∷ [];
         is = happens_by_event.step img (core_of app.bits m)
             ∙ ap (λ (r : Core × Option What). (r.0, Stepped r.1 ∷ [])) both.is;
-        may = both.may;
+        runs = (both.may, tt);
         agrees = both.agrees;
-        time = let kept : both.core.time ≡ m.time = ap (λ (r : Core × Option What). r.0.time) (sym both.is)
-            ∙ step_keeps_time img (core_of app.bits m) in omega (arith, kept);
+        time = omega (arith, kept, rises app accepted (state_of m) v well (Stepped both.shown));
         counts = λ ls. omega arith;
       }
 
@@ -103,40 +107,47 @@ module _ (app : App) (img : Image) (thread : ℕ)
 
   -- after events
   pub record Reaches (c : Core) (s : State) (events : List Event) : Type 0 where
-    pub time : (core_after img c events).time ≤ c.time + length events
+    pub time : (core_after img c events).time + armings (after_all app s (labels img c events)).values
+        ≤ c.time + armings s.values + length events
     pub counts : steps_of (labels img c events) ≡ steps_in events
     pub runs : RunsOn app s (labels img c events)
     pub agrees : Agrees app img thread (core_after img c events) (after_all app s (labels img c events))
 
   -- an event of two that agree
-  happens_next : (c : Core) (s : State) → Agrees app img thread c s → c.time < 2 ^ 31 → (e : Event)
-      → AreDeclared app (e ∷ []) → Happens c s e
-  happens_next c s agrees early e declared =
+  happens_next : (c : Core) (s : State) (v : Sight) → Agrees app img thread c s → StateWell app s v
+      → c.time + armings s.values < 2 ^ 31 → (e : Event) → AreDeclared app (e ∷ []) → Happens c s e
+  happens_next c s v agrees well few e declared =
       let same : c.time ≡ agrees.moment.time = ap (λ (d : Core). d.time) agrees.core in
+      let alike : armings s.values ≡ armings agrees.moment.values = ap (λ (t : State). armings t.values) agrees.state in
       subst (λ d. Happens d s e) (sym agrees.core)
       (subst (λ t. Happens (core_of app.bits agrees.moment) t e) (sym agrees.state)
-      (happens agrees.moment agrees.fits (omega (arith, same, early)) e declared))
+      (happens agrees.moment agrees.fits v (subst (λ t. StateWell app t v) agrees.state well)
+      (omega (arith, same, alike, few)) e declared))
 
   -- one event more in front
   reaches_more : (c : Core) (s : State) (e : Event) (events : List Event) (first : Happens c s e)
-      → Reaches first.core (after app s first.label) events → Reaches c s (e ∷ events)
+      → Reaches first.core (after_all app s first.shown) events → Reaches c s (e ∷ events)
   reaches_more c s e events first rest =
-      let shown : labels img c (e ∷ events) ≡ first.label ∷ labels img first.core events =
+      let more : List Label = labels img first.core events in
+      let shown : labels img c (e ∷ events) ≡ first.shown ++ more =
       happens_by_event.labels_more img c e events
       ∙ ap (λ (r : Core × List Label). r.1 ++ labels img r.0 events) first.is in
       let there : core_after img c (e ∷ events) ≡ core_after img first.core events =
       happens_by_event.core_more img c e events ∙ ap (λ (r : Core × List Label). core_after img r.0 events) first.is in
       let same : (core_after img c (e ∷ events)).time ≡ (core_after img first.core events).time =
       ap (λ (d : Core). d.time) there in
+      let state_is : after_all app s (labels img c (e ∷ events)) ≡ after_all app (after_all app s first.shown) more =
+      ap (after_all app s) shown ∙ after_append app first.shown more s in
+      let alike : armings (after_all app s (labels img c (e ∷ events))).values
+      ≡ armings (after_all app (after_all app s first.shown) more).values =
+      ap (λ (t : State). armings t.values) state_is in
       let behind : Agrees app img thread (core_after img first.core events)
       (after_all app s (labels img c (e ∷ events))) =
-      subst (λ ls. Agrees app img thread (core_after img first.core events) (after_all app s ls)) (sym shown)
-      rest.agrees in
+      subst (λ t. Agrees app img thread (core_after img first.core events) t) (sym state_is) rest.agrees in
       record {
-        time = omega (arith, same, first.time, rest.time);
-        counts = ap steps_of shown
-            ∙ omega (arith, first.counts (labels img first.core events), rest.counts, steps_more e events);
-        runs = subst (λ ls. RunsOn app s ls) (sym shown) (first.may, rest.runs);
+        time = omega (arith, same, alike, first.time, rest.time);
+        counts = ap steps_of shown ∙ omega (arith, first.counts more, rest.counts, steps_more e events);
+        runs = subst (λ ls. RunsOn app s ls) (sym shown) (runs_append app first.shown more s first.runs rest.runs);
         agrees = subst (λ d. Agrees app img thread d (after_all app s (labels img c (e ∷ events)))) (sym there) behind;
       }
 
@@ -145,8 +156,10 @@ module _ (app : App) (img : Image) (thread : ℕ)
   reaches_none c s agrees =
       let same : (core_after img c []).time ≡ c.time = ap (λ (d : Core). d.time) (happens_by_event.core_none img c) in
       let none : labels img c [] ≡ [] = happens_by_event.labels_none img c in
+      let alike : armings (after_all app s (labels img c [])).values ≡ armings s.values =
+      ap (λ ls. armings (after_all app s ls).values) none in
       record {
-        time = omega (arith, same);
+        time = omega (arith, same, alike);
         counts = ap steps_of none;
         runs = subst (λ ls. RunsOn app s ls) (sym none) tt;
         agrees = subst (λ d. Agrees app img thread d (after_all app s (labels img c [])))
@@ -164,11 +177,14 @@ module _ (app : App) (img : Image) (thread : ℕ)
   rest_declared Tick events d = d
   rest_declared Step events d = d
 
-  pub reaches : (events : List Event) (c : Core) (s : State) → Agrees app img thread c s
-      → c.time + length events < 2 ^ 31 → AreDeclared app events → Reaches c s events
-  reaches [] c s agrees few declared = reaches_none c s agrees
-  reaches (e ∷ events) c s agrees few declared =
-      let first : Happens c s e = happens_next c s agrees (omega (arith, few)) e (one_declared e events declared) in
+  pub reaches : (events : List Event) (c : Core) (s : State) (v : Sight) → Agrees app img thread c s
+      → StateWell app s v → c.time + armings s.values + length events < 2 ^ 31 → AreDeclared app events
+      → Reaches c s events
+  reaches [] c s v agrees well few declared = reaches_none c s agrees
+  reaches (e ∷ events) c s v agrees well few declared =
+      let first : Happens c s e =
+      happens_next c s v agrees well (omega (arith, few)) e (one_declared e events declared) in
       reaches_more c s e events first
-      (reaches events first.core (after app s first.label) first.agrees (omega (arith, first.time, few))
+      (reaches events first.core (after_all app s first.shown) (sees_all app v first.shown) first.agrees
+      (well_after app accepted first.shown s v well first.runs) (omega (arith, first.time, few))
       (rest_declared e events declared))

@@ -62,6 +62,7 @@ module _ (app : App) (img : Image) (accepted : IsAccepted app) (sound : IsSound 
     running = first_part;
     below = [];
     time = 0;
+    alarm = None;
     pending = replicate IRQ_NUMBERS false;
     basepri = 0;
     primask = true;
@@ -155,6 +156,7 @@ module _ (app : App) (img : Image) (accepted : IsAccepted app) (sound : IsSound 
     memory = ap length cells_are ∙ length-map (memory app) (λ cell. cell.first);
     once = first_once app;
     numbers = length-replicate IRQ_NUMBERS false;
+    alarmed = tt;
   }
 
   pub agrees_first : Agrees app img is_image.at.idle (reset img) (first app)

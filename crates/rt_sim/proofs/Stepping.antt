@@ -1,24 +1,21 @@
 -- A core step is a step of Baker's machine, from every moment that fits: an interrupt is taken, the thread waits, or
 -- the running job goes on.
 use Rattle.std.proofs.Common.{◌≡◌, ℕ, ◌-◌, ◌+◌, ◌*◌, ◌^◌, ◌<◌, ◌≤◌, true, false, if◌then◌else◌, List, [], ◌∷◌}
-use Rattle.std.proofs.Common.{length, map, replicate, slice_get, Option, Some, None, option_map, is_none, IsSome}
+use Rattle.std.proofs.Common.{length, map, replicate, slice_get, Option, Some, None, option_map}
 use Rattle.std.proofs.Common.{Contains}
 use Rattle.std.proofs.Common.{refl, sym, ap, subst, ◌∙◌, arith}
 use Rattle.std.specs.List.{AllByRecursion}
 use Rattle.std.proofs.lemmas.List.{length-replicate}
 use Rattle.rt_lemmas.proofs.Lists.{find_has}
-use Rattle.rt_ids.specs.Lists.{or_zero, then_from}
+use Rattle.rt_ids.specs.Lists.{or_zero}
 use Rattle.rt_ids.specs.Action.{Returns}
-use Rattle.rt_ids.specs.Holder.{Guarded}
 use Rattle.rt_ids.specs.Storage.{AtLevel}
-use Rattle.rt_ids.specs.declared.ids.Section.TheVariants as section
 use Rattle.rt_app.specs.declared.app.Mono.{Mono}
 use Rattle.rt_app.specs.Tree.{Task, App}
 use Rattle.rt_app.specs.Accepted.{IsAccepted}
 use Rattle.rt_app.specs.Acceptance.{IsSound}
-use Rattle.rt_app.specs.Doings.{nothing, idle_doing, task_doing, dispatcher_doing}
-use Rattle.rt_app.specs.Handlers.{Service, services, irq_number, has_no_monotonic}
-use Rattle.rt_app.specs.Holding.{storage, IsHeld}
+use Rattle.rt_app.specs.Doings.{nothing, idle_doing, task_doing, dispatcher_doing, timer_doing}
+use Rattle.rt_app.specs.Handlers.{Service, services}
 use Rattle.rt_app.specs.Level.{is_software, levels}
 use Rattle.rt_app.specs.Sending.{act}
 use Rattle.rt_build.specs.Entries.{Entries, handler_row, handler_words}
@@ -38,6 +35,8 @@ use Rattle.rt_laws.specs.Services.{service_at, priority_of}
 use Rattle.rt_laws.specs.State.{Role, Init, Idle, Waiting, Serving}
 use Rattle.rt_laws.specs.Level.{candidate, level}
 use Rattle.rt_laws.specs.Allowed.{HasStep}
+use Rattle.rt_laws.proofs.Armings.{armings}
+use Rattle.rt_laws.proofs.Fine.{Queued}
 use Rattle.rt_laws.proofs.Pending.{starts_above}
 use Rattle.rt_sim.specs.Inside.Moment.{Part, Moment, jobs_of}
 use Rattle.rt_sim.specs.Inside.States.{core_of, state_of}
@@ -120,6 +119,7 @@ module _ (app : App) (img : Image) (thread : ℕ) where
     memory = fits.memory;
     once = fits.once;
     numbers = fits.numbers;
+    alarmed = fits.alarmed;
   }
 
   waiting : (m : Moment) → Fits app img thread m → m.running.role ≡ Waiting → pick img (core_of app.bits m) ≡ None
@@ -144,13 +144,14 @@ module _ (app : App) (img : Image) (thread : ℕ) where
       }
 
 module _ (app : App) (img : Image) (accepted : IsAccepted app) (sound : IsSound app)
-    (no_monotonic : has_no_monotonic app ≡ true)
     (is_image : IsImageOf app img) (named : (r : ℕ) → r < length app.shared → resource_cell img r ≡ Some r)
     (sparing_idle : SparesAlways app (AtLevel 0) false [] (idle_doing app))
     (sparing_task : (k : ℕ) (t : Task) → slice_get app.tasks k ≡ Some t → is_software t ≡ false
     → SparesAlways app (AtLevel t.priority) true [] (task_doing app k [] (act Returns nothing)))
     (sparing_level : (p : ℕ) → Contains (levels app) p
-    → SparesAlways app (AtLevel p) true [] (dispatcher_doing app p)) where
+    → SparesAlways app (AtLevel p) true [] (dispatcher_doing app p))
+    (sparing_timer : (mono : Mono) → app.mono ≡ Some mono
+    → SparesAlways app (AtLevel mono.priority) true [] (timer_doing app)) where
   abbrev at : Entries
   at = is_image.at
 
@@ -159,24 +160,6 @@ module _ (app : App) (img : Image) (accepted : IsAccepted app) (sound : IsSound 
 
   many : app.bits ≤ 7
   many = accepted.limits.most_bits
-
-  no_mono : app.mono ≡ None
-  no_mono = by app.mono no_monotonic
-    where
-      by : (o : Option Mono) → is_none o ≡ true → o ≡ None
-      by None is = refl
-      by (Some mono) is = absurd (cc (is))
-
-  no_timer : (storage app).timer ≡ None
-  unfolding storage
-  no_timer = ap (λ o. then_from o (λ mono. irq_number app mono.irq)) no_mono
-
-  no_timer_queue : IsHeld app (Guarded section.Timer) → ⊥
-  no_timer_queue has = by app.mono no_mono has
-    where
-      by : (o : Option Mono) → o ≡ None → IsSome o → ⊥
-      by None is some = cc (some)
-      by (Some mono) is some = cc (is)
 
   -- a row that is picked is taken
   taking : (m : Moment) → Fits app img at.idle m → (r : IrqRow) → pick img (core_of app.bits m) ≡ Some r
@@ -193,8 +176,8 @@ module _ (app : App) (img : Image) (accepted : IsAccepted app) (sound : IsSound 
       let most : v.level ≤ 2 ^ app.bits = subst (λ p. p ≤ 2 ^ app.bits) level_is
       (priority_top app at few many sound r.number) in
       let has : IsHandler app img at.idle at v =
-      find_has (IsHandled app img sound no_monotonic is_image sparing_task sparing_level) _ (services app) v
-      (all_handled app img sound no_monotonic is_image sparing_task sparing_level) serves most in
+      find_has (IsHandled app img sound is_image sparing_task sparing_level sparing_timer) _ (services app) v
+      (all_handled app img sound is_image sparing_task sparing_level sparing_timer) serves most in
       let above : level app (jobs_of m.running m.below) < v.level =
       subst (λ p. level app (jobs_of m.running m.below) < p) level_is
       (starts_above app (state_of m) r.number next) in
@@ -219,9 +202,9 @@ module _ (app : App) (img : Image) (accepted : IsAccepted app) (sound : IsSound 
       (Some (what.Take r.number (depth img (entered c r.number h)))) else Trapped c trap.Stack)) room)
 
   -- every core step
-  pub step_both : (m : Moment) → Fits app img at.idle m → m.time < 2 ^ 31
+  pub step_both : (m : Moment) → Fits app img at.idle m → Queued app m.values → m.time + armings m.values < 2 ^ 31
       → StepsBoth app img at.idle (core_of app.bits m) (state_of m)
-  step_both m fits early =
+  step_both m fits queued early =
       let both = picks app at few many sound (core_of app.bits m) (state_of m) refl
       (execution_is app img at.idle few many m fits) img is_image.tables.irqs in
       by (pick img (core_of app.bits m)) refl both.0 both.1
@@ -229,8 +212,9 @@ module _ (app : App) (img : Image) (accepted : IsAccepted app) (sound : IsSound 
       on_with : IsWorking m.running.role → pick img (core_of app.bits m) ≡ None → candidate app (state_of m) ≡ None
           → StepsBoth app img at.idle (core_of app.bits m) (state_of m)
       on_with works picked none =
-          working app img at.idle many is_image.tables.fpu is_image.tables.stack no_timer no_timer_queue named
-          is_image.code.idle (kept_is_held app accepted sound) sparing_idle m fits works picked none early
+          working app img at.idle many is_image.tables.fpu is_image.tables.stack named is_image.code.idle
+          (kept_is_held app accepted sound) sparing_idle m fits works queued (omega (arith, early)) picked none
+          (omega (arith, early))
 
       goes_on : (role : Role) → m.running.role ≡ role → pick img (core_of app.bits m) ≡ None
           → candidate app (state_of m) ≡ None → StepsBoth app img at.idle (core_of app.bits m) (state_of m)

@@ -301,6 +301,7 @@ module _ (app : App) (img : Image) (thread : ℕ) (at : Entries) (few : 3 ≤ ap
       once = fewer_once m.queues (hands (m.running ∷ m.below)) (hands (Taken ∷ m.running ∷ m.below))
           (λ e. omega arith) fits.once;
       numbers = length-set m.pending irq false ∙ fits.numbers;
+      alarmed = fits.alarmed;
     }
 
     pub takes : candidate app (state_of m) ≡ Some irq

@@ -1,25 +1,27 @@
 -- Where no interrupt is taken, a core step is a step of Baker's machine: case by case of what code that stands leads
 -- to.
-use Rattle.std.proofs.Common.{◌≡◌, ℕ, zero, suc, ◌^◌, ◌<◌, ◌≤◌, ◌||◌, inl, inr, true, false, List, [], ◌∷◌, ◌++◌}
+use Rattle.std.proofs.Common.{◌≡◌, ℕ, zero, suc, ◌^◌, ◌<◌, ◌≤◌, ◌||◌, true, false, List, [], ◌∷◌, ◌++◌}
 use Rattle.std.proofs.Common.{length}
 use Rattle.std.proofs.Common.{slice_get, Option, Some, None, refl, sym, ap, subst, ◌∙◌, arith}
-use Rattle.std.specs.List.{AllByRecursion}
-use Rattle.rt_lemmas.proofs.Bools.{or_cases}
-use Rattle.rt_ids.specs.Holder.{Holder, Guarded, is_same_section}
+use Rattle.rt_lemmas.proofs.Membership.{all_weaker}
+use Rattle.rt_ids.specs.Content.{Values, delays}
+use Rattle.rt_ids.specs.Holder.{Holder, Guarded}
+use Rattle.rt_ids.specs.Lists.{is_some_and}
 use Rattle.rt_ids.specs.Storage.{Starting, AtLevel}
-use Rattle.rt_ids.specs.Action.{Returns, Ends}
+use Rattle.rt_ids.specs.Action.{Clocks, Returns, Ends}
 use Rattle.rt_ids.specs.declared.ids.BodyId.TheVariants as body
 use Rattle.rt_ids.specs.declared.ids.Section.TheVariants as section
 use Rattle.rt_app.specs.Tree.{App}
 use Rattle.rt_app.specs.Doings.{idle_doing}
 use Rattle.rt_app.specs.Stack.{stack_bytes}
 use Rattle.rt_app.specs.Holding.{storage, is_kept, is_constant, IsHeld}
+use Rattle.rt_app.specs.Level.{is_software}
 use Rattle.rt_build.specs.Image.{IdleStands}
 use Rattle.rt_code.specs.Acting.{Noted}
 use Rattle.rt_code.specs.Cells.{resource_cell}
 use Rattle.rt_code.specs.Image.{Image}
 use Rattle.rt_code.specs.Effect.{effect}
-use Rattle.rt_code.specs.Owning.{Held, Spot, is_open, MayAccess}
+use Rattle.rt_code.specs.Owning.{Spot, MayAccess}
 use Rattle.rt_code.specs.Processor.{Processor, Effect, Traps, Leads}
 use Rattle.rt_code.specs.Standing.{Stands, HaveLeft, Finishes, moved, passed}
 use Rattle.rt_code.specs.declared.image.BodyRow.{BodyRow}
@@ -28,7 +30,6 @@ use Rattle.rt_code.specs.declared.instr.Note.{Note}
 use Rattle.rt_code.specs.declared.instr.Note.TheVariants as note
 use Rattle.rt_code.specs.declared.processor.Request.{Request}
 use Rattle.rt_code.specs.declared.processor.Request.TheVariants as request
-use Rattle.rt_code.proofs.Mine.{one_section}
 use Rattle.rt_code.proofs.StandingLaws.{standing_laws}
 use Rattle.rt_core.specs.Access.{access}
 use Rattle.rt_core.specs.Core.{Context}
@@ -42,25 +43,34 @@ use Rattle.rt_core.specs.Stepping.{step}
 use Rattle.rt_core.proofs.Standing.{standing_leads}
 use Rattle.rt_trace.specs.declared.item.What.TheVariants as what
 use Rattle.rt_laws.specs.Level.{candidate}
+use Rattle.rt_laws.proofs.Armings.{armings}
+use Rattle.rt_laws.proofs.Fine.{IsTimedOne, Queued}
 use Rattle.rt_sim.specs.Inside.Moment.{Part, Moment, runner_of, spot_of}
 use Rattle.rt_sim.specs.Inside.States.{core_of, state_of}
-use Rattle.rt_sim.specs.Inside.Sparing.{SparesAlways}
-use Rattle.rt_sim.specs.Inside.PartFits.{who, IsOpenWell}
+use Rattle.rt_sim.specs.Inside.Sparing.{IsEntered, SparesAlways}
+use Rattle.rt_sim.specs.Inside.PartFits.{who}
 use Rattle.rt_sim.specs.Inside.Fits.{Fits}
 use Rattle.rt_sim.specs.Inside.Agrees.{StepsBoth}
 use Rattle.rt_sim.proofs.Alike.{with_rows, left_alike, CallsAlike, LeadsAlike, step_alike}
 use Rattle.rt_sim.proofs.Plain.{IsWorking, stands_of, is_at}
-use Rattle.rt_sim.proofs.Acts.{spared, silent, emits, clocks, finds_none, posts, sets_none}
-use Rattle.rt_sim.proofs.Moves.{takes_place, makes_ready, starts_message, gives_back}
+use Rattle.rt_sim.proofs.Acts.{spared, silent, emits, clocks, finds_none, posts}
+use Rattle.rt_sim.proofs.Alarms.{sets_none, sets_some}
+use Rattle.rt_sim.proofs.Moves.{takes_place, makes_ready, starts_message, gives_back, arms_message, fires_message}
+use Rattle.rt_sim.proofs.Moves.{cancels_message, moves_message}
 use Rattle.rt_sim.proofs.Calls.{no_handler, callable_by, calls_body, comes_back}
 use Rattle.rt_sim.proofs.Enters.{enters}
 use Rattle.rt_sim.proofs.Leaves.{leaves_at}
 use Rattle.rt_sim.proofs.Returns.{returns_to}
 use Rattle.rt_sim.proofs.EndsOfThread.{ends_init, ends_idle}
 
+-- armed messages are of software tasks
+software_armed : (app : App) (vs : Values) → Queued app vs → IsEntered app Clocks vs
+software_armed app vs queued =
+    all_weaker (IsTimedOne app) (λ a. is_some_and is_software (slice_get app.tasks a.message.task) ≡ true)
+    (λ a timed. timed.1) (delays (vs (Guarded section.Timer))) queued.timer
+
 module _ (app : App) (img : Image) (thread : ℕ) (many : app.bits ≤ 7) (fpu : img.fpu ≡ app.fpu)
     (sized : img.stack_bytes ≡ stack_bytes app)
-    (no_timer : (storage app).timer ≡ None) (no_monotonic : IsHeld app (Guarded section.Timer) → ⊥)
     (named : (r : ℕ) → r < length app.shared → resource_cell img r ≡ Some r)
     (idle : (bodies : List BodyRow) → IdleStands app img.code bodies thread app.idle)
     (held_there : (p : ℕ) (h : Holder) → (is_kept app (AtLevel p) h || is_constant app (AtLevel p) h) ≡ true
@@ -72,6 +82,7 @@ module _ (app : App) (img : Image) (thread : ℕ) (many : app.bits ≤ 7) (fpu :
   no_steps m s = s
 
   module _ (m : Moment) (fits : Fits app img thread m) (works : IsWorking m.running.role)
+      (queued : Queued app m.values) (few : armings m.values < 2 ^ 31)
       (none : candidate app (state_of m) ≡ None) (n : ℕ)
       (left : HaveLeft (m.running.lefts ++ m.running.left ∷ []))
       (may : MayAccess (storage app) (who m.running) (spot_of m.cells m.queues m.running)
@@ -81,20 +92,6 @@ module _ (app : App) (img : Image) (thread : ℕ) (many : app.bits ≤ 7) (fpu :
 
     abbrev Later : Spot → Type 0
     Later t = Stands (storage app) img.code m.running.rows thread (who m.running) n t
-
-    -- no section of a timer queue is open
-    timer_closed : is_open m.running.held section.Timer ≡ true → ⊥
-    timer_closed inside = go m.running.held fits.parts.0.opened inside
-      where
-        go : (held : List Held) → AllByRecursion (IsOpenWell app img thread (who m.running)) held
-            → is_open held section.Timer ≡ true → ⊥
-        go [] all is = cc (is)
-        go (h ∷ outer) all is = elim (or_cases (is_same_section h.section section.Timer)
-            (is_open outer section.Timer) is) [
-              | inl here ↦ no_monotonic (subst (λ x. IsHeld app (Guarded x)) (one_section h.section section.Timer here)
-                  all.0.is_held)
-              | inr there ↦ go outer all.1 there
-            ]
 
     by_note : (p : Processor) → GoesPlainly (spot_of m.cells m.queues m.running) (core_of app.bits m).processor p
         → (told : Note)
@@ -117,10 +114,14 @@ module _ (app : App) (img : Image) (thread : ℕ) (many : app.bits ≤ 7) (fpu :
         starts_message app img thread m fits works n none left may p plain t from noted gives
     by_note p plain (note.Free t) noted gives =
         gives_back app img thread m fits works n none left may p plain t gives noted
-    by_note p plain (note.Arm t slot) noted gives = absurd (timer_closed noted.inside)
-    by_note p plain (note.Fire t) noted gives = absurd (timer_closed noted.inside)
-    by_note p plain (note.Cancel t slot) noted gives = absurd (timer_closed noted.inside)
-    by_note p plain (note.Move t slot from) noted gives = absurd (timer_closed noted.inside)
+    by_note p plain (note.Arm t slot) noted gives =
+        arms_message app img thread m fits works n none left may p plain t slot noted gives
+    by_note p plain (note.Fire t) noted gives =
+        fires_message app img thread m fits works n none left may p plain t noted gives
+    by_note p plain (note.Cancel t slot) noted gives =
+        cancels_message app img thread m fits works n none left may p plain t slot noted gives
+    by_note p plain (note.Move t slot from) noted gives =
+        moves_message app img thread m fits works n none left may p plain t slot from noted gives
     by_note p plain (note.Enter x) noted gives = absurd noted
     by_note p plain (note.Leave x) noted gives = absurd noted
     by_note p plain (note.End b) noted gives = absurd noted
@@ -181,12 +182,14 @@ module _ (app : App) (img : Image) (thread : ℕ) (many : app.bits ≤ 7) (fpu :
     by same (ByPost p plain irq gives acts) =
         posts app img thread m fits works n none left may p plain irq (sym same ∙ gives) acts
     by same (ByClock p plain gives acts) =
-        clocks app img thread m fits works n none left may p plain (sym same ∙ gives) acts
-    by same (ByAlarm p plain instant irq timer gives sets) = absurd (cc (timer, no_timer))
+        clocks app img thread m fits works n none left may p plain (software_armed app m.values queued)
+        (sym same ∙ gives) acts
+    by same (ByAlarm p plain instant irq timer gives sets) =
+        sets_some app img thread m fits works n none left may p plain instant irq timer (sym same ∙ gives) sets
     by same (ByNoAlarm p plain gives sets) =
         sets_none app img thread m fits works n none left may p plain (sym same ∙ gives) sets
     by same (ByEnter x i goes gives) =
-        enters app img thread no_monotonic m fits works n none left x i goes (sym same ∙ gives)
+        enters app img thread m fits works few n none left x i goes (sym same ∙ gives)
     by same (ByLeave x i comes gives) =
         subst (λ held. Fits app img thread (record m { running = record m.running { held = held } })
         → candidate app (state_of (record m { running = record m.running { held = held } })) ≡ None
@@ -229,10 +232,11 @@ module _ (app : App) (img : Image) (thread : ℕ) (many : app.bits ≤ 7) (fpu :
       by (Leads p asked) leads = asked_by p asked leads
 
   -- a job that runs code
-  pub working : (m : Moment) → Fits app img thread m → IsWorking m.running.role → pick img (core_of app.bits m) ≡ None
+  pub working : (m : Moment) → Fits app img thread m → IsWorking m.running.role → Queued app m.values
+      → armings m.values < 2 ^ 31 → pick img (core_of app.bits m) ≡ None
       → candidate app (state_of m) ≡ None → m.time < 2 ^ 31
       → StepsBoth app img thread (core_of app.bits m) (state_of m)
-  working m fits works picked none early =
+  working m fits works queued few picked none early =
       go m.running.steps (stands_of app img thread m.running.role works m.cells m.queues m.running fits.parts.0.stands)
     where
       go : (n : ℕ) → Stands (storage app) img.code m.running.rows thread (who m.running) n
@@ -242,6 +246,6 @@ module _ (app : App) (img : Image) (thread : ℕ) (many : app.bits ≤ 7) (fpu :
           let leads = standing_leads (storage app) (with_rows img m.running.rows) thread (who m.running)
           (core_of app.bits m) (spot_of m.cells m.queues m.running) n refl picked early
           (is_at app img thread m fits works) stands in
-          by m fits works none n leads.left leads.touches
+          by m fits works queued few none n leads.left leads.touches
           (step_alike img m.running.rows fits.parts.0.calls.arguments (core_of app.bits m) refl picked
           (leads_alike m fits early n stands)) leads.by

@@ -10,7 +10,6 @@ use Rattle.rt_trace.specs.declared.item.What.{What}
 use Rattle.rt_trace.specs.declared.item.What.TheVariants as what
 use Rattle.rt_app.specs.Tree.{App}
 use Rattle.rt_app.specs.Accepted.{IsAccepted}
-use Rattle.rt_app.specs.Handlers.{has_no_monotonic}
 use Rattle.rt_app.specs.Stack.{stack_bytes}
 use Rattle.rt_build.specs.Image.{IsImageOf}
 use Rattle.rt_code.specs.Image.{Image}
@@ -56,7 +55,6 @@ pub record Good (app : App) (img : Image) : Type 0 where
   pub size : img.stack_bytes ≡ stack_bytes app
   pub each : (events : List Event) → length events < 2 ^ 31 → AreDeclared app events → RunsWell app img events
 
--- Every image of an accepted application without a monotonic is good.
+-- Every image of an accepted application is good.
 abbrev pub ImagesAreGood : Type 0
-ImagesAreGood =
-    (app : App) (img : Image) → IsAccepted app → has_no_monotonic app ≡ true → IsImageOf app img → Good app img
+ImagesAreGood = (app : App) (img : Image) → IsAccepted app → IsImageOf app img → Good app img

@@ -1,6 +1,6 @@
 ghost use Rattle.rt_sim.specs.Good.{ImagesAreGood};
 
-/// Every image of an accepted application without a monotonic is good: for each list of fewer than 2^31 events in which
+/// Every image of an accepted application is good: for each list of fewer than 2^31 events in which
 /// only declared interrupts arrive, the trace is a run of Baker's machine that shows just these events, sections are
 /// exclusive and no lock is found taken, messages start and fire in order and are served, waiting and stack keep within
 /// the printed bounds, nothing traps, and each access to a shared resource is made where it may be.

@@ -1,6 +1,5 @@
 ghost use Rattle.std.specs.Prelude.{◌≡◌, true, IfOk};
 ghost use Rattle.rt_app.specs.Accepted.{IsAccepted};
-ghost use Rattle.rt_app.specs.Handlers.{has_no_monotonic};
 ghost use Rattle.rt_app.specs.View.{app_of};
 ghost use Rattle.rt_build.specs.Image.{IsImageOf};
 ghost use Rattle.rt_code.specs.Lines.{HasLines};
@@ -14,11 +13,10 @@ use rt_core::Core;
 use rt_ids::NoMemory;
 use std::alloc::Global;
 
-/// A core after reset with a good image of an application that is accepted and has no monotonic. No event has come, and
-/// the lines of its traces can be written.
+/// A core after reset with a good image of an accepted application. No event has come, and the lines of its traces can be
+/// written.
 pub fn prepare(alloc: Global, app: &App) -> Result<Core, NoMemory>
     requires accepted { IsAccepted (app_of app.now) }
-    requires monotonic { has_no_monotonic (app_of app.now) ≡ true }
     ensures image { IfOk result (λ core. IsImageOf (app_of app.now) core.image) }
     ensures good { IfOk result (λ core. Good (app_of app.now) core.image) }
     ensures runnable { IfOk result (λ core. IsRunnable core.image) }

@@ -10,7 +10,6 @@ use Rattle.rt_app.specs.Accepted.{IsAccepted}
 use Rattle.rt_app.specs.Names.{names_of}
 use Rattle.rt_app.specs.Tree.{App}
 use Rattle.rt_build.specs.Accepted.{IsApplication}
-use Rattle.rt_build.specs.Form.{has_image}
 use Rattle.rt_sim.proofs.Good.{images_are_good}
 use Rattle.rt_script.specs.Text as script
 use Rattle.rt_script.specs.declared.refusal.ScriptRefused.{ScriptRefused}
@@ -26,7 +25,7 @@ use Rattle.rt_top.specs.Inside.Decides.{Concludes}
 use Rattle.rt_top.specs.declared.command.Command as code
 use Rattle.rt_top.specs.declared.reply.Reply.{Reply}
 use Rattle.rt_top.specs.declared.reply.Reply.TheVariants as reply
-use Rattle.rt_top.proofs.Excluding.{tree_passes, application_passes, form_passes}
+use Rattle.rt_top.proofs.Excluding.{tree_passes, application_passes}
 
 -- what a source holds that tells
 told_text : (o : Option (List ℕ)) → IsTold o → (text : List ℕ) × (o ≡ Some text)
@@ -157,10 +156,10 @@ module _ (first second third : Option (List ℕ)) (app : App) (accepted : (text 
           })
 
   -- a listing
-  pub listed_decided : IsAccepted app → has_image app ≡ true → (bytes : List ℕ) → Lists app bytes
+  pub listed_decided : IsAccepted app → (bytes : List ℕ) → Lists app bytes
       → IsDecided Build u status.Done bytes
-  listed_decided is_accepted made bytes (image, of_application, runnable, says) = record {
-    which = inr (is_done, λ r. form_passes has_image r.0 r.1 app (accepted r.0 r.2) made r.3);
+  listed_decided is_accepted bytes (image, of_application, runnable, says) = record {
+    which = inr (is_done, λ r. application_passes r.0 r.1 app (accepted r.0 r.2) r.3);
     defined = λ told.
         let text = told_text first (told.0 (omega arith)) in
         output status.Done bytes (
@@ -172,10 +171,9 @@ module _ (first second third : Option (List ℕ)) (app : App) (accepted : (text 
             image = image;
             is = record {
               of_text = accepted text.0 text.1;
-              made = made;
               of_application = of_application;
               runnable = runnable;
-              good = images_are_good app image is_accepted made of_application;
+              good = images_are_good app image is_accepted of_application;
             };
             written = says;
           },
@@ -183,45 +181,43 @@ module _ (first second third : Option (List ℕ)) (app : App) (accepted : (text 
   }
 
   -- a run, or the refusal of a script
-  module _ (made : has_image app ≡ true) where
-    pub run_passes : IsFirstRefused Run u → ⊥
-    run_passes r = form_passes has_image r.0 r.1 app (accepted r.0 r.2) made r.3
+  pub run_passes : IsFirstRefused Run u → ⊥
+  run_passes r = application_passes r.0 r.1 app (accepted r.0 r.2) r.3
 
-    script_decided : (refusal : ScriptRefused) (line : List ℕ) → ((more : List ℕ) → second ≡ Some more → script.IsRefused (names_of app) more refusal)
-        → SaysScript refusal line → IsDecided Run u status.Text line
-    script_decided refusal line met says =
-        past_decided Run u run_passes (omega arith) status.Text line is_text (λ text more e f.
-        faulty text more line e f (record { app = app; of_text = accepted text e; made = made; refusal = refusal; refused = met more f; says = says }))
+  script_decided : (refusal : ScriptRefused) (line : List ℕ) → ((more : List ℕ) → second ≡ Some more → script.IsRefused (names_of app) more refusal)
+      → SaysScript refusal line → IsDecided Run u status.Text line
+  script_decided refusal line met says =
+      past_decided Run u run_passes (omega arith) status.Text line is_text (λ text more e f.
+      faulty text more line e f (record { app = app; of_text = accepted text e; refusal = refusal; refused = met more f; says = says }))
 
-    pub long_script_decided : ((more : List ℕ) → second ≡ Some more → SCRIPT_BYTES < length more) → (line : List ℕ) → SaysScript in_script.TooLong line → IsDecided Run u status.Text line
-    long_script_decided long line says = script_decided in_script.TooLong line long says
+  pub long_script_decided : ((more : List ℕ) → second ≡ Some more → SCRIPT_BYTES < length more) → (line : List ℕ) → SaysScript in_script.TooLong line → IsDecided Run u status.Text line
+  long_script_decided long line says = script_decided in_script.TooLong line long says
 
-    pub run_decided : (own : List ℕ) → ((more : List ℕ) → second ≡ Some more → own ≡ more) → (ended : Status) (bytes : List ℕ) → AnswersRun app own ended bytes → IsDecided Run u ended bytes
-    run_decided own same s b (replies.ran image asked bytes good read written) =
-        past_decided Run u run_passes (omega arith) status.Done bytes is_done (λ text more e f.
-        output status.Done bytes (
-          refl,
-          text,
-          more,
-          e,
-          f,
-          record {
-            app = app;
-            image = image;
-            is = record {
-              of_text = accepted text e;
-              made = made;
-              of_application = good.of_application;
-              runnable = good.runnable;
-              good = good.good;
-            };
-            script = asked;
-            read = subst (λ m. script.IsScriptText (names_of app) m asked) (same more f) read;
-            written = written;
-          },
-        ))
-    run_decided own same s b (replies.refused refusal line met says) =
-        script_decided refusal line (λ more f. subst (λ m. script.IsRefused (names_of app) m refusal) (same more f) met) says
+  pub run_decided : (own : List ℕ) → ((more : List ℕ) → second ≡ Some more → own ≡ more) → (ended : Status) (bytes : List ℕ) → AnswersRun app own ended bytes → IsDecided Run u ended bytes
+  run_decided own same s b (replies.ran image asked bytes good read written) =
+      past_decided Run u run_passes (omega arith) status.Done bytes is_done (λ text more e f.
+      output status.Done bytes (
+        refl,
+        text,
+        more,
+        e,
+        f,
+        record {
+          app = app;
+          image = image;
+          is = record {
+            of_text = accepted text e;
+            of_application = good.of_application;
+            runnable = good.runnable;
+            good = good.good;
+          };
+          script = asked;
+          read = subst (λ m. script.IsScriptText (names_of app) m asked) (same more f) read;
+          written = written;
+        },
+      ))
+  run_decided own same s b (replies.refused refusal line met says) =
+      script_decided refusal line (λ more f. subst (λ m. script.IsRefused (names_of app) m refusal) (same more f) met) says
 
 -- a command that reads two sources
 pub two_kept : (c : Command) (t : Inputs) (kept : Type 0) → 2 ≤ reads c → (IsFirstRefused c t → kept) → (reads c ≤ 1) ⊎ IsFirstRefused c t → kept

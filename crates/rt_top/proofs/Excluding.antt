@@ -12,7 +12,6 @@ use Rattle.rt_baker.specs.Audit.{IsVerdict}
 use Rattle.rt_baker.specs.declared.verdict.Verdict.{Verdict}
 use Rattle.rt_baker.specs.declared.verdict.Verdict.TheVariants as judged
 use Rattle.rt_build.specs.Accepted.{broken, IsApplication}
-use Rattle.rt_build.specs.Form.{has_image}
 use Rattle.rt_build.proofs.Firsts.{no_first}
 use Rattle.rt_resolve.specs.Resolved.{resolved}
 use Rattle.rt_script.specs.Text as script
@@ -28,7 +27,7 @@ use Rattle.rt_trace.specs.declared.refusal.TraceRefused.{TraceRefused}
 use Rattle.rt_trace.specs.declared.refusal.TraceRefused.TheVariants as in_trace
 use Rattle.rt_trace.proofs.OneWay as traces
 use Rattle.rt_top.specs.Words.{Command, Run, Check, Fmt, Build, Audit, Live, Soak, Demo}
-use Rattle.rt_top.specs.Refusal.{RefusesText, RefusesApplication, RefusesOther}
+use Rattle.rt_top.specs.Refusal.{RefusesText, RefusesApplication}
 use Rattle.rt_top.specs.SecondRefusal.{SaysScript, SaysTrace, RefusesScript, RefusesTrace}
 use Rattle.rt_top.specs.Outputs.{IsRun, Says, IsAudited}
 use Rattle.rt_top.specs.Defined.{Inputs, RefusesFirst, RefusesSecond, Writes, Defined, refused, faulty, output, IsTold, IsFirstRefused, AreTold}
@@ -48,15 +47,6 @@ application_passes text line app is (fault, inr b, says) =
 application_only : (text : List ℕ) (a b : App) → IsApplication text a → IsApplication text b → a ≡ b
 application_only text a b one other =
     one.kept.same ∙ (ap resolved (text_only text one.tree other.tree one.text other.text) ∙ sym other.kept.same)
-
-pub form_passes : (form : App → Bool) (text line : List ℕ) (app : App) → IsApplication text app → form app ≡ true
-    → RefusesOther form text line → ⊥
-form_passes form text line app is made (inl r) = application_passes text line app is r
-form_passes form text line app is made (inr r) =
-    not_made (form app) made (subst (λ a. form a ≡ false) (application_only text r.app app r.of_text is) r.none)
-  where
-    not_made : (b : Bool) → b ≡ true → b ≡ false → ⊥
-    not_made b one other = cc
 
 -- a script, over the names
 script_read : (names : Names) (more line : List ℕ) (s : List Line) (refusal : ScriptRefused) → script.IsScriptText names more s
@@ -113,7 +103,7 @@ some_same : (o : Option (List ℕ)) (a b : List ℕ) → o ≡ Some a → o ≡ 
 some_same o a b e f = cc
 
 refused_no_second : (c : Command) (text more line other : List ℕ) → RefusesFirst c text line → RefusesSecond c text more other → ⊥
-refused_no_second Run text more line other r s = form_passes has_image text line s.app s.of_text s.made r
+refused_no_second Run text more line other r s = application_passes text line s.app s.of_text r
 refused_no_second Check text more line other r s = s
 refused_no_second Fmt text more line other r s = s
 refused_no_second Build text more line other r s = s
@@ -124,14 +114,14 @@ refused_no_second (Demo n) text more line other r s = s
 
 refused_no_output : (c : Command) (t : Inputs) (text line : List ℕ) (ended : Status) (bytes : List ℕ) → t.first ≡ Some text → RefusesFirst c text line → Writes c t ended bytes → ⊥
 refused_no_output Run t text line ended bytes e r (is, text', more, e', h, run) =
-    form_passes has_image text' line run.app run.is.of_text run.is.made
+    application_passes text' line run.app run.is.of_text
     (subst (λ s. RefusesFirst Run s line) (some_same t.first text text' e e') r)
 refused_no_output Check t text line ended bytes e r (is, text', e', (app, accepted, says)) =
     application_passes text' line app accepted (subst (λ s. RefusesApplication s line) (some_same t.first text text' e e') r)
 refused_no_output Fmt t text line ended bytes e r (is, text', e', (a, spelled, says)) =
     tree_passes text' line a spelled (subst (λ s. RefusesText s line) (some_same t.first text text' e e') r)
 refused_no_output Build t text line ended bytes e r (is, text', e', w) =
-    form_passes has_image text' line w.app w.is.of_text w.is.made
+    application_passes text' line w.app w.is.of_text
     (subst (λ s. RefusesFirst Build s line) (some_same t.first text text' e e') r)
 refused_no_output Audit t text line ended bytes e r (text', more, e', h, audited) =
     application_passes text' line audited.app audited.of_text

@@ -11,7 +11,7 @@ use Rattle.rt_app.specs.declared.app.App as code
 use Rattle.rt_app.specs.Tree.{App}
 use Rattle.rt_app.specs.View.{app_of}
 use Rattle.rt_build.specs.Accepted.{KeepsRules, IsApplication}
-use Rattle.rt_top.specs.Refusal.{refusal_line, unbuilt_line, RefusesText, RefusesApplication, RefusesOther}
+use Rattle.rt_top.specs.Refusal.{refusal_line, RefusesText, RefusesApplication}
 use Rattle.rt_top.specs.Inside.Decides.{Tells, Halts, IsBrokenBy}
 use Rattle.rt_top.specs.declared.reply.Reply.{Reply}
 use Rattle.rt_top.specs.declared.reply.Reply.TheVariants as reply
@@ -66,12 +66,3 @@ module _ (told : Option (List ℕ)) (failed : Type 0) (a : tree.App) (own : List
   pub accepted_result : (r : Result code.App Reply) → IfOk r (λ app. KeepsRules a (app_of app)) → (text : List ℕ) → told ≡ Some text → IfOk r (λ app. IsApplication text (app_of app))
   accepted_result (Ok app) kept text e = record { tree = a; text = subst (λ t. IsText t a) (same text e) spelled; kept = kept }
   accepted_result (Err r) kept text e = tt
-
--- an application that is not of a form
-pub unbuilt_halts : (told : Option (List ℕ)) (failed : Type 0) (form : App → Bool) (app : App)
-    → ((text : List ℕ) → told ≡ Some text → IsApplication text app) → form app ≡ false
-    → (r : Reply) → Tells status.App (λ line. line ≡ unbuilt_line) r
-    → Halts told (λ text line. RefusesOther form text line) failed r
-unbuilt_halts told failed form app accepted none r tells =
-    tells_halts told (λ text line. RefusesOther form text line) failed (λ line. line ≡ unbuilt_line)
-    (λ text line e says. inr (record { app = app; of_text = accepted text e; none = none; says = says })) r tells

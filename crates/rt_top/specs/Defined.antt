@@ -5,7 +5,7 @@ use Rattle.rt_ids.specs.declared.status.Status.{Status}
 use Rattle.rt_ids.specs.declared.status.Status.TheVariants as status
 use Rattle.rt_outside.specs.Bytes.{Took, TookPrefix}
 use Rattle.rt_top.specs.Words.{Command, Run, Check, Fmt, Build, Audit, Names, IsBuilt, reads}
-use Rattle.rt_top.specs.Refusal.{RefusesText, RefusesApplication, RefusesBuilding}
+use Rattle.rt_top.specs.Refusal.{RefusesText, RefusesApplication}
 use Rattle.rt_top.specs.SecondRefusal.{RefusesScript, RefusesTrace}
 use Rattle.rt_top.specs.Outputs.{IsFormatted, IsChecked, IsListed, IsRun, IsAudited}
 
@@ -21,10 +21,10 @@ inputs first second third = record { first = first; second = second; third = thi
 
 -- the line refuses the first text
 abbrev pub RefusesFirst : Command → List ℕ → List ℕ → Type 0
-RefusesFirst Run text line = RefusesBuilding text line
+RefusesFirst Run text line = RefusesApplication text line
 RefusesFirst Check text line = RefusesApplication text line
 RefusesFirst Fmt text line = RefusesText text line
-RefusesFirst Build text line = RefusesBuilding text line
+RefusesFirst Build text line = RefusesApplication text line
 RefusesFirst Audit text line = RefusesApplication text line
 RefusesFirst other text line = ⊥
 

@@ -13,7 +13,6 @@ use Rattle.rt_baker.specs.Audit.{IsVerdict}
 use Rattle.rt_baker.specs.declared.verdict.Verdict.{Verdict}
 use Rattle.rt_baker.specs.declared.verdict.Verdict.TheVariants as judged
 use Rattle.rt_build.specs.Accepted.{IsApplication}
-use Rattle.rt_build.specs.Form.{has_image}
 use Rattle.rt_build.specs.Image.{IsImageOf}
 use Rattle.rt_code.specs.Image.{Image}
 use Rattle.rt_code.specs.Runnable.{IsRunnable}
@@ -42,7 +41,6 @@ IsChecked text bytes = (app : App) × IsApplication text app × (bytes ≡ check
 -- a run of Baker's machine on the application, within the printed bounds.
 pub record IsGoodImage (text : List ℕ) (app : App) (image : Image) : Type 0 where
   pub of_text : IsApplication text app
-  pub made : has_image app ≡ true
   pub of_application : IsImageOf app image
   pub runnable : IsRunnable image
   pub good : Good app image

@@ -10,7 +10,6 @@ use Rattle.rt_ids.specs.declared.rule.Rule.TheVariants as rule
 use Rattle.rt_grammar.specs.Text.{IsRefused}
 use Rattle.rt_app.specs.Tree.{App}
 use Rattle.rt_build.specs.Accepted.{IsApplication, IsRefusedText}
-use Rattle.rt_build.specs.Form.{has_image}
 
 -- the word for a limit
 abbrev pub limit_word : Limit → List ℕ
@@ -61,10 +60,6 @@ refusal_line fault =
     decimal fault.place.line ++ codes ":" ++ decimal fault.place.col ++ codes " "
     ++ refusal_words fault.refusal ++ codes "\n"
 
--- the line for an application of a form that the command does not take yet
-abbrev pub unbuilt_line : List ℕ
-unbuilt_line = codes "1:1 E00 not built\n"
-
 -- the line refuses a text that is too long, not in the grammar, or past a limit: by what is met first
 abbrev pub RefusesText : List ℕ → List ℕ → Type 0
 RefusesText text line = (fault : Fault) × IsRefused text fault × (line ≡ refusal_line fault)
@@ -72,18 +67,3 @@ RefusesText text line = (fault : Fault) × IsRefused text fault × (line ≡ ref
 -- or one that breaks a rule: by the first that it breaks
 abbrev pub RefusesApplication : List ℕ → List ℕ → Type 0
 RefusesApplication text line = (fault : Fault) × IsRefusedText text fault × (line ≡ refusal_line fault)
-
--- or an application that is not of a form
-pub record RefusesForm (form : App → Bool) (text line : List ℕ) : Type 0 where
-  pub app : App
-  pub of_text : IsApplication text app
-  pub none : form app ≡ false
-  pub says : line ≡ unbuilt_line
-
--- the line refuses a text where an application of a form is wanted
-abbrev pub RefusesOther : (App → Bool) → List ℕ → List ℕ → Type 0
-RefusesOther form text line = RefusesApplication text line ⊎ RefusesForm form text line
-
--- where an image is wanted: one is made of each application without a monotonic
-abbrev pub RefusesBuilding : List ℕ → List ℕ → Type 0
-RefusesBuilding text line = RefusesOther has_image text line

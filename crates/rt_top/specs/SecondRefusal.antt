@@ -5,7 +5,6 @@ use Rattle.std.specs.Prelude.{◌≡◌, ℕ, true, List, ◌++◌, codes, decim
 use Rattle.rt_app.specs.Names.{names_of}
 use Rattle.rt_app.specs.Tree.{App}
 use Rattle.rt_build.specs.Accepted.{IsApplication}
-use Rattle.rt_build.specs.Form.{has_image}
 use Rattle.rt_script.specs.Text as script
 use Rattle.rt_script.specs.declared.refusal.ScriptRefused.{ScriptRefused}
 use Rattle.rt_script.specs.declared.refusal.ScriptRefused.TheVariants as in_script
@@ -37,11 +36,10 @@ SaysTrace (in_trace.BadLine n) line = line ≡ trace_line n (codes " 2 bad line\
 SaysTrace (in_trace.UnknownName n) line = line ≡ trace_line n (codes " 3 unknown name\n")
 SaysTrace in_trace.NoMemory line = ⊥
 
--- the line refuses a text that is no script over the names of an application of which an image is made
+-- the line refuses a text that is no script over the names of an application
 pub record RefusesScript (text more line : List ℕ) : Type 0 where
   pub app : App
   pub of_text : IsApplication text app
-  pub made : has_image app ≡ true
   pub refusal : ScriptRefused
   pub refused : script.IsRefused (names_of app) more refusal
   pub says : SaysScript refusal line

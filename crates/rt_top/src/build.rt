@@ -3,12 +3,11 @@ ghost use Rattle.rt_outside.specs.Faults.{Rose};
 ghost use Rattle.rt_app.specs.View.{app_of};
 ghost use Rattle.rt_app.specs.Accepted.{IsAccepted};
 ghost use Rattle.rt_top.specs.Words as word;
-ghost use Rattle.rt_build.specs.Form.{has_image};
 ghost use Rattle.rt_top.specs.Defined.{inputs};
 ghost use Rattle.rt_top.specs.Inside.Decides.{Decides, Lists};
 ghost use Rattle.rt_top.specs.Inside.Replies.{IsHeard};
 
-use crate::reading::read_imaged;
+use crate::reading::read_accepted;
 use crate::reply::{Reply, told};
 use rt_app::App;
 use rt_ids::{NoMemory, Status};
@@ -22,7 +21,7 @@ pub(crate) fn build<A: Source>(alloc: Global, app: &mut A) -> Reply
         (Rose (A.faults app.old) (A.faults app.new)) ⊥ result }
     ensures heard { IsHeard (A.faults app.old) (A.faults app.new) result }
 {
-    let accepted = match read_imaged(alloc, app) {
+    let accepted = match read_accepted(alloc, app) {
         Ok(accepted) => accepted,
         Err(reply) => return reply,
     };
@@ -32,7 +31,6 @@ pub(crate) fn build<A: Source>(alloc: Global, app: &mut A) -> Reply
 /// The listing of its image.
 fn listed(alloc: Global, app: &App) -> Result<Vec<u8>, NoMemory>
     requires accepted { IsAccepted (app_of app.now) }
-    requires image { has_image (app_of app.now) ≡ true }
     ensures { IfOk result (λ text. Lists (app_of app.now) text.items) }
 {
     let image = rt_build::build(alloc, app)?;

@@ -7,23 +7,19 @@ ghost use Rattle.rt_grammar.specs.Text.{IsText};
 ghost use Rattle.rt_app.specs.View as resolved;
 ghost use Rattle.rt_app.specs.Accepted.{IsAccepted};
 ghost use Rattle.rt_build.specs.Accepted.{KeepsRules, IsApplication};
-ghost use Rattle.rt_build.specs.Form.{has_image};
-ghost use Rattle.rt_top.specs.Refusal.{RefusesText, RefusesApplication, RefusesBuilding};
+ghost use Rattle.rt_top.specs.Refusal.{RefusesText, RefusesApplication};
 ghost use Rattle.rt_top.specs.Inside.Decides.{Tells, Stops, Halts, IsBrokenBy};
 ghost use Rattle.rt_top.specs.Inside.Replies.{IsHeardIn};
 
-use crate::reply::{Reply, line, refuse};
+use crate::reply::{Reply, refuse};
 use rt_app::App;
 use rt_ast::AppTree;
-use rt_build::{has_image, judge};
+use rt_build::judge;
 use rt_ids::limits::TEXT_BYTES;
 use rt_ids::{Fault, Place, Refusal, Refused, Status};
 use rt_outside::{ReadFail, Source, read_text};
 use rt_parse::parse;
 use std::alloc::Global;
-
-/// The line for an application of a form that the command does not take yet.
-const UNBUILT: &[u8] = b"1:1 E00 not built\n";
 
 /// A text that is too long is refused at its first byte.
 const TOO_LONG: Fault = Fault {
@@ -85,27 +81,6 @@ pub(crate) fn read_accepted<A: Source>(alloc: Global, app: &mut A) -> Result<App
     match read_tree(alloc, app) {
         Ok(written) => judged(alloc, &written),
         Err(reply) => Err(reply),
-    }
-}
-
-/// Reads the application, where it breaks no rule and an image is made of it.
-pub(crate) fn read_imaged<A: Source>(alloc: Global, app: &mut A) -> Result<App, Reply>
-    ensures accepted { (text : List ℕ) → A.left app.old ≡ Some text →
-        IfOk result (λ app. IsApplication text (resolved.app_of app)) }
-    ensures kept { IfOk result (λ app. IsAccepted (resolved.app_of app)) }
-    ensures image { IfOk result (λ app. has_image (resolved.app_of app) ≡ true) }
-    ensures halts { IfErr result (Halts (A.left app.old) RefusesBuilding
-        (Rose (A.faults app.old) (A.faults app.new))) }
-    ensures heard { IsHeardIn (A.faults app.old) (A.faults app.new) result }
-{
-    let accepted = match read_accepted(alloc, app) {
-        Ok(accepted) => accepted,
-        Err(reply) => return Err(reply),
-    };
-    if has_image(&accepted) {
-        Ok(accepted)
-    } else {
-        Err(line(alloc, Status::App, UNBUILT))
     }
 }
 

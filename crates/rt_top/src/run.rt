@@ -3,7 +3,6 @@ ghost use Rattle.rt_outside.specs.Bytes.{Took, TookPrefix};
 ghost use Rattle.rt_outside.specs.Faults.{Rose, HasCause};
 ghost use Rattle.rt_app.specs.View.{app_of};
 ghost use Rattle.rt_app.specs.Accepted.{IsAccepted};
-ghost use Rattle.rt_build.specs.Form.{has_image};
 ghost use Rattle.rt_code.specs.Lines.{HasLines};
 ghost use Rattle.rt_core.specs.Machine.{IsFresh};
 ghost use Rattle.rt_listing.specs.Listing.{listing};
@@ -16,7 +15,7 @@ ghost use Rattle.rt_top.specs.Defined.{inputs, IsFirstRefused};
 ghost use Rattle.rt_top.specs.Inside.Decides.{Concludes, EndsAs};
 ghost use Rattle.rt_top.specs.Inside.Replies.{WantsMemory, AnswersRun, run_text};
 
-use crate::reading::{read_imaged, read_second};
+use crate::reading::{read_accepted, read_second};
 use crate::reply::{finish, refuse_script};
 use rt_app::App;
 use rt_code::Image;
@@ -48,7 +47,7 @@ pub(crate) fn run<A: Source, B: Source, K: Sink>(
     ensures second_heard { (B.faults second.new ≡ B.faults second.old) ⊎ (result ≡ Status.Read) }
     ensures sink_heard { (K.faults out.new ≡ K.faults out.old) ⊎ (result ≡ Status.Write) }
 {
-    let accepted = match read_imaged(alloc, app) {
+    let accepted = match read_accepted(alloc, app) {
         Ok(accepted) => accepted,
         Err(reply) => return finish(out, &reply),
     };
@@ -62,7 +61,6 @@ pub(crate) fn run<A: Source, B: Source, K: Sink>(
 /// Runs an application under a script's text.
 fn run_text<K: Sink>(alloc: Global, app: &App, text: &[u8], out: &mut K) -> Status
     requires accepted { IsAccepted (app_of app.now) }
-    requires image { has_image (app_of app.now) ≡ true }
     ensures ends { EndsAs (AnswersRun (app_of app.now) text.now) WantsMemory
         (K.taken out.old) (K.taken out.new) (K.faults out.old) (K.faults out.new) result }
     ensures heard { (K.faults out.new ≡ K.faults out.old) ⊎ (result ≡ Status.Write) }

@@ -5,6 +5,7 @@ use Rattle.std.specs.List.{AllByRecursion}
 use Rattle.rt_ids.specs.Lists.{or_zero}
 use Rattle.rt_ids.specs.Storage.{Starting}
 use Rattle.rt_ids.specs.declared.limits.TheConstants.{CODE_SIZE}
+use Rattle.rt_app.specs.declared.app.Mono.{Mono}
 use Rattle.rt_app.specs.Tree.{Task, App}
 use Rattle.rt_app.specs.BodyCost.{cost_measure, size_measure, body_cost, cost_of}
 use Rattle.rt_app.specs.Doings.{init_doing}
@@ -18,6 +19,7 @@ use Rattle.rt_code.specs.declared.image.BodyRow.{BodyRow}
 use Rattle.rt_gen_queue.specs.Line.{Line, HasCode, IsNameable}
 use Rattle.rt_gen_body.specs.Bodies.{DeclaredStands}
 use Rattle.rt_gen_disp.specs.Code.{dispatcher_code}
+use Rattle.rt_gen_timer.specs.TimerCode.{timer_code}
 use Rattle.rt_build.specs.Entries.{Entries}
 use Rattle.rt_build.specs.Image.{IdleStands}
 use Rattle.rt_build.specs.declared.code.Code.{Code}
@@ -47,6 +49,10 @@ kind_size app kind t = if is_of_kind kind t then body_cost (size_measure app) t.
 pub record HasDispatcher (app : App) (level : ℕ) (code : List Line) (entry : ℕ) : Type 0 where
   pub there : HasCode code entry (dispatcher_code app level entry)
 
+-- that of the timer handler at a level
+pub record HasHandler (app : App) (level : ℕ) (code : List Line) (entry : ℕ) : Type 0 where
+  pub there : HasCode code entry (timer_code app level entry)
+
 module _ (app : App) (lines : List Line) where
   -- that of the thread, which goes on at this address behind `init`
   pub record HasThread (entry : ℕ) : Type 0 where
@@ -69,6 +75,11 @@ module _ (app : App) (lines : List Line) where
   HasDispatchers entries =
       (k : ℕ) → k < length entries → (p : ℕ) → slice_get (levels app) k ≡ Some p
       → (more : List Line) → HasDispatcher app p (lines ++ more) (slice_index entries k)
+
+  -- that of the timer handler, where there is a monotonic, that begins at this address
+  abbrev pub HasTimer : ℕ → Type 0
+  HasTimer entry = (mono : Mono) → app.mono ≡ Some mono
+      → (more : List Line) → HasHandler app mono.priority (lines ++ more) entry
 
 -- The entries differ from earlier ones in that of the task of a number at most, and only if the task is of a kind; then
 -- its code stands there.
@@ -98,15 +109,16 @@ pub record IsCodeOf (app : App) (code : Code) : Type 0 where
   pub hardware : HasTasks app code.lines.items Hardware code.tasks.items
   pub software : HasTasks app code.lines.items Software code.tasks.items
   pub dispatchers : HasDispatchers app code.lines.items code.dispatchers.items
+  pub timer : HasTimer app code.lines.items code.timer
   pub named : AllByRecursion (IsNameable (names_of app)) code.lines.items
   pub short : length code.lines.items ≤ CODE_SIZE
 
 -- Where the parts of code begin: a task at the address at its number, the dispatcher of a level at that at the level's
--- place. There is no timer handler.
+-- place.
 abbrev pub entries_of : App → Code → Entries
 entries_of app code = record {
   idle = code.idle;
   task = λ n. slice_index code.tasks.items n;
   dispatcher = λ p. slice_index code.dispatchers.items (or_zero (position (λ q. q == p) (levels app)));
-  timer = 0;
+  timer = code.timer;
 }

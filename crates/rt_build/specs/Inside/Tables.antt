@@ -1,11 +1,18 @@
 -- The tables beside the code of an image, while they are made.
-use Rattle.std.specs.Prelude.{◌≡◌, ℕ, ◌==◌, ◌<◌, List, length, filter, slice_get, Option, Some, option_map}
+use Rattle.std.specs.Prelude.{◌≡◌, ℕ, ◌==◌, ◌<◌, List, ◌++◌, length, filter, flat_map, slice_get, Option, Some}
+use Rattle.std.specs.Prelude.{option_map}
 use Rattle.rt_app.specs.declared.app.IrqDecl.{IrqDecl}
 use Rattle.rt_app.specs.Tree.{App}
-use Rattle.rt_app.specs.Handlers.{Service}
+use Rattle.rt_app.specs.Handlers.{Service, dispatcher_of, task_services, dispatcher_service}
+use Rattle.rt_app.specs.Level.{levels}
 use Rattle.rt_code.specs.declared.image.Handler.{Handler}
 use Rattle.rt_code.specs.declared.image.IrqRow.{IrqRow}
 use Rattle.rt_build.specs.Entries.{Entries, handler_row}
+
+-- the services of an application but that of the timer handler
+abbrev pub untimed_services : App → List Service
+untimed_services app =
+    task_services 0 app.tasks ++ flat_map (λ p. dispatcher_service p (dispatcher_of app p)) (levels app)
 
 module _ (app : App) (at : Entries) (services : List Service) where
   -- how the interrupt of this place is served, if only these are served

@@ -1,6 +1,6 @@
 -- What holds at each moment of a run of an image: jobs own different things, priorities rise, masks and frames are as
 -- the open sections and levels say, and what no started job owns is spelled in memory.
-use Rattle.std.specs.Prelude.{◌≡◌, ℕ, ◌+◌, ◌^◌, ◌<◌, ◌≤◌, ◌⊎◌, true, false, None, List, [], ◌∷◌, length}
+use Rattle.std.specs.Prelude.{◌≡◌, ℕ, ◌+◌, ◌^◌, ◌<◌, ◌≤◌, ◌⊎◌, true, false, None, IfSome, List, [], ◌∷◌, length}
 use Rattle.std.specs.Prelude.{slice_index}
 use Rattle.std.specs.List.{AllByRecursion}
 use Rattle.rt_ids.specs.Holder.{Holder}
@@ -15,6 +15,7 @@ use Rattle.rt_code.specs.Image.{Image}
 use Rattle.rt_code.specs.Stack.{words_of}
 use Rattle.rt_laws.specs.State.{Init, Idle, Waiting, Serving}
 use Rattle.rt_laws.specs.Level.{level}
+use Rattle.rt_laws.specs.Services.{timer_number}
 use Rattle.rt_sim.specs.Inside.Moment.{Part, Moment, jobs_of}
 use Rattle.rt_sim.specs.Inside.Counts.{hands, IsOnce}
 use Rattle.rt_sim.specs.Inside.Chains.{is_init, base_of, mask_of, Saves}
@@ -62,3 +63,5 @@ module _ (app : App) (img : Image) (thread : ℕ) where
     pub memory : length m.cells ≡ length (memory app)
     pub once : IsOnce m.queues (hands (m.running ∷ m.below))
     pub numbers : length m.pending ≡ IRQ_NUMBERS
+    -- the alarm is the monotonic's
+    pub alarmed : IfSome m.alarm (λ a. a.irq ≡ timer_number app)

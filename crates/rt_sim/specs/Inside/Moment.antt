@@ -9,6 +9,7 @@ use Rattle.rt_ids.specs.Storage.{Runner, Starting, AtLevel}
 use Rattle.rt_ids.specs.declared.ids.Section.{Section}
 use Rattle.rt_code.specs.Owning.{Held, Spot}
 use Rattle.rt_code.specs.declared.image.BodyRow.{BodyRow}
+use Rattle.rt_core.specs.declared.alarm.Alarm.{Alarm}
 use Rattle.rt_laws.specs.State.{Role, Init, Serving, Job}
 
 -- a started job, and where its code is: in the running frame, or in the one that was interrupted
@@ -39,6 +40,8 @@ pub record Moment : Type 0 where
   -- what it interrupted, the last started first, the thread last
   pub below : List Part
   pub time : ℕ
+  -- as the core has it; Baker's machine has its instant
+  pub alarm : Option Alarm
   pub pending : List Bool
   pub basepri : ℕ
   pub primask : Bool

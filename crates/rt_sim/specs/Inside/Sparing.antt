@@ -4,23 +4,27 @@ use Rattle.std.specs.Prelude.{◌≡◌, ℕ, ◌||◌, Bool, true, false, List,
 use Rattle.std.specs.List.{AllByRecursion, list_any}
 use Rattle.rt_ids.specs.Lists.{is_some_and}
 use Rattle.rt_ids.specs.Holder.{Holder, Guarded, Own, is_same_section}
-use Rattle.rt_ids.specs.Content.{Values, messages}
-use Rattle.rt_ids.specs.Action.{Action, Enters, Leaves, Returns}
+use Rattle.rt_ids.specs.Content.{Values, messages, delays}
+use Rattle.rt_ids.specs.Action.{Action, Enters, Leaves, Clocks, Returns}
 use Rattle.rt_ids.specs.Doing.{Doing, over, does}
 use Rattle.rt_ids.specs.Storage.{Runner}
 use Rattle.rt_ids.specs.declared.ids.Section.{Section}
 use Rattle.rt_ids.specs.declared.ids.Section.TheVariants as section
 use Rattle.rt_app.specs.Tree.{App}
 use Rattle.rt_app.specs.Holding.{is_kept, IsHeld}
-use Rattle.rt_app.specs.Level.{is_of_level}
+use Rattle.rt_app.specs.Level.{is_software, is_of_level}
 use Rattle.rt_app.specs.Sending.{Rest}
 use Rattle.rt_laws.specs.State.{reached}
 
--- behind the opening of a ready queue its messages are of tasks of its level, as they are spelled
+-- Behind the opening of a ready queue its messages are of tasks of its level, as they are spelled. Behind a reading of
+-- the clock, by which the timer handler looks for a due message, armed messages are of software tasks.
 abbrev pub IsEntered : App → Action → Values → Type 0
 IsEntered app (Enters (section.Ready p) cost) vs =
     AllByRecursion (λ m. is_some_and (is_of_level p) (slice_get app.tasks m.task) ≡ true)
     (messages (vs (Guarded (section.Ready p))))
+IsEntered app Clocks vs =
+    AllByRecursion (λ a. is_some_and is_software (slice_get app.tasks a.message.task) ≡ true)
+    (delays (vs (Guarded section.Timer)))
 IsEntered app action vs = Unit {0}
 
 module _ (app : App) (who : Runner) (handles : Bool) where

@@ -1,5 +1,5 @@
 -- The states of both machines at a moment, and the words of the stack that it takes.
-use Rattle.std.specs.Prelude.{ℕ, ◌+◌, false, List, [], ◌∷◌, length, None}
+use Rattle.std.specs.Prelude.{ℕ, ◌+◌, false, List, [], ◌∷◌, length, option_map}
 use Rattle.rt_ids.specs.Priority.{hardware}
 use Rattle.rt_code.specs.Stack.{words_of}
 use Rattle.rt_core.specs.Core.{Core, Context}
@@ -21,7 +21,7 @@ contexts_of bits p ps = contexts bits (irq_of p.role) (hardware bits p.priority)
 abbrev pub core_of : ℕ → Moment → Core
 core_of bits m = record {
   time = m.time;
-  alarm = None;
+  alarm = m.alarm;
   pending = m.pending;
   processor = record {
     address = m.running.address;
@@ -35,14 +35,14 @@ core_of bits m = record {
   stopped = false;
 }
 
--- Baker's machine
+-- Baker's machine; an alarm that a tick makes due comes with that tick
 abbrev pub state_of : Moment → State
 state_of m = record {
   jobs = jobs_of m.running m.below;
   pending = m.pending;
   values = m.values;
   time = m.time;
-  alarm = None;
+  alarm = option_map (λ a. a.instant) m.alarm;
   owing = false;
 }
 

@@ -24,7 +24,7 @@ returns-in-Some-clause-stands c =
     (app_of c.args.plan.now.app.now).idle)
     (λ entry stands. idle_declared (app_of c.args.plan.now.app.now) c.gen_body.new.code.items entry
     (body_of c.in-Some._body) (ap (option_map body_of) c.in-Some.is) stands)
-    (c.gen_body.ensures.stands c.requires.monotonic)
+    c.gen_body.ensures.stands
 
 pub returns-in-None-clause-stands : goal.returns-in-None-clause-stands
 returns-in-None-clause-stands c =

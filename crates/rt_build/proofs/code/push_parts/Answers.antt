@@ -1,5 +1,5 @@
 use Rattle.std.proofs.Common.{◌≡◌, ℕ, ◌+◌, List, ◌++◌, length, take, drop, sum_by, sym, ap, subst, ◌∙◌, arith}
-use Rattle.rt_app.specs.BodyCost.{size_measure, cost_of, dispatcher_size}
+use Rattle.rt_app.specs.BodyCost.{size_measure, cost_of, dispatcher_size, timer_size}
 use Rattle.rt_app.specs.Level.{levels}
 use Rattle.rt_app.specs.View.{app_of}
 use Rattle.rt_app.proofs.Sound.{accepted_are_sound}
@@ -7,6 +7,7 @@ use Rattle.rt_gen_queue.specs.Line.{Line}
 use Rattle.rt_build.specs.Inside.Code.{kind_size, HasTasks, LeavesOthers}
 use Rattle.rt_build.specs.declared.code.Kind.TheVariants.{Hardware, Software}
 use Rattle.rt_build.proofs.Grown.{thread_kept, thread_made, tasks_kept, tasks_left, hardware_apart, kinds_sum}
+use Rattle.rt_build.proofs.Grown.{dispatchers_kept}
 use Rattle.rt_build.proofs.Grown.{adds_then, all_named, adds_behind, kept_then, written}
 use Rattle.rt_build.proofs.ImageSizes.{all_code}
 use Rattle.rt_build.proofs.code.push_parts.Goals as goal
@@ -21,24 +22,28 @@ returns c =
     let third = c.push_tasks.new.lines.items in
     let fourth = c.push_tasks-2.new.lines.items in
     let fifth = c.push_dispatchers.new.lines.items in
+    let sixth = c.push_timer.new.lines.items in
     let a = cost_of m app.init in
     let b = cost_of m app.idle in
     let d = sum_by (kind_size app Hardware) app.tasks in
     let e = sum_by (kind_size app Software) app.tasks in
     let f = sum_by (dispatcher_size app) (levels app) in
+    let g = timer_size app app.mono in
     let begin = adds_behind app a c.in_ok-gen_body.field-0 none first c.in_ok-gen_body.ensures.entry
     c.in_ok-gen_body.ensures.kept c.in_ok-gen_body.ensures.lines c.in_ok-gen_body.ensures.size in
     let hardware = c.in_ok-push_tasks.ensures.adds in
     let software = c.in_ok-push_tasks-2.ensures.adds in
-    let last = c.in_ok-code-2.ensures.adds in
-    let all = all_named app (a + (b + (d + (e + f)))) none fifth c.requires.empty
-    (adds_then app a (b + (d + (e + f))) none first fifth begin
-    (adds_then app b (d + (e + f)) first second fifth c.in_ok-code.ensures.adds
-    (adds_then app d (e + f) second third fifth hardware (adds_then app e f third fourth fifth software last)))) in
+    let levelled = c.in_ok-code-2.ensures.adds in
+    let last = c.in_ok-code-3.ensures.adds in
+    let all = all_named app (a + (b + (d + (e + (f + g))))) none sixth c.requires.empty
+    (adds_then app a (b + (d + (e + (f + g)))) none first sixth begin
+    (adds_then app b (d + (e + (f + g))) first second sixth c.in_ok-code.ensures.adds
+    (adds_then app d (e + (f + g)) second third sixth hardware
+    (adds_then app e (f + g) third fourth sixth software (adds_then app f g fourth fifth sixth levelled last))))) in
     let made = thread_made app first second c.in_ok-code.field-0 c.in_ok-code.ensures.adds.kept
     c.in_ok-code.ensures.entry c.in_ok-gen_body.field-0
     (c.in_ok-gen_body.ensures.entry ∙ ap (λ (lines : List Line). length lines) c.requires.empty)
-    (c.in_ok-gen_body.ensures.stands c.requires.plan.monotonic) c.in_ok-code.ensures.stands in
+    c.in_ok-gen_body.ensures.stands c.in_ok-code.ensures.stands in
     let idle = c.in_ok-code.field-0 in
     let size = c.args.code.now.tasks.len in
     let start = c.args.code.now.tasks.items in
@@ -58,20 +63,22 @@ returns c =
     let second_pass = written size (take size (one ++ drop (length one) start)) two
     (long_two ∙ ap (λ (es : List ℕ). length es) (sym first_pass))
     (ap (λ (es : List ℕ). length es) first_pass ∙ (long_one ∙ long)) in
+    let behind_software = kept_then fourth fifth sixth levelled.kept last.kept in
+    let behind_hardware = kept_then third fourth sixth software.kept behind_software in
     record {
       entries = record {
         of_tasks = ap (λ (es : List ℕ). length es) second_pass ∙ (long_two ∙ (long_one ∙ c.requires.entries));
         of_levels = c.in_ok-code-2.ensures.entries;
       };
-      thread = thread_kept app fourth fifth last.kept idle (thread_kept app third fourth software.kept idle
-          (thread_kept app second third hardware.kept idle made));
-      hardware = subst (HasTasks app fifth Hardware) (sym second_pass)
-          (tasks_left app Hardware Software fifth one two left hardware_apart
-          (tasks_kept app third fifth (kept_then third fourth fifth software.kept last.kept) (length one) Hardware one
-          c.in_ok-push_tasks.ensures.stands));
-      software = subst (HasTasks app fifth Software) (sym second_pass)
-          (tasks_kept app fourth fifth last.kept (length two) Software two c.in_ok-push_tasks-2.ensures.stands);
-      dispatchers = c.in_ok-code-2.ensures.stands;
+      thread = thread_kept app third sixth behind_hardware idle (thread_kept app second third hardware.kept idle made);
+      hardware = subst (HasTasks app sixth Hardware) (sym second_pass)
+          (tasks_left app Hardware Software sixth one two left hardware_apart
+          (tasks_kept app third sixth behind_hardware (length one) Hardware one c.in_ok-push_tasks.ensures.stands));
+      software = subst (HasTasks app sixth Software) (sym second_pass)
+          (tasks_kept app fourth sixth behind_software (length two) Software two c.in_ok-push_tasks-2.ensures.stands);
+      dispatchers = dispatchers_kept app fifth sixth last.kept c.in_ok-code-2.field-0.items
+          c.in_ok-code-2.ensures.stands;
+      timer = c.in_ok-code-3.ensures.stands;
       named = all.0;
       short = omega (arith, all.1, all_code app (accepted_are_sound app c.requires.plan.accepted), kinds_sum app app.tasks);
     }

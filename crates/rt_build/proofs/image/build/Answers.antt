@@ -1,4 +1,4 @@
-use Rattle.rt_build.proofs.Assembled.{untimed_plan, is_made}
+use Rattle.rt_build.proofs.Assembled.{accepted_plan, is_made}
 use Rattle.rt_build.proofs.image.build.Goals as goal
 
 pub returns : goal.returns
@@ -8,9 +8,8 @@ returns c =
     let tables = c.in_ok-tables.tables in
     let all = is_made plan made tables.stack.thread_words tables.stack.bytes tables.irqs.items tables.bodies.items
     tables.names c.assemble.result c.assemble.ensures
-    (untimed_plan plan c.args.app.now c.in_ok-plan.ensures.of_app c.requires.accepted c.requires.monotonic
-    c.in_ok-plan.ensures.planned)
-    c.in_ok-code.ensures c.args.app.now c.in_ok-plan.ensures.of_app c.in_ok-tables.ensures.words
-    c.in_ok-tables.ensures.bytes c.in_ok-tables.ensures.irqs c.in_ok-tables.ensures.bodies
+    (accepted_plan plan c.args.app.now c.in_ok-plan.ensures.of_app c.requires
+    c.in_ok-plan.ensures.planned) c.in_ok-code.ensures c.args.app.now c.in_ok-plan.ensures.of_app
+    c.in_ok-tables.ensures.words c.in_ok-tables.ensures.bytes c.in_ok-tables.ensures.irqs c.in_ok-tables.ensures.bodies
     c.in_ok-tables.ensures.names in
     record { image = all.image; cells = all.cells; runnable = all.runnable; lines = all.lines }

@@ -66,7 +66,7 @@ returns c =
     let app = app_of c.args.plan.now.app.now in
     let rows = c.deref-row-items.ensures.value ∙ ap (λ p. p.ceil.ready) c.plan.view_is in
     subst (λ ss. HasHandlers app (entries_of app c.args.code.now) ss c.loop-place.handlers)
-    (all_levels app c.requires.plan.monotonic c.loop-place.place (omega (
+    (all_levels app c.loop-place.place (omega (
       arith,
       as_many c.args.plan.now c.requires.plan.planned c.deref-row-items.result.now rows,
     )))

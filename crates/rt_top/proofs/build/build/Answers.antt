@@ -3,7 +3,7 @@ use Rattle.rt_ids.specs.declared.status.Status.TheVariants as status
 use Rattle.rt_outside.specs.Faults.{Rose}
 use Rattle.rt_app.specs.View.{app_of}
 use Rattle.rt_top.specs.Words.{Build}
-use Rattle.rt_top.specs.Refusal.{RefusesBuilding}
+use Rattle.rt_top.specs.Refusal.{RefusesApplication}
 use Rattle.rt_top.specs.Defined.{inputs}
 use Rattle.rt_top.specs.Inside.Decides.{Lists}
 use Rattle.rt_top.proofs.Giving.{made_tells}
@@ -12,15 +12,15 @@ use Rattle.rt_top.proofs.build.build.Goals as goal
 
 pub returns-in-Err-clause-decides : goal.returns-in-Err-clause-decides
 returns-in-Err-clause-decides g c second third =
-    halts_decides Build (inputs (g.A.Source.left c.args.app.now) second third) (omega arith) RefusesBuilding
-    (λ text line r. r) (Rose (g.A.Source.faults c.args.app.now) (g.A.Source.faults c.read_imaged.new.app))
-    (Rose (g.A.Source.faults c.args.app.now) (g.A.Source.faults c.read_imaged.new.app)) ⊥ (λ h. h)
+    halts_decides Build (inputs (g.A.Source.left c.args.app.now) second third) (omega arith) RefusesApplication
+    (λ text line r. r) (Rose (g.A.Source.faults c.args.app.now) (g.A.Source.faults c.read_accepted.new.app))
+    (Rose (g.A.Source.faults c.args.app.now) (g.A.Source.faults c.read_accepted.new.app)) ⊥ (λ h. h)
     c.in-Err.reply c.in-Err.ensures.halts
 
 pub returns-clause-decides : goal.returns-clause-decides
 returns-clause-decides g c second third =
     tells_decides Build (inputs (g.A.Source.left c.args.app.now) second third)
-    (Rose (g.A.Source.faults c.args.app.now) (g.A.Source.faults c.read_imaged.new.app)) ⊥ status.Done (Lists (app_of c.in-Ok.accepted))
-    (listed_decided (g.A.Source.left c.args.app.now) second third (app_of c.in-Ok.accepted) (λ text told. c.in-Ok.ensures.accepted text told) c.in-Ok.ensures.kept c.in-Ok.ensures.image)
+    (Rose (g.A.Source.faults c.args.app.now) (g.A.Source.faults c.read_accepted.new.app)) ⊥ status.Done (Lists (app_of c.in-Ok.accepted))
+    (listed_decided (g.A.Source.left c.args.app.now) second third (app_of c.in-Ok.accepted) (λ text told. c.in-Ok.ensures.accepted text told) c.in-Ok.ensures.kept)
     c.told.result
     (made_tells status.Done (Lists (app_of c.in-Ok.accepted)) c.listed.result c.listed.ensures c.told.result c.told.ensures.text c.told.ensures.memory)

@@ -1,0 +1,265 @@
+-- The alarm of both machines. A step sets it to the least armed instant, or to none where nothing is armed, and one
+-- that is due then comes at once; a tick may make it due. It is the monotonic's.
+use Rattle.std.proofs.Common.{◌≡◌, ℕ, suc, ◌++◌, nat_le, Bool, true, false, if◌then◌else◌, List, [], ◌∷◌, map}
+use Rattle.std.proofs.Common.{slice_set, Option, Some, None, IfSome, refl, sym, ap, ◌∙◌, length-set}
+use Rattle.rt_ids.specs.Lists.{or_zero}
+use Rattle.rt_ids.specs.Action.{SetsAlarm}
+use Rattle.rt_ids.specs.Content.{delays, least_instant}
+use Rattle.rt_ids.specs.Holder.{Guarded}
+use Rattle.rt_ids.specs.declared.ids.Section.TheVariants as section
+use Rattle.rt_app.specs.Tree.{App}
+use Rattle.rt_app.specs.Holding.{storage}
+use Rattle.rt_code.specs.Acting.{SetsTheAlarm}
+use Rattle.rt_code.specs.Image.{Image}
+use Rattle.rt_code.specs.Owning.{MayAccess}
+use Rattle.rt_code.specs.Processor.{Processor}
+use Rattle.rt_code.specs.Standing.{Stands, HaveLeft, moved, passed}
+use Rattle.rt_code.proofs.Mine.{owns_open, owns_reads}
+use Rattle.rt_core.specs.declared.alarm.Alarm.{Alarm}
+use Rattle.rt_core.specs.Access.{access}
+use Rattle.rt_core.specs.Core.{Core}
+use Rattle.rt_core.specs.Leading.{GoesPlainly, with_processor}
+use Rattle.rt_core.specs.Outcome.{Done, settle}
+use Rattle.rt_core.specs.Stepping.{step}
+use Rattle.rt_core.specs.Trace.{tick}
+use Rattle.rt_core.specs.Transfer.{pended, set_alarm}
+use Rattle.rt_trace.specs.Label.{Label, Ticked, Rang, steps_of}
+use Rattle.rt_trace.specs.declared.item.What.TheVariants as what
+use Rattle.rt_laws.specs.Services.{timer_number}
+use Rattle.rt_laws.specs.State.{reached}
+use Rattle.rt_laws.specs.Level.{candidate}
+use Rattle.rt_laws.specs.Giving.{next_item, next_instant, is_due}
+use Rattle.rt_laws.specs.Acting as baker
+use Rattle.rt_laws.specs.Acting.{acted, alarm_set}
+use Rattle.rt_laws.specs.Allowed.{after}
+use Rattle.rt_laws.specs.ByItems.{after_all}
+use Rattle.rt_laws.specs.Run.{RunsOn}
+use Rattle.rt_sim.specs.Inside.Moment.{Moment, spot_of, job_of}
+use Rattle.rt_sim.specs.Inside.States.{core_of, state_of}
+use Rattle.rt_sim.specs.Inside.PartFits.{who}
+use Rattle.rt_sim.specs.Inside.Fits.{Fits}
+use Rattle.rt_sim.specs.Inside.Agrees.{StepsBoth}
+use Rattle.rt_sim.proofs.Others.{ChangesItsOwn}
+use Rattle.rt_sim.proofs.Plain.{IsWorking, moment_behind, may_turn}
+use Rattle.rt_sim.proofs.Acts.{pending_fits, changes_by, agreed, gives_item, acts_as, acts_plainly}
+
+-- the monotonic's interrupt has one number
+timer_is : (app : App) (irq : ℕ) → (storage app).timer ≡ Some irq → irq ≡ timer_number app
+unfolding storage
+timer_is app irq is = ap or_zero (sym is)
+
+module _ (app : App) (img : Image) (thread : ℕ) where
+  -- another alarm, which is the monotonic's
+  alarmed_fits : (m : Moment) (alarm : Option Alarm) → IfSome alarm (λ a. a.irq ≡ timer_number app)
+      → Fits app img thread m → Fits app img thread (record m { alarm = alarm })
+  alarmed_fits m alarm its fits = record {
+    stack = fits.stack;
+    parts = fits.parts;
+    spelled = fits.spelled;
+    basepri = fits.basepri;
+    primask = fits.primask;
+    memory = fits.memory;
+    once = fits.once;
+    numbers = fits.numbers;
+    alarmed = its;
+  }
+
+  -- the time does not matter to what fits
+  time_fits : (m : Moment) (time : ℕ) → Fits app img thread m → Fits app img thread (record m { time = time })
+  time_fits m time fits = record {
+    stack = fits.stack;
+    parts = fits.parts;
+    spelled = fits.spelled;
+    basepri = fits.basepri;
+    primask = fits.primask;
+    memory = fits.memory;
+    once = fits.once;
+    numbers = fits.numbers;
+    alarmed = fits.alarmed;
+  }
+
+  module _ (m : Moment) (fits : Fits app img thread m) (works : IsWorking m.running.role) (n : ℕ)
+      (none : candidate app (state_of m) ≡ None) (left : HaveLeft (m.running.lefts ++ m.running.left ∷ []))
+      (may : MayAccess (storage app) (who m.running) (spot_of m.cells m.queues m.running)
+      (access img (core_of app.bits m))) (q : Processor)
+      (plain : GoesPlainly (spot_of m.cells m.queues m.running) (core_of app.bits m).processor q) where
+    abbrev Both : Type 0
+    Both = StepsBoth app img thread (core_of app.bits m) (state_of m)
+
+    abbrev Next : Core
+    Next = with_processor (core_of app.bits m) q
+
+    abbrev Sets : Option ℕ → Type 0
+    Sets instant = SetsTheAlarm (storage app) m.running.rows (who m.running) instant
+        (moved (passed (spot_of m.cells m.queues m.running)) q)
+        (λ t. Stands (storage app) img.code m.running.rows thread (who m.running) n t)
+
+    module _ (instant : Option ℕ) (sets : Sets instant) where
+      -- behind the step, but for the alarm
+      abbrev Behind : Moment
+      Behind = moment_behind app img thread m q n (sets.acts.follows 0 m.values)
+          (reached (sets.acts.follows 0 m.values) m.values) m.running.places m.queues
+
+      fits_behind : ChangesItsOwn app img thread m.running m.cells q.cells → Fits app img thread Behind
+      fits_behind changes =
+          acts_plainly app img thread m fits works q n SetsAlarm 0 plain changes sets.acts (λ vs. refl)
+          (λ held. refl) tt
+
+      least_is : next_instant (state_of m) ≡ instant
+      least_is = ap (λ content. least_instant (delays content))
+          (agreed app img thread m fits works SetsAlarm sets.acts.values sets.acts.follows sets.acts.is
+          (Guarded section.Timer) (owns_reads (storage app) (who m.running) m.running.held (Guarded section.Timer)
+          (owns_open (storage app) (who m.running) m.running.held section.Timer sets.inside)))
+          ∙ sets.least
+
+      -- the item, and the state behind it
+      gives_alarm : (due : Bool) → is_due m.time instant ≡ due
+          → next_item (state_of m) m.running.role m.running.rest
+          ≡ Some (if due then what.Alarm else what.AlarmSet)
+      gives_alarm due is =
+          gives_item app img thread m fits works SetsAlarm sets.acts.values sets.acts.follows sets.acts.is
+          ∙ ap (λ o. Some (if is_due m.time o then what.Alarm else what.AlarmSet)) least_is
+          ∙ ap (λ b. Some (if b then what.Alarm else what.AlarmSet)) is
+
+      acted_alarm : (due : Bool) → is_due m.time instant ≡ due
+          → acted app (state_of m) (job_of m.running) (map job_of m.below) m.running.rest
+          ≡ (if due then baker.pended (timer_number app) (record (state_of Behind) { alarm = None })
+          else record (state_of Behind) { alarm = instant })
+      acted_alarm due is =
+          acts_as app img thread m fits works SetsAlarm sets.acts.values sets.acts.follows sets.acts.is
+          ∙ ap (λ o. alarm_set app o (state_of Behind)) least_is
+          ∙ ap (λ b. if b then baker.pended (timer_number app) (record (state_of Behind) { alarm = None })
+          else record (state_of Behind) { alarm = instant }) is
+
+    -- nothing is armed, and so no alarm is set
+    pub sets_none : step img (core_of app.bits m) ≡ (record Next { alarm = None }, Some what.AlarmSet)
+        → Sets None → Both
+    sets_none is sets = record {
+      core = record Next { alarm = None };
+      shown = Some what.AlarmSet;
+      is = is;
+      may = (may_turn app img thread m fits works none left, gives_alarm None sets false refl);
+      agrees = record {
+        moment = record (Behind None sets) { alarm = None };
+        core = refl;
+        state = acted_alarm None sets false refl;
+        fits = alarmed_fits (Behind None sets) None tt
+            (fits_behind None sets (changes_by app img thread m fits works _ _ is may));
+      };
+    }
+
+    -- the alarm is set, and one that is due comes at once
+    pub sets_some : (instant irq : ℕ) → (storage app).timer ≡ Some irq
+        → step img (core_of app.bits m) ≡ settle (set_alarm Next instant irq) → Sets (Some instant) → Both
+    sets_some instant irq timer is sets = by (nat_le instant m.time) refl
+      where
+        number : irq ≡ timer_number app
+        number = timer_is app irq timer
+
+        gives : (b : Bool) → nat_le instant m.time ≡ b → step img (core_of app.bits m)
+            ≡ settle (if b then Done (record (pended Next irq) { alarm = None }) (Some what.Alarm)
+            else Done (record Next { alarm = Some (record { instant = instant; irq = irq }) }) (Some what.AlarmSet))
+        gives b due = is
+            ∙ ap (λ d. settle (if d then Done (record (pended Next irq) { alarm = None }) (Some what.Alarm)
+            else Done (record Next { alarm = Some (record { instant = instant; irq = irq }) }) (Some what.AlarmSet)))
+            due
+
+        by : (b : Bool) → nat_le instant m.time ≡ b → Both
+        by true due = record {
+          core = record (pended Next irq) { alarm = None };
+          shown = Some what.Alarm;
+          is = gives true due;
+          may = (may_turn app img thread m fits works none left, gives_alarm (Some instant) sets true due);
+          agrees = record {
+            moment = record (Behind (Some instant) sets) { alarm = None; pending = slice_set m.pending irq true };
+            core = refl;
+            state = acted_alarm (Some instant) sets true due
+                ∙ ap (λ k. baker.pended k (record (state_of (Behind (Some instant) sets)) { alarm = None }))
+                (sym number);
+            fits = pending_fits app img thread (record (Behind (Some instant) sets) { alarm = None })
+                (slice_set m.pending irq true) (length-set m.pending irq true)
+                (alarmed_fits (Behind (Some instant) sets) None tt
+                (fits_behind (Some instant) sets (changes_by app img thread m fits works _ _ (gives true due) may)));
+          };
+        }
+        by false later = record {
+          core = record Next { alarm = Some (record { instant = instant; irq = irq }) };
+          shown = Some what.AlarmSet;
+          is = gives false later;
+          may = (may_turn app img thread m fits works none left, gives_alarm (Some instant) sets false later);
+          agrees = record {
+            moment = record (Behind (Some instant) sets) { alarm = Some (record { instant = instant; irq = irq }) };
+            core = refl;
+            state = acted_alarm (Some instant) sets false later;
+            fits = alarmed_fits (Behind (Some instant) sets) (Some (record { instant = instant; irq = irq })) number
+                (fits_behind (Some instant) sets (changes_by app img thread m fits works _ _ (gives false later) may));
+          };
+        }
+
+  -- what a tick leads to, and what it shows behind itself: an alarm that is due comes
+  pub record Ticks (m : Moment) : Type 0 where
+    pub moment : Moment
+    pub shown : List Label
+    pub is : tick (core_of app.bits m) ≡ (core_of app.bits moment, shown)
+    pub runs : RunsOn app (after app (state_of m) Ticked) shown
+    pub state : after_all app (after app (state_of m) Ticked) shown ≡ state_of moment
+    pub fits : Fits app img thread moment
+    pub time : moment.time ≡ suc m.time
+    pub values : moment.values ≡ m.values
+    pub silent : (ls : List Label) → steps_of (shown ++ ls) ≡ steps_of ls
+
+  -- the moment with this alarm
+  abbrev with_alarm : Moment → Alarm → Moment
+  with_alarm m a = record m { alarm = Some a }
+
+  pub ticks : (m : Moment) → Fits app img thread m → Ticks m
+  ticks m fits = by m.alarm fits
+    where
+      rings : (a : Alarm) → Fits app img thread (with_alarm m a) → (b : Bool) → nat_le a.instant (suc m.time) ≡ b
+          → Ticks (with_alarm m a)
+      rings a fits true due = record {
+        moment = record m { alarm = None; time = suc m.time; pending = slice_set m.pending a.irq true };
+        shown = Rang ∷ [];
+        is = ap (λ b. if b then (
+          record (pended (core_of app.bits (record (with_alarm m a) { time = suc m.time })) a.irq) { alarm = None },
+          Rang ∷ [],
+        )
+            else (core_of app.bits (record (with_alarm m a) { time = suc m.time }), [])) due;
+        runs = (due, tt);
+        state = ap (λ k. baker.pended k (state_of (record m { alarm = None; time = suc m.time }))) (sym fits.alarmed);
+        fits = pending_fits app img thread (record m { alarm = None; time = suc m.time })
+            (slice_set m.pending a.irq true) (length-set m.pending a.irq true)
+            (time_fits (record m { alarm = None }) (suc m.time) (alarmed_fits (with_alarm m a) None tt fits));
+        time = refl;
+        values = refl;
+        silent = λ ls. refl;
+      }
+      rings a fits false later = record {
+        moment = record (with_alarm m a) { time = suc m.time };
+        shown = [];
+        is = ap (λ b. if b then (
+          record (pended (core_of app.bits (record (with_alarm m a) { time = suc m.time })) a.irq) { alarm = None },
+          Rang ∷ [],
+        )
+            else (core_of app.bits (record (with_alarm m a) { time = suc m.time }), [])) later;
+        runs = tt;
+        state = ap (λ b. record (state_of (record (with_alarm m a) { time = suc m.time })) { owing = b }) later;
+        fits = time_fits (with_alarm m a) (suc m.time) fits;
+        time = refl;
+        values = refl;
+        silent = λ ls. refl;
+      }
+
+      by : (o : Option Alarm) → Fits app img thread (record m { alarm = o }) → Ticks (record m { alarm = o })
+      by None fits = record {
+        moment = record m { alarm = None; time = suc m.time };
+        shown = [];
+        is = refl;
+        runs = tt;
+        state = refl;
+        fits = time_fits (record m { alarm = None }) (suc m.time) fits;
+        time = refl;
+        values = refl;
+        silent = λ ls. refl;
+      }
+      by (Some a) fits = rings a fits (nat_le a.instant (suc m.time)) refl
