@@ -1,7 +1,7 @@
 -- What can be written on stays so, whatever happens, and how the time rises.
-use Rattle.std.proofs.Common.{◌≡◌, ℕ, zero, suc, ◌+◌, ◌≤◌, List, [], ◌∷◌, length, Option, Some, None, Bool, true, false}
-use Rattle.std.proofs.Common.{if◌then◌else◌, nat_le, ap, sym, subst, ◌∙◌, arith}
-use Rattle.std.proofs.lemmas.List.{length-map}
+use Rattle.std.proofs.Common.{◌≡◌, ℕ, zero, suc, ◌+◌, ◌<◌, ◌≤◌, ◌^◌, List, [], ◌∷◌, length, replicate, Option, Some}
+use Rattle.std.proofs.Common.{None, Bool, true, false, if◌then◌else◌, nat_le, ap, sym, subst, ◌∙◌, arith}
+use Rattle.std.proofs.lemmas.List.{length-map, length-replicate}
 use Rattle.rt_ids.specs.Event.{Event, Arrive, Tick, Step, steps}
 use Rattle.rt_code.specs.Image.{Image}
 use Rattle.rt_code.specs.Lines.{HasLines}
@@ -77,6 +77,18 @@ time_after img c (Step ∷ es) = omega (arith, time_after img (step img c).0 es,
 
 pub time_led : (es : List Event) (a b : Machine) → Leads es a b → b.core.time ≡ a.core.time + ticks es
 time_led es a b run = ap (λ (c : Core). c.time) run.core ∙ time_after a.image a.core es
+
+-- before the last of so many equal events the steps are few
+pub few_after : (n count : ℕ) (e : Event) (a b : Machine) → Leads (replicate n e) a b → n < count
+    → a.steps + count < 2 ^ 31 → b.steps < 2 ^ 31
+few_after n count e a b run within few =
+    omega (arith, run.steps, steps_below (replicate n e), length-replicate n e, within, few)
+
+-- and it is early
+pub early_after : (n count : ℕ) (e : Event) (a b : Machine) → Leads (replicate n e) a b → n < count
+    → a.core.time + count < 2 ^ 31 → b.core.time < 2 ^ 31
+early_after n count e a b run within early =
+    omega (arith, time_led (replicate n e) a b run, ticks_below (replicate n e), length-replicate n e, within, early)
 
 -- a fresh core is known
 pub fresh_known : (m : Machine) → IsFresh m → IsKnown m.image m.core

@@ -1,5 +1,5 @@
 -- A run line by line of a script, from a fresh core to the text of the whole trace.
-use Rattle.std.proofs.Common.{◌≡◌, ℕ, ◌+◌, ◌<◌, ◌≤◌, List, [], ◌∷◌, ◌++◌, length, flat_map, replicate, take, drop}
+use Rattle.std.proofs.Common.{◌≡◌, ℕ, ◌+◌, ◌<◌, ◌≤◌, List, [], ◌∷◌, ◌++◌, length, flat_map, take, drop}
 use Rattle.std.proofs.Common.{Option, refl, ap, sym, subst, ◌∙◌, get_or, arith}
 use Rattle.std.proofs.lemmas.Grind.{flat_map-append}
 use Rattle.std.proofs.lemmas.List.{append-nil, take_more, take-append-drop, length-append, length-replicate}
@@ -17,10 +17,10 @@ use Rattle.rt_script.specs.declared.line.Line.TheVariants.{Steps, Ticks, Pends, 
 use Rattle.rt_trace.specs.Label.{items_of}
 use Rattle.rt_trace.specs.Text.{text, total_text}
 use Rattle.rt_run.specs.Done.{Leads, HasDone}
-use Rattle.rt_run.specs.Inside.Writing.{event_of, lines_of, Writes, Cut}
+use Rattle.rt_run.specs.Inside.Writing.{lines_of, Writes, Cut}
 use Rattle.rt_run.specs.Written.{text_of}
 use Rattle.rt_run.proofs.Taking.{part_more, wrote_all, wrote_cut}
-use Rattle.rt_run.proofs.Advancing.{goes_on, cut_behind, cut_before, more_cut, lines_split}
+use Rattle.rt_run.proofs.Advancing.{goes_on, cut_behind, cut_before, lines_split}
 
 line_length : (line : Line) → length (line_events line) ≡ count_of line
 line_length (Steps n) = length-replicate n Step
@@ -34,25 +34,6 @@ events_length [] = refl
 events_length (line ∷ script) =
     rw sum_by-cons
     (omega (arith, length-append (line_events line) (events script), line_length line, events_length script))
-
--- a line is equal events
-line_is : (line : Line) → line_events line ≡ replicate (count_of line) (event_of line)
-line_is (Steps n) = refl
-line_is (Ticks n) = refl
-line_is (Pends irq n) = refl
-line_is (Device d irq n) = refl
-
-pub line_ran : (line : Line) (n : ℕ) (a b : Machine) (x y : Option (List ℕ)) (held kept : List ℕ) → n ≡ count_of line
-    → Writes (replicate n (event_of line)) a b x y held kept → Writes (line_events line) a b x y held kept
-line_ran line n a b x y held kept all run =
-    subst (λ es. Writes es a b x y held kept) (ap (λ k. replicate k (event_of line)) all ∙ sym (line_is line)) run
-
-pub line_stopped : (line : Line) (n : ℕ) (a b c : Machine) (x y z : Option (List ℕ)) (held mid : List ℕ)
-    → n < count_of line → Writes (replicate n (event_of line)) a b x y held mid → Cut (event_of line ∷ []) b c y z mid
-    → Cut (line_events line) a c x z held
-line_stopped line n a b c x y z held mid within first cut =
-    subst (λ es. Cut es a c x z held) (sym (line_is line))
-    (more_cut n (count_of line) (event_of line) a b c x y z held mid within first cut)
 
 module _ (script : List Line) (i : ℕ) (line : Line) (below : i < length script) (is : line ≡ get_or script i line) where
   pub events_more : events (take (i + 1) script) ≡ events (take i script) ++ line_events line

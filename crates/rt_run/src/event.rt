@@ -1,19 +1,22 @@
 ghost use Rattle.std.specs.Prelude.{◌≡◌, ◌<◌, ◌^◌, [], ◌∷◌, OnOk, OnErr};
 ghost use Rattle.rt_ids.specs.Event.{Arrive, Tick, Step};
 ghost use Rattle.rt_outside.specs.Faults.{HasCause};
-ghost use Rattle.rt_script.specs.Script.{HasName};
 ghost use Rattle.rt_trace.specs.Lined.{IsDeclared};
-ghost use Rattle.rt_run.specs.Inside.Writing.{IsWritable, Writes, Cut, event_of};
+ghost use Rattle.rt_run.specs.Inside.Writing.{IsWritable, Writes, Cut};
 
 use crate::writing::{put_item, put_shown, put_tick};
 use rt_core::Core;
 use rt_ids::Irq;
 use rt_outside::{Failed, Sink};
-use rt_script::Line;
 use rt_trace::{Item, LineBuffer, What};
 
 /// One core step, with the line of its item where it shows one.
-fn run_step<K: Sink>(core: &mut Core, out: &mut K, held: &mut LineBuffer) -> Result<(), Failed>
+#[inline(always)]
+pub(crate) fn run_step<K: Sink>(
+    core: &mut Core,
+    out: &mut K,
+    held: &mut LineBuffer,
+) -> Result<(), Failed>
     requires writable { IsWritable core.old }
     requires few { core.old.steps < 2 ^ 31 }
     ensures ok { OnOk result
@@ -26,11 +29,15 @@ fn run_step<K: Sink>(core: &mut Core, out: &mut K, held: &mut LineBuffer) -> Res
         return Ok(());
     };
     let step = core.steps() - 1;
-    put_shown(out, held, &Item { step, what }, &core.image().names)
+    put_shown(out, held, step, what, &core.image().names)
 }
 
 /// One tick, with its line, and that of the alarm where it comes.
-fn run_tick<K: Sink>(core: &mut Core, out: &mut K, held: &mut LineBuffer) -> Result<(), Failed>
+pub(crate) fn run_tick<K: Sink>(
+    core: &mut Core,
+    out: &mut K,
+    held: &mut LineBuffer,
+) -> Result<(), Failed>
     requires writable { IsWritable core.old }
     requires few { core.old.steps < 2 ^ 31 }
     requires early { core.old.core.time < 2 ^ 31 }
@@ -45,7 +52,7 @@ fn run_tick<K: Sink>(core: &mut Core, out: &mut K, held: &mut LineBuffer) -> Res
 }
 
 /// One request of an interrupt, with its line.
-fn run_pend<K: Sink>(
+pub(crate) fn run_pend<K: Sink>(
     core: &mut Core,
     irq: Irq,
     out: &mut K,
@@ -65,30 +72,4 @@ fn run_pend<K: Sink>(
     let step = core.steps();
     let what = What::Pend(irq);
     put_item(out, held, &Item { step, what }, &core.image().names)
-}
-
-/// One event of a line of a script.
-pub(crate) fn run_event<K: Sink>(
-    core: &mut Core,
-    line: &Line,
-    out: &mut K,
-    held: &mut LineBuffer,
-) -> Result<(), Failed>
-    requires writable { IsWritable core.old }
-    requires few { core.old.steps < 2 ^ 31 }
-    requires early { core.old.core.time < 2 ^ 31 }
-    requires declared { HasName core.old.image.names line.now }
-    ensures ok { OnOk result
-        (Writes (event_of line.now ∷ []) core.old core.new (K.taken out.old) (K.taken out.new) held.old held.new) }
-    ensures err { OnErr result
-        (Cut (event_of line.now ∷ []) core.old core.new (K.taken out.old) (K.taken out.new) held.old) }
-    ensures cause { HasCause (K.faults out.old) (K.faults out.new) result }
-    ensures quiet { OnOk result (K.faults out.new ≡ K.faults out.old) }
-{
-    match line {
-        Line::Steps(_) => run_step(core, out, held),
-        Line::Ticks(_) => run_tick(core, out, held),
-        Line::Pends(irq, _) => run_pend(core, *irq, out, held),
-        Line::Device(_, irq, _) => run_pend(core, *irq, out, held),
-    }
 }

@@ -1,20 +1,93 @@
-ghost use Rattle.std.specs.Prelude.{◌≡◌, ◌<◌, ◌+◌, ◌^◌, length, OnOk, OnErr};
+ghost use Rattle.std.specs.Prelude.{◌≡◌, ◌<◌, ◌+◌, ◌^◌, length, replicate, OnOk, OnErr};
+ghost use Rattle.rt_ids.specs.Event.{Arrive, Tick, Step};
 ghost use Rattle.rt_ids.specs.declared.limits.TheConstants.{TRACE_BYTES};
 ghost use Rattle.rt_outside.specs.Faults.{HasCause};
 ghost use Rattle.rt_outside.specs.Bytes.{Took, TookPrefix};
 ghost use Rattle.rt_code.specs.Lines.{HasLines};
 ghost use Rattle.rt_core.specs.Machine.{IsFresh};
 ghost use Rattle.rt_script.specs.Script.{IsScript, HasName, HasNames, events, line_events, count_of};
+ghost use Rattle.rt_trace.specs.Lined.{IsDeclared};
 ghost use Rattle.rt_run.specs.Done.{Leads, HasDone};
 ghost use Rattle.rt_run.specs.Written.{text_of};
 ghost use Rattle.rt_run.specs.Inside.Writing.{IsWritable, Writes, Cut};
 
-use crate::event::run_event;
+use crate::event::{run_pend, run_step, run_tick};
 use crate::writing::put_end;
 use rt_core::Core;
+use rt_ids::Irq;
 use rt_outside::{Failed, Sink};
 use rt_script::{Line, Script};
 use rt_trace::LineBuffer;
+
+/// So many core steps.
+fn run_steps<K: Sink>(
+    core: &mut Core,
+    count: u32,
+    out: &mut K,
+    held: &mut LineBuffer,
+) -> Result<(), Failed>
+    requires writable { IsWritable core.old }
+    requires few { core.old.steps + count < 2 ^ 31 }
+    ensures ok { OnOk result
+        (Writes (replicate count Step) core.old core.new (K.taken out.old) (K.taken out.new) held.old held.new) }
+    ensures err { OnErr result
+        (Cut (replicate count Step) core.old core.new (K.taken out.old) (K.taken out.new) held.old) }
+    ensures cause { HasCause (K.faults out.old) (K.faults out.new) result }
+    ensures quiet { OnOk result (K.faults out.new ≡ K.faults out.old) }
+{
+    for _done in 0..count {
+        run_step(core, out, held)?;
+    }
+    Ok(())
+}
+
+/// So many ticks.
+fn run_ticks<K: Sink>(
+    core: &mut Core,
+    count: u32,
+    out: &mut K,
+    held: &mut LineBuffer,
+) -> Result<(), Failed>
+    requires writable { IsWritable core.old }
+    requires few { core.old.steps + count < 2 ^ 31 }
+    requires early { core.old.core.time + count < 2 ^ 31 }
+    ensures ok { OnOk result
+        (Writes (replicate count Tick) core.old core.new (K.taken out.old) (K.taken out.new) held.old held.new) }
+    ensures err { OnErr result
+        (Cut (replicate count Tick) core.old core.new (K.taken out.old) (K.taken out.new) held.old) }
+    ensures cause { HasCause (K.faults out.old) (K.faults out.new) result }
+    ensures quiet { OnOk result (K.faults out.new ≡ K.faults out.old) }
+{
+    for _done in 0..count {
+        run_tick(core, out, held)?;
+    }
+    Ok(())
+}
+
+/// So many requests of an interrupt.
+fn run_pends<K: Sink>(
+    core: &mut Core,
+    irq: Irq,
+    count: u32,
+    out: &mut K,
+    held: &mut LineBuffer,
+) -> Result<(), Failed>
+    requires writable { IsWritable core.old }
+    requires few { core.old.steps + count < 2 ^ 31 }
+    requires declared { IsDeclared core.old.image.names irq }
+    ensures ok { OnOk result
+        (Writes (replicate count (Arrive irq)) core.old core.new (K.taken out.old) (K.taken out.new)
+        held.old held.new) }
+    ensures err { OnErr result
+        (Cut (replicate count (Arrive irq)) core.old core.new (K.taken out.old) (K.taken out.new) held.old) }
+    ensures cause { HasCause (K.faults out.old) (K.faults out.new) result }
+    ensures quiet { OnOk result (K.faults out.new ≡ K.faults out.old) }
+{
+    for _done in 0..count {
+        run_pend(core, irq, out, held)?;
+    }
+    Ok(())
+}
 
 /// The events of a line of a script.
 fn run_line<K: Sink>(
@@ -34,10 +107,12 @@ fn run_line<K: Sink>(
     ensures cause { HasCause (K.faults out.old) (K.faults out.new) result }
     ensures quiet { OnOk result (K.faults out.new ≡ K.faults out.old) }
 {
-    for _done in 0..line.count() {
-        run_event(core, line, out, held)?;
+    match line {
+        Line::Steps(count) => run_steps(core, *count, out, held),
+        Line::Ticks(count) => run_ticks(core, *count, out, held),
+        Line::Pends(irq, count) => run_pends(core, *irq, *count, out, held),
+        Line::Device(_, irq, count) => run_pends(core, *irq, *count, out, held),
     }
-    Ok(())
 }
 
 /// The events of the lines of a script, from a core on to which no event has come.

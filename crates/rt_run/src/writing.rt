@@ -48,25 +48,26 @@ pub(crate) fn put_item<K: Sink>(
     Ok(())
 }
 
-/// Writes the line of an item that a core step shows.
+/// Writes the line of what a core step shows, behind so many steps.
 pub(crate) fn put_shown<K: Sink>(
     out: &mut K,
     held: &mut LineBuffer,
-    item: &Item,
+    step: u64,
+    what: What,
     names: &Names,
 ) -> Result<(), Failed>
-    requires few { item.now.step < 2 ^ 31 }
-    requires words { HasWords names.now item.now.what }
-    ensures line { HasLine names.now item.now }
-    ensures ok { OnOk result
-        (Wrote (K.taken out.old) (K.taken out.new) held.old held.new (spec.text names.now item.now)) }
-    ensures err { OnErr result
-        (TookPrefix (K.taken out.old) (K.taken out.new) (held.old ++ spec.text names.now item.now)) }
+    requires few { step < 2 ^ 31 }
+    requires words { HasWords names.now what }
+    ensures line { HasLine names.now (record { step = step; what = what }) }
+    ensures ok { OnOk result (Wrote (K.taken out.old) (K.taken out.new) held.old held.new
+        (spec.text names.now (record { step = step; what = what }))) }
+    ensures err { OnErr result (TookPrefix (K.taken out.old) (K.taken out.new)
+        (held.old ++ spec.text names.now (record { step = step; what = what }))) }
     ensures cause { HasCause (K.faults out.old) (K.faults out.new) result }
     ensures quiet { OnOk result (K.faults out.new ≡ K.faults out.old) }
 {
-    numbers_fit(&item.what);
-    put_item(out, held, item, names)
+    numbers_fit(&what);
+    put_item(out, held, &Item { step, what }, names)
 }
 
 /// Writes the line of a tick, and that of the alarm where it came.

@@ -3,7 +3,7 @@
 use Rattle.std.specs.Prelude.{◌≡◌, ℕ, ◌+◌, ◌<◌, ◌≤◌, ◌^◌, List}
 use Rattle.std.specs.Prelude.{◌++◌, flat_map, length, Option, Some, None, IsSome}
 use Rattle.std.specs.List.{AllByRecursion}
-use Rattle.rt_ids.specs.Event.{Event, Arrive, Tick, Step}
+use Rattle.rt_ids.specs.Event.{Event}
 use Rattle.rt_ids.specs.Names.{Names}
 use Rattle.rt_ids.specs.declared.ids.Section.{Section}
 use Rattle.rt_ids.specs.declared.ids.Section.TheVariants as section
@@ -14,8 +14,6 @@ use Rattle.rt_core.specs.Core.{Core}
 use Rattle.rt_core.specs.Machine.{Machine}
 use Rattle.rt_core.specs.Trace.{labels}
 use Rattle.rt_outside.specs.Bytes.{Took, TookPrefix}
-use Rattle.rt_script.specs.declared.line.Line.{Line}
-use Rattle.rt_script.specs.declared.line.Line.TheVariants.{Steps, Ticks, Pends, Device}
 use Rattle.rt_trace.specs.Label.{items_of}
 use Rattle.rt_trace.specs.Lined.{HasLine, IsDeclared, IsWord}
 use Rattle.rt_trace.specs.Text.{text}
@@ -88,13 +86,6 @@ pub record IsKnown (img : Image) (c : Core) : Type 0 where
 pub record IsWritable (m : Machine) : Type 0 where
   pub lines : HasLines m.image
   pub known : IsKnown m.image m.core
-
--- what each event of a line is
-abbrev pub event_of : Line → Event
-event_of (Steps n) = Step
-event_of (Ticks n) = Tick
-event_of (Pends irq n) = Arrive irq
-event_of (Device d irq n) = Arrive irq
 
 -- what events show, and the lines of it
 abbrev pub shown_items : Machine → List Event → List Item
