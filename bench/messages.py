@@ -19,10 +19,11 @@ from pathlib import Path
 EXAMPLES = Path(__file__).resolve().parent.parent / "examples"
 # the tables in the order in which the crate runs them
 TABLES = (
-    "tokens", "canonical", "syntax", "limits", "reports", "refusals", "runs", "builds", "messages", "scripts", "audits",
-    "commands",
+    "tokens", "canonical", "syntax", "limits", "reports", "refusals", "runs", "builds", "messages", "failing",
+    "scripts", "audits", "commands",
 )
 SECTIONS = "enter leave"
+UNSET = "enter leave set"
 
 HIGHER = """\
 app higher(bits = 4, dispatchers = [D]);
@@ -162,6 +163,79 @@ def example(name, script):
     return f"examples: {name} under {script}", app, events, SECTIONS, None
 
 
+TIMED = """\
+app timed(bits = 4, dispatchers = [D]);
+interrupts { A = 0, D = 1, T = 2 }
+monotonic(binds = T, priority = 3);
+task a(binds = A, priority = 1) { spawn_after(2) t(1); spawn_after(2) t(2); spawn_after(0) t(3); }
+task t(priority = 2, capacity = 3) with x { emit x; }
+"""
+UNDO = """\
+app undo(bits = 4, dispatchers = [D]);
+interrupts { A = 0, D = 1, T = 2 }
+monotonic(binds = T, priority = 3);
+task a(binds = A, priority = 1) {
+    let h = spawn_after(5) t(1);
+    let g = spawn_after(5) t(2);
+    let x = reschedule_after(9) t(h);
+    let y = cancel t(g);
+    let z = cancel t(g);
+    emit x + y * 2 + z * 4 + h * 10 + g * 100;
+}
+task t(priority = 2, capacity = 2) with x { emit x; }
+"""
+STALE = """\
+app stale(bits = 4, dispatchers = [E, D], fpu = on);
+interrupts { A = 0, B = 3, D = 1, E = 2, T = 5 }
+monotonic(binds = T, priority = 5);
+shared { kept = 0, other = 0 }
+init { let first = spawn_after(3) low(now_or(1)); kept = first; }
+task a(binds = A, priority = 2, shared = [kept, other]) {
+    let h = spawn_after(7) high(4, 5);
+    lock other { other = h; }
+    let full = spawn_after(7) high(6, 7);
+    let none = cancel low(h);
+    lock kept { let gone = cancel low(kept); emit 100 + gone; }
+    emit full * 10 + none;
+}
+task b(binds = B, priority = 4, shared = [kept, other]) {
+    lock other { let late = reschedule_after(4) high(other); let never = cancel high(99); emit 20 + late * 2 + never; }
+    let t = now;
+    emit t;
+}
+task low(priority = 1) with x { emit x; let h = spawn_after(0) low(x + 1); emit h; }
+task high(priority = 6) with x, y { emit x * 10 + y; }
+"""
+STALE = STALE.replace("now_or(1)", "1")
+
+CASES += [
+    ("two equal instants and a delay of 0", TIMED, "pend A\nstep 2000\ntick 2\nstep 2000\n", UNSET, (
+        "pend A | end init | take A 136 | ok t | clock 0 | arm t 2 | ok t | clock 0 | arm t 2 | ok t | clock 0 | arm t 0"
+        " | alarm | take T 264 | clock 0 | fire t | ready t | post D | ret T | take D 232 | start t 3 | free t | emit 3"
+        " | end t | ret D | ret A | tick | tick | alarm | take T 128 | clock 2 | fire t | alarm | ready t | post D"
+        " | ret T | take T 128 | clock 2 | fire t | ready t | post D | ret T | take D 96 | start t 1 | post D | free t"
+        " | emit 1 | end t | ret D | take D 96 | start t 2 | free t | emit 2 | end t | ret D")),
+    ("the longest delay is 2^31 - 1", TIMED.replace("(2) t(1)", "(4294967295) t(1)"),
+     "pend A\nstep 2000\ntick 2\nstep 2000\n", UNSET, None),
+    ("three instants, the least in the middle", TIMED.replace("(2) t(1)", "(5) t(1)").replace("(2) t(2)", "(3) t(2)")
+     .replace("(0) t(3)", "(5) t(3)"), "pend A\nstep 2000\ntick 5\nstep 2000\n", UNSET, (
+        "pend A | end init | take A 136 | ok t | clock 0 | arm t 5 | ok t | clock 0 | arm t 3 | ok t | clock 0 | arm t 5"
+        " | ret A | tick | tick | tick | alarm | tick | tick | take T 128 | clock 5 | fire t | alarm | ready t | post D"
+        " | ret T | take T 128 | clock 5 | fire t | alarm | ready t | post D | ret T | take T 128 | clock 5 | fire t"
+        " | ready t | post D | ret T | take D 96 | start t 2 | post D | free t | emit 2 | end t | ret D | take D 96"
+        " | start t 1 | post D | free t | emit 1 | end t | ret D | take D 96 | start t 3 | free t | emit 3 | end t"
+        " | ret D")),
+    ("a message that is moved, and one that is taken back", UNDO, "pend A\nstep 2000\ntick 9\nstep 2000\n", UNSET,
+     "pend A | end init | take A 176 | ok t | clock 0 | arm t 5 | ok t | clock 0 | arm t 5 | clock 0 | move t 1 9"
+     " | cancel t 2 | free t | emit 214 | ret A | tick | tick | tick | tick | tick | tick | tick | tick | tick | alarm"
+     " | take T 128 | clock 9 | fire t | ready t | post D | ret T | take D 96 | start t 1 | free t | emit 1 | end t"
+     " | ret D"),
+    ("handles of other tasks, of messages that fired, and that were never given", STALE,
+     "step 2000\npend A\nstep 2000\npend B\nstep 2000\ntick 3\nstep 3000\ntick 5\nstep 3000\npend A\nstep 2000\n"
+     "pend B\nstep 2000\n", SECTIONS, None),
+    ("the same with every section", STALE,
+     "step 2000\npend A\nstep 2000\npend B\nstep 2000\ntick 3\nstep 3000\n", "", None),
+]
 CASES += [example("serial.rtic", "serial.script"), example("serial.rtic", "burst.script")]
 CASES += [
     example(f"from_rtic/{name}.rtic", "from_rtic/messages.script")

@@ -5,8 +5,8 @@ memory of both as their input grows.
     python3 running.py PROGRAM SIMULATOR READER FOLDER
 
 PROGRAM is rtic, SIMULATOR and READER are bench/simulator.rs and bench/reader.rs, FOLDER takes the texts. The programs
-take turns, and of five turns the least time of each counts, from start to end of the process. What the simulator writes
-is compared with what rtic writes, byte for byte.
+take turns, and of fifteen turns the least time of each counts, from start to end of the process. What the simulator
+writes is compared with what rtic writes, byte for byte.
 """
 
 import os
@@ -15,12 +15,12 @@ import sys
 
 from reading import peak, run
 
-TURNS = 5
+TURNS = 15
 EVENTS = 1_000_000
 # The greatest number of an interrupt.
 LAST = 495
-# Interrupts that are pended at once.
-CROWD = 60
+# Interrupts that are pended at once. Their names are short: a script has a megabyte at most.
+CROWD = [f"{letter}{digit}" for letter in "ABCDEF" for digit in range(10)]
 MEGABYTE = 1 << 20
 
 BODIES = """\
@@ -69,9 +69,10 @@ def application(irqs, last, name):
         declared = interrupts(["SLOW", "FAST", "HIGH", "LOW"], irqs, last)
         return f"app bench(bits = 4, dispatchers = [HIGH, LOW]);\n{declared}{MESSAGES}"
     if name == "crowded":
-        crowd = [f"K{n}" for n in range(CROWD)]
-        tasks = [f"task k{n}(binds = K{n}, priority = {1 + n % 15}) {{ emit {n}; }}\n" for n in range(CROWD)]
-        return f"app bench(bits = 4);\n{interrupts(crowd, irqs, last)}{''.join(tasks)}"
+        tasks = [
+            f"task k{n}(binds = {name}, priority = {1 + n % 15}) {{ emit {n}; }}\n" for n, name in enumerate(CROWD)
+        ]
+        return f"app bench(bits = 4);\n{interrupts(CROWD, irqs, last)}{''.join(tasks)}"
     bodies = BODIES[BODIES.index("task") :] if name == "waiting" else BODIES
     declared = interrupts(["SLOW", "FAST"], irqs, last)
     return f"app bench(bits = 4);\n{declared}shared {{ low = 1, high = 2 }}\nlocal {{ turns = 0 }}\n{bodies}"
@@ -209,9 +210,9 @@ def main(program, simulator, reader, folder):
     for irqs, last in (4, 3), (240, 239), (240, LAST):
         if takes(program, folder, last):
             measure_run(program, simulator, folder, irqs, last, "messages", messages)
-    for irqs, last in (CROWD, CROWD - 1), (240, 239), (240, LAST):
+    crowd = "".join(f"pend {name}\n" for name in CROWD) + "step 440\n"
+    for irqs, last in (len(CROWD), len(CROWD) - 1), (240, 239), (240, LAST):
         if takes(program, folder, last):
-            crowd = "".join(f"pend K{n}\n" for n in range(CROWD)) + "step 440\n"
             measure_run(program, simulator, folder, irqs, last, "crowded", crowd * (EVENTS // 500))
     measure_memory(program, folder)
     few = measure_audit(program, reader, folder, 2, 1, EVENTS)
