@@ -1,0 +1,222 @@
+"""Habits of Rust, C and RTIC: what people write at the place of a refusal, and what stands for it here.
+
+Each row: the tokens before the place, the tokens from the place on, what is said. Tokens are joined by one space; the
+first pattern ends at the place, the second begins there. `<x>` is the group x of either, `@` in the first the sign
+behind which a statement begins.
+"""
+import re
+
+from .tokens import WORDS
+
+OTHER_NAME = rf"(?!(?:{'|'.join(sorted(WORDS))})\b)[A-Za-z_]\w*"
+STATEMENT = r"(?<!interrupts )(?<!shared )(?<!local )[;{}]"
+TYPE = r"(?:[ui](?:8|16|32|64|128|size)|bool|char|f32|f64|int|str|String)\b"
+CALL = r"(?:\w+ : : )*"
+CONTEXT = r"(?:cx|ctx|c|_cx|_c|self|context)"
+NO_TYPES = "there are no types, every value is a number of 32 bits: leave `: <t>` out"
+NO_CONTEXT = "bodies get no context: resources are used by their names"
+NO_LOOP = "there is no `<w>`: a loop is `for i in 0..8 { .. }`, and the body of `idle` runs again and again"
+NO_TEXTS = "there are no texts and characters: `emit` shows a number"
+NO_MACROS = "there are no macros: `emit N;` shows a number in the trace"
+NUMERAL = "a number is decimal digits, or `0x` and hexadecimal ones: no `_`, no `0b`, no `0o`"
+COMPARED = "there is no `<w>`: a comparison is 0 or 1, so write `(a == b) <o> (c < d)`"
+ONE_NUMBER = "a resource or a variable is one number and has no fields: write its name alone"
+LISTED = "a local is declared in `local { <x> = 0 }`, and listed by its name alone"
+LISTING = "this is a listing, which `build` writes; an application begins with `app`"
+BRACES = "no `;` stands behind a block"
+COMMENT = "a comment begins with `//` and ends with its line"
+ONE_FILE = "an application is one file, and takes in no other"
+
+FOREIGN = [
+    (r"", r"# \[ (?:rtic : : )?app\b",
+     "`#[rtic::app(dispatchers = ..)]` is `app name(bits = 4, dispatchers = ..);` here"),
+    (r"", r"# \[ (?:\w+ : : )?task\b", "`#[task(..)] fn foo(..)` is `task foo(..)` here"),
+    (r"", r"# \[ (?P<w>init|idle)\b", "`#[<w>] fn <w>(..)` is `<w> { .. }` here"),
+    (r"", r"# \[ shared\b", "`#[shared] struct Shared { a: u32 }` is `shared { a = 0 }` here"),
+    (r"", r"# \[ local\b", "`#[local] struct Local { n: u32 }` is `local { n = 0 }` here"),
+    (r"", r"# \[ lock_free\b", "`#[lock_free]` is the word `lock_free` before the name here"),
+    (r"", r"# \[ monotonic\b", "`#[monotonic(..)]` is `monotonic(binds = I, priority = 3);` here"),
+    (r"", r"# (?:! )?\[", "attributes of Rust have no place here: leave it out"),
+    (r"", r"# include\b", ONE_FILE),
+    (r"", r"# define\b", "there are no constants: write the number itself"),
+    (r"", r"#", COMMENT),
+    (r"\blocal = \[ (?:[^\]]*, )?(?P<x>\w+)$", r": \w+ =", LISTED),
+    (r"\b(?:shared|local) \{ (?:[^}]*, )?(?P<x>\w+)$", r": [A-Za-z]",
+     "a resource is declared with its first value, and has no type: `<x> = 0`"),
+    (r"\b(?:spawn|cancel) \w+ \( (?:[^;]*, )?\w+$", r": \w",
+     "the values of a message have no names: write them in their order"),
+    (r"\w$", r": =", "to assign is `=`"),
+    (r"\w$", rf": (?P<t>{TYPE})", NO_TYPES),
+    (r"rtic$", rf": : pend \( {CALL}(?P<x>\w+) \)", "`rtic::pend(Interrupt::<x>)` is `pend <x>;` here"),
+    (r"(?P<t>\w+)$", r": : spawn \(",
+     "`<t>::spawn(..)` is `spawn <t>(..);` here, or `let sent = spawn <t>(..);`"),
+    (r"(?P<t>\w+)$", r": : spawn_(?:after|at) \(",
+     "`<t>::spawn_after(d, ..)` is `spawn_after(d) <t>(..);` here, or `let handle = spawn_after(d) <t>(..);`"),
+    (r"monotonics$", rf": : {CALL}now", "`monotonics::now()` is `let x = now;` here"),
+    (r"(?:=|pend|\[|,) \w+$", rf": : {CALL}(?P<x>\w+)", "write `<x>` alone: an interrupt has no path here"),
+    (r"", r": :", "there are no paths: names stand alone"),
+    (r"[({,] (?P<x>\w+)$", r": (?P<v>\w+)", "here stands `=`: `<x> = <v>`"),
+    (r"[({,] (?P<x>\w+)$", r": \[", "here stands `=`: `<x> = [..]`"),
+    (rf"\b(?P<c>{CONTEXT})$", r"\. shared \. (?P<x>\w+) \. lock\b",
+     "a lock is `lock <x> { .. }` here, and inside it `<x>` is a number"),
+    (rf"\b(?P<c>{CONTEXT})$", r"\. (?P<k>local|shared) \. (?P<x>\w+)",
+     "bodies get no context: write `<x>` for `<c>.<k>.<x>`"),
+    (r"(?P<x>\w+)$", r"\. lock\b", "a lock is `lock <x> { .. }` here, and inside it `<x>` is a number"),
+    (r"(?P<n>\b\d+)$", r"\. (?:nanos|micros|millis|secs|minutes|hours|Hz|kHz|MHz)\b",
+     "a delay is a number of ticks: `spawn_after(<n>) ..`"),
+    (r"\b\d\w*$", r"\. \d", "numbers are whole ones of 32 bits"),
+    (r"(?P<x>\w+)$", r"\. cancel \(", "`<x>.cancel()` is `cancel foo(<x>);` here, with the task's name"),
+    (r"(?P<x>\w+)$", r"\. reschedule_after \(",
+     "`<x>.reschedule_after(d)` is `reschedule_after(d) foo(<x>);` here, with the task's name"),
+    (r"\)$", r"\. (?:unwrap|ok|is_ok|is_err|err|expect|unwrap_or)\b",
+     "nothing panics: `spawn` gives 1, or 0 where no place was left, as in `let sent = spawn ..;`"),
+    (r"(?P<t>\w+)$", r"\. spawn \(", "`<t>.spawn(..)` is `spawn <t>(..);` here"),
+    (r"\.\.$", r"\.", "a loop is `for i in 0..8 { .. }`, with two dots"),
+    (r"\w$", r"\. \w", ONE_NUMBER),
+    (r"[A-Za-z_]\w*$", r"! [(\[{]", NO_MACROS),
+    (r"", r"!", "there is no `!`: write `a == 0`"),
+    (r"", r"~", "there is no `~`: write `a ^ 0xffffffff`"),
+    (r"\)$", r"\?", "nothing panics: `spawn` gives 1, or 0 where no place was left, as in `let sent = spawn ..;`"),
+    (r"", r"\?", "there is no `?`: write `if a { x = b; } else { x = c; }`"),
+    (r"", r"[\"'`]", NO_TEXTS),
+    (r"", r":", "no `:` stands here: values have no types, and options and first values stand behind `=`"),
+]
+
+SYNTAX = [
+    (r"^$", r"image \d", LISTING),
+    (r"^$", r"\d+ \w", "this is a trace; an application begins with `app`"),
+    (r"^$", r"(?:step|tick|pend|device)\b", "this looks like a script; the application stands first, then the script"),
+    (r"^$", r"(?:use|mod|extern|pub|fn|struct|const|static)\b",
+     "Rust is not read here: an application begins with `app name(bits = 4);`"),
+    (r"", r"/ \*", COMMENT),
+    (r"/$", r"\*", COMMENT),
+    (r"(?P<x>\w+)$", r"(?P<o>\+|-|\*|/|%|&|\||\^|<<|>>) =(?: |$)", "there is no `<o>=`: write `<x> = <x> <o> ..;`"),
+    (r"(?P<x>\w+)$", r"(?P<o>[+-]) (?P=o)", "there is no `<o><o>`: write `<x> = <x> <o> 1;`"),
+    (r"let mut$", r"\w", "every variable can be assigned: leave `mut` out"),
+    (r"\b(?:shared|local) \{ (?:[^}]*, )?mut$", r"\w", "every resource can be assigned: leave `mut` out"),
+    (rf"\b(?:shared|local|interrupts) \{{ (?:[^}}]*, )?(?P<t>{TYPE})$", r"(?P<x>\w+)",
+     "there are no types: write `<x> = ..`"),
+    (r"\b(?:shared|local) \{ (?:[^}]*, )?(?P<x>\w+)$", r"lock_free\b",
+     "`lock_free` stands before the name: `lock_free <x> = 0`"),
+    (r"\b(?:shared|local) \{ [^}]*=$", r"-", "a first value has no sign: for -1 write 0xffffffff"),
+    (r"\bnow$", r"\(", "no parentheses stand behind `now`"),
+    (r"@ spawn_at$", r"\(", "there are no messages for an instant: `spawn_after(d) t(..);` waits for d ticks"),
+    (r"\)$", r"- >", "a body hands back nothing: leave `-> ..` out"),
+    (r"@ \w+$", r"< -", "to assign is `=`"),
+    (r"\bpend \w+$", r",", "a `pend` names one interrupt: write two of them"),
+    (r"\bemit [^;{}(]*$", r",", "an `emit` shows one number: write two of them"),
+    (r"\blet [^;{}(]*$", r",", "a `let` declares one variable: write two of them"),
+    (r"\b(?P<n>\d\w*)$", r"(?:[uUiI](?:8|16|32|64|128|size)?[lL]*|[lL]+|f32|f64)\b",
+     "a number has no suffix: write `<n>`"),
+    (r"\b(?P<n>\d+)$", r"(?:ns|us|ms|s|millis|secs)\b", "a delay is a number of ticks: `spawn_after(<n>) ..`"),
+    (r"\b\d\w*$", r"_\w*|[bo]\d\w*|[xX]\w*|[eE]\d+", NUMERAL),
+    (r"(?:^|@ )(?P<w>while|loop|do|until|repeat)$", r"[\w({]", NO_LOOP),
+    (r"\bfor$", r"\(", "a loop is `for i in 0..8 { .. }`"),
+    (r"\bfor \w+$", r"=", "a loop is `for i in 0..8 { .. }`"),
+    (r"\.\.$", r"=", "there is no `..=`: the second bound is one more than the last turn's number"),
+    (r"\bfor \w+ in(?: \w+ \.\.)?$", r"[A-Za-z_(]",
+     "the bounds of a `for` are numbers; inside it an `if` can pass over what is too many"),
+    (r"\bfor (?P<x>\w+) in (?P<n>\w+)$", r"\{", "a loop has two bounds: `for <x> in 0..<n> { .. }`"),
+    (r"&$", r"&", COMPARED.replace("<w>", "&&").replace("<o>", "&")),
+    (r"\|$", r"\|", COMPARED.replace("<w>", "||").replace("<o>", "|")),
+    (r"\w\)?$", r"(?P<w>and)\b", COMPARED.replace("<o>", "&")),
+    (r"\w\)?$", r"(?P<w>or)\b", COMPARED.replace("<o>", "|")),
+    (r"\bnot$", r"[\w(]", "there is no `not`: write `a == 0`"),
+    (r"\belse$", r"if\b", "there is no `else if`: write `else { if .. { .. } }`"),
+    (r"@ (?P<w>elif|elsif|elseif)$", r"[\w(]", "there is no `<w>`: write `else { if .. { .. } }`"),
+    (r"\bif [^;{}]*$", r"=(?: |$)", "to compare is `==`"),
+    (r"@ \w+$", r"==", "to assign is `=`"),
+    (r"@ \w+ = [^;{}]*$", r"=(?: |$)", "an assignment has no value: write two of them"),
+    (r"\blet (?P<x>\w+)$", r";", "a variable begins with a value: `let <x> = 0;`"),
+    (r"\blet$", r"\(", "a `let` declares one variable"),
+    (r"@ (?:const |volatile |static )?(?:unsigned |signed |long )?"
+     r"(?:int|unsigned|u?int\d+_t|[ui]\d+|bool|char|long|short|float|double|var|const|static|volatile|auto)$",
+     r"(?:int )?(?P<x>[A-Za-z_]\w*)", "there are no types: write `let <x> = ..;`"),
+    (r"@ (?P<w>return|break|continue|goto)$", r"[\w;(]",
+     "there is no `<w>`: put what is to be passed over into an `if`"),
+    (r"(?:@|=) (?P<w>match|switch)$", r"[\w(]",
+     "there is no `<w>`: write `if a == 1 { .. } else { if a == 2 { .. } }`"),
+    (r"=$", r"if\b", "an `if` has no value: `let x = 0; if a { x = b; } else { x = c; }`"),
+    (r"\block$", r"\( (?P<x>\w+)", "a lock has no parentheses: `lock <x> { .. }`"),
+    (r"\bpend$", r"\( (?P<x>\w+)", "a pend has no parentheses: `pend <x>;`"),
+    (r"\bspawn$", r"\( (?P<x>\w+)", "the task's name stands before the parentheses: `spawn <x>();`"),
+    (r"@ (?:printf|println|print|puts|hprintln|log)$", r"\(", "to show a number in the trace is `emit N;`"),
+    (rf"@ (?P<f>{OTHER_NAME})$", r"\(",
+     "there are no functions: `spawn <f>(..);` sends a message to a software task"),
+    (r"[(,]$", rf"(?:mut )?{CONTEXT} [:,)]", NO_CONTEXT),
+    (r"\btask (?P<t>\w+) \($", r"[A-Za-z_]\w*(?: [,):]|$)",
+     "the values of a message stand behind `with`: `task <t> with x { .. }`"),
+    (r"\bwith$", r"\(", "no parentheses stand behind `with`: `with x, y`"),
+    (r"\blocal = \[ (?:[^\]]*, )?(?P<x>\w+)$", r"=", LISTED),
+    (r"\[[^\]]* & mut$|\[ mut$|, mut$", r"(?P<x>\w+)",
+     "there is no `mut`: `<x>` lists a resource for reading and writing, `&<x>` for reading alone"),
+    (r"@$", r"\( \w+ \. shared \. (?P<a>\w+) , \w+ \. shared \. (?P<b>\w+)",
+     "a lock of several resources is `lock <a>, <b> { .. }` here"),
+    (r"@$", r"\( Shared\b",
+     "`init` hands nothing back: first values stand in the declarations, or `init` assigns them"),
+    (r"@$", r"\* (?P<c>\w+) \. (?P<k>local|shared) \. (?P<x>\w+)",
+     "there are no pointers: write `<x> = ..;` for `*<c>.<k>.<x>`"),
+    (r"@$", r"\* (?P<x>\w+)", "there are no pointers: write `<x> = ..;` for `*<x>`"),
+    (r"(?:[=(,+*/%|^<>-]|emit|if)$", r"(?P<o>[*&]) (?:mut )?(?P<x>[A-Za-z_]\w*)",
+     "there are no pointers: write `<x>` for `<o><x>`"),
+    (r"(?:[=(,+*/%&|^<>-]|emit|if)$", r"- (?P<n>\w+)",
+     "there is no sign before a number: write `0 - <n>`, which wraps"),
+    (r"\block$", r"\| (?P<x>\w+)", "there are no closures: `lock <x> { .. }`"),
+    (r"\block (?:\w+ , )*(?P<x>\w+)$", r";", "a lock holds for its block: `lock <x> { .. }`"),
+    (r"\bpend$", r"(?P<n>\d+)", "an interrupt is named, not numbered: `pend I;`"),
+    (r"\bspawn (?P<t>\w+)$", r"[;}]",
+     "a spawn has parentheses, with the values in them if there are any: `spawn <t>();`"),
+    (r"\bcancel (?P<h>\w+)$", r"[;}]",
+     "a `cancel` names the task, and has the handle in parentheses: `cancel foo(<h>);`"),
+    (r"\b(?P<w>spawn_after|reschedule_after)$", r"(?P<n>\w+) (?P<t>[A-Za-z_]\w*)",
+     "the delay stands in parentheses: `<w>(<n>) <t>();`"),
+    (r"", r"now\b", "`now` stands behind `let x =` alone: `let x = now;`"),
+    (r"(?:[=(,+*/%&|^<>-]|emit|if)$", r"(?P<w>spawn|spawn_after|cancel|reschedule_after)\b",
+     "`<w>` is a statement, or stands behind `let x =` alone: `let x = <w> ..;`"),
+    (r"[A-Za-z_]\w*$", r"\[ \d", "a resource or a variable is one number, and there are no arrays"),
+    (r"\b(?P<w>shared|local|dispatchers)$", r"\[", "here stands `=`: `<w> = [..]`"),
+    (r"\b(?P<w>shared|local|interrupts)$", r"= \{", "no `=` stands before the braces: `<w> { .. }`"),
+    (r"\b(?:shared|local|dispatchers) =$", r"(?P<x>[A-Za-z_]\w*)", "a list stands in brackets: `[<x>]`"),
+    (r"\b(?:shared|local|dispatchers) =$", r"\{", "a list stands in brackets: `[..]`"),
+    (r"[;}]$", r"(?:pub )?(?:async )?(?:fn|void|def|func)\b",
+     "there are no functions: bodies stand in `init`, `idle` and tasks"),
+    (r"[;}]$", r"(?:pub )?struct\b", "resources are declared in `shared { a = 0 }` and `local { n = 0 }`"),
+    (r"[;}]$", r"(?:use|mod|extern|import)\b", ONE_FILE),
+    (r"[;}]$", r"(?:const|static|type|enum|impl|trait)\b", "there are no constants and types: write the number itself"),
+    (r"^app \w+ \([^;]*\)$", r"\{",
+     "the first declaration ends with `;`, and the others follow it without braces around them"),
+    (r"^app (?P<x>\w+)$", r"[;{]|interrupts\b",
+     "the first declaration is `app <x>(bits = 4);`, with the priority bits of the core"),
+    (r"^app \w+ \($", r"(?:dispatchers|fpu|interrupts|device)\b",
+     "`bits` stands first, then `dispatchers`, then `fpu`"),
+    (r"\bfpu =$", r"\w", "leave `fpu` out where the core has no floating-point extension"),
+    (r"", r"(?:true|false)\b", "`true` is 1 and `false` is 0"),
+    (r"\b(?:app|task|let|lock|pend|with|for)$", r"\d", "a name begins with a letter or `_`"),
+    (r"\b(?:app|task) (?P<x>\w+)$", r"- (?P<y>\w+)", "names have letters, digits and `_`: write `<x>_<y>`"),
+    (r"\binterrupts \{ (?:[^}]*, )?(?P<x>[A-Za-z_]\w*)$", r"[,}]", "an interrupt stands with its number: `<x> = 5`"),
+    (r"\b(?:shared|local) \{ (?:[^}]*, )?(?:lock_free )?(?P<x>[A-Za-z_]\w*)$", r"[,}]",
+     "a resource stands with its first value: `<x> = 0`"),
+    (r"\b(?:shared|local) \{ [^}]*= \w+$", r"[-+*/%&|^]|<<|>>",
+     "a first value is a number; what is computed is set in `init`"),
+    (r"\b(?:shared|local|interrupts) \{ [^}]*= \w+$", r";", "what stands in a list is separated by commas"),
+    (r"\}$", r";", BRACES),
+    (r"@ if [^;{}]*\w\)?$", r"[A-Za-z_]",
+     "what depends on an `if` stands in braces: `if a { .. } else { .. }`"),
+    (rf"(?P<f>{OTHER_NAME})$", r"\(", "there are no functions: write here what `<f>` is to calculate"),
+    (r"\belse$", r"\w", "what depends on an `else` stands in braces: `else { .. }`"),
+    (r"\binit \((?:.*,)?$", r"shared\b", "`init` uses every shared resource by its name, and lists none"),
+    (r"\binit \((?:[^{]*,)?$", r"(?:priority|binds|capacity)\b", "`init` takes `local` alone"),
+    (r"\bidle \((?:[^{]*,)?$", r"(?:priority|binds|capacity)\b",
+     "`idle` has the priority 0, and takes `shared` and `local` alone"),
+]
+
+
+def looked_up(rows, before, behind):
+    """What the first row says that fits, or None."""
+    for front, at, sentence in rows:
+        left = re.search(front.replace("@", STATEMENT), before)
+        right = left and re.match(at, behind)
+        if right:
+            groups = {**left.groupdict(), **right.groupdict()}
+            return re.sub(r"<([a-z])>", lambda found: groups.get(found.group(1)) or "", sentence)
+    return None

@@ -1,0 +1,214 @@
+"""`tools/explain COMMAND FILES..`: the same command of the program, its bytes and status, and more said."""
+import itertools
+import os
+import re
+import stat
+import subprocess
+import traceback
+
+from . import audits, scripts, texts, words as wording
+from .expected import may_stand, met, told
+from .report import Report, shown
+from .rules import Rules
+from .table import Table
+from .tokens import offset_of, place_of
+from .tree import tree_of
+from .warnings import warnings_of
+
+WARNINGS = 20
+APPLICATION, SECOND = 262_144, 268_435_456
+DONE, REFUSED, USAGE, BAD_LINE, NO, UNREAD = range(6)
+REFUSAL = re.compile(rb"(\d+):(\d+) E(\d\d) ([^\n]*)\n")
+LINE_REFUSAL = re.compile(rb"(script|trace):(\d+) (\d) ([^\n]*)\n")
+NOT_ASKED = "what may stand here is asked of the proved program, which is not built: ./build makes it"
+
+
+class Explained:
+    """The words of one call, the files as the caller names them, and as they can be read again."""
+
+    def __init__(self, program, words):
+        self.program, self.words = program, words
+        self.names = [shown(name) for name in words[1:]]
+        self.paths = [self.kept(number, name) for number, name in enumerate(words[1:])]
+        self.report = Report()
+        self.table = Table()
+
+    def kept(self, number, name):
+        """The path of a file; of what is no file, as a pipe, a copy that can be read again."""
+        try:
+            mode = os.stat(name).st_mode
+            if stat.S_ISREG(mode) or stat.S_ISDIR(mode):
+                return name
+            path = os.path.join(self.program.folder.name, f"input{number}")
+            left = (APPLICATION if number == 0 else SECOND) + 1
+            with open(name, "rb") as source, open(path, "wb") as copy:
+                while piece := source.read(min(1 << 16, left)):
+                    left -= copy.write(piece)
+            return path
+        except OSError:
+            return name
+
+    def text(self, number):
+        """A file's text, one character a byte; a path of no letters is an empty text, as it is to the program."""
+        if not self.paths[number]:
+            return ""
+        with open(self.paths[number], "rb") as file:
+            return file.read().decode("latin-1")
+
+    def explain(self, status, front):
+        """Says more on an answer."""
+        if status == DONE and self.words[0] == "check":
+            self.warn()
+        elif status == REFUSED and (found := REFUSAL.match(front)):
+            self.refused(int(found[1]), int(found[2]), int(found[3]), found[4].decode())
+        elif status == USAGE:
+            self.command_line()
+        elif status == BAD_LINE and (found := LINE_REFUSAL.match(front)):
+            self.bad_line(found[1].decode(), int(found[2]), int(found[3]), found[4].decode())
+        elif status == NO and front.startswith(b"no "):
+            self.wrong_item(int(front[3:]))
+        elif status == UNREAD:
+            self.report.line(shown(wording.of_files(self.words[1:])))
+
+    def sentences(self, rows):
+        for kind, sentence in rows:
+            self.report.say(kind, sentence)
+
+    # Status 2.
+
+    def command_line(self):
+        """The words with a caret under the wrong one."""
+        words = ["rtic"] + [shown(word) for word in self.words]
+        wrong = wording.wrong_word(self.words) + 1
+        self.report.line(" ".join(words))
+        start = len(" ".join(words[:wrong])) + 1
+        self.report.line(" " * start + "^" * max(len(words[wrong]) if wrong < len(words) else 1, 1))
+        self.sentences(wording.of_words(self.words))
+
+    # Status 1.
+
+    def refused(self, line, column, number, words):
+        text, report = self.text(0), self.report
+        at = offset_of(text, line, column)
+        report.head(self.names[0], line, column, f"E{number:02} {words}")
+        if number == 1:
+            cause, mending = texts.too_long(text, self.table)
+            report.picture(text, at, 1)
+            self.sentences([("cause", cause), ("help", mending)])
+        elif number == 2:
+            label, mending, length = texts.foreign(texts.Syntax(text, at), self.table)
+            report.picture(text, at, length, label)
+            report.say("help", mending)
+        elif number == 3:
+            self.syntax(texts.Syntax(text, at))
+        elif number == 4:
+            syntax = texts.Syntax(text, at)
+            report.picture(text, at, len(syntax.token.text))
+            cause, mending = texts.limit(syntax, words.split(" ")[1], self.table)
+            self.sentences([("cause", cause), ("help", mending)])
+        else:
+            self.rule(text, at, number)
+
+    def syntax(self, syntax):
+        """What may stand there, what does, and how to mend it."""
+        found = may_stand(self.program, syntax.text[: syntax.at]) if self.program.answers else None
+        label = f"found {met(syntax.token)}"
+        if found:
+            label = f"expected {told(found, syntax.front)}, {label}"
+        length = max(len(syntax.token.text), 1)
+        self.report.picture(syntax.text, syntax.at, length, label, syntax.front[-1].at if syntax.front else None)
+        mending = texts.syntax_help(syntax, found or set(), self.program, self.table)
+        if mending or found:
+            self.report.say("help", mending or self.table.mending("E03"))
+        if not self.program.answers:
+            self.report.say("note", NOT_ASKED)
+
+    def rule(self, text, at, number):
+        rules = Rules(tree_of(text), at)
+        syntax = texts.Syntax(text, at)
+        self.report.picture(text, at, len(syntax.token.text))
+        getattr(rules, f"e{number:02}")(self.table)
+        self.sentences([("cause", cause) for cause in rules.causes] + [("help", one) for one in rules.helps])
+        for sentence, start, length in rules.notes:
+            self.report.note(sentence, self.names[0], text, start, length)
+
+    # Status 0, of check.
+
+    def warn(self):
+        text, report = self.text(0), self.report
+        rows = warnings_of(tree_of(text))
+        for token, sentence, mending, note in rows[:WARNINGS]:
+            line, column = place_of(text, token.at)
+            report.head(self.names[0], line, column, f"warning: {sentence}")
+            report.picture(text, token.at, len(token.text))
+            if mending:
+                report.say("help", mending)
+            if note:
+                report.note(note[0], self.names[0], text, note[1].at, len(note[1].text))
+        if len(rows) > WARNINGS:
+            report.line(f"{self.names[0]}: {len(rows) - WARNINGS} more warnings are not shown")
+
+    # Statuses 3 and 4.
+
+    def first_lines(self, count):
+        """So many lines of the second file."""
+        with open(self.paths[1], encoding="latin-1", newline="\n") as file:
+            return [line.rstrip("\n") for line in itertools.islice(file, count)]
+
+    def bad_line(self, which, line, number, words):
+        app, lines = tree_of(self.text(0)), self.first_lines(line)
+        source = lines[line - 1] if line <= len(lines) else ""
+        if which == "script":
+            size = os.path.getsize(self.paths[1])
+            said = scripts.script_line(app, number, source, lines, size, self.table)
+        else:
+            said = scripts.trace_line(app, number, source, lines, line, self.table)
+        self.report.head(self.names[1], line, said.start + 1, f"{which} {number} {words}")
+        self.report.rows([(line, source)], said.start, said.length, "")
+        self.sentences([("cause", said.cause)] + [("help", one) for one in said.helps])
+
+    def wrong_item(self, number):
+        """The item that is the first wrong one, and what `audit` takes in its place."""
+        wrong, report = number - 1, self.report
+        trace = audits.Trace(self.paths[1], wrong)
+        in_total = wrong == len(trace.items)
+        at = trace.total[0] if in_total else trace.items[wrong][0]
+        label = f"item {number} is the first that is wrong"
+        if in_total:
+            label = f"all {wrong} items are right, and the total is not"
+        report.head(self.names[1], at, 1, f"no {number}")
+        lines = [(one, trace.lines[one - 1]) for one in range(max(at - 1, 1), at + 1)]
+        report.rows(lines, 0, len(lines[-1][1]), label)
+        if not self.program.answers:
+            return report.say("note", NOT_ASKED.replace("here", "in its place"))
+        app = tree_of(self.text(0))
+        asked = audits.Asked(app, audits.Audit(self.program, self.paths[0], trace, wrong), trace, wrong, self.bound())
+        return self.sentences(audits.told_total(asked) if in_total else audits.told_item(asked))
+
+    def bound(self):
+        """The stack bound, as `check` prints it."""
+        _, output = self.program.ask("check", self.paths[0])
+        found = re.search(r"^stack (\d+)$", output, re.MULTILINE)
+        return int(found[1]) if found else 0
+
+
+def explained_call(program, words):
+    """Runs the words, and answers the program's status and the report of what more is said."""
+    explained = Explained(program, words)
+    status, front = program.run(words[:1] + explained.paths)
+    try:
+        explained.explain(status, front)
+    except (OSError, subprocess.TimeoutExpired) as fault:
+        explained.report.line(f"tools/explain: no more can be said: {fault}")
+    except (ValueError, KeyError, IndexError, AttributeError, TypeError, StopIteration, RecursionError):
+        explained.report.line("tools/explain: no more can be said here; this is a fault of tools/explain")
+        if os.environ.get("RTIC_EXPLAIN_DEBUG"):
+            traceback.print_exc()
+    return status, explained.report
+
+
+def main(program, words):
+    """Runs the words, says more on standard error, and answers the program's status."""
+    status, report = explained_call(program, words)
+    report.write()
+    return status

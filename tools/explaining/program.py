@@ -1,0 +1,103 @@
+"""The program that is explained: it is run with the caller's words, and asked about texts."""
+import concurrent.futures
+import os
+import pathlib
+import subprocess
+import tempfile
+import time
+
+ROOT = pathlib.Path(__file__).resolve().parents[2]
+LAUNCHER = ROOT / "rtic"
+BUILT = ROOT / "crates" / "rtic" / "out" / "rtic"
+KEPT = 4096
+ASKS_AT_ONCE = 4
+WRITE_FAILED = 6
+
+
+def handed_on(piece):
+    """Writes a piece to standard output, and says whether that took it."""
+    try:
+        while piece:
+            piece = piece[os.write(1, piece) :]
+    except OSError:
+        return False
+    return True
+
+
+def newest_source():
+    """The time of the newest source of the program; what the toolchain writes into folders `out` is none."""
+    newest = 0.0
+    for folder, folders, files in os.walk(ROOT / "crates"):
+        folders[:] = [name for name in folders if name != "out"]
+        for name in files:
+            if name.endswith((".rt", ".antt")):
+                newest = max(newest, os.stat(os.path.join(folder, name)).st_mtime)
+    return newest
+
+
+def asked_program():
+    """The program that answers at once: that of RTIC, or the proved one where it is built and no source is newer."""
+    if os.environ.get("RTIC"):
+        return os.environ["RTIC"]
+    if os.access(BUILT, os.X_OK) and newest_source() <= BUILT.stat().st_mtime:
+        return str(BUILT)
+    return None
+
+
+class Program:
+    """The caller's program, and a folder for the texts that it is asked about."""
+
+    def __init__(self, write=handed_on):
+        self.write = write
+        self.path = os.environ.get("RTIC") or str(LAUNCHER)
+        self.folder = tempfile.TemporaryDirectory(prefix="rtic-explain-")
+        self.asks, self.took = 0, 0.0
+
+    def run(self, words):
+        """Runs the words, hands the bytes on, and answers the status and a beginning of the bytes."""
+        environment = dict(os.environ, RTIC_EXPLAINED="1")
+        begun = time.monotonic()
+        try:
+            child = subprocess.Popen([self.path] + words, stdout=subprocess.PIPE, env=environment)
+        except OSError as fault:
+            raise SystemExit(f"tools/explain: {self.path}: {fault.strerror}") from None
+        front, failed = b"", False
+        while not failed and (piece := os.read(child.stdout.fileno(), 1 << 16)):
+            front += piece[: KEPT - len(front)]
+            failed = not self.write(piece)
+        child.stdout.close()
+        status = child.wait()
+        self.took = time.monotonic() - begun
+        return (WRITE_FAILED if failed else status if status >= 0 else 128 - status), front
+
+    @property
+    def answers(self):
+        """Whether there is a program that answers at once."""
+        if not hasattr(self, "asked"):
+            self.asked = asked_program()
+        return self.asked is not None
+
+    def ask(self, command, *files):
+        """The status and the output of the program on these files."""
+        self.asks += 1
+        done = subprocess.run(
+            [self.asked, command, *files], stdin=subprocess.DEVNULL, stdout=subprocess.PIPE, stderr=subprocess.DEVNULL,
+            timeout=60 + 4 * self.took, check=False,
+        )
+        return done.returncode, done.stdout[:KEPT].decode("latin-1")
+
+    def file(self, name, text):
+        """The path of a file of the folder with this text."""
+        path = os.path.join(self.folder.name, name)
+        with open(path, "wb") as file:
+            file.write(text.encode("latin-1"))
+        return path
+
+    def formats(self, texts):
+        """What `fmt` answers to each of these texts."""
+
+        def one(numbered):
+            return self.ask("fmt", self.file(f"ask{numbered[0]}", numbered[1]))
+
+        with concurrent.futures.ThreadPoolExecutor(ASKS_AT_ONCE) as pool:
+            return list(pool.map(one, enumerate(texts)))

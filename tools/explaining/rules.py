@@ -1,0 +1,375 @@
+"""E05 to E18: which cause it is, where the first one stands, and how to mend it."""
+import difflib
+
+from .costs import MOST_CODE, MOST_STEPS, Costs, armed_tasks, sizes_before
+from .table import Phrase
+from .tree import CALLS
+from .walk import statements_of, uses_of
+
+KINDS = {
+    "interrupt": "an interrupt", "task": "a task", "shared": "a shared resource", "local": "a local resource",
+    "variable": "a variable", "value": "a value",
+}
+ROLES = {"pend": "interrupt", "lock": "shared", "read": "value", "assign": "value", **{word: "task" for word in CALLS}}
+
+
+def counted(number, one, many=None):
+    """A number with its noun: `1 value`, `2 values`, `no values`."""
+    many = many or one + "s"
+    return f"{number:,} {one}" if number == 1 else f"{number or 'no':,} {many}" if number else f"no {many}"
+
+
+class Rules:
+    """One application of the grammar, and the place at which it is refused."""
+
+    def __init__(self, app, at):
+        self.app = app
+        self.at = at
+        self.causes = []
+        self.notes = []
+        self.helps = []
+
+    # What is said.
+
+    def row(self, table, key, **values):
+        """The cause and the mending of a row of the table."""
+        self.causes.append(table.cause(key, **values))
+        self.helps.append(table.mending(key, **values))
+
+    def note(self, sentence, token, at=None, length=None):
+        start = token.at if at is None else at
+        self.notes.append((sentence, start, length or len(token.text)))
+
+    def help(self, sentence):
+        self.helps.append(sentence)
+
+    # What stands at the place.
+
+    def use(self):
+        """The body and the use at the place, or None twice; the scopes are those of the place."""
+        for body in self.app.bodies:
+            for use in uses_of(body):
+                if self.at in (use.token.at, use.node.word.at if use.role in CALLS else -1):
+                    return body, use
+        return None, None
+
+    def listing(self):
+        """The body, the list and the row at the place."""
+        for body in self.app.bodies:
+            for row in body.shared:
+                if self.at in (row.at, row.name.at):
+                    return body, "shared", row
+            for name in body.local:
+                if self.at == name.at:
+                    return body, "local", name
+        return None, None, None
+
+    def body(self):
+        return next((body for body in self.app.bodies if body.name.at == self.at), None)
+
+    def declared(self, name):
+        """What a name is declared as: kinds with their tokens."""
+        app = self.app
+        found = [("interrupt", row[0]) for row in app.interrupts]
+        found += [("task", task.name) for task in app.tasks]
+        found += [("shared", row[0]) for row in app.shared] + [("local", row[0]) for row in app.local]
+        return [(kind, token) for kind, token in found if token.text == name]
+
+    def names_of(self, kind):
+        """All names of a kind."""
+        app = self.app
+        rows = {"interrupt": app.interrupts, "shared": app.shared, "local": app.local}
+        if kind == "value":
+            return [row[0].text for row in app.shared + app.local]
+        return [task.name.text for task in app.tasks] if kind == "task" else [row[0].text for row in rows[kind]]
+
+    def listings_of(self, name):
+        """All listings of a shared resource, in the order of the text."""
+        return [(body, row) for body in self.app.bodies for row in body.shared if row.name.text == name]
+
+    # The numbers.
+
+    def e05(self, table):
+        wanted, token, body, use = self.wanted()
+        name = token.text
+        if use and use.role in ("read", "assign") and any(row[0].text == name for row in self.app.local):
+            return self.unlisted(table, name, body)
+        if use and wanted in ("value", "shared") and self.variable(table, name, body, use, wanted):
+            return None
+        others = self.declared(name)
+        if others:
+            return self.other_kind(table, name, wanted, *others[0])
+        self.row(table, f"E05 {wanted}", N=name)
+        if name in ("true", "false"):
+            self.helps = ["`true` is 1 and `false` is 0"]
+        self.similar(name, wanted)
+        return None
+
+    def wanted(self):
+        """The kind of name that is due at the place, its token, and the body and use where it is in one."""
+        app = self.app
+        named = app.dispatchers + ([app.monotonic[1]] if app.monotonic else [])
+        named += [task.binds for task in app.tasks if task.binds]
+        for token in named:
+            if token.at == self.at:
+                return "interrupt", token, None, None
+        body, kind, row = self.listing()
+        if body:
+            return kind, row.name if kind == "shared" else row, None, None
+        body, use = self.use()
+        return ROLES[use.role], use.token, body, use
+
+    def unlisted(self, table, name, body):
+        self.row(table, "E05 unlisted", N=name, B=body.name.text)
+        for other in self.app.bodies:
+            for token in other.local:
+                if token.text == name:
+                    self.note(f"it is listed here, by `{other.name.text}`", token)
+
+    def variable(self, table, name, body, use, wanted):
+        """Whether the name is a variable, here or elsewhere; then it is said."""
+        scoped = use.around.variable(name)
+        if scoped and wanted == "shared":
+            self.row(table, "E05 kind", N=name, K=Phrase(KINDS["variable"]), W=Phrase(KINDS[wanted]))
+            self.note(f"`{name}` is declared here", scoped[0])
+            return True
+        if self.declared(name):
+            return False
+        rows = [(other, found) for other in self.app.bodies for found in uses_of(other)
+                if found.role in ("bind", "loop", "argument") and found.token.text == name]
+        own = [found for other, found in rows if other is body]
+        if not rows:
+            return False
+        before = [found for found in own if found.token.at < self.at and self.closed(body, found)]
+        key = "E05 ended" if before else "E05 later" if own else "E05 elsewhere"
+        self.row(table, key, N=name)
+        found = before[-1] if before else own[0] if own else rows[0][1]
+        self.note(f"`{name}` is declared here", found.token)
+        return True
+
+    def closed(self, body, found):
+        """Whether the block in which a variable is declared has ended at the place."""
+        if found.role == "loop":
+            return found.node.end <= self.at
+        holders = [one for one in statements_of(body.block) if one.at < found.token.at < one.end]
+        inner = [one for one in holders if one is not found.node]
+        return bool(inner) and inner[-1].end <= self.at or any(one.end <= self.at for one in inner)
+
+    def other_kind(self, table, name, wanted, kind, token):
+        key = "E05 kind" if wanted != "value" else "E05 value kind"
+        self.row(table, key, N=name, K=Phrase(KINDS[kind]), W=Phrase(KINDS[wanted]))
+        self.note(f"`{name}` is declared here", token)
+        task = self.app.task(name)
+        if wanted == "interrupt" and task and task.binds:
+            self.help(f"the interrupt of the task `{name}` is `{task.binds.text}`")
+        elif wanted == "task" and kind == "interrupt":
+            self.help(f"`pend {name};` makes its task run")
+        elif wanted == "shared" and kind == "local":
+            self.help("a local resource is of one body, and is used without a lock")
+        elif wanted == "local" and kind == "shared":
+            self.help(f"it is listed in `shared = [{name}]`")
+
+    def similar(self, name, wanted):
+        near = difflib.get_close_matches(name, self.names_of(wanted), 1, 0.7)
+        if near:
+            kind = "a resource" if wanted == "value" else KINDS[wanted]
+            self.help(f"{kind} of a similar name is `{near[0]}`")
+
+    def e06(self, table):
+        """A second declaration, a second listing, or a variable with a name that is taken."""
+        app = self.app
+        groups = [("interrupt", [row[0] for row in app.interrupts]), ("task", [task.name for task in app.tasks]),
+                  ("resource", [row[0] for row in app.shared + app.local])]
+        for kind, tokens in groups:
+            if any(token.at == self.at for token in tokens):
+                return self.twice(table, kind, tokens)
+        body, kind, _ = self.listing()
+        if body:
+            tokens = [row.name for row in body.shared] if kind == "shared" else body.local
+            return self.twice(table, "listed", tokens, B=body.name.text)
+        return self.shadow(table)
+
+    def twice(self, table, kind, tokens, **values):
+        second = next(token for token in tokens if self.at in (token.at, token.at - 1))
+        first = next(token for token in tokens if token.text == second.text)
+        self.row(table, f"E06 {kind}", N=second.text, **values)
+        self.note(f"the first `{second.text}` stands here", first)
+
+    def shadow(self, table):
+        body, use = self.use()
+        name = use.token.text
+        taken = [(kind, token) for kind, token in self.declared(name) if kind in ("shared", "local")]
+        if taken:
+            self.row(table, "E06 local" if taken[0][0] == "local" else "E06 named", N=name)
+        else:
+            self.row(table, "E06 variable", N=name)
+        first = taken[0][1] if taken else use.around.variable(name)[0]
+        self.note(f"the first `{name}` stands here", first)
+        return body
+
+    def e07(self, table):
+        app = self.app
+        tokens = [task.priority for task in app.tasks if task.priority] + ([app.monotonic[2]] if app.monotonic else [])
+        value = next(token.value for token in tokens if token.at == self.at)
+        needed = max((value - 1).bit_length(), 3)
+        key = "E07 zero" if value == 0 else "E07" if needed <= 7 and value % 8 else "E07 value"
+        if key == "E07 value" and needed <= 7 and value <= 2 * 2**app.bits:
+            key = "E07"
+        self.row(table, key, A=Phrase(f"{2 ** app.bits:,}"), M=str(app.bits), N=str(needed))
+
+    def e08(self, table):
+        app = self.app
+        numbers = [row for row in app.interrupts if row[1].at == self.at]
+        if numbers:
+            first = next(row for row in app.interrupts if row[1].value == numbers[0][1].value)
+            self.row(table, "E08 number", A=Phrase(str(first[1].value)), N=first[0].text)
+            return self.note("the first use stands here", first[1])
+        uses = [("dispatcher", token, "") for token in app.dispatchers]
+        uses += [("monotonic", app.monotonic[1], "")] if app.monotonic else []
+        uses += [("task", task.binds, task.name.text) for task in app.tasks if task.binds]
+        name = next(token.text for _, token, _ in uses if token.at == self.at)
+        kind, first, task = next(row for row in uses if row[1].text == name)
+        self.row(table, f"E08 {kind}", N=name, T=task)
+        return self.note("the first use stands here", first)
+
+    def e09(self, table):
+        app, levels = self.app, self.app.levels()
+        names = Phrase(counted(len(app.dispatchers), "dispatcher")).replace("no dispatchers", "no dispatcher")
+        many = "are" if len(app.dispatchers) > 1 else "is"
+        self.row(table, "E09", A=Phrase(counted(len(levels), "priority", "priorities")), M=Phrase(f"{names} {many}"))
+        for level in levels:
+            tasks = [task.name for task in app.tasks if task.is_software and task.level == level]
+            told = ", ".join(f"`{token.text}`" for token in tasks)
+            self.note(f"the priority {level} has the software task{'s' * (len(tasks) > 1)} {told}", tasks[0])
+        used = {token.text for token in app.dispatchers} | {task.binds.text for task in app.tasks if task.binds}
+        used |= {app.monotonic[1].text} if app.monotonic else set()
+        free = [f"`{row[0].text}`" for row in app.interrupts if row[0].text not in used]
+        spawned = {use.token.text for body in app.bodies for use in uses_of(body) if use.role in CALLS}
+        for task in app.tasks:
+            if task.is_software and task.name.text not in spawned:
+                self.help(f"nobody spawns `{task.name.text}`: if it is to serve an interrupt, write `binds = ..` into "
+                          "its options")
+        if free:
+            verb = "is" if len(free) == 1 else "are"
+            self.help(f"{' and '.join(free[:2])} {verb} declared and used by nothing")
+
+    def e10(self, table):
+        _, _, name = self.listing()
+        first, token = next((body, row) for body in self.app.bodies for row in body.local if row.text == name.text)
+        self.row(table, "E10", N=name.text, B=first.name.text)
+        self.note("it is listed first here", token)
+
+    def e11(self, table):
+        body, use = self.use()
+        name, own = use.token.text, body.name.text
+        row = body.lists(name)
+        values = {"N": name, "B": own}
+        declared = next(token for token, _, _ in self.app.shared if token.text == name)
+        if body.kind == "init":
+            return self.row(table, "E11 init", **values)
+        if row is None:
+            return self.row(table, "E11 unlisted free" if self.app.is_free(name) else "E11 unlisted", **values)
+        if use.role == "lock":
+            self.row(table, "E11 free" if self.app.is_free(name) else "E11 read", **values)
+            return self.note(f"`{name}` is declared here", declared) if self.app.is_free(name) else None
+        if use.around.locks:
+            return self.row(table, "E11 other", M=use.around.locks[-1].text, **values)
+        return self.row(table, "E11 outside", **values)
+
+    def e12(self, table):
+        _, use = self.use()
+        name = use.token.text
+        self.row(table, "E12", N=name)
+        self.note("the lock round it stands here", next(lock for lock in use.around.locks if lock.text == name))
+
+    def e13(self, table):
+        body, _, row = self.listing()
+        name = row.name.text
+        declared = next(token for token, _, _ in self.app.shared if token.text == name)
+        if self.app.is_free(name):
+            self.row(table, "E13 free", N=name)
+            return self.note(f"`{name}` is declared here", declared)
+        first, listed = self.listings_of(name)[0]
+        told = {True: f"&{name}", False: name}
+        self.row(table, "E13", B=body.name.text, N=name, A=told[row.by_ref], T=first.name.text, M=told[listed.by_ref])
+        return self.note("it is listed first here", listed.name, listed.at, listed.name.end - listed.at)
+
+    def e14(self, table):
+        body, _, row = self.listing()
+        first, listed = self.listings_of(row.name.text)[0]
+        self.row(table, "E14", B=body.name.text, A=Phrase(str(body.level)), T=first.name.text,
+                 M=Phrase(str(first.level)), N=row.name.text)
+        self.note("it is listed first here", listed.name)
+
+    def e15(self, table):
+        body, use = self.use()
+        task = self.body()
+        if use is None:
+            for key, there in (("E15 capacity", task.capacity), ("E15 arguments", task.arguments)):
+                if there:
+                    self.row(table, key, N=task.name.text, I=task.binds.text)
+            return None
+        name, task = use.token.text, self.app.task(use.token.text)
+        if task.binds:
+            key = "E15 hardware" if use.role.startswith("spawn") else "E15 handle"
+            self.row(table, key, N=name, I=task.binds.text, C=use.role)
+        else:
+            sent = len(use.node.arguments)
+            self.row(table, "E15 number", N=name, A=Phrase(counted(len(task.arguments), "value")),
+                     M=Phrase(f"{sent or 'none'} {'is' if sent < 2 else 'are'} sent"))
+        return self.note(f"`{name}` is declared here", task.name)
+
+    def e16(self, table):
+        body, use = self.use()
+        self.row(table, "E16", N=use.role)
+
+    def e17(self, table):
+        app, body = self.app, self.body()
+        armed = armed_tasks(app, [use for one in app.bodies for use in uses_of(one)])
+        places = sum(task.places for task in armed)
+        costs = Costs(app, places)
+        if costs.body(body) > MOST_STEPS:
+            self.row(table, "E17", N=body.name.text, A=Phrase(f"{MOST_STEPS:,}"))
+            worst = max(body.block, key=costs.statement)
+            worst, cost = self.costliest(worst, costs)
+            turns = worst.turns[1] - worst.turns[0]
+            told = f", {turns:,} turns of a loop" if worst.kind == "for" else ""
+            return self.worst(f"this statement costs most: {cost:,} core steps{told}", worst)
+        sizes, total = Costs(app, places, True), sizes_before(app, armed)
+        for one in app.bodies:
+            total += sizes.body(one)
+            if one is body:
+                break
+        self.row(table, "E17 code", N=body.name.text, A=Phrase(f"{total:,}"), M=Phrase(f"{MOST_CODE:,}"))
+        worst = max(body.block, key=sizes.statement, default=None)
+        if worst:
+            size = sizes.statement(worst)
+            self.worst(f"this statement counts most in `{body.name.text}`: {size:,} instructions", worst)
+        return None
+
+    def costliest(self, statement, costs):
+        """A loop in it that costs more than is allowed by itself; an `if` or a lock round it is passed through."""
+        while statement.kind in ("if", "lock"):
+            inner = max(statement.block + statement.other, key=costs.statement)
+            if costs.statement(inner) * 2 < costs.statement(statement):
+                break
+            statement = inner
+        return statement, costs.statement(statement)
+
+    def worst(self, sentence, statement):
+        word = {"assign": statement.name, "call": None}.get(statement.kind)
+        length = len(word.text) if word else len(statement.kind)
+        if statement.kind == "call":
+            length = len(statement.value.word.text)
+        self.notes.append((sentence, statement.at, length))
+
+    def e18(self, table):
+        body, use = self.use()
+        name = use.token.text
+        variable = use.around.variable(name)
+        if variable:
+            self.row(table, "E18 loop", N=name)
+            return self.note("its loop stands here", variable[0])
+        row = body.lists(name)
+        self.row(table, "E18", N=name, B=body.name.text)
+        return self.note("it is listed here", row.name, row.at, row.name.end - row.at)

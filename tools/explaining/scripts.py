@@ -1,0 +1,215 @@
+"""Refused lines of scripts and traces: which word, and what is due."""
+import difflib
+import re
+
+from .table import Phrase
+
+FORMS = {
+    "pend": "I", "tick": "", "alarm": "", "set": "", "take": "I DEPTH", "ret": "I", "enter": "X", "leave": "X",
+    "emit": "V", "ok": "T", "full": "T", "ready": "T", "free": "T", "fire": "T", "start": "T V ..", "post": "I",
+    "clock": "V", "arm": "T V", "cancel": "T H", "move": "T H V", "end": "X", "trap": "K",
+}
+SECTIONS = ": X is a shared resource, `free.T`, `ready.P` with P below 256, or `timer.0`"
+MEANING = {"take": ", with the bytes of stack in use behind the entry", "enter": SECTIONS, "leave": SECTIONS}
+HASH = "a comment begins with `#`, and has a line of its own"
+EVENTS, SCRIPT_BYTES, LARGEST = 1_000_000, 1_048_576, 4_294_967_295
+NUMERAL = re.compile(r"[0-9]+")
+SECTION = re.compile(r"(free|ready|timer)\.")
+
+
+class Line:
+    """What is said of a line: the column and length of the word that is wrong, the cause, and helps."""
+
+    def __init__(self, source):
+        self.source = source
+        self.start, self.length = 0, len(source)
+        self.cause, self.helps = None, []
+
+    def at(self, word, cause):
+        """The cause, with the caret under a word of the line: its number, or the word itself."""
+        self.start = self.source.find(word) if word else 0
+        self.length = len(word)
+        self.cause = cause
+        return self
+
+
+def words_with_places(source):
+    return [found.group() for found in re.finditer(r"[^ ]+", source)]
+
+
+def script_line(app, number, source, lines, size, table):
+    """What is wrong with the last of these lines of a script that is refused with this number."""
+    said = Line(source)
+    words = words_with_places(source)
+    if number == 1:
+        said.cause = table.cause("script 1", A=Phrase(f"{size:,}"))
+        said.helps = [table.mending("script 1")]
+    elif number == 2:
+        bad_line(app, said, words, table)
+    elif number == 3:
+        unknown_interrupt(app, said, words[words.index("pend") + 1], table)
+    elif number == 4:
+        total = sum(events_of(one) for one in lines)
+        said.cause = table.cause("script 4", A=Phrase(f"{total:,}"))
+        said.helps = [table.mending("script 4")]
+    else:
+        said.at(words[1], table.cause("script 5", A=Phrase(words[1])))
+        said.helps = [table.mending("script 5")]
+    return said
+
+
+def events_of(line):
+    """How many events a line of a form is."""
+    words = line.split()
+    if not words or words[0].startswith("#"):
+        return 0
+    if words[0] in ("step", "tick"):
+        return int(words[1])
+    behind = words[words.index("pend") + 2 :]
+    return int(behind[0]) if behind else 1
+
+
+def bad_line(app, said, words, table):
+    source = said.source
+    forms = table.mending("script 2")
+    if "\t" in source.strip(" \t\r"):
+        return said.at("\t", "words are separated by spaces, and this is a tab")
+    if source != source.strip(" \t") or source.endswith("\r"):
+        said.at(source.strip(" \t"), "a blank stands before the first word, or behind the last")
+        return said
+    if words[0] not in ("step", "tick", "pend", "device"):
+        said.at(words[0], f"no line of a script begins with `{words[0]}`")
+        if words[0].startswith(("//", "--", ";", "/*")):
+            said.helps = [HASH]
+        elif words[0] == "app":
+            said.helps = ["this looks like an application; the application stands first, then the script"]
+        elif words[0].lower() in ("step", "tick", "pend", "device"):
+            said.helps = [f"write `{words[0].lower()}`"]
+        else:
+            said.helps = [forms]
+        return said
+    short_words(app, said, words)
+    if any(word.startswith(("#", "//")) for word in words):
+        said.helps = [HASH]
+    return said
+
+
+def short_words(app, said, words):
+    """What is wrong behind the first word."""
+    if words[0] in ("step", "tick"):
+        if len(words) != 2:
+            return said.at(words[-1] if len(words) == 1 else words[2], f"`{words[0]}` wants one number behind it")
+        return said.at(words[1], f"`{words[1]}` is no number of one to nine digits")
+    if words[0] == "device":
+        if len(words) > 1 and not (NUMERAL.fullmatch(words[1]) and len(words[1]) <= 9):
+            return said.at(words[1], f"`{words[1]}` is no number of one to nine digits")
+        if len(words) < 4 or words[2] != "pend":
+            return said.at(words[-1], "a device requests an interrupt: `device D pend I`")
+        words = words[2:]
+    if len(words) == 1 or not re.fullmatch(r"[A-Za-z_]\w*", words[1]):
+        said.at(words[-1] if len(words) == 1 else words[1],
+                f"`pend` wants the name of an interrupt, and `{words[1] if len(words) > 1 else ''}` is none")
+        rows = [row[0].text for row in app.interrupts if len(words) > 1 and words[1] == str(row[1].value)]
+        said.helps = [f"the interrupt of number {words[1]} is `{rows[0]}`"] if rows else []
+        return said
+    if len(words) > 3:
+        return said.at(words[3], "behind `pend I` stands one number at most")
+    return said.at(words[2], f"`{words[2]}` is no number of one to nine digits")
+
+
+def unknown_interrupt(app, said, name, table):
+    names = [row[0].text for row in app.interrupts]
+    told = ", ".join(f"`{one}`" for one in names[:12]) + (" and others" if len(names) > 12 else "")
+    said.at(name, table.cause("script 3", N=name))
+    said.helps = [table.mending("script 3", I=Phrase(told or "none"))]
+    task = app.task(name)
+    if task and task.binds:
+        said.helps = [f"`{name}` is a task, and binds the interrupt `{task.binds.text}`"]
+    else:
+        similar(said, "an interrupt", name, names)
+
+
+def similar(said, kind, name, names):
+    near = difflib.get_close_matches(name, names, 1, 0.7)
+    if near:
+        said.helps.append(f"{kind} of a similar name is `{near[0]}`")
+
+
+def trace_line(app, number, source, lines, line, table):
+    """What is wrong with a line of a trace that is refused with this number."""
+    said = Line(source)
+    if number == 1:
+        said.cause, said.helps = table.cause("trace 1"), [table.mending("trace 1")]
+    elif number == 3:
+        unknown_in_trace(app, said, source.split(" "), table)
+    else:
+        bad_item(app, said, lines, line, table)
+    return said
+
+
+def bad_item(app, said, lines, line, table):
+    source, words = said.source, said.source.split(" ")
+    if lines and lines[0].startswith("image ") and "trace" not in lines[: line - 1]:
+        said.cause = "a listing stands in front, and no line `trace` ends it"
+        said.helps = ["this is what `build` writes; `run` writes a trace behind it"]
+    elif any(re.fullmatch(r"total \d+", one) for one in lines[: line - 1]):
+        said.cause = "behind the total stand lines alone that begin with `account `"
+    elif source.endswith("\r"):
+        said.cause = "the line ends with a carriage return, and a line of a trace ends with a line feed alone"
+    elif not source:
+        said.cause = "the line is empty"
+    elif "" in words or "\t" in source:
+        said.cause = "one space stands between two words, and none at the ends"
+    elif words[0] == "total":
+        said.cause = "the form is `total N`"
+    elif words == ["trace"]:
+        said.cause = "the line `trace` ends a listing, and none stands in front"
+        said.helps = ["leave it out, or the listing in front in"]
+    elif not re.fullmatch(r"[0-9]+", words[0]):
+        said.at(words[0], f"a line begins with a number, that of the core steps before it, and `{words[0]}` is none")
+        if words[0] in ("step", "pend", "tick", "device", "#", "app"):
+            looks = "an application" if words[0] == "app" else "a script"
+            said.helps = [f"this looks like {looks}; `audit` takes an application and then a trace"]
+    else:
+        bad_words(app, said, words)
+    if said.cause is None:
+        said.cause, said.helps = table.cause("trace 2"), [table.mending("trace 2")]
+
+
+def bad_words(app, said, words):
+    """What is wrong behind the step number."""
+    if len(words) > 1 and words[1] not in FORMS:
+        said.at(words[1], f"no item is called `{words[1]}`")
+        names = [f"`{name}`" for name in FORMS]
+        said.helps = [f"an item is {', '.join(names[:-1])} or {names[-1]}"]
+        return
+    for word in (word for word in words if NUMERAL.fullmatch(word)):
+        if word != (word.lstrip("0") or "0"):
+            said.at(word, f"`{word}` has leading zeros")
+            return
+        if len(word) > len(str(LARGEST)) or int(word) > LARGEST:
+            said.at(word, f"`{word}` is over {LARGEST:,}")
+            return
+    if int(words[0]) >= 1 << 31:
+        said.at(words[0], f"the step is {int(words[0]):,}, and 2,147,483,647 is the most")
+    elif len(words) < 2:
+        said.cause = "an item stands behind the step number"
+    elif words[1] == "leave" and len(words) == 3 and not SECTION.match(words[2]):
+        said.cause = "the form is `leave R V`: where a resource's section is left, its value stands behind"
+    elif words[1] == "leave" and len(words) == 4 and SECTION.match(words[2]):
+        said.cause = "the form is `leave X`: only a resource's section has a value behind"
+    else:
+        said.cause = f"the form is `{f'{words[1]} {FORMS[words[1]]}'.strip()}`{MEANING.get(words[1], '')}"
+
+
+def unknown_in_trace(app, said, words, table):
+    """The name of a trace's line that is declared nowhere."""
+    name = words[2]
+    if words[1] in ("pend", "take", "ret", "post"):
+        kind, names = "interrupt", [row[0].text for row in app.interrupts]
+    elif words[1] in ("enter", "leave"):
+        kind, names = "section", [row[0].text for row in app.shared]
+    else:
+        kind, names = "software task", [task.name.text for task in app.tasks if task.is_software]
+    said.at(name, table.cause("trace 3", K=Phrase(kind), N=name))
+    similar(said, "an interrupt" if kind == "interrupt" else f"a {kind}", name, names)

@@ -1,0 +1,227 @@
+"""E01 to E04: what the text itself is refused for."""
+import difflib
+import re
+import unicodedata
+
+from .habits import FOREIGN, NO_TEXTS, SYNTAX, looked_up
+from .table import Phrase
+from .tokens import WORDS, Token, place_of, skipped_bytes, tokens_of
+
+AROUND = 400
+DIGITS = 30
+NEAR = 32
+ONE_TOO_MANY = {
+    "tasks": 65, "shared": 65, "locals": 65, "interrupts": 241, "arguments": 5, "nesting": 17, "parentheses": 65,
+    "statements": 1_001,
+}
+FORMS = {
+    "app": "`app a(bits = 4, dispatchers = [I, J], fpu = on);`", "interrupts": "`interrupts { I = 5, J = 7 }`",
+    "monotonic": "`monotonic(binds = I, priority = 3);`", "shared": "`shared { a = 0, lock_free b = 1 }`",
+    "local": "`local { n = 0 }`", "init": "`init(local = [n]) { .. }`",
+    "idle": "`idle(shared = [a, &b], local = [n]) { .. }`",
+    "task": "`task t(binds = I, priority = 2, shared = [a, &b], local = [n]) { .. }`, or for messages "
+    "`task t(priority = 1, capacity = 4) with x, y { .. }`",
+    "let": "`let x = a + 1;`, `let x = now;` or `let x = spawn t(a, b);`", "if": "`if a < b { .. } else { .. }`",
+    "for": "`for i in 0..8 { .. }`", "lock": "`lock a, b { .. }`", "emit": "`emit a;`", "pend": "`pend I;`",
+    "spawn": "`spawn t(a, b);`", "spawn_after": "`spawn_after(100) t(a, b);`", "cancel": "`cancel t(h);`",
+    "reschedule_after": "`reschedule_after(100) t(h);`",
+}
+PUT = [";", ",", ")", "]", "}", "{", "=", "("]
+ORDER = (
+    "the declarations stand in this order: `app`, `interrupts`, `monotonic`, `shared`, `local`, `init`, `idle`, tasks"
+)
+STATEMENTS = ("let", "if", "for", "lock", "emit", "pend", "spawn", "spawn_after", "cancel", "reschedule_after")
+DECLARED = ("app", "interrupts", "monotonic", "shared", "local", "init", "idle", "task")
+SIGNS_FOR = {"×": "*", "÷": "/", "≤": "<=", "≥": ">=", "≠": "!=", "∧": "&", "∨": "|"}
+
+
+class Syntax:
+    """A place in a text at which it is refused, with the tokens on both sides."""
+
+    def __init__(self, text, at):
+        self.text = text
+        self.at = at
+        self.front = list(tokens_of(text, 0, at))
+        self.token = next(tokens_of(text, at), Token("end", "", len(text)))
+        self.before = " ".join(token.text for token in self.front[-AROUND:])
+        near = text[at : at + AROUND]
+        self.behind = " ".join(token.text for token in list(tokens_of(near))[:NEAR])
+        self.depth = sum({"{": 1, "}": -1}.get(token.text, 0) for token in self.front)
+
+
+def too_long(text, table):
+    """The cause and the mending of a text that is too long."""
+    cause = table.cause("E01", A=Phrase(f"{len(text):,}"))
+    sentence = looked_up(SYNTAX[:3], "", " ".join(token.text for token in list(tokens_of(text[:AROUND]))[:2]))
+    return cause, sentence or table.mending("E01", M=Phrase(f"{skipped_bytes(text):,}"))
+
+
+def sign_at(text, at):
+    """The sign of UTF-8 that begins at an offset, or the byte itself."""
+    for size in (1, 2, 3, 4):
+        try:
+            return text[at : at + size].encode("latin-1").decode("utf-8"), size
+        except UnicodeDecodeError:
+            continue
+    return None, 1
+
+
+def foreign(syntax, table):
+    """The label, the help and the length of a byte that no token begins with."""
+    sign, size = sign_at(syntax.text, syntax.at)
+    if sign is None or sign < " " or sign == "\x7f":
+        return f"no token begins with the byte {ord(syntax.text[syntax.at])}", table.mending("E02"), 1
+    hidden = unicodedata.category(sign) in ("Cf", "Zs", "Cc", "Zl", "Zp")
+    label = f"no token begins with {f'U+{ord(sign):04X}' if hidden else f'`{sign}`'}"
+    return label, foreign_help(sign, syntax, table), size
+
+
+def foreign_help(sign, syntax, table):
+    if sign == "\ufeff" and syntax.at == 0:
+        return "the file begins with a mark of the order of bytes: save it without one"
+    if unicodedata.category(sign) in ("Zs", "Cf", "Zl", "Zp"):
+        return "this looks like a blank and is none: write a space"
+    if sign in "–—−":
+        return "this dash is no minus: write `-`"
+    if sign in SIGNS_FOR:
+        return f"write `{SIGNS_FOR[sign]}`"
+    if sign in "“”„‘’‚«»":
+        return NO_TEXTS
+    return looked_up(FOREIGN, syntax.before, syntax.behind) or table.mending("E02")
+
+
+def syntax_help(syntax, found, program, table):
+    """How to mend a fault of syntax: a habit, a sign that is missing, or a change that makes `fmt` take the text."""
+    help_ = looked_up(SYNTAX, syntax.before, syntax.behind)
+    for one in (returns, misspelt, declared, twice, unclosed, missing, no_name, chained, no_interrupts):
+        help_ = help_ or one(syntax, found)
+    if not help_ and found:
+        help_ = repaired(syntax, found, program) or form(syntax)
+    return help_
+
+
+def form(syntax):
+    """The form of the declaration or statement in which the place is."""
+    for token, behind in zip(reversed(syntax.front), [syntax.token] + syntax.front[:0:-1]):
+        if token.text in FORMS and behind.text != "=":
+            return f"the form is {FORMS[token.text]}"
+        if token.text in (";", "}") or token.text == "{" and syntax.depth:
+            return None
+    return None
+
+
+def returns(syntax, found):
+    """A comment that goes on behind a carriage return, since that alone ends no line."""
+    if re.search(r"//[^\n]*\r[^\n]", syntax.text[: syntax.at]):
+        return "a carriage return alone ends no comment: save the file with line feeds"
+    return None
+
+
+def misspelt(syntax, found):
+    """A word of the language that is nearly written, here or before a statement's place."""
+    name, words = syntax.token, [word for word in found if word in WORDS]
+    if found == {"="} and syntax.front[-1].kind == "name":
+        name, words = syntax.front[-1], STATEMENTS
+    near = difflib.get_close_matches(name.text.lower(), words, 1, 0.75) if name.kind == "name" else []
+    return f"`{name.text}` is no word of the language: `{near[0]}` is" if near else None
+
+
+def declared(syntax, found):
+    """A declaration at a place where others are due."""
+    word = syntax.token.text
+    if syntax.depth or word not in DECLARED or "task" not in found or syntax.before.endswith("("):
+        return None
+    depth = 0
+    for token in syntax.front:
+        depth += {"{": 1, "(": 1, "[": 1, "}": -1, ")": -1, "]": -1}.get(token.text, 0)
+        if token.text == word and depth == 0:
+            return f"`{word}` stands once: put all into the one of line {place_of(syntax.text, token.at)[0]}"
+    return ORDER
+
+
+def twice(syntax, found):
+    """An option that stands a second time."""
+    opened = syntax.before.rfind("(")
+    options = ("binds", "priority", "capacity", "shared", "local")
+    if syntax.token.text in options and ")" in found and f" {syntax.token.text} =" in syntax.before[opened:]:
+        return f"`{syntax.token.text}` stands here a second time, and an option stands once"
+    return None
+
+
+def unclosed(syntax, found):
+    """A brace that is open at the end of the text."""
+    if syntax.token.kind != "end":
+        return None
+    opened, last = [], None
+    for token in syntax.front:
+        if token.text in ("{", "(", "["):
+            opened.append(token)
+            last = token
+        elif token.text in ("}", ")", "]") and opened:
+            opened.pop()
+    if not opened:
+        return None
+    line = place_of(syntax.text, opened[-1].at)[0]
+    return f"the `{opened[-1].text}` of line {line} is not closed" + (", or one behind it" * (last is not opened[-1]))
+
+
+def missing(syntax, found):
+    """A semicolon that is forgotten: what comes begins a line, or a statement, or ends the block."""
+    if ";" not in found or not syntax.front or syntax.token.kind not in ("word", "name", "sign"):
+        return None
+    last = syntax.front[-1]
+    new_line = "\n" in syntax.text[last.end : syntax.at]
+    if syntax.token.kind == "word" or syntax.token.text == "}" or new_line and syntax.token.kind == "name":
+        line, between = place_of(syntax.text, last.at)[0], syntax.text[last.end : syntax.at]
+        comment = between.split("\n", 1)[0].strip().startswith("//") and ";" in between
+        hidden = "; what stands behind `//` is a comment" * comment
+        return f"a `;` is missing behind `{last.text}` in line {line}{hidden}"
+    return None
+
+
+def no_name(syntax, found):
+    """A word of the language in the place of a name."""
+    if "a name" not in found or {"let", "("} & found:
+        return None
+    if syntax.token.kind == "word":
+        return f"`{syntax.token.text}` is a word of the language and names nothing: use another name"
+    return "a name begins with a letter or `_`" if syntax.token.kind == "number" else None
+
+
+def chained(syntax, found):
+    if syntax.token.text in ("==", "!=", "<", "<=", ">", ">=") and "+" in found:
+        return "comparisons do not chain: write `(a < b) & (b < c)`"
+    return None
+
+
+def no_interrupts(syntax, found):
+    if found == {"interrupts"}:
+        return "each application declares its interrupts, `interrupts {}` where it has none"
+    return None
+
+
+def repaired(syntax, found, program):
+    """One sign put in or the token taken out, where the whole text is then one of the grammar."""
+    front, rest = syntax.text[: syntax.at], syntax.text[syntax.at :]
+    put = [sign for sign in PUT if sign in found]
+    texts = [f"{front}{sign} {rest}" for sign in put]
+    if syntax.token.kind != "end":
+        texts.append(front + syntax.text[syntax.token.end :])
+    told_ways = [f"with `{sign}` put before it the whole text is read" for sign in put]
+    told_ways.append(f"with `{syntax.token.text}` taken out the whole text is read")
+    answers = program.formats(texts)
+    return next((told_ways[number] for number, (status, _) in enumerate(answers) if status == 0), None)
+
+
+def limit(syntax, which, table):
+    """The cause and the mending of a limit that is passed, with the number that is too much."""
+    token = syntax.token
+    if which == "number" and len(token.text) > DIGITS:
+        return table.cause("E04 number", A=Phrase(f"one of {len(token.text):,} digits")), table.mending("E04 number")
+    if which in ONE_TOO_MANY:
+        number = ONE_TOO_MANY[which]
+    elif which == "turns":
+        number = token.value - syntax.front[-2].value
+    else:
+        number = len(token.text) if which == "name" else token.value if token.kind == "number" else 0
+    return table.cause(f"E04 {which}", A=Phrase(f"{number:,}")), table.mending(f"E04 {which}")

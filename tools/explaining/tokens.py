@@ -1,0 +1,63 @@
+"""The tokens of an application's text, by docs/LANGUAGE.md. A text is a str of one character a byte (latin-1)."""
+import re
+from dataclasses import dataclass
+
+WORDS = frozenset(
+    "app bits dispatchers interrupts monotonic binds priority capacity shared local lock_free init idle task with let "
+    "if else for in lock emit pend spawn spawn_after now cancel reschedule_after".split()
+)
+SIGNS = "( ) { } [ ] = , ; & | ^ + - * / % << >> == != < <= > >= ..".split()
+NAME = re.compile(r"[A-Za-z_][A-Za-z0-9_]*")
+TOKEN = re.compile(
+    r"(?P<skip>[ \t\r\n]+|//[^\n]*)|(?P<name>[A-Za-z_][A-Za-z0-9_]*)|(?P<number>0x[0-9a-fA-F]+|[0-9]+)"
+    r"|(?P<sign><<|>>|==|!=|<=|>=|\.\.|[(){}\[\]=,;&|^+\-*/%<>])|(?P<foreign>.)",
+    re.DOTALL,
+)
+
+
+@dataclass(frozen=True)
+class Token:
+    """One token: its kind is name, word, number, sign, foreign or end; it stands at an offset of the text."""
+
+    kind: str
+    text: str
+    at: int
+
+    @property
+    def end(self):
+        return self.at + len(self.text)
+
+    @property
+    def value(self):
+        """A number's value; zeros may stand before it without end."""
+        return int(self.text, 16) if self.text.startswith("0x") else int(self.text.lstrip("0") or "0")
+
+
+def tokens_of(text, start=0, stop=None):
+    """The tokens from one offset on, as far as another."""
+    stop = len(text) if stop is None else stop
+    for found in TOKEN.finditer(text, start, stop):
+        kind = found.lastgroup
+        if kind == "name" and found.group() in WORDS:
+            kind = "word"
+        if kind != "skip":
+            yield Token(kind, found.group(), found.start())
+
+
+def skipped_bytes(text):
+    """How many bytes are blanks and comments."""
+    return len(text) - sum(len(token.text) for token in tokens_of(text))
+
+
+def place_of(text, offset):
+    """The line and the column of an offset, both from 1; a column counts bytes."""
+    start = text.rfind("\n", 0, offset) + 1
+    return text.count("\n", 0, offset) + 1, offset - start + 1
+
+
+def offset_of(text, line, column):
+    """The offset of a place."""
+    start = 0
+    for _ in range(line - 1):
+        start = text.find("\n", start) + 1
+    return start + column - 1

@@ -1,0 +1,114 @@
+"""The rows of a picture: what each task did, as spans of core steps, and what was measured of it."""
+from .application import DISPATCHER, UNSERVED
+
+# Marks on a row.
+EMIT, FULL, TRAP, ARRIVAL, CANCEL, MOVE = range(6)
+
+
+class Row:
+    """A row: its spans as flat lists `begin, end, begin, end, ..`, each in order, and the greatest numbers so far.
+
+    A span begins before its first step and ends behind its last. `running` is the task's own body, `serving` the
+    dispatcher that works for it, `preempted` a job that others interrupted, `pending` what waits to be served: the
+    interrupt, or messages that are ready. `sections` has four numbers each: begin, end, the section's number, how many
+    sections are outside it. `jobs` has three: begin, end, and the line of the item that begins it. The longest run,
+    wait and response are in core steps, None where none was measured.
+    """
+
+    def __init__(self, task, number, rank):
+        self.task = task
+        self.number = number
+        self.rank = rank
+        self.running, self.serving, self.preempted, self.pending = [], [], [], []
+        self.sections, self.jobs = [], []
+        self.runs = self.requests = self.sent = self.started = self.refused = self.out = self.most_out = 0
+        self.longest_run = self.longest_wait = self.longest_response = None
+        # Since when the interrupt is pending, the lower steps until then, and who requested it.
+        self.asked = self.lower = self.poster = None
+        # How many messages are ready, since when there are any, and which.
+        self.ready = self.ready_since = 0
+        self.queue = None
+
+    def is_shown(self):
+        """Whether the row is a task's, or has what no other row shows."""
+        return self.task.kind not in (DISPATCHER, UNSERVED) or bool(self.jobs or self.requests)
+
+    def label(self):
+        """The name, and the interrupt that serves the task where it has another name."""
+        task = self.task
+        named = task.interrupt is not None and task.interrupt != task.name
+        return f"{task.name} ({task.interrupt})" if named else task.name
+
+    def ran(self, steps):
+        """A run of so many own steps."""
+        if self.longest_run is None or steps > self.longest_run:
+            self.longest_run = steps
+
+    def waited(self, steps):
+        """A wait of so many steps of lower tasks; None is no wait that could be measured."""
+        if steps is not None and (self.longest_wait is None or steps > self.longest_wait):
+            self.longest_wait = steps
+
+    def responded(self, steps):
+        """So many steps from the request, or from where the message was ready, to the end of the run."""
+        if self.longest_response is None or steps > self.longest_response:
+            self.longest_response = steps
+
+
+class Job:
+    """A job on the stack: what it did so far.
+
+    `used` counts its own steps up to `since`, its entry not counted; it is drawn up to `shown`, by adding spans to
+    `parts`. `depth` is the stack in use while it runs, in bytes. `open` has its open sections: the lock, the step of
+    the enter, the own steps before it. Of a dispatcher's job `body` is the row whose message it took, `begun` the own
+    steps before that body's first, and `call_at` the own steps at which the body's frame is pushed.
+    """
+
+    __slots__ = ("row", "rank", "begin", "line", "since", "shown", "used", "waited", "asked", "depth", "base", "open",
+                 "body", "begun", "call_at", "hand", "parts", "away", "sections", "early")
+    def __init__(self, row, begin, line, depth):
+        self.row = row
+        self.rank = row.rank
+        self.begin = self.shown = begin
+        self.since = begin + 1
+        self.line = line
+        self.used = 0
+        self.waited = self.asked = self.body = self.begun = self.call_at = self.hand = self.early = None
+        self.depth = self.base = depth
+        self.open = []
+        self.parts, self.away, self.sections = row.running, row.preempted, row.sections
+
+
+class Lock:
+    """What was measured of the sections of one name: how often one was left, and the longest hold.
+
+    `held` counts own steps of the job inside, its enter and its leave included, as the costs of `check` do; `elapsed`
+    counts all steps meanwhile.
+    """
+
+    __slots__ = ("name", "number", "times", "held", "elapsed")
+
+    def __init__(self, name, number):
+        self.name = name
+        self.number = number
+        self.times = self.held = self.elapsed = 0
+
+    def left(self, held, elapsed):
+        """The section is left after so many own steps, and so many in all."""
+        self.times += 1
+        if held > self.held:
+            self.held = held
+        if elapsed > self.elapsed:
+            self.elapsed = elapsed
+
+
+class Message:
+    """A message on its way: the row and the step from which its arrow comes, when it was ready, and its handle."""
+
+    __slots__ = ("row", "sent", "line", "ready", "handle", "instant", "order")
+
+    def __init__(self, row, sent, line):
+        self.row = row
+        self.sent = sent
+        self.line = line
+        self.ready = self.handle = self.instant = self.order = None

@@ -1,0 +1,110 @@
+"""The summary of a run: what was measured, beside the bounds of `check`."""
+from .application import DISPATCHER, SOFTWARE, THREAD, UNSERVED, WAITING
+
+ABSENT = "-"
+
+
+def tables(history):
+    """The summary as a list of tables: a heading for each column, and the rows."""
+    found = [tasks(history)]
+    if any(row.task.kind == SOFTWARE for row in history.rows):
+        found.append(messages(history))
+    if history.locks:
+        found.append(locks(history))
+    return found
+
+
+def measured(history):
+    """The rows that the table of tasks has: each task, and what else ran."""
+    for row in history.rows:
+        if row.task.kind == UNSERVED or row.task.kind == DISPATCHER and not row.runs:
+            continue
+        if row.task.kind != THREAD or row.task.name != WAITING:
+            yield row
+
+
+def tasks(history):
+    """A row for each task."""
+    heads = ("task", "interrupt", "priority", "runs", "longest run", "cost", "longest wait", "wait", "longest response")
+    rows = []
+    for row in measured(history):
+        task = row.task
+        waits = task.kind != THREAD
+        cost = task.cost if task.kind != SOFTWARE or task.call is not None else None
+        rows.append((task.name, task.interrupt, task.priority, row.runs, row.longest_run, cost, row.longest_wait,
+                     history.application.wait(task) if waits else None, row.longest_response))
+    return heads, rows
+
+
+def messages(history):
+    """A row for each task that takes messages."""
+    heads = ("messages of", "sent", "started", "refused as full", "most places out", "capacity")
+    rows = [(row.task.name, row.sent, row.started, row.refused, row.most_out, row.task.capacity)
+            for row in history.rows if row.task.kind == SOFTWARE]
+    return heads, rows
+
+
+def locks(history):
+    """A row for each section's name, resources first."""
+    heads = ("section of", "ceiling", "times", "longest hold", "with preemption")
+    ceilings = history.application.report.ceilings if history.application.report is not None else {}
+    names = sorted(history.locks, key=lambda name: ("." in name, list(ceilings).index(name) if name in ceilings else 0))
+    rows = []
+    for name in names:
+        lock = history.locks[name]
+        held = (lock.held, lock.elapsed) if lock.times else (None, None)
+        rows.append((name, ceilings.get(name), lock.times, *held))
+    return heads, rows
+
+
+def counted(number, word):
+    """A number and what it counts."""
+    return f"{number} {word}" if number == 1 else f"{number} {word}s"
+
+
+def head(history):
+    """The lines before the tables: steps, items and the stack."""
+    report = history.application.report
+    items = history.output.last - history.output.first
+    bound = f" of {report.stack}" if report is not None else ""
+    ticks = f", {counted(history.time, 'tick')}" if history.time else ""
+    lines = [f"{counted(history.end, 'core step')}, {counted(items, 'item')}{ticks}",
+             f"deepest stack: {history.deepest}{bound} bytes"]
+    if history.trapped is not None:
+        lines.append(f"the core trapped at step {history.trapped}, and took no step after it")
+    if history.output.steps is None:
+        lines.append("the trace has no total: it ends with its last item, or was cut off")
+    return lines + over(history)
+
+
+def over(history):
+    """A line for each number that is over its bound; a run that `rtic` made has none."""
+    found = []
+    report = history.application.report
+    if report is not None and history.deepest > report.stack:
+        found.append("the stack is over its bound")
+    for name, _, _, _, run, cost, wait, bound, _ in tasks(history)[1]:
+        if run is not None and cost is not None and run > cost:
+            found.append(f"{name} ran {run} steps, over its cost {cost}")
+        if wait is not None and bound is not None and wait > bound:
+            found.append(f"{name} waited {wait} steps for lower tasks, over its bound {bound}")
+    return found
+
+
+def column(heads, rows, number):
+    """The texts of a column, of one width: words to the left, numbers to the right."""
+    cells = [row[number] for row in rows]
+    texts = [heads[number]] + [ABSENT if cell is None else str(cell) for cell in cells]
+    width = max(len(text) for text in texts)
+    left = any(isinstance(cell, str) for cell in cells)
+    return [text.ljust(width) if left else text.rjust(width) for text in texts]
+
+
+def summary(history):
+    """The whole summary as text."""
+    lines = head(history)
+    for heads, rows in tables(history):
+        columns = [column(heads, rows, number) for number in range(len(heads))]
+        lines.append("")
+        lines += ["  ".join(texts).rstrip() for texts in zip(*columns)]
+    return "\n".join(lines) + "\n"
