@@ -54,6 +54,37 @@ task high(priority = 2, capacity = 4) with a, b, c, d { emit a + b + c + d; }
 """
 
 
+# Some fifty of the 64 places for delayed messages are armed: at each tick one is armed and one fires, and at every sixth
+# one is cancelled and one moved. The thread never waits.
+TIMED = """\
+monotonic(binds = TIMER, priority = 3);
+shared { lock_free last = 0 }
+local { turns = 0 }
+idle(local = [turns]) { turns = turns + 1; }
+task arm(binds = ARM, priority = 2, shared = [last]) {
+    let which = last % 4;
+    let given = 0;
+    if which == 0 { let a = spawn_after(60) t0(last); given = a; }
+    if which == 1 { let b = spawn_after(60) t1(last); given = b; }
+    if which == 2 { let c = spawn_after(60) t2(last); given = c; }
+    if which == 3 { let d = spawn_after(60) t3(last); given = d; }
+    if given > 0 { last = given; }
+}
+task change(binds = CHANGE, priority = 2, shared = [last]) {
+    let which = (last - 1) % 4;
+    if which == 0 { cancel t0(last - 12); reschedule_after(70) t0(last - 8); }
+    if which == 1 { cancel t1(last - 12); reschedule_after(70) t1(last - 8); }
+    if which == 2 { cancel t2(last - 12); reschedule_after(70) t2(last - 8); }
+    if which == 3 { cancel t3(last - 12); reschedule_after(70) t3(last - 8); }
+}
+task t0(priority = 1, capacity = 16) with a {}
+task t1(priority = 1, capacity = 16) with a {}
+task t2(priority = 1, capacity = 16) with a {}
+task t3(priority = 1, capacity = 16) with a {}
+"""
+TICK = "pend ARM\nstep 797\ntick 1\n"
+
+
 def interrupts(names, irqs, last):
     """So many declared interrupts up to the last number, these among them: they take the first numbers or the last."""
     first = last + 1 - irqs
@@ -68,6 +99,9 @@ def application(irqs, last, name):
     if name == "messages":
         declared = interrupts(["SLOW", "FAST", "HIGH", "LOW"], irqs, last)
         return f"app bench(bits = 4, dispatchers = [HIGH, LOW]);\n{declared}{MESSAGES}"
+    if name == "timed":
+        declared = interrupts(["ARM", "CHANGE", "TIMER", "LOW"], irqs, last)
+        return f"app bench(bits = 4, dispatchers = [LOW]);\n{declared}{TIMED}"
     if name == "crowded":
         tasks = [
             f"task k{n}(binds = {name}, priority = {1 + n % 15}) {{ emit {n}; }}\n" for n, name in enumerate(CROWD)
@@ -210,6 +244,10 @@ def main(program, simulator, reader, folder):
     for irqs, last in (4, 3), (240, 239), (240, LAST):
         if takes(program, folder, last):
             measure_run(program, simulator, folder, irqs, last, "messages", messages)
+    timed = f"{TICK * 5}pend CHANGE\n{TICK}" * (EVENTS // 4800)
+    for irqs, last in (4, 3), (240, 239), (240, LAST):
+        if takes(program, folder, last):
+            measure_run(program, simulator, folder, irqs, last, "timed", timed)
     crowd = "".join(f"pend {name}\n" for name in CROWD) + "step 440\n"
     for irqs, last in (len(CROWD), len(CROWD) - 1), (240, 239), (240, LAST):
         if takes(program, folder, last):

@@ -1,4 +1,4 @@
-// A plain simulator of images without timers, for bench/run: `simulator LISTING SCRIPT` writes the listing, the line
+// A plain simulator of images, for bench/run: `simulator LISTING SCRIPT` writes the listing, the line
 // `trace`, and the trace of the image under the script, as `rtic run` does. As bench/interpreter.rs it takes a step at
 // a time, which shows an item, is silent, or traps; and it has no proofs.
 use std::collections::{BTreeSet, HashMap};
@@ -20,6 +20,9 @@ enum Instr {
     Emit(usize),
     Post(usize),
     Clock(usize),
+    // the slot of the instant, and the interrupt of the timer
+    Alarm(usize, usize),
+    NoAlarm,
     Raise(usize, u32),
     Restore(usize),
     Mask(usize),
@@ -38,12 +41,14 @@ enum Instr {
 enum Note {
     Leave(usize, Option<usize>),
     Start(usize, usize, usize),
+    // the slots of the numbers that it shows: an instant, a handle, or both
+    Timed(&'static str, usize, [usize; 2], usize),
     // any other, which shows its verb and its name
     Plain(&'static str, usize),
 }
 
 #[derive(Clone, Copy)]
-enum What {
+pub enum What {
     Take(usize, usize),
     Ret(usize),
     Emit(u32),
@@ -51,6 +56,9 @@ enum What {
     Clock(u32),
     Leave(usize, Option<u32>),
     Start(usize, [u32; 4], usize),
+    Timed(&'static str, usize, [u32; 2], usize),
+    Alarm,
+    Set,
     Plain(&'static str, usize),
     Trap(u8),
 }
@@ -62,9 +70,9 @@ const JUMP: u8 = 3;
 const BASIC_FRAME_WORDS: usize = 8;
 const EXTENDED_FRAME_WORDS: usize = 26;
 
-struct Irq {
-    name: String,
-    number: u16,
+pub struct Irq {
+    pub name: String,
+    pub number: u16,
     // its priority value, entry and frame
     handler: Option<(u32, usize, usize)>,
 }
@@ -76,10 +84,10 @@ struct Body {
     args: usize,
 }
 
-struct Image {
+pub struct Image {
     thread_words: usize,
     cells: Vec<(u32, String)>,
-    irqs: Vec<Irq>,
+    pub irqs: Vec<Irq>,
     bodies: Vec<Body>,
     code: Vec<(Instr, Option<Note>)>,
     names: Vec<String>,
@@ -128,6 +136,8 @@ fn instr(words: &[&str], irqs: &HashMap<String, usize>) -> Result<Instr, Box<dyn
         "emit" => Instr::Emit(place(1)?),
         "post" => Instr::Post(irqs[words[1]]),
         "clock" => Instr::Clock(place(1)?),
+        "alarm" => Instr::Alarm(place(1)?, irqs[words[2]]),
+        "noalarm" => Instr::NoAlarm,
         "raise" => Instr::Raise(place(1)?, number(2)?),
         "restore" => Instr::Restore(place(1)?),
         "mask" => Instr::Mask(place(1)?),
@@ -156,15 +166,18 @@ fn note(
     Ok(match verb {
         "leave" => Note::Leave(name, cells.get(words[1]).copied()),
         "start" => Note::Start(name, words[2].parse()?, args[words[1]]),
+        "arm" => Note::Timed("arm", name, [words[2].parse()?, 0], 1),
+        "cancel" => Note::Timed("cancel", name, [words[2].parse()?, 0], 1),
+        "move" => Note::Timed("move", name, [words[2].parse()?, words[3].parse()?], 2),
         _ => {
-            let verbs = ["enter", "ok", "full", "ready", "free", "end"];
+            let verbs = ["enter", "ok", "full", "ready", "free", "fire", "end"];
             let known = verbs.iter().copied().find(|known| *known == verb);
             Note::Plain(known.ok_or(format!("no note {verb}"))?, name)
         }
     })
 }
 
-fn read_image(text: &str) -> Result<Image, Box<dyn Error>> {
+pub fn read_image(text: &str) -> Result<Image, Box<dyn Error>> {
     let mut image = Image {
         thread_words: 0,
         cells: Vec::new(),
@@ -225,8 +238,8 @@ struct Context {
     caller: Option<usize>,
 }
 
-struct Core<'a> {
-    image: &'a Image,
+pub struct Core<'a> {
+    pub image: &'a Image,
     cells: Vec<u32>,
     stack: Vec<u32>,
     frame: usize,
@@ -240,12 +253,14 @@ struct Core<'a> {
     basepri: u32,
     primask: bool,
     time: u32,
-    steps: u64,
+    // an instant, and the interrupt that it pends
+    alarm: Option<(u32, usize)>,
+    pub steps: u64,
     stopped: bool,
 }
 
 impl<'a> Core<'a> {
-    fn new(image: &'a Image) -> Core<'a> {
+    pub fn new(image: &'a Image) -> Core<'a> {
         Core {
             image,
             cells: image.cells.iter().map(|cell| cell.0).collect(),
@@ -259,16 +274,41 @@ impl<'a> Core<'a> {
             basepri: 0,
             primask: true,
             time: 0,
+            alarm: None,
             steps: 0,
             stopped: false,
         }
     }
 
-    fn pend(&mut self, irq: usize) {
+    pub fn pend(&mut self, irq: usize) {
         let row = &self.image.irqs[irq];
         if let Some((value, _, _)) = row.handler {
             self.ready.insert((value, row.number, irq));
         }
+    }
+
+    // Time goes on. Whether the alarm came.
+    pub fn tick(&mut self) -> bool {
+        self.time += 1;
+        match self.alarm {
+            Some((instant, irq)) if instant <= self.time => {
+                self.alarm = None;
+                self.pend(irq);
+                true
+            }
+            _ => false,
+        }
+    }
+
+    // Sets the alarm to an instant, at which it comes at once where that has come.
+    fn set_alarm(&mut self, instant: u32, irq: usize) -> What {
+        if instant <= self.time {
+            self.alarm = None;
+            self.pend(irq);
+            return What::Alarm;
+        }
+        self.alarm = Some((instant, irq));
+        What::Set
     }
 
     // The execution priority, 256 where nothing runs or masks.
@@ -386,6 +426,11 @@ impl<'a> Core<'a> {
                 self.set(slot, self.time)?;
                 what = Some(What::Clock(self.time));
             }
+            Instr::Alarm(slot, irq) => what = Some(self.set_alarm(self.slot(slot)?, irq)),
+            Instr::NoAlarm => {
+                self.alarm = None;
+                what = Some(What::Set);
+            }
             Instr::Raise(slot, value) => {
                 self.set(slot, self.basepri)?;
                 self.basepri = value;
@@ -419,12 +464,19 @@ impl<'a> Core<'a> {
                 }
                 What::Start(task, values, count)
             }
+            Note::Timed(verb, task, slots, count) => {
+                let mut values = [0; 2];
+                for (value, slot) in values.iter_mut().zip(slots).take(count) {
+                    *value = self.slot(slot)?;
+                }
+                What::Timed(verb, task, values, count)
+            }
             Note::Plain(verb, name) => What::Plain(verb, name),
         })
     }
 
     // One core step; behind a trap every step is silent.
-    fn step(&mut self) -> Option<What> {
+    pub fn step(&mut self) -> Option<What> {
         self.steps += 1;
         if self.stopped {
             return None;
@@ -440,7 +492,7 @@ impl<'a> Core<'a> {
     }
 }
 
-fn write_item(out: &mut Vec<u8>, image: &Image, step: u64, what: What) -> io::Result<()> {
+pub fn write_item(out: &mut Vec<u8>, image: &Image, step: u64, what: What) -> io::Result<()> {
     let irq = |irq: usize| &image.irqs[irq].name;
     match what {
         What::Take(number, depth) => writeln!(out, "{step} take {} {depth}", irq(number)),
@@ -457,6 +509,15 @@ fn write_item(out: &mut Vec<u8>, image: &Image, step: u64, what: What) -> io::Re
             }
             writeln!(out)
         }
+        What::Timed(verb, task, values, count) => {
+            write!(out, "{step} {verb} {}", image.names[task])?;
+            for value in &values[..count] {
+                write!(out, " {value}")?;
+            }
+            writeln!(out)
+        }
+        What::Alarm => writeln!(out, "{step} alarm"),
+        What::Set => writeln!(out, "{step} set"),
         What::Plain(verb, name) => writeln!(out, "{step} {verb} {}", image.names[name]),
         What::Trap(trap) => writeln!(out, "{step} trap {trap}"),
     }
@@ -483,8 +544,11 @@ fn main() -> Result<(), Box<dyn Error>> {
             }
             "tick" => {
                 for _ in 0..words[1].parse::<u32>()? {
-                    core.time += 1;
+                    let came = core.tick();
                     writeln!(out, "{} tick", core.steps)?;
+                    if came {
+                        writeln!(out, "{} alarm", core.steps)?;
+                    }
                 }
             }
             _ => {
