@@ -328,10 +328,6 @@ impl Core {
         let Some((instr, note)) = self.program.line(self.registers.address) else {
             return self.stop(Trap::Jump);
         };
-        // A thread that waits does nothing.
-        if let (Instr::Wait, None) = (instr, note) {
-            return None;
-        }
         self.run(instr, note)
     }
 }
