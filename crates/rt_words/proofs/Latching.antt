@@ -16,6 +16,7 @@ use Rattle.rt_words.specs.Inside.Steps.{called, latched}
 use Rattle.rt_words.proofs.Lists.{in_push, drop_push}
 use Rattle.rt_words.proofs.Bits.{blank, zero_padding, zero_here, zero_below, zero_pending, get_or_padding, place_of}
 use Rattle.rt_words.proofs.Histories.{entry, Leads-push}
+use Rattle.rt_words.proofs.Seeing.{prefix_self, seen_more, extends}
 use Rattle.rt_words.proofs.Seats.{know_set, core_knows, seated_latch}
 
 -- the view of the first seat is the core's
@@ -38,7 +39,9 @@ zero_row may words k is = record {
 zero_padded : (words : List ℕ) (k : ℕ) → set (padded words) k 0 ≡ padded (set words k 0)
 zero_padded words k = zero_padding words (16 - length words) k ∙ ap (λ (n : ℕ). set words k 0 ++ blank (16 - n)) (sym (length-set words k 0))
 
-zero_quiet : (words : List ℕ) (core : View) (k n : ℕ) → core.since ≤ length core.calls → LatchedAreZero (drop core.since core.calls) words → LatchedAreZero (drop core.since (called core (Latch k n)).calls) (set words k 0)
+zero_quiet : (words : List ℕ) (core : View) (k n : ℕ) → core.since ≤ length core.calls
+    → LatchedAreZero (drop core.since core.calls) words
+    → LatchedAreZero (drop core.since (core.calls ++ Latch k n ∷ [])) (set words k 0)
 zero_quiet words core k n behind is j word h =
     let h' = subst (λ (t : List Call). Contains t (Latch j word)) (drop_push core.since core.calls (Latch k n) behind) h in
     ⊎_elim
@@ -47,17 +50,24 @@ zero_quiet words core k n behind is j word h =
     (in_push (drop core.since core.calls) (Latch k n) (Latch j word) h')
 
 latched_standing : (may words : List ℕ) (views : List View) (history : List Entry) (core : View) (k : ℕ) → Standing may words views history core
-    → Standing may (set words k 0) (set views 0 (called core (Latch k (get_or words k 0)))) (history ++ entry 255 (Latch k (get_or words k 0)) ∷ []) (called core (Latch k (get_or words k 0)))
+    → (
+    let c : Call = Latch k (get_or words k 0) in
+    let more : List Entry = history ++ entry 255 c ∷ [] in
+    Standing may (set words k 0) (set views 0 (called core more c)) more (called core more c))
 latched_standing may words views history core k st =
     let n : ℕ = get_or words k 0 in
     let c : Call = Latch k n in
+    let more : List Entry = history ++ entry 255 c ∷ [] in
     let longer : length (core.calls ++ c ∷ []) ≡ length core.calls + 1 = length-append core.calls (c ∷ []) in
     let b = st.behind in
     record {
       row = zero_row may words k st.row;
       legal = subst (λ (l : List ℕ). IsLegal (history ++ entry 255 c ∷ []) l) (zero_padded words k) (Leads-push _ (padded words) history (entry 255 c) st.legal (sym (get_or_padding words (16 - length words) k)));
-      seated = seated_latch history views core c st.seated;
-      same_may = know_set may views 0 (called core c) st.same_may (λ lives. core_knows may history views core st.seated st.same_may);
+      seated = seated_latch history views core more c st.seated;
+      seen = seen_more history (entry 255 c ∷ []) views 0 (called core more c) st.seen (prefix_self more);
+      same_may =
+          know_set may views 0 (called core more c) st.same_may
+          (λ lives. core_knows may history views core st.seated st.same_may);
       behind = omega arith;
       quiet = λ all. zero_quiet words core k n st.behind (st.quiet all);
     }
@@ -66,12 +76,24 @@ latches_first : (may : List ℕ) (slots k : ℕ) (me : Seat) → Allows (Kept ma
 latches_first may slots k me s kept homes at small =
     let st = core_is may s.words s.views kept.0 kept.1 me.0 kept.2 at in
     let n : ℕ = get_or s.words k 0 in
-    let w : View = called me.0 (Latch k n) in (
+    let c : Call = Latch k n in
+    let more : List Entry = kept.0 ++ entry 255 c ∷ [] in
+    let w : View = called me.0 more c in (
       w,
       keeps,
       tt,
-      subst (λ (z : ℕ). Kept may (stepped s k z 0 me.1 w keeps)) (sym (and_zero_r n)) (kept.0 ++ entry 255 (Latch k n) ∷ [], w, latched_standing may s.words s.views kept.0 me.0 k st),
-      (refl, st.row.low k, λ bit l e. subst (λ (m : List ℕ). IsPending m (32 * k + bit)) (sym (core_knows may kept.0 s.views me.0 st.seated st.same_may)) (st.row.within (32 * k + bit) (place_of s.words k bit l ∙ e))),
+      subst (λ (z : ℕ). Kept may (stepped s k z 0 me.1 w keeps)) (sym (and_zero_r n))
+          (more, w, latched_standing may s.words s.views kept.0 me.0 k st),
+      (
+        more,
+        refl,
+        extends me.0.seen kept.0 255 c (st.seen 0 me.0 at),
+        st.row.low k,
+        λ bit l e.
+            subst (λ (m : List ℕ). IsPending m (32 * k + bit))
+            (sym (core_knows may kept.0 s.views me.0 st.seated st.same_may))
+            (st.row.within (32 * k + bit) (place_of s.words k bit l ∙ e)),
+      ),
     )
 
 -- a step of the first seat that sets a word to 0

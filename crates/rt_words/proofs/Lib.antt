@@ -1,6 +1,7 @@
 pub mod Lists
 pub mod Bits
 pub mod Histories
+pub mod Seeing
 pub mod Seats
 pub mod Latching
 pub mod Pending
@@ -12,3 +13,4 @@ pub mod Accounting
 pub mod Parting
 pub mod Closing
 pub mod Worked
+pub mod Blind

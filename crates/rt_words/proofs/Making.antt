@@ -16,6 +16,7 @@ use Rattle.rt_words.specs.Inside.Seats.{Seat, Seated}
 use Rattle.rt_words.specs.Inside.Steps.{device, reserving, reserved, without_reserved, copied, took, joined, spent, looked}
 use Rattle.rt_words.proofs.Lists.{in_head, in_none, of_map, drop_whole}
 use Rattle.rt_words.proofs.Seats.{know_set, know_push, core_knows, seated_reserve, seated_split, seated_take, seated_join, seated_look}
+use Rattle.rt_words.proofs.Seeing.{prefix_self, prefix_none, seen_set, seen_push}
 use Rattle.rt_words.proofs.Latching.{core_is}
 
 -- a load leaves the words
@@ -37,6 +38,7 @@ reserved_standing may words views history core number st other new = record {
   row = st.row;
   legal = st.legal;
   seated = seated_reserve history views core number st.seated other new;
+  seen = seen_set history views 0 (reserving number core) st.seen (st.seen 0 core st.seated.first);
   same_may = know_set may views 0 (reserving number core) st.same_may (λ lives. core_knows may history views core st.seated st.same_may);
   behind = omega arith;
   quiet = λ all. absurd (new (gathered_made history views core number st.seated (all number (in_head number core.made))));
@@ -54,7 +56,7 @@ reserves may slots id number me is other new = subst (λ (z : ℕ). Allows (Kept
 -- a new seat takes the reserved number
 pub takes : (may : List ℕ) (slots id number : ℕ) (me : Seat) → me.0.stage ≡ Copied → me.0.reserved ≡ Some number → Allows (Kept may) slots id me 0 (λ n. n) (took (step slots 0 0 0 none) me)
 takes may slots id number me stage has s kept homes at small =
-    let w : View = device number [] me.0.may in
+    let w : View = device number [] me.0.seen me.0.may in
     let st = kept.2 in (
       w,
       keeps,
@@ -66,12 +68,13 @@ takes may slots id number me stage has s kept homes at small =
           row = st.row;
           legal = st.legal;
           seated = seated_take kept.0 s.views kept.1 id me.0 number st.seated at stage has;
+          seen = seen_set kept.0 s.views id w st.seen (st.seen id me.0 at);
           same_may = know_set may s.views id w st.same_may (λ lives. st.same_may id me.0 at (λ e. let f : Copied ≡ Spent = sym stage ∙ e in absurd cc));
           behind = st.behind;
           quiet = st.quiet;
         },
       ),
-      ap (λ (o : Option ℕ). (device (unwrap_or o 255) [] me.0.may, me.1)) (sym has),
+      ap (λ (o : Option ℕ). (device (unwrap_or o 255) [] me.0.seen me.0.may, me.1)) (sym has),
     )
 
 splits_first : (may : List ℕ) (v : View) → Splits (Kept may) 0 v (without_reserved v) (copied v)
@@ -79,7 +82,21 @@ splits_first may v s kept at =
     let st = core_is may s.words s.views kept.0 kept.1 v kept.2 at in (
       kept.0,
       without_reserved v,
-      record { row = st.row; legal = st.legal; seated = seated_split kept.0 s.views v st.seated; same_may = know_push may (set s.views 0 (without_reserved v)) (copied v) (know_set may s.views 0 (without_reserved v) st.same_may (λ lives. core_knows may kept.0 s.views v st.seated st.same_may)) (core_knows may kept.0 s.views v st.seated st.same_may); behind = st.behind; quiet = st.quiet },
+      record {
+        row = st.row;
+        legal = st.legal;
+        seated = seated_split kept.0 s.views v st.seated;
+        seen =
+            seen_push kept.0 (set s.views 0 (without_reserved v)) (copied v)
+            (seen_set kept.0 s.views 0 (without_reserved v) st.seen (st.seen 0 v at)) (st.seen 0 v at);
+        same_may =
+            know_push may (set s.views 0 (without_reserved v)) (copied v)
+            (know_set may s.views 0 (without_reserved v) st.same_may
+            (λ lives. core_knows may kept.0 s.views v st.seated st.same_may))
+            (core_knows may kept.0 s.views v st.seated st.same_may);
+        behind = st.behind;
+        quiet = st.quiet;
+      },
     )
 
 -- the first seat is split
@@ -95,6 +112,9 @@ joins_first may v other w stage s kept at away found =
         row = st.row;
         legal = st.legal;
         seated = seated_join kept.0 s.views v other w st.seated away found stage;
+        seen =
+            seen_set kept.0 (set s.views 0 (joined v w)) other spent
+            (seen_set kept.0 s.views 0 (joined v w) st.seen (st.seen 0 v at)) (prefix_none kept.0);
         same_may = know_set may (set s.views 0 (joined v w)) other spent (know_set may s.views 0 (joined v w) st.same_may (λ lives. core_knows may kept.0 s.views v st.seated st.same_may)) (λ lives. absurd (lives refl));
         behind = omega arith;
         quiet = λ all. still s.words v;
@@ -108,7 +128,7 @@ joins may id v other w is stage = subst (λ (z : ℕ). Joins (Kept may) z v othe
 looks_first : (may : List ℕ) (slots : ℕ) (me : Seat) → Allows (Kept may) slots 0 me 0 (λ n. n) (looked (step slots 0 0 0 none) me)
 looks_first may slots me s kept homes at small =
     let st = core_is may s.words s.views kept.0 kept.1 me.0 kept.2 at in
-    let w : View = record me.0 { since = length me.0.calls } in (
+    let w : View = record me.0 { since = length me.0.calls; seen = kept.0 } in (
       w,
       keeps,
       tt,
@@ -118,13 +138,21 @@ looks_first may slots me s kept homes at small =
         record {
           row = st.row;
           legal = st.legal;
-          seated = seated_look kept.0 s.views me.0 st.seated;
+          seated = seated_look kept.0 s.views me.0 kept.0 st.seated;
+          seen = seen_set kept.0 s.views 0 w st.seen (prefix_self kept.0);
           same_may = know_set may s.views 0 w st.same_may (λ lives. core_knows may kept.0 s.views me.0 st.seated st.same_may);
           behind = omega arith;
           quiet = λ all. still s.words me.0;
         },
       ),
-      (refl, st.seated.once, λ number h. gathered_made kept.0 s.views me.0 number st.seated h),
+      (
+        kept.0,
+        refl,
+        st.seen 0 me.0 at,
+        st.seated.once,
+        λ number h.
+            gathered_made kept.0 s.views me.0 number st.seated h,
+      ),
     )
 
 -- the first seat looks

@@ -3,6 +3,7 @@ use Rattle.std.proofs.Common.{◌≡◌, ℕ, ◌+◌, ◌-◌, ◌*◌, ◌/◌
 use Rattle.std.proofs.lemmas.List.{replicate-append-replicate}
 use Rattle.std.specs.Int.{bit_at}
 use Rattle.std.proofs.lemmas.Nat.Bits.{bit_at-zero}
+use mathlib.Core.List.{IsPrefix}
 use mathlib.Core.Option.{some, some-injective, some-ne-none}
 use lib.ListN.{get_elem?}
 use Rattle.rt_words.specs.declared.view.View.{View}
@@ -12,6 +13,7 @@ use Rattle.rt_words.specs.Inside.Seats.{number_of, Seated}
 use Rattle.rt_words.specs.Inside.Steps.{newcomer}
 use Rattle.rt_words.proofs.Bits.{blank, blank_long, zeros}
 use Rattle.rt_words.proofs.Lists.{in_none}
+use Rattle.rt_words.proofs.Seeing.{prefix_none}
 
 blank_row : (may : List ℕ) (n : ℕ) → n ≤ 16 → ((irq : ℕ) → IsPending may irq → irq < 32 * n) → IsRow may (blank n)
 blank_row may n l covers = record {
@@ -47,11 +49,16 @@ opens may words n is l covers = subst (λ (ws : List ℕ). Standing may ws (newc
   row = blank_row may n l covers;
   legal = blank_padded n l;
   seated = new_seated may;
+  seen = unseen;
   same_may = λ seat v at lives. known seat v at;
   behind = omega arith;
   quiet = λ all k word h. absurd (in_none _ h);
 }
   where
+    unseen : (seat : ℕ) (v : View) → get_elem? (newcomer may ∷ []) seat ≡ some v → IsPrefix v.seen []
+    unseen zero v at = subst (λ (x : View). IsPrefix x.seen []) (some-injective (newcomer may) v at) (prefix_none [])
+    unseen (suc seat) v at = absurd (some-ne-none v (sym at))
+
     known : (seat : ℕ) (v : View) → get_elem? (newcomer may ∷ []) seat ≡ some v → v.may ≡ may
     known zero v at = sym (ap (λ (x : View). x.may) (some-injective (newcomer may) v at))
     known (suc seat) v at = absurd (some-ne-none v (sym at))

@@ -12,10 +12,10 @@ use Rattle.rt_words.specs.Ending.{calls_in}
 use Rattle.rt_words.proofs.Lists.{in_head, in_tail, in_cases, in_none}
 use Rattle.rt_words.proofs.Accounting.{count_first}
 
-part_first : (e : Entry) (es : List Entry) (n : ℕ) → e.line ≡ n → part (e ∷ es) n ≡ e.call ∷ part es n
+pub part_first : (e : Entry) (es : List Entry) (n : ℕ) → e.line ≡ n → part (e ∷ es) n ≡ e.call ∷ part es n
 part_first e es n is = ap (λ b. map (λ (x : Entry). x.call) (cond b (e ∷ filter (λ (x : Entry). eqb x.line n) es) (filter (λ (x : Entry). eqb x.line n) es))) (eq-eqb e.line n is)
 
-part_rest : (e : Entry) (es : List Entry) (n : ℕ) → e.line ≢ n → part (e ∷ es) n ≡ part es n
+pub part_rest : (e : Entry) (es : List Entry) (n : ℕ) → e.line ≢ n → part (e ∷ es) n ≡ part es n
 part_rest e es n ne = ap (λ b. map (λ (x : Entry). x.call) (cond b (e ∷ filter (λ (x : Entry). eqb x.line n) es) (filter (λ (x : Entry). eqb x.line n) es))) (ne_eqb e.line n ne)
 
 -- the history without the calls of a number

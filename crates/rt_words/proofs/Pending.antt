@@ -18,9 +18,10 @@ use Rattle.rt_words.specs.Object.{IsPending, IsAnswered, after}
 use Rattle.rt_words.specs.History.{Entry, IsLegal}
 use Rattle.rt_words.specs.Inside.Rule.{IsRow, padded, Standing, Kept}
 use Rattle.rt_words.specs.Inside.Seats.{Seat}
-use Rattle.rt_words.specs.Inside.Steps.{called, answer_at, pended}
+use Rattle.rt_words.specs.Inside.Steps.{called, Extends, answer_at, pended}
 use Rattle.rt_words.proofs.Bits.{blank, set_padding, get_or_padding, with_bit, pend_other}
 use Rattle.rt_words.proofs.Histories.{entry, Leads-push}
+use Rattle.rt_words.proofs.Seeing.{prefix_self, seen_more, extends}
 use Rattle.rt_words.proofs.Seats.{know_set, numbered, seated_pend}
 
 -- two equal powers of 2 are one power
@@ -78,18 +79,21 @@ pend_padded words irq a l =
 pended_standing : (may words : List ℕ) (views : List View) (history : List Entry) (core : View) (id irq : ℕ) (v : View) → Standing may words views history core
     → get_elem? views id ≡ some v → v.stage ≡ Device → IsPending may irq
     → (c : Call) → c ≡ Pend irq (answer_at (get_or words (irq / 32) 0) (irq % 32))
-    → Standing may (pend_in words irq) (set views id (called v c)) (history ++ entry v.line c ∷ []) core
+    → Standing may (pend_in words irq) (set views id (called v (history ++ entry v.line c ∷ []) c))
+    (history ++ entry v.line c ∷ []) core
 pended_standing may words views history core id irq v st at stage may_be c is =
     let n : ℕ = get_or words (irq / 32) 0 in
     let l = st.row.covers irq may_be in
     let mine = st.seated.lines id v.line v at (numbered v Device stage) in
+    let more : List Entry = history ++ entry v.line c ∷ [] in
     let a : IsAnswered (padded words) c = subst (λ (x : Call). IsAnswered (padded words) x) (sym is) (answered (padded words) irq n (get_or_padding words (16 - length words) (irq / 32))) in
     record {
       row = pend_row may words irq may_be st.row;
       legal = subst (λ (x : List ℕ). IsLegal (history ++ entry v.line c ∷ []) x) (ap (λ (x : Call). after (padded words) x) is ∙ pend_padded words irq (answer_at n (irq % 32)) l)
           (Leads-push _ (padded words) history (entry v.line c) st.legal a);
-      seated = seated_pend history views core id v c st.seated at stage;
-      same_may = know_set may views id (called v c) st.same_may (st.same_may id v at);
+      seated = seated_pend history views core id v more c st.seated at stage;
+      seen = seen_more history (entry v.line c ∷ []) views id (called v more c) st.seen (prefix_self more);
+      same_may = know_set may views id (called v more c) st.same_may (st.same_may id v at);
       behind = st.behind;
       quiet = λ all. absurd (mine.ungathered (all v.line mine.made));
     }
@@ -100,15 +104,24 @@ pub pends : (may : List ℕ) (slots id irq : ℕ) (me : Seat) → me.0.stage ≡
 pends may slots id irq me stage may_be s kept homes at small =
     let n : ℕ = get_or s.words (irq / 32) 0 in
     let c : Call = Pend irq (answer_at n (irq % 32)) in
-    let w : View = called me.0 c in (
+    let more : List Entry = kept.0 ++ entry me.0.line c ∷ [] in
+    let w : View = called me.0 more c in (
       w,
       keeps,
       tt,
-      (kept.0 ++ entry me.0.line c ∷ [], kept.1, pended_standing may s.words s.views kept.0 kept.1 id irq me.0 kept.2 at stage may_be c refl),
-      λ bit l e.
-          let is : irq % 32 ≡ bit = one_power (irq % 32) bit e in
-          let whole : irq ≡ 32 * (irq / 32) + bit = omega arith in
-          ap (λ (x : View). (x, me.1)) (ap (λ (x : ℕ × ℕ). called me.0 (Pend x.0 (answer_at n x.1))) (λ i. (whole i, is i))),
+      (more, kept.1, pended_standing may s.words s.views kept.0 kept.1 id irq me.0 kept.2 at stage may_be c refl),
+      (
+        more,
+        λ bit l e.
+            let is : irq % 32 ≡ bit = one_power (irq % 32) bit e in
+            let whole : irq ≡ 32 * (irq / 32) + bit = omega arith in
+            let same : c ≡ Pend (32 * (irq / 32) + bit) (answer_at n bit) =
+            ap (λ (x : ℕ × ℕ). Pend x.0 (answer_at n x.1)) (λ i. (whole i, is i)) in (
+              ap (λ (x : Call). (called me.0 more x, me.1)) same,
+              subst (λ (x : Call). Extends me.0.seen me.0.line x more) same
+                  (extends me.0.seen kept.0 me.0.line c (kept.2.seen id me.0 at)),
+            ),
+      ),
     )
 
 -- the same, at the word and the operand of the code

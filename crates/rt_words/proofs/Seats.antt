@@ -68,9 +68,11 @@ not_first : (history : List Entry) (views : List View) (core : View) (id : ℕ) 
 not_first history views core id v s is at stage apart zero_is = apart (sym is.stage ∙ ap (λ (x : View). x.stage) (some-injective core v (sym is.first ∙ ap (get_elem? views) (sym zero_is) ∙ at)) ∙ stage)
 
 -- the core has one call more
-pub seated_latch : (history : List Entry) (views : List View) (core : View) (c : Call) → Seated history views core → Seated (history ++ entry 255 c ∷ []) (set views 0 (called core c)) (called core c)
-seated_latch history views core c is =
-    let w : View = called core c in
+pub seated_latch : (history : List Entry) (views : List View) (core : View) (seen : List Entry) (c : Call)
+    → Seated history views core
+    → Seated (history ++ entry 255 c ∷ []) (set views 0 (called core seen c)) (called core seen c)
+seated_latch history views core seen c is =
+    let w : View = called core seen c in
     let more = history ++ entry 255 c ∷ [] in
     let spoken : (number : ℕ) (u x : View) → calls_of x ≡ calls_of u → InUse history core u number → InUse more w x number = λ number u x same k. record {
       same_calls = part-push_other history 255 number c (λ e. k.other (sym e)) ∙ k.same_calls ∙ sym same;
@@ -92,10 +94,12 @@ seated_latch history views core c is =
     }
 
 -- a device has one call more
-pub seated_pend : (history : List Entry) (views : List View) (core : View) (id : ℕ) (v : View) (c : Call) → Seated history views core → get_elem? views id ≡ some v → v.stage ≡ Device
-    → Seated (history ++ entry v.line c ∷ []) (set views id (called v c)) core
-seated_pend history views core id v c is at stage =
-    let w : View = called v c in
+pub seated_pend : (history : List Entry) (views : List View) (core : View) (id : ℕ) (v : View) (seen : List Entry)
+    (c : Call)
+    → Seated history views core → get_elem? views id ≡ some v → v.stage ≡ Device
+    → Seated (history ++ entry v.line c ∷ []) (set views id (called v seen c)) core
+seated_pend history views core id v seen c is at stage =
+    let w : View = called v seen c in
     let more = history ++ entry v.line c ∷ [] in
     let mine = is.lines id v.line v at (numbered v Device stage) in
     let away = not_first history views core id v Device is at stage (λ e. cc) in
@@ -194,9 +198,9 @@ seated_split history views core is =
 
 -- the new seat takes its number
 pub seated_take : (history : List Entry) (views : List View) (core : View) (id : ℕ) (v : View) (number : ℕ) → Seated history views core → get_elem? views id ≡ some v → v.stage ≡ Copied → v.reserved ≡ Some number
-    → Seated history (set views id (device number [] v.may)) core
+    → Seated history (set views id (device number [] v.seen v.may)) core
 seated_take history views core id v number is at stage has =
-    let w : View = device number [] v.may in
+    let w : View = device number [] v.seen v.may in
     let away = not_first history views core id v Copied is at stage (λ e. cc) in
     let mine = is.lines id number v at (numbered v Copied stage ∙ has) in
     record {
@@ -253,9 +257,12 @@ seated_join history views core other v is away found stage =
     }
 
 -- the core looks
-pub seated_look : (history : List Entry) (views : List View) (core : View) → Seated history views core → Seated history (set views 0 (record core { since = length core.calls })) (record core { since = length core.calls })
-seated_look history views core is =
-    let w : View = record core { since = length core.calls } in
+pub seated_look : (history : List Entry) (views : List View) (core : View) (seen : List Entry)
+    → Seated history views core
+    → Seated history (set views 0 (record core { since = length core.calls; seen = seen }))
+    (record core { since = length core.calls; seen = seen })
+seated_look history views core seen is =
+    let w : View = record core { since = length core.calls; seen = seen } in
     let spoken : (n : ℕ) (u x : View) → calls_of x ≡ calls_of u → InUse history core u n → InUse history w x n = λ n u x same k. record { same_calls = k.same_calls ∙ sym same; made = k.made; ungathered = k.ungathered; other = k.other } in
     record {
       first = set_here views 0 w (at_below views 0 core is.first);

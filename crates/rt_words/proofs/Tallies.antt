@@ -13,6 +13,7 @@ use Rattle.rt_words.specs.Inside.Fields.{Counts, IsCoreSeat, IsDeviceSeat}
 use Rattle.rt_words.specs.Inside.Seats.{Seat}
 use Rattle.rt_words.specs.Inside.Steps.{called, device, newcomer, reserving, without_reserved, joined}
 use Rattle.rt_words.specs.declared.view.Part.{Part}
+use Rattle.rt_words.specs.History.{Entry}
 use Rattle.rt_words.proofs.Bits.{blank, blank_long, zeros}
 
 -- one call more, under any test
@@ -49,8 +50,9 @@ none_more f calls c is misses irq =
     let before = is irq in
     omega arith
 
-after_merged_at : (me : Seat) (rs ms : List ℕ) (n : ℕ) → IsDeviceSeat me rs ms → n < 512 → IsDeviceSeat (called me.0 (Pend n Merged), me.1) rs (set ms n (get_or ms n 0 + 1))
-after_merged_at me rs ms n is l = let e = is.room_merged in record {
+after_merged_at : (me : Seat) (rs ms : List ℕ) (n : ℕ) (seen : List Entry) → IsDeviceSeat me rs ms → n < 512
+    → IsDeviceSeat (called me.0 seen (Pend n Merged), me.1) rs (set ms n (get_or ms n 0 + 1))
+after_merged_at me rs ms n seen is l = let e = is.room_merged in record {
   slots = is.slots;
   stage = is.stage;
   room_raised = is.room_raised;
@@ -60,8 +62,9 @@ after_merged_at me rs ms n is l = let e = is.room_merged in record {
   latches = none_more latches me.0.calls (Pend n Merged) is.latches (λ irq. refl);
 }
 
-after_raised_at : (me : Seat) (rs ms : List ℕ) (n : ℕ) → IsDeviceSeat me rs ms → n < 512 → IsDeviceSeat (called me.0 (Pend n Raised), me.1) (set rs n (get_or rs n 0 + 1)) ms
-after_raised_at me rs ms n is l = let e = is.room_raised in record {
+after_raised_at : (me : Seat) (rs ms : List ℕ) (n : ℕ) (seen : List Entry) → IsDeviceSeat me rs ms → n < 512
+    → IsDeviceSeat (called me.0 seen (Pend n Raised), me.1) (set rs n (get_or rs n 0 + 1)) ms
+after_raised_at me rs ms n seen is l = let e = is.room_raised in record {
   slots = is.slots;
   stage = is.stage;
   room_raised = length-set rs n (get_or rs n 0 + 1) ∙ is.room_raised;
@@ -72,14 +75,22 @@ after_raised_at me rs ms n is l = let e = is.room_raised in record {
 }
 
 -- a device's line after a pend, with its count one more
-pub after_merged : (me me' : Seat) (rs ms : List ℕ) (n : ℕ) → IsDeviceSeat me rs ms → n < 512 → me' ≡ (called me.0 (Pend n Merged), me.1) → IsDeviceSeat me' rs (set ms n (get_or ms n 0 + 1))
-after_merged me me' rs ms n is l e = subst (λ (x : Seat). IsDeviceSeat x rs (set ms n (get_or ms n 0 + 1))) (sym e) (after_merged_at me rs ms n is l)
+pub after_merged : (me me' : Seat) (rs ms : List ℕ) (n : ℕ) (seen : List Entry) → IsDeviceSeat me rs ms → n < 512
+    → me' ≡ (called me.0 seen (Pend n Merged), me.1) → IsDeviceSeat me' rs (set ms n (get_or ms n 0 + 1))
+after_merged me me' rs ms n seen is l e =
+    subst (λ (x : Seat). IsDeviceSeat x rs (set ms n (get_or ms n 0 + 1))) (sym e)
+    (after_merged_at me rs ms n seen is l)
 
-pub after_raised : (me me' : Seat) (rs ms : List ℕ) (n : ℕ) → IsDeviceSeat me rs ms → n < 512 → me' ≡ (called me.0 (Pend n Raised), me.1) → IsDeviceSeat me' (set rs n (get_or rs n 0 + 1)) ms
-after_raised me me' rs ms n is l e = subst (λ (x : Seat). IsDeviceSeat x (set rs n (get_or rs n 0 + 1)) ms) (sym e) (after_raised_at me rs ms n is l)
+pub after_raised : (me me' : Seat) (rs ms : List ℕ) (n : ℕ) (seen : List Entry) → IsDeviceSeat me rs ms → n < 512
+    → me' ≡ (called me.0 seen (Pend n Raised), me.1) → IsDeviceSeat me' (set rs n (get_or rs n 0 + 1)) ms
+after_raised me me' rs ms n seen is l e =
+    subst (λ (x : Seat). IsDeviceSeat x (set rs n (get_or rs n 0 + 1)) ms) (sym e)
+    (after_raised_at me rs ms n seen is l)
 
-after_latched_at : (id : ℕ) (me : Seat) (old new : List ℕ) (k word : ℕ) → IsCoreSeat id me old → length new ≡ 512 → ((irq : ℕ) → get_or new irq 0 ≡ get_or old irq 0 + cond (latches irq (Latch k word)) 1 0) → IsCoreSeat id (called me.0 (Latch k word), me.1) new
-after_latched_at id me old new k word is room grown = record {
+after_latched_at : (id : ℕ) (me : Seat) (old new : List ℕ) (k word : ℕ) (seen : List Entry) → IsCoreSeat id me old
+    → length new ≡ 512 → ((irq : ℕ) → get_or new irq 0 ≡ get_or old irq 0 + cond (latches irq (Latch k word)) 1 0)
+    → IsCoreSeat id (called me.0 seen (Latch k word), me.1) new
+after_latched_at id me old new k word seen is room grown = record {
   first = is.first;
   slots = is.slots;
   stage = is.stage;
@@ -96,9 +107,13 @@ after_latched_at id me old new k word is room grown = record {
 }
 
 -- the core's line after a latch, with its counts
-pub after_latched : (id id' : ℕ) (me me' : Seat) (old new : List ℕ) (k word : ℕ) → IsCoreSeat id me old → length new ≡ 512 → ((irq : ℕ) → get_or new irq 0 ≡ get_or old irq 0 + cond (latches irq (Latch k word)) 1 0)
-    → id' ≡ id → me' ≡ (called me.0 (Latch k word), me.1) → IsCoreSeat id' me' new
-after_latched id id' me me' old new k word is room grown same e = subst (λ (x : ℕ × Seat). IsCoreSeat x.0 x.1 new) (λ i. (sym same i, sym e i)) (after_latched_at id me old new k word is room grown)
+pub after_latched : (id id' : ℕ) (me me' : Seat) (old new : List ℕ) (k word : ℕ) (seen : List Entry)
+    → IsCoreSeat id me old → length new ≡ 512
+    → ((irq : ℕ) → get_or new irq 0 ≡ get_or old irq 0 + cond (latches irq (Latch k word)) 1 0)
+    → id' ≡ id → me' ≡ (called me.0 seen (Latch k word), me.1) → IsCoreSeat id' me' new
+after_latched id id' me me' old new k word seen is room grown same e =
+    subst (λ (x : ℕ × Seat). IsCoreSeat x.0 x.1 new) (λ i. (sym same i, sym e i))
+    (after_latched_at id me old new k word seen is room grown)
 
 -- a count is at most the number of calls
 pub counts_room : (f : ℕ → Call → Bool) (counts : List ℕ) (calls : List Call) → Counts (λ irq. count_by (f irq)) counts calls → length counts ≡ 512 → length calls < 2 ^ 32 - 1 → (irq : ℕ) → get_or counts irq 0 < 2 ^ 32 - 1
@@ -119,35 +134,40 @@ after_made id id' number me me' counts is same e = subst (λ (x : ℕ × Seat). 
 }
 
 -- the new line
-pub new_device : (number : ℕ) (may : List ℕ) (me : Seat) (rs ms : List ℕ) → me ≡ (device number [] may, []) → rs ≡ blank 512 → ms ≡ blank 512 → IsDeviceSeat me rs ms
-new_device number may me rs ms e r m = subst (λ (x : Seat × List ℕ × List ℕ). IsDeviceSeat x.0 x.1 x.2) (λ i. (sym e i, sym r i, sym m i)) record {
-  slots = refl;
-  stage = refl;
-  room_raised = blank_long 512;
-  room_merged = blank_long 512;
-  count_raised = λ irq small. zeros 512 irq;
-  count_merged = λ irq small. zeros 512 irq;
-  latches = λ irq. refl;
-}
+pub new_device : (number : ℕ) (seen : List Entry) (may : List ℕ) (me : Seat) (rs ms : List ℕ)
+    → me ≡ (device number [] seen may, []) → rs ≡ blank 512 → ms ≡ blank 512 → IsDeviceSeat me rs ms
+new_device number seen may me rs ms e r m =
+    subst (λ (x : Seat × List ℕ × List ℕ). IsDeviceSeat x.0 x.1 x.2) (λ i. (sym e i, sym r i, sym m i)) record {
+      slots = refl;
+      stage = refl;
+      room_raised = blank_long 512;
+      room_merged = blank_long 512;
+      count_raised = λ irq small. zeros 512 irq;
+      count_merged = λ irq small. zeros 512 irq;
+      latches = λ irq. refl;
+    }
 
 -- the core's line after it took in a line
-pub after_gathered : (id id' : ℕ) (me me' dev : Seat) (counts rs ms : List ℕ) (since : ℕ) → IsCoreSeat id me counts → IsDeviceSeat dev rs ms → id' ≡ id
-    → me' ≡ (record (joined me.0 dev.0) { since = since }, me.1) → IsCoreSeat id' me' counts
-after_gathered id id' me me' dev counts rs ms since is taken same e = subst (λ (x : ℕ × Seat). IsCoreSeat x.0 x.1 counts) (λ i. (sym same i, sym e i)) record {
-  first = is.first;
-  slots = is.slots;
-  stage = is.stage;
-  free = is.free;
-  room = is.room;
-  counted = is.counted;
-  raises = is.raises;
-  merges = is.merges;
-  others = λ irq.
-      let all = sum_by-cons (λ (p : Part). latched irq p.calls) (record { line = dev.0.line; calls = dev.0.calls }) me.0.gathered in
-      let one = taken.latches irq in
-      let rest = is.others irq in
-      omega arith;
-}
+pub after_gathered : (id id' : ℕ) (me me' dev : Seat) (counts rs ms : List ℕ) (since : ℕ) (seen : List Entry)
+    → IsCoreSeat id me counts → IsDeviceSeat dev rs ms → id' ≡ id
+    → me' ≡ (record (joined me.0 dev.0) { since = since; seen = seen }, me.1) → IsCoreSeat id' me' counts
+after_gathered id id' me me' dev counts rs ms since seen is taken same e =
+    subst (λ (x : ℕ × Seat). IsCoreSeat x.0 x.1 counts) (λ i. (sym same i, sym e i)) record {
+      first = is.first;
+      slots = is.slots;
+      stage = is.stage;
+      free = is.free;
+      room = is.room;
+      counted = is.counted;
+      raises = is.raises;
+      merges = is.merges;
+      others = λ irq.
+          let all = sum_by-cons (λ (p : Part). latched irq p.calls)
+          (record { line = dev.0.line; calls = dev.0.calls }) me.0.gathered in
+          let one = taken.latches irq in
+          let rest = is.others irq in
+          omega arith;
+    }
 
 -- the core's line at the beginning
 pub new_core : (id : ℕ) (may : List ℕ) (me : Seat) (counts : List ℕ) → id ≡ 0 → me ≡ (newcomer may, []) → counts ≡ blank 512 → IsCoreSeat id me counts

@@ -1,12 +1,8 @@
 -- Histories of the calls of several lines.
 use Rattle.std.specs.Prelude.{◌≡◌, ℕ, ◌==◌, List, [], ◌∷◌, map, filter, replicate}
 use Rattle.rt_words.specs.declared.call.Call.{Call}
+pub use Rattle.rt_words.specs.declared.call.Entry.{Entry}
 use Rattle.rt_words.specs.Object.{IsAnswered, after}
-
--- a call of the line of this number
-pub record Entry : Type 0 where
-  pub line : ℕ
-  pub call : Call
 
 -- each call got the answer of the words that it met, from the first words on, and the last words are left
 abbrev pub Leads : List ℕ → List Entry → List ℕ → Type 0

@@ -14,3 +14,9 @@ pub enum Call {
     /// The number of the word that was latched, and the word that stood.
     Latch(u8, u32),
 }
+
+/// A call in a history of several lines, with the number of its line. Contracts name its values; no program makes one.
+pub struct Entry {
+    pub line: u8,
+    pub call: Call,
+}

@@ -10,7 +10,7 @@ mod rule;
 mod view;
 mod words;
 
-pub use call::{Call, Pended};
+pub use call::{Call, Entry, Pended};
 pub use core_line::CoreLine;
 pub use device_line::{DeviceLine, Tally};
 pub use view::Part;

@@ -1,4 +1,4 @@
-use crate::call::Call;
+use crate::call::{Call, Entry};
 use std::collections::LinkedList;
 
 /// A gathered line: its number and its calls. Contracts name its values; no program makes one.
@@ -36,4 +36,6 @@ pub struct View {
     pub since: u64,
     // The interrupts that may be pended.
     pub may: LinkedList<u32>,
+    // A beginning of the history of all lines, which it has seen.
+    pub seen: LinkedList<Entry>,
 }

@@ -5,7 +5,7 @@ use Rattle.rt_words.specs.declared.view.View.{View}
 use Rattle.rt_words.specs.Object.{IsPending}
 use Rattle.rt_words.specs.History.{Entry, IsLegal}
 use Rattle.rt_words.specs.Ending.{AllGathered, LatchedAreZero}
-use Rattle.rt_words.specs.Inside.Seats.{Seated, AllKnow}
+use Rattle.rt_words.specs.Inside.Seats.{Seated, HaveSeen, AllKnow}
 
 -- at most 16 words of 32 bits, with bits of interrupts that may be pended alone, and a place for each of these
 pub record IsRow (may words : List ℕ) : Type 0 where
@@ -18,11 +18,13 @@ pub record IsRow (may words : List ℕ) : Type 0 where
 abbrev pub padded : List ℕ → List ℕ
 padded words = words ++ replicate (16 - length words) 0
 
--- a legal history leaves the words as they stand, and its parts are the seats' calls
+-- a legal history leaves the words as they stand, its parts are the seats' calls, and each seat has seen a beginning
+-- of it
 pub record Standing (may words : List ℕ) (views : List View) (history : List Entry) (core : View) : Type 0 where
   pub row : IsRow may words
   pub legal : IsLegal history (padded words)
   pub seated : Seated history views core
+  pub seen : HaveSeen history views
   pub same_may : AllKnow may views
   pub behind : core.since ≤ length core.calls
   pub quiet : AllGathered core.made core.gathered → LatchedAreZero (drop core.since core.calls) words

@@ -1,6 +1,7 @@
 -- What the views of all seats have to do with one history.
 use Rattle.std.specs.Prelude.{◌≡◌, ◌≢◌, ℕ, List, [], ◌∷◌, Option, Some, None, Contains}
 use mathlib.Core.Option.{some}
+use mathlib.Core.List.{IsPrefix}
 use lib.ListN.{get_elem?}
 use Rattle.atomic_table.specs.Table.{Me}
 use Rattle.rt_words.specs.declared.call.Call.{Call}
@@ -65,6 +66,11 @@ pub record Seated (history : List Entry) (views : List View) (core : View) : Typ
   pub parts : (p : Part) → Contains core.gathered p → Gathered history core p
   pub once : Distinct (numbers core.gathered)
   pub unmade : (number : ℕ) → number ≢ 255 → ¬ Contains core.made number → part history number ≡ []
+
+-- What a seat has seen is a beginning of the history. So no step can change what the history has: where another seat
+-- has seen all of it, a step only adds behind.
+abbrev pub HaveSeen : List Entry → List View → Type 0
+HaveSeen history views = (seat : ℕ) (v : View) → get_elem? views seat ≡ some v → IsPrefix v.seen history
 
 -- every seat but a spent one knows which interrupts may be pended
 abbrev pub AllKnow : List ℕ → List View → Type 0

@@ -2,6 +2,7 @@
 use Rattle.std.specs.Prelude.{◌≡◌, ℕ, ◌*◌, ◌+◌, ◌^◌, ◌<◌, ◌==◌, if◌then◌else◌, List, [], ◌∷◌, ◌++◌, length, Some, None}
 use Rattle.std.specs.Prelude.{unwrap_or, Contains}
 use Rattle.std.specs.Int.{bit_at}
+use mathlib.Core.List.{IsPrefix}
 use Rattle.atomic_table.specs.Table.{Step}
 use Rattle.rt_words.specs.declared.call.Pended.{Pended}
 use Rattle.rt_words.specs.declared.call.Pended.TheVariants.{Raised, Merged}
@@ -10,17 +11,28 @@ use Rattle.rt_words.specs.declared.call.Call.TheVariants.{Pend, Latch}
 use Rattle.rt_words.specs.declared.view.Stage.TheVariants.{First, Copied, Device, Spent}
 use Rattle.rt_words.specs.declared.view.View.{View}
 use Rattle.rt_words.specs.Object.{IsPending}
+use Rattle.rt_words.specs.History.{Entry}
 use Rattle.rt_words.specs.Lines.{numbers}
 use Rattle.rt_words.specs.Inside.Seats.{Seat, Distinct}
 
 -- the first seat at the beginning
 abbrev pub newcomer : List ℕ → View
 newcomer may =
-    record { stage = First; line = 255; calls = []; made = []; reserved = None; gathered = []; since = 0; may = may }
+    record {
+      stage = First;
+      line = 255;
+      calls = [];
+      made = [];
+      reserved = None;
+      gathered = [];
+      since = 0;
+      may = may;
+      seen = [];
+    }
 
--- a device's seat that has made these calls
-abbrev pub device : ℕ → List Call → List ℕ → View
-device number calls may =
+-- a device's seat that has made these calls and seen this beginning of the history
+abbrev pub device : ℕ → List Call → List Entry → List ℕ → View
+device number calls seen may =
     record {
       stage = Device;
       line = number;
@@ -30,11 +42,17 @@ device number calls may =
       gathered = [];
       since = 0;
       may = may;
+      seen = seen;
     }
 
--- one call more
-abbrev pub called : View → Call → View
-called v call = record v { calls = v.calls ++ call ∷ [] }
+-- one call more, and what has been seen then
+abbrev pub called : View → List Entry → Call → View
+called v seen call = record v { calls = v.calls ++ call ∷ []; seen = seen }
+
+-- all that had been seen, what came in between, and this call behind it
+abbrev pub Extends : List Entry → ℕ → Call → List Entry → Type 0
+Extends old line call new =
+    (between : List Entry) × (new ≡ (old ++ between) ++ record { line = line; call = call } ∷ [])
 
 -- Merged where the bit stood in the word that was found
 abbrev pub answer_at : ℕ → ℕ → Pended
@@ -42,12 +60,14 @@ answer_at found bit = if bit_at found bit == 1 then Merged else Raised
 
 -- a pend of the interrupt whose bit it was
 abbrev pub pended : Step (Unit {0}) → Seat → ℕ → Seat → Type 0
-pended s me found after = (bit : ℕ) → bit < 32 → s.first ≡ 2 ^ bit
-    → after ≡ (called me.0 (Pend (32 * s.word + bit) (answer_at found bit)), me.1)
+pended s me found after = (seen : List Entry) × ((bit : ℕ) → bit < 32 → s.first ≡ 2 ^ bit
+    → (after ≡ (called me.0 seen (Pend (32 * s.word + bit) (answer_at found bit)), me.1))
+    × Extends me.0.seen me.0.line (Pend (32 * s.word + bit) (answer_at found bit)) seen)
 
 -- a latch, in which bits of interrupts that may be pended were found alone
 abbrev pub latched : Step (Unit {0}) → Seat → ℕ → Seat → Type 0
-latched s me found after = (after ≡ (called me.0 (Latch s.word found), me.1)) × (found < 2 ^ 32)
+latched s me found after = (seen : List Entry) × (after ≡ (called me.0 seen (Latch s.word found), me.1))
+    × Extends me.0.seen 255 (Latch s.word found) seen × (found < 2 ^ 32)
     × ((bit : ℕ) → bit < 32 → bit_at found bit ≡ 1 → IsPending me.0.may (32 * s.word + bit))
 
 -- the first seat makes the number, and reserves it for a new seat
@@ -66,16 +86,28 @@ copied v = record v { stage = Copied }
 
 -- the new seat takes the number, and has no calls
 abbrev pub took : Step (Unit {0}) → Seat → ℕ → Seat → Type 0
-took s me found after = after ≡ (device (unwrap_or me.0.reserved 255) [] me.0.may, me.1)
+took s me found after = after ≡ (device (unwrap_or me.0.reserved 255) [] me.0.seen me.0.may, me.1)
 
 -- the first seat takes in a line
 abbrev pub joined : View → View → View
 joined v w = record v { gathered = record { line = w.line; calls = w.calls } ∷ v.gathered; since = length v.calls }
 
 abbrev pub spent : View
-spent = record { stage = Spent; line = 0; calls = []; made = []; reserved = None; gathered = []; since = 0; may = [] }
+spent =
+    record {
+      stage = Spent;
+      line = 0;
+      calls = [];
+      made = [];
+      reserved = None;
+      gathered = [];
+      since = 0;
+      may = [];
+      seen = [];
+    }
 
--- the first seat looks, and finds that it made each line that it gathered, and gathered none twice
+-- the first seat looks at the history so far, and finds that it made each line that it gathered, none of them twice
 abbrev pub looked : Step (Unit {0}) → Seat → ℕ → Seat → Type 0
-looked s me found after = (after ≡ (record me.0 { since = length me.0.calls }, me.1)) × Distinct (numbers me.0.gathered)
+looked s me found after = (seen : List Entry) × (after ≡ (record me.0 { since = length me.0.calls; seen = seen }, me.1))
+    × IsPrefix me.0.seen seen × Distinct (numbers me.0.gathered)
     × ((number : ℕ) → Contains (numbers me.0.gathered) number → Contains me.0.made number)

@@ -31,14 +31,17 @@ invariant_of-self c =
     let l = c.load.ensures in
     let me = c.self.inside.seat.me in
     let dev = c.line.inside.seat.me in
-    after_gathered c.self.inside.seat.id _ me _ dev c.self.inside.latched _ _ (length me.0.calls) c.self.invariant c.line.invariant (l.1 ∙ j.1)
-    (l.2.0 ∙ ap (λ (m : Seat). (record m.0 { since = length m.0.calls }, m.1)) j.2)
+    after_gathered c.self.inside.seat.id _ me _ dev c.self.inside.latched _ _ (length me.0.calls) l.2.0 c.self.invariant
+    c.line.invariant (l.1 ∙ j.1)
+    (l.2.1 ∙ ap (λ (m : Seat). (record m.0 { since = length m.0.calls; seen = l.2.0 }, m.1)) j.2)
 
 pub returns-clause-made : goal.returns-clause-made
 returns-clause-made c =
     let me = c.self.inside.seat.me in
     let dev = c.line.inside.seat.me in
     let number : ℕ = dev.0.line in
-    let known = subst (λ (m : Seat). Contains (numbers m.0.gathered) number → Contains m.0.made number) c.join_seat.ensures.2 (c.load.ensures.2.2 number) in
+    let known =
+    subst (λ (m : Seat). Contains (numbers m.0.gathered) number → Contains m.0.made number) c.join_seat.ensures.2
+    (c.load.ensures.2.4 number) in
     let here = known (in_head number (numbers me.0.gathered)) in
     subst (λ (n : ℕ). Contains c.args.self.now.made n) (ap (λ (l : Line). l.number) c.line.view_is) (subst (λ (l : Core). Contains l.made number) c.self.view_is here)

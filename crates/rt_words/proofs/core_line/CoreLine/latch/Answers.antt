@@ -20,5 +20,6 @@ pub invariant_of-self : goal.invariant_of-self
 invariant_of-self c =
     let f = c.fetch_and-found.ensures in
     let me = c.self.inside.seat.me in
-    after_latched c.self.inside.seat.id _ me _ c.self.inside.latched _ c.args.k c.fetch_and-found.result c.self.invariant (c.count_bits.array_long) c.count_bits.ensures f.1
-    (f.2.0 ∙ ap (λ (k : ℕ). (called me.0 (Latch k c.fetch_and-found.result), me.1)) c.from.ensures)
+    after_latched c.self.inside.seat.id _ me _ c.self.inside.latched _ c.args.k c.fetch_and-found.result f.2.0
+    c.self.invariant (c.count_bits.array_long) c.count_bits.ensures f.1
+    (f.2.1 ∙ ap (λ (k : ℕ). (called me.0 f.2.0 (Latch k c.fetch_and-found.result), me.1)) c.from.ensures)

@@ -41,5 +41,7 @@ invariant_of-result c =
     let s = c.split_seat-seat.ensures in
     let has = ap (λ (m : Seat). m.0.reserved) s.4 ∙ ap (λ (m : Seat). m.0.reserved) c.reserve.ensures.view in
     let empty = ap (λ (m : Seat). m.1) s.4 in
-    let may = c.split_seat-seat.result.me.0.may in
-    new_device c.args.number may _ _ _ (c.load.ensures.2 ∙ (λ i. (device (unwrap_or (has i) 255) [] may, empty i))) c.none.ensures.raised c.none.ensures.merged
+    let split = c.split_seat-seat.result.me.0 in
+    new_device c.args.number split.seen split.may _ _ _
+    (c.load.ensures.2 ∙ (λ i. (device (unwrap_or (has i) 255) [] split.seen split.may, empty i))) c.none.ensures.raised
+    c.none.ensures.merged

@@ -1,4 +1,4 @@
-use Rattle.std.proofs.Common.{◌≡◌, ℕ, ◌+◌, ◌*◌, ◌/◌, ◌%◌, ◌^◌, ◌<◌, sym, ap, ◌∙◌, subst, arith}
+use Rattle.std.proofs.Common.{◌≡◌, ℕ, List, ◌+◌, ◌*◌, ◌/◌, ◌%◌, ◌^◌, ◌<◌, sym, ap, ◌∙◌, subst, arith}
 use Rattle.std.proofs.lemmas.Nat.{one_shl}
 use Rattle.std.proofs.lemmas.Nat.Bits.{shr_and_one}
 use Rattle.atomic_table.specs.Table.{Me}
@@ -7,7 +7,8 @@ use Rattle.rt_words.specs.declared.call.Call.TheVariants.{Pend}
 use Rattle.rt_words.specs.declared.view.View.{View}
 use Rattle.rt_words.specs.Object.{IsPending}
 use Rattle.rt_words.specs.Lines.{Row, Line}
-use Rattle.rt_words.specs.Inside.Steps.{called, answer_at}
+use Rattle.rt_words.specs.History.{Entry}
+use Rattle.rt_words.specs.Inside.Steps.{called, Extends, answer_at}
 use Rattle.rt_words.proofs.Pending.{pends_as, answer_merged, answer_raised}
 use Rattle.rt_words.proofs.Tallies.{after_merged, after_raised}
 use Rattle.rt_words.proofs.device_line.DeviceLine.pend.Goals as goal
@@ -26,12 +27,15 @@ fetch_or-found-requires c =
     )
 
 -- the view after the fetch_or, by the answer
-told : (word number found : ℕ) (me me' : Me (Unit {0}) View) (mask : ℕ) (answer : Pended) → number % 32 < 32 → mask ≡ 2 ^ (number % 32) → word ≡ number / 32
-    → ((bit : ℕ) → bit < 32 → mask ≡ 2 ^ bit → me' ≡ (called me.0 (Pend (32 * word + bit) (answer_at found bit)), me.1))
-    → answer_at found (number % 32) ≡ answer → me' ≡ (called me.0 (Pend number answer), me.1)
-told word number found me me' mask answer l m w tell is =
+told : (word number found : ℕ) (me me' : Me (Unit {0}) View) (mask : ℕ) (answer : Pended) (seen : List Entry)
+    → number % 32 < 32 → mask ≡ 2 ^ (number % 32) → word ≡ number / 32
+    → ((bit : ℕ) → bit < 32 → mask ≡ 2 ^ bit
+    → (me' ≡ (called me.0 seen (Pend (32 * word + bit) (answer_at found bit)), me.1))
+    × Extends me.0.seen me.0.line (Pend (32 * word + bit) (answer_at found bit)) seen)
+    → answer_at found (number % 32) ≡ answer → me' ≡ (called me.0 seen (Pend number answer), me.1)
+told word number found me me' mask answer seen l m w tell is =
     let whole : 32 * word + number % 32 ≡ number = omega arith in
-    tell (number % 32) l m ∙ ap (λ (x : ℕ × Pended). (called me.0 (Pend x.0 x.1), me.1)) (λ i. (whole i, is i))
+    (tell (number % 32) l m).0 ∙ ap (λ (x : ℕ × Pended). (called me.0 seen (Pend x.0 x.1), me.1)) (λ i. (whole i, is i))
 
 pub invariant_of-self : goal.invariant_of-self
 invariant_of-self c =
@@ -39,8 +43,11 @@ invariant_of-self c =
     let bit : number % 32 < 32 = omega arith in
     let small : number < 512 = let r = c.get-number.ensures.in_range in omega arith in
     let stood = answer_merged c.fetch_or-found.result (number % 32) (sym (shr_and_one c.fetch_or-found.result (number % 32)) ∙ c.if-found-bit-eq1.true) in
-    let is = told c.from.result number c.fetch_or-found.result c.self.inside.seat.me c.fetch_or-found.new.seat.me _ _ bit (one_shl (number % 32) 64 (omega arith)) c.from.ensures c.fetch_or-found.ensures.2 stood in
-    rw c.from-number.ensures (after_merged _ _ _ _ number c.self.invariant small is)
+    let is =
+    told c.from.result number c.fetch_or-found.result c.self.inside.seat.me c.fetch_or-found.new.seat.me _ _
+    c.fetch_or-found.ensures.2.0 bit (one_shl (number % 32) 64 (omega arith)) c.from.ensures
+    c.fetch_or-found.ensures.2.1 stood in
+    rw c.from-number.ensures (after_merged _ _ _ _ number c.fetch_or-found.ensures.2.0 c.self.invariant small is)
 
 pub invariant_of-self-else-found-bit-eq1 : goal.invariant_of-self-else-found-bit-eq1
 invariant_of-self-else-found-bit-eq1 c =
@@ -48,5 +55,8 @@ invariant_of-self-else-found-bit-eq1 c =
     let bit : number % 32 < 32 = omega arith in
     let small : number < 512 = let r = c.get-number.ensures.in_range in omega arith in
     let stood = answer_raised c.fetch_or-found.result (number % 32) (λ e. c.if-found-bit-eq1.false (shr_and_one c.fetch_or-found.result (number % 32) ∙ e)) in
-    let is = told c.from.result number c.fetch_or-found.result c.self.inside.seat.me c.fetch_or-found.new.seat.me _ _ bit (one_shl (number % 32) 64 (omega arith)) c.from.ensures c.fetch_or-found.ensures.2 stood in
-    rw c.from-number.ensures (after_raised _ _ _ _ number c.self.invariant small is)
+    let is =
+    told c.from.result number c.fetch_or-found.result c.self.inside.seat.me c.fetch_or-found.new.seat.me _ _
+    c.fetch_or-found.ensures.2.0 bit (one_shl (number % 32) 64 (omega arith)) c.from.ensures
+    c.fetch_or-found.ensures.2.1 stood in
+    rw c.from-number.ensures (after_raised _ _ _ _ number c.fetch_or-found.ensures.2.0 c.self.invariant small is)
