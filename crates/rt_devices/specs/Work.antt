@@ -1,0 +1,42 @@
+-- What a device does to the pending words, and what it counts. It is this project's own.
+use Rattle.std.specs.Prelude.{◌≡◌, ℕ, zero, suc, ◌+◌, ◌-◌, ◌^◌, min, Bool, true, false, List, ◌++◌, Option, Some, None}
+use Rattle.std.specs.Prelude.{map, flat_map, replicate, count_by}
+use Rattle.rt_words.specs.declared.call.Call.{Call}
+use Rattle.rt_words.specs.declared.call.Call.TheVariants.{Pend, Latch}
+use Rattle.rt_words.specs.declared.call.Pended.TheVariants.{Raised, Merged}
+use Rattle.rt_devices.specs.declared.device.Device.{Device}
+
+-- the interrupts that a script asks for, each as often as its entry says
+abbrev pub requests : List (ℕ × ℕ) → List ℕ
+requests script = flat_map (λ entry. replicate entry.1 entry.0) script
+
+-- the interrupt that a call asked for
+abbrev pub asked_by : Call → Option ℕ
+asked_by (Pend irq answer) = Some irq
+asked_by (Latch k word) = None
+
+abbrev pub is_raised : Call → Bool
+is_raised (Pend irq Raised) = true
+is_raised (Pend irq Merged) = false
+is_raised (Latch k word) = false
+
+abbrev pub is_merged : Call → Bool
+is_merged (Pend irq Raised) = false
+is_merged (Pend irq Merged) = true
+is_merged (Latch k word) = false
+
+-- a count that rises by one so many times, and stands still at its type's end
+abbrev pub counted : ℕ → ℕ → ℕ
+counted from zero = from
+counted from (suc times) = min (counted from times + 1) (2 ^ 64 - 1)
+
+-- The device has called its line further, and asked for just these interrupts, in this order, each once. It has counted
+-- the answers of these calls.
+pub record Works (irqs : List ℕ) (old new : Device) : Type 0 where
+  pub calls : List Call
+  pub asked : map asked_by calls ≡ map (λ irq. Some irq) irqs
+  pub line : new.line ≡ record old.line { calls = old.line.calls ++ calls }
+  pub raised : new.raised ≡ counted old.raised (count_by is_raised calls)
+  pub merged : new.merged ≡ counted old.merged (count_by is_merged calls)
+  pub number : new.number ≡ old.number
+  pub script : new.script.items ≡ old.script.items
