@@ -22,7 +22,8 @@ use Rattle.rt_trace.specs.declared.item.Item.{Item}
 use Rattle.rt_trace.specs.declared.item.What.{What}
 use Rattle.rt_trace.specs.declared.item.What.TheVariants as what
 use Rattle.rt_run.specs.Done.{Leads}
-use Rattle.rt_run.specs.Inside.Writing.{shown_items, lines_of, Wrote, Writes, Cut}
+use Rattle.rt_run.specs.Sending.{shown_items, lines_of}
+use Rattle.rt_run.specs.Inside.Writing.{Wrote, Writes, Cut}
 use Rattle.rt_run.proofs.Taking.{wrote_none, wrote_on, wrote_cut}
 
 -- the core after more events
@@ -105,7 +106,7 @@ leads_on es fs a b c first second = record {
 }
 
 -- what more events show, and the lines of it
-items_split : (es fs : List Event) (a b : Machine) → Leads es a b
+pub items_split : (es fs : List Event) (a b : Machine) → Leads es a b
     → shown_items a (es ++ fs) ≡ shown_items a es ++ shown_items b fs
 items_split es fs a b run =
     let img : Image = a.image in

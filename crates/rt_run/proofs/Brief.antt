@@ -19,7 +19,7 @@ use Rattle.rt_trace.specs.Label.{Label, Arrived, Ticked, Rang, Stepped, items_of
 use Rattle.rt_trace.specs.Lined.{HasLine}
 use Rattle.rt_trace.specs.declared.item.Item.{Item}
 use Rattle.rt_trace.proofs.Lengths.{runs_short}
-use Rattle.rt_run.specs.Inside.Writing.{shown_items}
+use Rattle.rt_run.specs.Sending.{shown_items}
 use Rattle.rt_run.specs.Written.{text_of}
 use Rattle.rt_run.proofs.Known.{steps_below}
 use Rattle.rt_run.proofs.Advancing.{labelled_steps}

@@ -24,7 +24,7 @@ use Rattle.rt_trace.specs.declared.item.Item.{Item}
 use Rattle.rt_trace.specs.declared.item.What.{What}
 use Rattle.rt_trace.specs.declared.item.What.TheVariants as what
 use Rattle.rt_run.specs.Done.{Leads}
-use Rattle.rt_run.specs.Inside.Writing.{shown_items, lines_of}
+use Rattle.rt_run.specs.Sending.{shown_items, lines_of}
 
 abbrev numbered : ℕ → What → Item
 numbered n w = record { step = n; what = w }

@@ -14,7 +14,7 @@ use Rattle.rt_core.specs.declared.alarm.Alarm.{Alarm}
 use Rattle.rt_core.proofs.Keeping.{step_keeps_time, tick_adds_one}
 use Rattle.rt_trace.specs.Label.{Label, Rang}
 use Rattle.rt_run.specs.Done.{Leads}
-use Rattle.rt_run.specs.Inside.Writing.{IsKnown, IsWritable}
+use Rattle.rt_run.specs.Writable.{IsKnown, IsWritable}
 use Rattle.rt_run.proofs.Worded.{step_known}
 
 -- how many events are ticks

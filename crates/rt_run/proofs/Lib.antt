@@ -3,6 +3,7 @@ pub mod Ticking
 pub mod Worded
 pub mod Known
 pub mod Advancing
+pub mod Sent
 pub mod Happened
 pub mod Scripted
 pub mod Brief

@@ -17,7 +17,8 @@ use Rattle.rt_script.specs.declared.line.Line.TheVariants.{Steps, Ticks, Pends, 
 use Rattle.rt_trace.specs.Label.{items_of}
 use Rattle.rt_trace.specs.Text.{text, total_text}
 use Rattle.rt_run.specs.Done.{Leads, HasDone}
-use Rattle.rt_run.specs.Inside.Writing.{lines_of, Writes, Cut}
+use Rattle.rt_run.specs.Sending.{lines_of}
+use Rattle.rt_run.specs.Inside.Writing.{Writes, Cut}
 use Rattle.rt_run.specs.Written.{text_of}
 use Rattle.rt_run.proofs.Taking.{part_more, wrote_all, wrote_cut}
 use Rattle.rt_run.proofs.Advancing.{goes_on, cut_behind, cut_before, lines_split}

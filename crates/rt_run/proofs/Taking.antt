@@ -1,5 +1,6 @@
 -- How what was taken and what is held grow, and how a fault is told on.
-use Rattle.std.proofs.Common.{◌≡◌, ℕ, List, [], ◌++◌, Option, Some, None, Result, ap, sym}
+use Rattle.std.proofs.Common.{◌≡◌, ℕ, List, [], ◌++◌, Option, Some, None, Result, Ok, Err, OnOk}
+use Rattle.std.proofs.Common.{ap, sym}
 use Rattle.std.proofs.Common.{subst, ◌∙◌, append_assoc, arith}
 use Rattle.std.specs.Prelude.{IsErr}
 use Rattle.std.proofs.lemmas.List.{append-nil}
@@ -41,6 +42,11 @@ wrote_none a held = record { front = []; took = took_none a; parts = append-nil 
 -- what was held went out
 pub wrote_out : (a b : Option (List ℕ)) (held kept : List ℕ) → kept ≡ [] → Took a b held → Wrote a b held kept []
 wrote_out a b held kept empty took = record { front = held; took = took; parts = ap (λ t. held ++ t) (sym empty) }
+
+pub wrote_out_on : {T E : Type 0} (r : Result T E) (a b : Option (List ℕ)) (held kept : List ℕ) → OnOk r (Took a b held)
+    → OnOk r (kept ≡ []) → OnOk r (Wrote a b held kept [])
+wrote_out_on (Ok x) a b held kept took empty = wrote_out a b held kept empty took
+wrote_out_on (Err e) a b held kept took empty = tt
 
 -- bytes were put behind what is held
 pub wrote_put : (a b : Option (List ℕ)) (held mid kept bytes : List ℕ) → Wrote a b held mid [] → kept ≡ mid ++ bytes

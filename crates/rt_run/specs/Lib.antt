@@ -1,3 +1,5 @@
 pub mod Done
 pub mod Written
+pub mod Writable
+pub mod Sending
 pub mod Inside

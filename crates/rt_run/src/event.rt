@@ -2,7 +2,8 @@ ghost use Rattle.std.specs.Prelude.{◌≡◌, ◌<◌, ◌^◌, [], ◌∷◌, 
 ghost use Rattle.rt_ids.specs.Event.{Arrive, Tick, Step};
 ghost use Rattle.rt_outside.specs.Faults.{HasCause};
 ghost use Rattle.rt_trace.specs.Lined.{IsDeclared};
-ghost use Rattle.rt_run.specs.Inside.Writing.{IsWritable, Writes, Cut};
+ghost use Rattle.rt_run.specs.Writable.{IsWritable};
+ghost use Rattle.rt_run.specs.Inside.Writing.{Writes, Cut};
 
 use crate::writing::{put_item, put_shown, put_tick};
 use rt_core::Core;

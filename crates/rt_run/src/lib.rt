@@ -5,6 +5,9 @@
 mod event;
 mod numbers;
 pub mod script;
-mod writing;
+pub mod sending;
+pub mod writing;
 
 pub use script::run_script;
+pub use sending::{send_pend, send_step, send_tick};
+pub use writing::put_end;

@@ -9,7 +9,8 @@ ghost use Rattle.rt_script.specs.Script.{IsScript, HasName, HasNames, events, li
 ghost use Rattle.rt_trace.specs.Lined.{IsDeclared};
 ghost use Rattle.rt_run.specs.Done.{Leads, HasDone};
 ghost use Rattle.rt_run.specs.Written.{text_of};
-ghost use Rattle.rt_run.specs.Inside.Writing.{IsWritable, Writes, Cut};
+ghost use Rattle.rt_run.specs.Writable.{IsWritable};
+ghost use Rattle.rt_run.specs.Inside.Writing.{Writes, Cut};
 
 use crate::event::{run_pend, run_step, run_tick};
 use crate::writing::put_end;

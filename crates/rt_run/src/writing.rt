@@ -12,6 +12,19 @@ use rt_ids::Names;
 use rt_outside::{Failed, Sink, put_all};
 use rt_trace::{Item, LineBuffer, What};
 
+/// Lets out what is held.
+pub(crate) fn put_held<K: Sink>(out: &mut K, held: &mut LineBuffer) -> Result<(), Failed>
+    ensures ok { OnOk result (Took (K.taken out.old) (K.taken out.new) held.old) }
+    ensures none_held { OnOk result (held.new ≡ []) }
+    ensures err { OnErr result (TookPrefix (K.taken out.old) (K.taken out.new) held.old) }
+    ensures cause { HasCause (K.faults out.old) (K.faults out.new) result }
+    ensures quiet { OnOk result (K.faults out.new ≡ K.faults out.old) }
+{
+    put_all(out, held.bytes())?;
+    held.clear();
+    Ok(())
+}
+
 /// Makes room for a line: what is held goes out where the buffer has none.
 fn make_room<K: Sink>(out: &mut K, held: &mut LineBuffer) -> Result<(), Failed>
     ensures ok { OnOk result (Wrote (K.taken out.old) (K.taken out.new) held.old held.new []) }
@@ -23,9 +36,7 @@ fn make_room<K: Sink>(out: &mut K, held: &mut LineBuffer) -> Result<(), Failed>
     if held.has_room() {
         return Ok(());
     }
-    put_all(out, held.bytes())?;
-    held.clear();
-    Ok(())
+    put_held(out, held)
 }
 
 /// Writes the line of an item.
@@ -96,7 +107,7 @@ pub(crate) fn put_tick<K: Sink>(
 }
 
 /// Writes the last line, the number of core steps, and lets out what is held.
-pub(crate) fn put_end<K: Sink>(out: &mut K, held: &mut LineBuffer, total: u64) -> Result<(), Failed>
+pub fn put_end<K: Sink>(out: &mut K, held: &mut LineBuffer, total: u64) -> Result<(), Failed>
     requires { total < 2 ^ 32 }
     ensures ok { OnOk result (Took (K.taken out.old) (K.taken out.new) (held.old ++ spec.total_text total)) }
     ensures err { OnErr result (TookPrefix (K.taken out.old) (K.taken out.new) (held.old ++ spec.total_text total)) }

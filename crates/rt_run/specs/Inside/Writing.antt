@@ -1,27 +1,21 @@
--- How far a run's trace is written, and which items have a line: their names are in the tables, and their numbers in
--- range.
+-- How far a run's trace is written while lines are held back, and which items have a line: their names are in the
+-- tables, and their numbers in range.
 use Rattle.std.specs.Prelude.{◌≡◌, ℕ, ◌+◌, ◌<◌, ◌≤◌, ◌^◌, List}
-use Rattle.std.specs.Prelude.{◌++◌, flat_map, length, Option, Some, None, IsSome}
+use Rattle.std.specs.Prelude.{◌++◌, length, Option, Some, None, IsSome}
 use Rattle.std.specs.List.{AllByRecursion}
 use Rattle.rt_ids.specs.Event.{Event}
 use Rattle.rt_ids.specs.Names.{Names}
 use Rattle.rt_ids.specs.declared.ids.Section.{Section}
 use Rattle.rt_ids.specs.declared.ids.Section.TheVariants as section
-use Rattle.rt_code.specs.Image.{Image}
-use Rattle.rt_code.specs.Lines.{HasLines}
 use Rattle.rt_code.specs.Listable.{HasIrq, HasTask, HasSection, HasBody}
-use Rattle.rt_core.specs.Core.{Core}
 use Rattle.rt_core.specs.Machine.{Machine}
-use Rattle.rt_core.specs.Trace.{labels}
 use Rattle.rt_outside.specs.Bytes.{Took, TookPrefix}
-use Rattle.rt_trace.specs.Label.{items_of}
-use Rattle.rt_trace.specs.Lined.{HasLine, IsDeclared, IsWord}
-use Rattle.rt_trace.specs.Text.{text}
+use Rattle.rt_trace.specs.Lined.{HasLine, IsWord}
 use Rattle.rt_trace.specs.declared.buffer.TheConstants.{BUFFER_BYTES, LINE_BYTES}
-use Rattle.rt_trace.specs.declared.item.Item.{Item}
 use Rattle.rt_trace.specs.declared.item.What.{What}
 use Rattle.rt_trace.specs.declared.item.What.TheVariants as what
 use Rattle.rt_run.specs.Done.{Leads}
+use Rattle.rt_run.specs.Sending.{shown_items, lines_of}
 
 -- a level is in the range of a priority
 abbrev pub HasLevel : Section → Type 0
@@ -76,23 +70,6 @@ HasWords names w = Unit {0}
 abbrev pub ShowsWords : Names → Option What → Type 0
 ShowsWords names None = Unit {0}
 ShowsWords names (Some w) = HasWords names w
-
--- the core has as many cells as the image, and each handler that was entered is of an interrupt with a name
-pub record IsKnown (img : Image) (c : Core) : Type 0 where
-  pub cells : length c.processor.cells ≡ length img.cells
-  pub below : AllByRecursion (λ x. IsDeclared img.names x.irq) c.below
-
--- a machine of which the lines of items can be written
-pub record IsWritable (m : Machine) : Type 0 where
-  pub lines : HasLines m.image
-  pub known : IsKnown m.image m.core
-
--- what events show, and the lines of it
-abbrev pub shown_items : Machine → List Event → List Item
-shown_items m events = items_of m.steps (labels m.image m.core events)
-
-abbrev pub lines_of : Machine → List Event → List ℕ
-lines_of m events = flat_map (text m.image.names) (shown_items m events)
 
 -- what is held leaves room for a line
 abbrev pub HasRoom : List ℕ → Type 0

@@ -1,0 +1,34 @@
+-- Events that come to a machine, and the lines of what they show, where nothing of them is held back.
+use Rattle.std.specs.Prelude.{◌≡◌, ℕ, List, ◌++◌, flat_map, Option}
+use Rattle.std.specs.List.{AllByRecursion}
+use Rattle.rt_ids.specs.Event.{Event}
+use Rattle.rt_core.specs.Machine.{Machine}
+use Rattle.rt_core.specs.Trace.{labels}
+use Rattle.rt_outside.specs.Bytes.{Took, TookPrefix}
+use Rattle.rt_trace.specs.Label.{items_of}
+use Rattle.rt_trace.specs.Lined.{HasLine}
+use Rattle.rt_trace.specs.Text.{text}
+use Rattle.rt_trace.specs.declared.item.Item.{Item}
+use Rattle.rt_run.specs.Done.{Leads}
+
+-- what events show, and the lines of it
+abbrev pub shown_items : Machine → List Event → List Item
+shown_items m events = items_of m.steps (labels m.image m.core events)
+
+abbrev pub lines_of : Machine → List Event → List ℕ
+lines_of m events = flat_map (text m.image.names) (shown_items m events)
+
+-- these events lead from the old machine to the new one, each item that they show has a line, and these were taken
+pub record Sends (events : List Event) (old new : Machine) (before after : Option (List ℕ)) : Type 0 where
+  pub leads : Leads events old new
+  pub lined : AllByRecursion (HasLine old.image.names) (shown_items old events)
+  pub took : Took before after (lines_of old events)
+
+-- A fault came: the first of these events lead from the old machine to the new one, and a beginning of their lines was
+-- taken.
+pub record Breaks (events : List Event) (old new : Machine) (before after : Option (List ℕ)) : Type 0 where
+  pub done : List Event
+  pub rest : List Event
+  pub parts : events ≡ done ++ rest
+  pub leads : Leads done old new
+  pub took : TookPrefix before after (lines_of old done)
