@@ -1,0 +1,160 @@
+-- From what a run tells and what its words tell when they are closed: the text that was written is one that `live`
+-- allows, or a beginning of one.
+use Rattle.std.proofs.Common.{◌≡◌, ◌≢◌, ◌⊎◌, ℕ, ◌<◌, List, [], ◌∷◌, ◌++◌, map, flat_map, replicate}
+use Rattle.std.proofs.Common.{Option, Contains, get_or, sym, ap, subst, ◌∙◌, arith, ⊎_elim, Some}
+use Rattle.std.specs.List.{AllByRecursion}
+use Rattle.rt_lemmas.proofs.Membership.{all_has}
+use Rattle.rt_core.specs.Machine.{Machine, IsFresh}
+use Rattle.rt_outside.specs.Bytes.{Took, TookPrefix}
+use Rattle.rt_run.proofs.Taking.{part_on}
+use Rattle.rt_devices.specs.Work.{asked_by}
+use Rattle.rt_devices.specs.declared.device.Device.{Device}
+use Rattle.rt_script.specs.Script.{HasDeviceInRange, pends}
+use Rattle.rt_words.specs.Ending.{calls_in}
+use Rattle.rt_words.specs.History.{part}
+use Rattle.rt_words.specs.Lines.{numbers}
+use Rattle.rt_words.specs.declared.call.Call.TheVariants.{Latch}
+use Rattle.rt_words.specs.declared.view.Part.{Part}
+use Rattle.rt_words.proofs.Lists.{dec_in, of_map}
+use Rattle.rt_live.specs.Account.{account_of, account_text, declared_irqs}
+use Rattle.rt_live.specs.Closed.{Closes}
+use Rattle.rt_live.specs.Devices.{devices}
+use Rattle.rt_live.specs.Going.{LatchedLast}
+use Rattle.rt_live.specs.History.{IsHistory}
+use Rattle.rt_live.specs.Latched.{Halts, Completes}
+use Rattle.rt_live.specs.Output.{IsLiveText, TookPart, Lives, IsBalanced}
+use Rattle.rt_live.specs.Ready.{Prepared, IsReady, IsCounted, irqs_of}
+use Rattle.rt_live.specs.Weave.{turns, latches}
+use Rattle.rt_live.specs.Written.{live_text}
+use Rattle.rt_live.specs.declared.account.AccountRow.{AccountRow}
+use Rattle.rt_live.proofs.Closing.{cut_before, closes_whole}
+use Rattle.rt_live.proofs.Extending.{IsCutHistory, Settles}
+use Rattle.rt_live.proofs.Finishing.{all_zeros}
+use Rattle.rt_live.proofs.Numbered.{not_asked}
+use Rattle.rt_live.proofs.Onward.{led_as_many, zeros}
+use Rattle.rt_live.proofs.Outputs.{live_whole, part_total, part_cut, balanced}
+use Rattle.rt_live.proofs.Settling.{latch_at}
+
+-- the run has ended: the lines of its devices were gathered, and it was closed with these rows
+module _ (ready : Prepared) (is : IsReady ready) (gone : ready.devices ≡ []) (ranges : AllByRecursion HasDeviceInRange ready.script)
+    (rows : List AccountRow) (closed : Closes ready rows) where
+  -- each number of the history but the core's is a device's, with its pends
+  asked : (number : ℕ) → number ≢ 255
+      → map asked_by (part closed.history number) ≡ map (λ irq. Some irq) (pends ready.script number)
+  asked number ne = elim (dec_in number (numbers ready.line.gathered)) [
+    | yes there ↦
+        let p = of_map (λ (q : Part). q.line) number ready.line.gathered there in
+        subst (λ k. map asked_by (part closed.history k) ≡ map (λ irq. Some irq) (pends ready.script k)) p.1.1
+        (ap (map asked_by) (closed.gathered p.0 p.1.0)
+        ∙ all_has _ ready.line.gathered p.0 is.gathered p.1.0)
+    | no out ↦
+        let named : numbers ready.line.gathered ≡ devices ready.script =
+        sym (ap (λ (ds : List Device). map (λ (d : Device). d.number) ds ++ numbers ready.line.gathered) gone) ∙ is.each in
+        ap (map asked_by) (closed.others number ne out)
+        ∙ ap (map (λ (irq : ℕ). Some irq))
+        (sym (not_asked number ready.script ranges (λ there. out (subst (λ (ns : List ℕ). Contains ns number) (sym named) there))))
+  ]
+
+  cut_history : (found : List (List ℕ)) (last : List ℕ) → ready.line.calls ≡ flat_map latches (found ++ last ∷ [])
+      → IsCutHistory ready.script found last closed.left closed.history
+  cut_history found last latched =
+      record { legal = closed.legal; core = closed.core ∙ latched; devices = asked }
+
+  -- nothing is left where each word was latched behind the last device
+  none_left : LatchedLast ready.line → closed.left ≡ zeros 16
+  none_left late =
+      all_zeros closed.left (led_as_many (zeros 16) closed.left closed.history closed.legal)
+      (λ k below. closed.silent gone k (late k below).0 (late k below).1)
+
+  module _ (old next : Machine) (fresh : IsFresh old) where
+    -- all turns were done
+    module _ (says : List (List ℕ) → Type 0) (all : Completes (turns ready.script) ready.line old next says) where
+      pub allowed : IsHistory ready.script all.ends.found closed.history
+      allowed =
+          closes_whole ready.script all.ends.found closed.left closed.history (none_left all.late)
+          (cut_history all.ends.found [] (all.ends.latched ∙ sym (cut_before all.ends.found)))
+
+      -- the account is that of the history, with nothing left
+      pub account_is : rows ≡ account_of (irqs_of ready.rows) (calls_in closed.history) (replicate 16 0)
+      account_is =
+          closed.account
+          ∙ ap (account_of (irqs_of ready.rows) (calls_in closed.history)) (none_left all.late)
+
+      -- the trace that was written, and the account
+      pub lives : irqs_of ready.rows ≡ declared_irqs old.image.names → (x y : Option (List ℕ))
+          → Took x y (live_text old.image ready.script all.ends.found) → Lives old.image ready.script x y rows
+      lives irqs x y took = record {
+        found = all.ends.found;
+        many = all.ends.many;
+        whole = all.ends.whole;
+        history = closed.history;
+        is = allowed;
+        took = took;
+        account = account_is ∙ ap (λ ns. account_of ns (calls_in closed.history) (replicate 16 0)) irqs;
+      }
+
+      -- the text of the run, and the account behind it
+      pub live_text_is : irqs_of ready.rows ≡ declared_irqs old.image.names
+          → IsLiveText old.image ready.script
+          (live_text old.image ready.script all.ends.found ++ account_text old.image.names rows)
+      live_text_is irqs =
+          let same : rows ≡ account_of (declared_irqs old.image.names) (calls_in closed.history) (replicate 16 0) =
+          account_is ∙ ap (λ ns. account_of ns (calls_in closed.history) (replicate 16 0)) irqs in
+          subst (λ (rs : List AccountRow). IsLiveText old.image ready.script
+          (live_text old.image ready.script all.ends.found ++ account_text old.image.names rs)) (sym same)
+          (live_whole old.image ready.script all.ends.found closed.history all.ends.many all.ends.whole allowed)
+
+      -- a fault came in a line of the account
+      pub account_part : irqs_of ready.rows ≡ declared_irqs old.image.names → (x y z : Option (List ℕ))
+          → Took x y (live_text old.image ready.script all.ends.found)
+          → TookPrefix y z (account_text old.image.names rows) → TookPart old.image ready.script x z
+      account_part irqs x y z took part =
+          let text : List ℕ = live_text old.image ready.script all.ends.found in
+          let account : List ℕ = account_text old.image.names rows in
+          record {
+            bytes = text ++ account;
+            is = live_text_is irqs;
+            took = part_on x y z text account took part;
+          }
+
+      low : (rs : List AccountRow) → AllByRecursion (IsCounted ready.line.gathered) rs
+          → AllByRecursion (λ irq. irq < 512) (irqs_of rs)
+      low [] counted = tt
+      low (row ∷ rs) counted =
+          let small : row.irq < 512 = omega (arith, counted.0.in_range) in (small, low rs counted.1)
+
+      -- each row counts all pends of its interrupt, and nothing is left
+      pub rows_balanced : AllByRecursion (IsBalanced ready.script) rows
+      rows_balanced =
+          subst (AllByRecursion (IsBalanced ready.script)) (sym account_is)
+          (balanced ready.script all.ends.found closed.history allowed ranges (irqs_of ready.rows)
+          (low ready.rows is.counted))
+
+    -- a fault came in the turns
+    pub halted_part : (x y : Option (List ℕ)) → Halts (turns ready.script) ready.line old next x y
+        → TookPart old.image ready.script x y
+    halted_part x y halts =
+        let stops = halts.stops in
+        let settles : Settles (turns ready.script) stops.found stops.last closed.left = record {
+          begun = λ late k below.
+              closed.silent gone k (get_or stops.last k 0)
+              (halts.late.begun late (Latch k (get_or stops.last k 0)) (latch_at stops.last k below));
+          all = λ done. none_left (halts.late.all done);
+        } in
+        part_cut old next ready.script stops.found stops.last closed.left closed.history x y fresh
+        (cut_history stops.found stops.last stops.latched) stops.whole settles stops.short stops.few stops.breaks
+
+    -- a fault came in the line of the total
+    pub completed_part : (x y : Option (List ℕ))
+        → Completes (turns ready.script) ready.line old next (λ found. TookPrefix x y (live_text old.image ready.script found))
+        → TookPart old.image ready.script x y
+    completed_part x y all =
+        part_total old.image ready.script all.ends.found closed.history all.ends.many all.ends.whole
+        (allowed (λ found. TookPrefix x y (live_text old.image ready.script found)) all) x y all.ends.wrote
+
+    -- what `go` tells of a fault
+    pub failed_part : (x y : Option (List ℕ))
+        → Halts (turns ready.script) ready.line old next x y
+        ⊎ Completes (turns ready.script) ready.line old next (λ found. TookPrefix x y (live_text old.image ready.script found))
+        → TookPart old.image ready.script x y
+    failed_part x y failed = ⊎_elim (halted_part x y) (completed_part x y) failed

@@ -1,0 +1,132 @@
+-- A run that was cut is the beginning of one that `live` allows.
+use Rattle.std.proofs.Common.{◌≡◌, ◌≢◌, ◌⊎◌, ℕ, suc, ◌+◌, ◌-◌, ◌<◌, ◌≤◌, List, [], ◌∷◌, ◌++◌, length, map, flat_map}
+use Rattle.std.proofs.Common.{get_or, Some, sym, ap, subst, ◌∙◌, arith, append_assoc, append-nil}
+use Rattle.std.proofs.Common.{length-append, ⊎_elim}
+use Rattle.std.specs.List.{AllByRecursion}
+use Rattle.std.proofs.lemmas.List.{nil_from_length}
+use Rattle.std.proofs.lemmas.List.Concat.{flat_map-append}
+use mathlib.Core.Logic.{dite}
+use native.Mathlib.Decide.{dec_lt}
+use Rattle.rt_lemmas.proofs.Membership.{all_append}
+use Rattle.rt_ids.specs.Event.{Event}
+use Rattle.rt_devices.specs.Work.{asked_by}
+use Rattle.rt_script.specs.Script.{pends}
+use Rattle.rt_script.specs.declared.line.Line.{Line}
+use Rattle.rt_words.specs.declared.call.Call.{Call}
+use Rattle.rt_words.specs.History.{IsLegal, part}
+use Rattle.rt_words.specs.declared.call.Entry.{Entry}
+use Rattle.rt_live.specs.Going.{IsWholeLook}
+use Rattle.rt_live.specs.History.{IsHistory}
+use Rattle.rt_live.specs.Weave.{Turn, looks, arrived, latches, weave}
+use Rattle.rt_live.proofs.Onward.{leads_on, led_as_many, entries, part_on, part_own, part_other, zeros}
+use Rattle.rt_live.proofs.Further.{weave_finished}
+use Rattle.rt_live.proofs.Finishing.{Finishes, FinishesLook, looks_more, finish, nothing_left}
+
+-- the calls that these looks took, the last of which may be cut, and all pends of the devices, left these words
+pub record IsCutHistory (script : List Line) (found : List (List ℕ)) (last words : List ℕ) (history : List Entry)
+    : Type 0 where
+  pub legal : IsLegal history words
+  pub core : part history 255 ≡ flat_map latches (found ++ last ∷ [])
+  pub devices : (number : ℕ) → number ≢ 255
+      → map asked_by (part history number) ≡ map (λ irq. Some irq) (pends script number)
+
+-- where no look is to come behind the cut one, the words that it latched are 0, and where none is to come all are
+pub record Settles (ts : List Turn) (found : List (List ℕ)) (last words : List ℕ) : Type 0 where
+  pub begun : looks ts ≤ suc (length found) → (k : ℕ) → k < length last → get_or words k 0 ≡ 0
+  pub all : looks ts ≤ length found → words ≡ zeros 16
+
+-- looks of a history that `live` allows, which begin with these
+pub record Extends (script : List Line) (ts : List Turn) (found : List (List ℕ)) (last : List ℕ) : Type 0 where
+  pub all : List (List ℕ)
+  pub many : length all ≡ looks ts
+  pub whole : AllByRecursion IsWholeLook all
+  pub history : List Entry
+  pub is : IsHistory script all history
+  pub behind : List Event
+  pub weaves : weave ts all ≡ (weave ts found ++ arrived last) ++ behind
+
+module _ (script : List Line) (found : List (List ℕ)) (last words : List ℕ) (history : List Entry)
+    (cut : IsCutHistory script found last words history) where
+  core_all : (count : ℕ) (more : Finishes words last count)
+      → part (history ++ entries 255 more.calls) 255 ≡ flat_map latches (found ++ more.added)
+  core_all count more =
+      part_on history (entries 255 more.calls) 255
+      ∙ ap (λ (t : List Call). part history 255 ++ t) (part_own 255 more.calls)
+      ∙ ap (λ (t : List Call). t ++ more.calls) (cut.core ∙ flat_map-append latches found (last ∷ []))
+      ∙ append_assoc (flat_map latches found) (latches last ++ []) more.calls
+      ∙ ap (λ (t : List Call). flat_map latches found ++ (t ++ more.calls)) (append-nil (latches last))
+      ∙ ap (λ (t : List Call). flat_map latches found ++ t) more.all
+      ∙ sym (flat_map-append latches found more.added)
+
+  others_stay : (calls : List Call) (number : ℕ) → number ≢ 255
+      → part (history ++ entries 255 calls) number ≡ part history number
+  others_stay calls number ne =
+      part_on history (entries 255 calls) number
+      ∙ ap (λ (t : List Call). part history number ++ t) (part_other 255 number calls (λ e. ne (sym e)))
+      ∙ append-nil (part history number)
+
+  -- the history with the calls that finish it
+  finished : (count : ℕ) (more : Finishes words last count)
+      → IsHistory script (found ++ more.added) (history ++ entries 255 more.calls)
+  finished count more = record {
+    legal = leads_on (zeros 16) words (zeros 16) history (entries 255 more.calls) cut.legal more.leads;
+    core = core_all count more;
+    devices = λ number ne. ap (map asked_by) (others_stay more.calls number ne) ∙ cut.devices number ne;
+  }
+
+  module _ (ts : List Turn) (whole : AllByRecursion IsWholeLook found) where
+    -- a look is begun, or to come
+    extend_look : (n : ℕ) → looks ts ≡ length found + suc n → FinishesLook words last (suc n)
+        → Extends script ts found last
+    extend_look n count more =
+        let weaves = weave_finished ts found more.begins.others last more.begins.rest (omega (arith, count)) in
+        record {
+          all = found ++ more.finishes.added;
+          many = omega (arith, count, more.finishes.many, length-append found more.finishes.added);
+          whole = all_append IsWholeLook found more.finishes.added whole more.finishes.whole;
+          history = history ++ entries 255 more.finishes.calls;
+          is = finished (suc n) more.finishes;
+          behind = weaves.0;
+          weaves = ap (λ (t : List (List ℕ)). weave ts (found ++ t)) more.begins.is ∙ weaves.1;
+        }
+
+    -- all looks are done
+    extend_none : looks ts ≡ length found → last ≡ [] → Finishes words last 0 → Extends script ts found last
+    extend_none count none more =
+        let empty : more.added ≡ [] = nil_from_length more.added more.many in
+        record {
+          all = found ++ more.added;
+          many = omega (arith, count, more.many, length-append found more.added);
+          whole = all_append IsWholeLook found more.added whole more.whole;
+          history = history ++ entries 255 more.calls;
+          is = finished 0 more;
+          behind = [];
+          weaves =
+              ap (λ (t : List (List ℕ)). weave ts (found ++ t)) empty
+              ∙ ap (weave ts) (append-nil found)
+              ∙ sym (append-nil (weave ts found))
+              ∙ ap (λ (l : List ℕ). weave ts found ++ arrived l) (sym none)
+              ∙ sym (append-nil (weave ts found ++ arrived last));
+        }
+
+    long : length words ≡ 16
+    long = led_as_many (zeros 16) words history cut.legal
+
+    extend_more : Settles ts found last words → length last < 16 → length found < looks ts → Extends script ts found last
+    extend_more settles short few =
+        let n : ℕ = looks ts - suc (length found) in
+        extend_look n (omega (arith, few))
+        (finish words last n long (omega (arith, short))
+        (λ none. nothing_left (length last) words long (omega (arith, short)) (settles.begun (omega (arith, none)))))
+
+    pub extend : Settles ts found last words → length last < 16
+        → (length found < looks ts) ⊎ ((last ≡ []) × (length found ≤ looks ts)) → Extends script ts found last
+    extend settles short few =
+        dite (dec_lt (length found) (looks ts))
+        (λ more. extend_more settles short more)
+        (λ all.
+        let rest : (last ≡ []) × (length found ≤ looks ts) = ⊎_elim (λ more. absurd (all more)) (λ done. done) few in
+        let done : looks ts ≡ length found = omega (arith, all, rest.1) in
+        extend_none done rest.0
+        (subst (λ (l : List ℕ). Finishes words l 0) (sym rest.0)
+        (looks_more words 0 long (λ _. settles.all (omega (arith, done))))))

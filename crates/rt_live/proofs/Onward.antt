@@ -1,0 +1,99 @@
+-- Histories that go on.
+use Rattle.std.proofs.Common.{◌≡◌, ◌≢◌, ℕ, suc, ◌+◌, List, [], ◌∷◌, ◌++◌, length, map, filter}
+use Rattle.std.proofs.Common.{get_or, set, replicate, cond, eqb, refl, sym, ap, subst, ◌∙◌, arith}
+use Rattle.std.proofs.Common.{append_assoc, eq-eqb, ne_eqb, length-append, length-set}
+use Rattle.std.proofs.lemmas.List.Elements.{filter-append}
+use mathlib.Core.List.{map-append}
+use Rattle.rt_words.specs.declared.call.Call.{Call}
+use Rattle.rt_words.specs.declared.call.Call.TheVariants.{Pend, Latch}
+use Rattle.rt_words.specs.Object.{after}
+use Rattle.rt_words.specs.History.{Leads, part}
+use Rattle.rt_words.specs.declared.call.Entry.{Entry}
+use Rattle.rt_live.specs.Weave.{latches_from, latches}
+
+-- a history, and one that goes on
+pub leads_on : (a b c : List ℕ) (front behind : List Entry) → Leads a front b → Leads b behind c → Leads a (front ++ behind) c
+leads_on a b c [] behind first then = subst (λ (w : List ℕ). Leads w behind c) (sym first) then
+leads_on a b c (e ∷ es) behind first then = (first.0, leads_on (after a e.call) b c es behind first.1 then)
+
+-- what a call leaves is as many words
+pub as_many : (words : List ℕ) (c : Call) → length (after words c) ≡ length words
+as_many words (Pend n a) = length-set words _ _
+as_many words (Latch k word) = length-set words _ _
+
+pub led_as_many : (a b : List ℕ) (history : List Entry) → Leads a history b → length b ≡ length a
+led_as_many a b [] leads = ap length (sym leads)
+led_as_many a b (e ∷ es) leads = led_as_many (after a e.call) b es leads.1 ∙ as_many a e.call
+
+-- these calls, as entries of one line
+abbrev pub entries : ℕ → List Call → List Entry
+entries number calls = map (λ c. record { line = number; call = c }) calls
+
+-- calls of one line, and more of them
+pub calls_lead : (number : ℕ) (a b c : List ℕ) (front behind : List Call) → Leads a (entries number front) b
+    → Leads b (entries number behind) c → Leads a (entries number (front ++ behind)) c
+calls_lead number a b c front behind first then =
+    subst (λ (es : List Entry). Leads a es c) (sym (map-append (λ c. record { line = number; call = c }) front behind))
+    (leads_on a b c (entries number front) (entries number behind) first then)
+
+pub part_on : (front behind : List Entry) (n : ℕ) → part (front ++ behind) n ≡ part front n ++ part behind n
+part_on front behind n =
+    ap (map (λ (e : Entry). e.call)) (filter-append (λ (e : Entry). eqb e.line n) front behind)
+    ∙ map-append (λ (e : Entry). e.call) (filter (λ (e : Entry). eqb e.line n) front)
+    (filter (λ (e : Entry). eqb e.line n) behind)
+
+pub part_own : (n : ℕ) (calls : List Call) → part (entries n calls) n ≡ calls
+part_own n [] = refl
+part_own n (c ∷ cs) =
+    let e : Entry = record { line = n; call = c } in
+    let rest : List Entry = filter (λ (x : Entry). eqb x.line n) (entries n cs) in
+    ap (λ b. map (λ (x : Entry). x.call) (cond b (e ∷ rest) rest)) (eq-eqb n n refl)
+    ∙ ap (λ (t : List Call). c ∷ t) (part_own n cs)
+
+pub part_other : (n m : ℕ) (calls : List Call) → n ≢ m → part (entries n calls) m ≡ []
+part_other n m [] ne = refl
+part_other n m (c ∷ cs) ne =
+    let e : Entry = record { line = n; call = c } in
+    let rest : List Entry = filter (λ (x : Entry). eqb x.line m) (entries n cs) in
+    ap (λ b. map (λ (x : Entry). x.call) (cond b (e ∷ rest) rest)) (ne_eqb n m ne) ∙ part_other n m cs ne
+
+-- words of 0
+abbrev pub zeros : ℕ → List ℕ
+zeros n = replicate n 0
+
+get_behind : (done : List ℕ) (x : ℕ) (rest : List ℕ) → x ≡ get_or (done ++ x ∷ rest) (length done) 0
+get_behind [] x rest = refl
+get_behind (y ∷ done) x rest = get_behind done x rest
+
+set_behind : (done : List ℕ) (x : ℕ) (rest : List ℕ) → set (done ++ x ∷ rest) (length done) 0 ≡ done ++ 0 ∷ rest
+set_behind [] x rest = refl
+set_behind (y ∷ done) x rest = ap (λ (t : List ℕ). y ∷ t) (set_behind done x rest)
+
+-- The core latches each word behind the first ones: it finds them as they stand, and leaves them 0.
+pub looked_from : (k : ℕ) (done rest : List ℕ) → length done ≡ k
+    → Leads (done ++ rest) (entries 255 (latches_from k rest)) (done ++ zeros (length rest))
+looked_from k done [] long = refl
+looked_from k done (x ∷ rest) long =
+    let there : x ≡ get_or (done ++ x ∷ rest) k 0 =
+    get_behind done x rest ∙ ap (λ n. get_or (done ++ x ∷ rest) n 0) long in
+    let left : set (done ++ x ∷ rest) k 0 ≡ (done ++ 0 ∷ []) ++ rest =
+    sym (ap (λ n. set (done ++ x ∷ rest) n 0) long) ∙ set_behind done x rest ∙ sym (append_assoc done (0 ∷ []) rest) in
+    let longer : length (done ++ 0 ∷ []) ≡ suc k = omega (arith, long, length-append done (0 ∷ [])) in (
+      there,
+      subst (λ (w : List ℕ). Leads w (entries 255 (latches_from (suc k) rest)) (done ++ zeros (length (x ∷ rest)))) (sym left)
+          (subst (λ (w : List ℕ). Leads ((done ++ 0 ∷ []) ++ rest) (entries 255 (latches_from (suc k) rest)) w)
+          (append_assoc done (0 ∷ []) (zeros (length rest)))
+          (looked_from (suc k) (done ++ 0 ∷ []) rest longer)),
+    )
+
+pub latches_on : (k : ℕ) (xs ys : List ℕ) → latches_from k (xs ++ ys) ≡ latches_from k xs ++ latches_from (k + length xs) ys
+latches_on k [] ys = ap (λ n. latches_from n ys) (let e : k ≡ k + 0 = omega arith in e)
+latches_on k (x ∷ xs) ys =
+    ap (λ (t : List Call). Latch k x ∷ t)
+    (latches_on (suc k) xs ys
+    ∙ ap (λ n. latches_from (suc k) xs ++ latches_from n ys)
+    (let e : suc k + length xs ≡ k + length (x ∷ xs) = omega arith in e))
+
+-- a look at every word, from its beginning
+pub looked : (words : List ℕ) → Leads words (entries 255 (latches words)) (zeros (length words))
+looked words = looked_from 0 [] words refl

@@ -1,0 +1,151 @@
+-- What was written of a run is a text that `live` allows, or a beginning of one.
+use Rattle.std.proofs.Common.{◌≡◌, ◌⊎◌, ℕ, ◌+◌, ◌<◌, ◌≤◌, List, [], ◌∷◌, ◌++◌, length, map, flat_map, replicate, Option}
+use Rattle.std.proofs.Common.{inl, refl, sym, ap, subst, ◌∙◌, arith, append_assoc}
+use Rattle.std.specs.List.{AllByRecursion}
+use Rattle.rt_ids.specs.Event.{Event, Step, steps}
+use Rattle.rt_code.specs.Image.{Image}
+use Rattle.rt_core.specs.Core.{Core}
+use Rattle.rt_core.specs.Machine.{Machine, IsFresh}
+use Rattle.rt_core.specs.Trace.{core_after, labels, trace}
+use Rattle.rt_outside.specs.Bytes.{Took, TookPrefix}
+use Rattle.rt_run.specs.Sending.{Breaks, lines_of}
+use Rattle.rt_run.proofs.Advancing.{lines_split}
+use Rattle.rt_run.proofs.Taking.{part_more, part_on}
+use Rattle.rt_script.specs.Script.{HasDeviceInRange, core_events}
+use Rattle.rt_script.specs.declared.line.Line.{Line}
+use Rattle.rt_trace.specs.Label.{items_of}
+use Rattle.rt_trace.specs.Text.{text, total_text}
+use Rattle.rt_words.specs.Ending.{calls_in}
+use Rattle.rt_words.specs.declared.call.Entry.{Entry}
+use Rattle.rt_live.specs.Account.{account_of, account_text, declared_irqs}
+use Rattle.rt_live.specs.Going.{IsWholeLook}
+use Rattle.rt_live.specs.History.{IsHistory}
+use Rattle.rt_live.specs.Output.{IsLiveText, TookPart, IsBalanced}
+use Rattle.rt_live.specs.Weave.{Happens, Looks, looks, turns, arrived, weave}
+use Rattle.rt_live.specs.Written.{live_text}
+use Rattle.rt_live.proofs.Woven.{looks-append}
+use Rattle.rt_live.proofs.Extending.{IsCutHistory, Settles, Extends, extend}
+use Rattle.rt_live.proofs.Requesting.{devices_first}
+use Rattle.rt_live.proofs.Requested.{all_counted, all_latched, nothing_pending}
+
+-- from reset, the lines of the first events begin those of all
+lines_begin : (m : Machine) (done behind : List Event) → IsFresh m
+    → (more : List ℕ) × (flat_map (text m.image.names) (trace m.image (done ++ behind)) ≡ lines_of m done ++ more)
+lines_begin m done behind fresh =
+    let next : Machine =
+    record { image = m.image; core = core_after m.image m.core done; steps = m.steps + steps done } in
+    let names = m.image.names in
+    let all : List Event = done ++ behind in
+    let same : flat_map (text names) (trace m.image all) ≡ lines_of m all =
+    ap (λ (c : Core). flat_map (text names) (items_of 0 (labels m.image c all))) (sym fresh.core)
+    ∙ ap (λ n. flat_map (text names) (items_of n (labels m.image m.core all))) (sym fresh.steps) in
+    (lines_of next behind, same ∙ lines_split done behind m next record { image = refl; core = refl; steps = refl })
+
+-- the text of looks that go on begins with the lines of the events so far
+text_begins : (m : Machine) (script : List Line) (found : List (List ℕ)) (done behind : List Event) → IsFresh m
+    → weave (turns script) found ≡ done ++ behind
+    → (more : List ℕ) × (live_text m.image script found ≡ lines_of m done ++ more)
+text_begins m script found done behind fresh parts =
+    let begin = lines_begin m done behind fresh in
+    let last : List ℕ = flat_map total_text (steps (weave (turns script) found) ∷ []) in (
+      begin.0 ++ last,
+      ap (λ es. flat_map (text m.image.names) (trace m.image es) ++ last) parts
+          ∙ ap (λ (t : List ℕ). t ++ last) begin.1
+          ∙ append_assoc (lines_of m done) begin.0 last,
+    )
+
+-- the account of a history
+abbrev pub account_behind : Image → List Entry → List ℕ
+account_behind image history =
+    account_text image.names (account_of (declared_irqs image.names) (calls_in history) (replicate 16 0))
+
+module _ (image : Image) (script : List Line) (found : List (List ℕ)) (history : List Entry)
+    (many : length found ≡ looks (turns script)) (whole : AllByRecursion IsWholeLook found)
+    (is : IsHistory script found history) where
+  -- the text of a run whose turns were all done
+  pub live_whole : IsLiveText image script (live_text image script found ++ account_behind image history)
+  live_whole =
+      record { found = found; many = many; whole = whole; history = history; is = is; written = refl }
+
+  module _ (x y : Option (List ℕ)) where
+    -- a fault came at the total
+    pub part_total : TookPrefix x y (live_text image script found) → TookPart image script x y
+    part_total part = record {
+      bytes = live_text image script found ++ account_behind image history;
+      is = live_whole;
+      took = part_more x y (live_text image script found) (account_behind image history) part;
+    }
+
+    -- a fault came at the account
+    pub part_account : (z : Option (List ℕ)) → Took x y (live_text image script found)
+        → TookPrefix y z (account_behind image history) → TookPart image script x z
+    part_account z took part = record {
+      bytes = live_text image script found ++ account_behind image history;
+      is = live_whole;
+      took = part_on x y z (live_text image script found) (account_behind image history) took part;
+    }
+
+-- the text of looks that extend others
+extended_text : (image : Image) (script : List Line) (found : List (List ℕ)) (last : List ℕ)
+    (e : Extends script (turns script) found last)
+    → IsLiveText image script (live_text image script e.all ++ account_behind image e.history)
+extended_text image script found last e = live_whole image script e.all e.history e.many e.whole e.is
+
+-- a fault came in the turns
+pub part_cut : (m next : Machine) (script : List Line) (found : List (List ℕ)) (last words : List ℕ)
+    (history : List Entry) (x y : Option (List ℕ)) → IsFresh m → IsCutHistory script found last words history
+    → AllByRecursion IsWholeLook found → Settles (turns script) found last words → length last < 16
+    → (length found < looks (turns script)) ⊎ ((last ≡ []) × (length found ≤ looks (turns script)))
+    → Breaks (weave (turns script) found ++ arrived last) m next x y → TookPart m.image script x y
+part_cut m next script found last words history x y fresh cut whole settles short few breaks =
+    let e : Extends script (turns script) found last =
+    extend script found last words history cut (turns script) whole settles short few in
+    let all : weave (turns script) e.all ≡ breaks.done ++ (breaks.rest ++ e.behind) =
+    e.weaves ∙ ap (λ es. es ++ e.behind) breaks.parts ∙ append_assoc breaks.done breaks.rest e.behind in
+    let begins = text_begins m script e.all breaks.done (breaks.rest ++ e.behind) fresh all in
+    let account : List ℕ = account_behind m.image e.history in
+    record {
+      bytes = live_text m.image script e.all ++ account;
+      is = extended_text m.image script found last e;
+      took =
+          subst (TookPrefix x y)
+          (sym (append_assoc (lines_of m breaks.done) begins.0 account)
+          ∙ ap (λ (t : List ℕ). t ++ account) (sym begins.1))
+          (part_more x y (lines_of m breaks.done) (begins.0 ++ account) breaks.took);
+    }
+
+-- there is a look alone
+looks_some : (script : List Line) → 0 < looks (turns script)
+looks_some script =
+    omega (
+      arith,
+      looks-append (map Happens (core_events script)) (Looks ∷ replicate (steps (core_events script)) (Happens Step)),
+    )
+
+-- a text is allowed whatever comes: the devices may pend before the first look
+pub some_text : (image : Image) (script : List Line) → AllByRecursion HasDeviceInRange script
+    → (bytes : List ℕ) × IsLiveText image script bytes
+some_text image script ranges =
+    let first = devices_first script ranges in
+    let some : 0 < looks (turns script) = looks_some script in
+    let settles : Settles (turns script) [] [] first.0 = record {
+      begun = λ late k below. absurd (omega (arith, below));
+      all = λ done. absurd (omega (arith, some, done));
+    } in
+    let e : Extends script (turns script) [] [] =
+    extend script [] [] first.0 first.1 first.2 (turns script) tt settles (omega arith) (inl some) in
+    (live_text image script e.all ++ account_behind image e.history, extended_text image script [] [] e)
+
+-- the account of a history that is allowed
+pub balanced : (script : List Line) (found : List (List ℕ)) (history : List Entry) → IsHistory script found history
+    → AllByRecursion HasDeviceInRange script → (irqs : List ℕ) → AllByRecursion (λ irq. irq < 512) irqs
+    → AllByRecursion (IsBalanced script) (account_of irqs (calls_in history) (replicate 16 0))
+balanced script found history is ranges [] within = tt
+balanced script found history is ranges (irq ∷ irqs) within = (
+  record {
+    counted = all_counted script found history is ranges irq;
+    latched = all_latched script found history is ranges irq within.0;
+    none_left = nothing_pending script found history is ranges irq;
+  },
+  balanced script found history is ranges irqs within.1,
+)

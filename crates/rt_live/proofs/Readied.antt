@@ -1,0 +1,426 @@
+-- A run that is made ready, and stays so while devices work and their lines are gathered.
+use Rattle.std.proofs.Common.{◌≡◌, ℕ, zero, suc, ◌+◌, ◌*◌, ◌^◌, ◌<◌, ◌≤◌, ◌==◌, Bool, true, false, if◌then◌else◌}
+use Rattle.std.proofs.Common.{List, [], ◌∷◌, ◌++◌, map, replicate, length, Contains, IsSome, Some}
+use Rattle.std.proofs.Common.{find, filter, take, drop, inl, inr, refl, ap, sym, subst, ◌∙◌, arith, eq-eqb}
+use Rattle.std.specs.Prelude.{All, ◌↔◌}
+use Rattle.std.specs.List.{AllByRecursion, list_any}
+use Rattle.std.proofs.lemmas.Bool.{eqb-true, false≢true}
+use Rattle.std.proofs.lemmas.List.{append-nil, take_all, drop_all, map-append, length-append, length-map, length-replicate}
+use Rattle.std.proofs.lemmas.List.Sums.{sum_by-cons}
+use Rattle.rt_lemmas.proofs.Bools.{true_and_false}
+use Rattle.rt_lemmas.proofs.Lists.{all_map}
+use Rattle.rt_lemmas.proofs.Membership.{all_append, all_weaker}
+use Rattle.rt_lemmas.proofs.Membership.{contains_here, contains_there, contains_cases, contains_none}
+use Rattle.rt_ids.specs.Lists.{numbers_below}
+use Rattle.rt_ids.specs.Names.{Names}
+use Rattle.rt_ids.specs.declared.limits.TheConstants.{IRQ_NUMBERS, SCRIPT_EVENTS}
+use Rattle.rt_core.specs.Machine.{Machine}
+use Rattle.rt_run.specs.Writable.{IsWritable}
+use Rattle.rt_script.specs.Script.{IsScript, HasName, HasNames, count, pends, line_pends, count_of}
+use Rattle.rt_script.specs.declared.line.Line.{Line}
+use Rattle.rt_script.specs.declared.line.Line.TheVariants.{Steps, Ticks, Pends, Device as DeviceLine}
+use Rattle.rt_devices.specs.Work.{requests, asked_by, Works}
+use Rattle.rt_devices.specs.declared.device.Device.{Device}
+use Rattle.rt_trace.specs.Lined.{IsDeclared}
+use Rattle.rt_words.specs.Lines.{Row, Core, numbers, count as row_count}
+use Rattle.rt_words.specs.Object.{IsPending}
+use Rattle.rt_words.specs.declared.view.Part.{Part}
+use Rattle.rt_live.specs.Account.{declared_irqs}
+use Rattle.rt_live.specs.Devices.{devices, is_of_device}
+use Rattle.rt_live.specs.Going.{IsSameLine}
+use Rattle.rt_live.specs.Ready.{Prepared, IsReady, IsWaiting, HasMade, PendsOneOf, IsCounted, irqs_of}
+use Rattle.rt_live.specs.declared.account.AccountRow.{AccountRow}
+use Rattle.rt_live.specs.Inside.Able.{IsAble}
+use Rattle.rt_live.specs.Inside.Making.{MayPend, HasMadeLines}
+use Rattle.rt_live.specs.Gathering.{part_of, gathering}
+use Rattle.rt_live.specs.Inside.Working.{CanWork, AllWork, calls_gathered, calls_made, empty_row}
+use Rattle.rt_live.proofs.Tallied.{same_words, same_made, gathered_parts, since_within}
+
+-- a device that has made its pends of the script
+pub record HasEnded (row : Row) (script : List Line) (device : Device) : Type 0 where
+  pub words : device.line.words ≡ row
+  pub number : device.line.number ≡ device.number
+  pub made : map asked_by device.line.calls ≡ map (λ irq. Some irq) (pends script device.number)
+
+abbrev device_numbers : List Device → List ℕ
+device_numbers ds = map (λ d. d.number) ds
+
+module _ (words : Row) (script : List Line) where
+  one_ended : (old new : Device) → Works (requests old.script.items) old new → IsWaiting words script old
+      → HasEnded words script new
+  one_ended old new works waits =
+      let calls : new.line.calls ≡ works.calls =
+      ap (λ l. l.calls) works.line ∙ ap (λ cs. cs ++ works.calls) waits.unused in
+      record {
+        words = ap (λ l. l.words) works.line ∙ waits.words;
+        number = ap (λ l. l.number) works.line ∙ waits.number ∙ sym works.number;
+        made =
+            ap (map asked_by) calls ∙ works.asked
+            ∙ ap (map (λ irq. Some irq)) (waits.asks ∙ ap (pends script) (sym works.number));
+      }
+
+  -- devices that waited and have worked have ended
+  pub all_ended : (old new : List Device) → length new ≡ length old → AllWork old new
+      → AllByRecursion (IsWaiting words script) old
+      → AllByRecursion (HasEnded words script) new × (device_numbers new ≡ device_numbers old)
+  all_ended [] [] same work waits = (tt, refl)
+  all_ended [] (y ∷ new) same work waits = absurd (omega (arith, same))
+  all_ended (x ∷ old) [] same work waits = absurd (omega (arith, same))
+  all_ended (x ∷ old) (y ∷ new) same work waits =
+      let first : Works (requests x.script.items) x y = work 0 x (omega arith) in
+      let rest = all_ended old new (omega (arith, same)) (λ i d within. work (suc i) d (omega (arith, within))) waits.1 in (
+        (one_ended x y first waits.0, rest.0),
+        ap (λ n. n ∷ device_numbers new) first.number ∙ ap (λ ns. x.number ∷ ns) rest.1,
+      )
+
+  one_part : (d : Device) → HasEnded words script d → HasMade script (part_of d)
+  one_part d ended = ended.made ∙ ap (λ n. map (λ irq. Some irq) (pends script n)) (sym ended.number)
+
+  part_numbers : (ds : List Device) → AllByRecursion (HasEnded words script) ds
+      → numbers (map part_of ds) ≡ device_numbers ds
+  part_numbers [] ended = refl
+  part_numbers (d ∷ ds) ended =
+      ap (λ n. n ∷ numbers (map part_of ds)) ended.0.number ∙ ap (λ ns. d.number ∷ ns) (part_numbers ds ended.1)
+
+-- behind the devices' work, with all lines gathered
+module _ (ready : Prepared) (is : IsReady ready) (line : Core) (same : IsSameLine ready.line line) where
+  abbrev words : Row
+  words = ready.words
+
+  abbrev script : List Line
+  script = ready.script
+
+  same_gathered : line.gathered ≡ ready.line.gathered
+  same_gathered = ap (λ (l : Core). l.gathered) same.1
+
+  pub within : line.since ≤ length line.calls
+  within =
+      omega (
+        arith,
+        ap (λ (l : Core). l.since) same.1,
+        ap (λ (l : Core). length l.calls) same.1,
+        length-append ready.line.calls same.0,
+        is.behind,
+      )
+
+  -- calls alone leave it ready
+  pub ready_calls : IsReady (record ready { line = line })
+  ready_calls = record {
+    scripted = is.scripted;
+    core_words = ap (λ (l : Core). l.words) same.1 ∙ is.core_words;
+    many = is.many;
+    waiting = is.waiting;
+    gathered = subst (AllByRecursion (HasMade script)) (sym same_gathered) is.gathered;
+    each = ap (λ ps. device_numbers ready.devices ++ numbers ps) same_gathered ∙ is.each;
+    made = λ number.
+        subst (λ ns. Contains ns number ↔ Contains (devices script) number) (sym (ap (λ (l : Core). l.made) same.1))
+        (is.made number);
+    behind = within;
+    may = is.may;
+    rows = is.rows;
+    counted = subst (λ ps. AllByRecursion (IsCounted ps) ready.rows) (sym same_gathered) is.counted;
+  }
+
+  module _ (ended : List Device) (have : AllByRecursion (HasEnded words script) ended)
+      (known : device_numbers ended ≡ device_numbers ready.devices) (next : Core) (gathers : next ≡ gathering ended line)
+      (rows : List AccountRow) (counted : AllByRecursion (IsCounted next.gathered) rows)
+      (irqs : irqs_of rows ≡ irqs_of ready.rows) where
+    all_parts : next.gathered ≡ map part_of ended ++ ready.line.gathered
+    all_parts =
+        ap (λ (l : Core). l.gathered) gathers ∙ gathered_parts ended line
+        ∙ ap (λ ps. map part_of ended ++ ps) same_gathered
+
+    pub ready_gathered : IsReady (record ready { line = next; devices = []; rows = rows })
+    ready_gathered = record {
+      scripted = is.scripted;
+      core_words =
+          ap (λ (l : Core). l.words) gathers ∙ same_words ended line ∙ ap (λ (l : Core). l.words) same.1 ∙ is.core_words;
+      many = is.many;
+      waiting = tt;
+      gathered =
+          subst (AllByRecursion (HasMade script)) (sym all_parts)
+          (all_append (HasMade script) (map part_of ended) ready.line.gathered
+          (all_map part_of (HasEnded words script) (HasMade script) (one_part words script) ended have) is.gathered);
+      each =
+          ap numbers all_parts ∙ map-append (λ (p : Part). p.line) (map part_of ended) ready.line.gathered
+          ∙ ap (λ ns. ns ++ numbers ready.line.gathered) (part_numbers words script ended have ∙ known) ∙ is.each;
+      made = λ number.
+          subst (λ ns. Contains ns number ↔ Contains (devices script) number)
+          (sym (ap (λ (l : Core). l.made) gathers ∙ same_made ended line ∙ ap (λ (l : Core). l.made) same.1))
+          (is.made number);
+      behind = subst (λ (l : Core). l.since ≤ length l.calls) (sym gathers) (since_within ended line within);
+      may = λ irq. subst (λ is. IsPending words.may irq ↔ Contains is irq) (sym irqs) (is.may irq);
+      rows = subst (λ is. AllByRecursion (PendsOneOf is) script) (sym irqs) is.rows;
+      counted = counted;
+    }
+
+-- a device pends no more than the script has events
+line_pends_few : (number : ℕ) (line : Line) → length (line_pends number line) ≤ count_of line
+line_pends_few number (Steps n) = omega arith
+line_pends_few number (Ticks n) = omega arith
+line_pends_few number (Pends irq n) = omega arith
+line_pends_few number (DeviceLine d irq n) = by (d == number)
+  where
+    by : (same : Bool) → length (if same then replicate n irq else []) ≤ n
+    by true = omega (arith, length-replicate n irq)
+    by false = omega arith
+
+pends_few : (number : ℕ) (script : List Line) → length (pends script number) ≤ count script
+pends_few number [] = omega arith
+pends_few number (line ∷ script) =
+    omega (
+      arith,
+      length-append (line_pends number line) (pends script number),
+      line_pends_few number line,
+      pends_few number script,
+      sum_by-cons count_of line script,
+    )
+
+one_can_work : (words : Row) (script : List Line) → IsScript script → (d : Device) → IsWaiting words script d
+    → CanWork words d
+one_can_work words script scripted d waits = record {
+  words = waits.words;
+  may = waits.may;
+  room =
+      omega (
+        arith,
+        ap length waits.unused,
+        ap length waits.asks,
+        pends_few d.number script,
+        scripted.few,
+      );
+}
+
+-- devices that wait can work
+pub can_work : (words : Row) (script : List Line) → IsScript script → (ds : List Device)
+    → AllByRecursion (IsWaiting words script) ds → All (CanWork words) ds
+can_work words script scripted ds waits =
+    each ds (all_weaker (IsWaiting words script) (CanWork words) (one_can_work words script scripted) ds waits)
+  where
+    each : (es : List Device) → AllByRecursion (CanWork words) es → All (CanWork words) es
+    each [] all k d within = absurd (omega (arith, within))
+    each (e ∷ es) all zero d within = all.0
+    each (e ∷ es) all (suc k) d within = each es all.1 k d (omega (arith, within))
+
+-- an interrupt of the table is declared
+declared_by : (irqs : List (List ℕ × ℕ)) (irq : ℕ) → Contains (map (λ i. i.1) irqs) irq
+    → IsSome (find (λ (i : List ℕ × ℕ). i.1 == irq) irqs)
+declared_by [] irq is = absurd (contains_none irq is)
+declared_by (i ∷ irqs) irq is = by (declared_by irqs irq) (i.1 == irq) refl
+  where
+    by : (Contains (map (λ j. j.1) irqs) irq → IsSome (find (λ (j : List ℕ × ℕ). j.1 == irq) irqs)) → (b : Bool)
+        → (i.1 == irq) ≡ b → IsSome (if b then Some i else find (λ (j : List ℕ × ℕ). j.1 == irq) irqs)
+    by rest true same = refl
+    by rest false other = elim (contains_cases i.1 (map (λ j. j.1) irqs) irq is) [
+      | inl here ↦ absurd (true_and_false (i.1 == irq) (eq-eqb i.1 irq here) other)
+      | inr behind ↦ rest behind
+    ]
+
+pub declared_at : (names : Names) (irq : ℕ) → Contains (declared_irqs names) irq → IsDeclared names irq
+declared_at names irq is = declared_by names.irqs irq is
+
+-- and a declared one stands in the table
+table_has : (irqs : List (List ℕ × ℕ)) (irq : ℕ) → IsSome (find (λ (i : List ℕ × ℕ). i.1 == irq) irqs)
+    → Contains (map (λ i. i.1) irqs) irq
+table_has [] irq is = absurd (false≢true is)
+table_has (i ∷ irqs) irq is = by (table_has irqs irq) (i.1 == irq) refl is
+  where
+    by : (IsSome (find (λ (j : List ℕ × ℕ). j.1 == irq) irqs) → Contains (map (λ j. j.1) irqs) irq) → (b : Bool)
+        → (i.1 == irq) ≡ b → IsSome (if b then Some i else find (λ (j : List ℕ × ℕ). j.1 == irq) irqs)
+        → Contains (i.1 ∷ map (λ j. j.1) irqs) irq
+    by rest true same there =
+        subst (λ n. Contains (i.1 ∷ map (λ j. j.1) irqs) n) (eqb-true i.1 irq same)
+        (contains_here i.1 (map (λ j. j.1) irqs))
+    by rest false other there = contains_there i.1 (map (λ j. j.1) irqs) irq (rest there)
+
+line_named : (names : Names) (line : Line) → PendsOneOf (declared_irqs names) line → HasName names line
+line_named names (Steps n) is = tt
+line_named names (Ticks n) is = tt
+line_named names (Pends irq n) is = declared_at names irq is
+line_named names (DeviceLine d irq n) is = declared_at names irq is
+
+line_pending : (names : Names) (line : Line) → HasName names line → PendsOneOf (declared_irqs names) line
+line_pending names (Steps n) is = tt
+line_pending names (Ticks n) is = tt
+line_pending names (Pends irq n) is = table_has names.irqs irq is
+line_pending names (DeviceLine d irq n) is = table_has names.irqs irq is
+
+module _ (ready : Prepared) (is : IsReady ready) (names : Names) (irqs : irqs_of ready.rows ≡ declared_irqs names) where
+  -- the script's interrupts are those of the image
+  pub names_ready : HasNames names ready.script
+  names_ready =
+      all_weaker (PendsOneOf (declared_irqs names)) (HasName names) (line_named names) ready.script
+      (subst (λ irqs. AllByRecursion (PendsOneOf irqs) ready.script) irqs is.rows)
+
+  in_range : (irq : ℕ) (rows : List AccountRow) → AllByRecursion (IsCounted ready.line.gathered) rows
+      → Contains (irqs_of rows) irq → irq < IRQ_NUMBERS
+  in_range irq [] counted there = absurd (contains_none irq there)
+  in_range irq (row ∷ rows) counted there = elim (contains_cases row.irq (irqs_of rows) irq there) [
+    | inl here ↦ subst (λ n. n < IRQ_NUMBERS) here counted.0.in_range
+    | inr behind ↦ in_range irq rows counted.1 behind
+  ]
+
+  -- and so the core's turns can be done
+  pub able_ready : (m : Machine) → IsWritable m → m.image.names ≡ names → IsAble m ready.line ready.words
+  able_ready m writable named = record {
+    writable = writable;
+    words = is.core_words;
+    many = is.many;
+    may = λ irq pending.
+        let there : Contains (irqs_of ready.rows) irq = (is.may irq).0 pending in (
+          subst (λ (n : Names). IsDeclared n irq) (sym named)
+              (declared_at names irq (subst (λ is. Contains is irq) irqs there)),
+          in_range irq ready.rows is.counted there,
+        );
+  }
+
+-- what is made is ready
+module _ (names : Names) (script : List Line) (named : HasNames names script) (rows : List AccountRow)
+    (table : rows ≡ map empty_row (declared_irqs names)) where
+  irqs_are : (irqs : List ℕ) → irqs_of (map empty_row irqs) ≡ irqs
+  irqs_are [] = refl
+  irqs_are (irq ∷ irqs) = ap (λ is. irq ∷ is) (irqs_are irqs)
+
+  pub rows_declared : irqs_of rows ≡ declared_irqs names
+  rows_declared = ap irqs_of table ∙ irqs_are (declared_irqs names)
+
+  pub pends_rows : AllByRecursion (PendsOneOf (irqs_of rows)) script
+  pends_rows =
+      subst (λ irqs. AllByRecursion (PendsOneOf irqs) script) (sym rows_declared)
+      (all_weaker (HasName names) (PendsOneOf (declared_irqs names)) (line_pending names) script named)
+
+  module _ (words : Row) (may : (irq : ℕ) → IsPending words.may irq ↔ Contains (irqs_of rows) irq)
+      (in_bounds : (irq : ℕ) → IsPending words.may irq → irq < IRQ_NUMBERS) where
+    line_may_pend : (line : Line) → PendsOneOf (irqs_of rows) line → MayPend words line
+    line_may_pend (Steps n) is = tt
+    line_may_pend (Ticks n) is = tt
+    line_may_pend (Pends irq n) is = tt
+    line_may_pend (DeviceLine d irq n) is = (may irq).1 is
+
+    pub all_may_pend : AllByRecursion (MayPend words) script
+    all_may_pend = all_weaker (PendsOneOf (irqs_of rows)) (MayPend words) line_may_pend script pends_rows
+
+    counted_empty : (irqs : List ℕ) → ((irq : ℕ) → Contains irqs irq → irq < IRQ_NUMBERS)
+        → AllByRecursion (IsCounted []) (map empty_row irqs)
+    counted_empty [] low = tt
+    counted_empty (irq ∷ irqs) low = (
+      record { in_range = low irq (contains_here irq irqs); raised = refl; merged = refl; latched = refl; left = refl },
+      counted_empty irqs (λ i there. low i (contains_there irq irqs i there)),
+    )
+
+    rows_counted : AllByRecursion (IsCounted []) rows
+    rows_counted =
+        subst (AllByRecursion (IsCounted [])) (sym table)
+        (counted_empty (declared_irqs names) (λ irq there.
+        in_bounds irq ((may irq).1 (subst (λ is. Contains is irq) (sym rows_declared) there))))
+
+    pub made_ready : IsScript script → (line : Core) (ds : List Device) → row_count words ≡ 16 → HasMadeLines line (devices script) words
+        → device_numbers ds ≡ devices script → AllByRecursion (IsWaiting words script) ds
+        → IsReady (record { script = script; words = words; line = line; devices = ds; rows = rows })
+    made_ready scripted line ds many has known waits = record {
+      scripted = scripted;
+      core_words = has.words;
+      many = many;
+      waiting = waits;
+      gathered = subst (AllByRecursion (HasMade script)) (sym has.gathered) tt;
+      each = ap (λ ps. device_numbers ds ++ numbers ps) has.gathered ∙ append-nil (device_numbers ds) ∙ known;
+      made = has.made;
+      behind = omega (arith, has.since);
+      may = may;
+      rows = pends_rows;
+      counted = subst (λ ps. AllByRecursion (IsCounted ps) rows) (sym has.gathered) rows_counted;
+    }
+
+-- there is room for the counts of all lines
+module _ (script : List Line) (scripted : IsScript script) where
+  parts_few : (parts : List Part) → AllByRecursion (HasMade script) parts
+      → calls_gathered parts ≤ SCRIPT_EVENTS * length parts
+  parts_few [] made = omega arith
+  parts_few (p ∷ parts) made =
+      omega (
+        arith,
+        sum_by-cons (λ (q : Part). length q.calls) p parts,
+        part_length p made.0,
+        pends_few p.line script,
+        scripted.few,
+        parts_few parts made.1,
+      )
+    where
+      part_length : (q : Part) → HasMade script q → length q.calls ≡ length (pends script q.line)
+      part_length q is =
+          sym (length-map q.calls asked_by) ∙ ap length is ∙ length-map (pends script q.line) (λ irq. Some irq)
+
+  ended_few : (words : Row) (ds : List Device) → AllByRecursion (HasEnded words script) ds
+      → calls_made ds ≤ SCRIPT_EVENTS * length ds
+  ended_few words [] ended = omega arith
+  ended_few words (d ∷ ds) ended =
+      omega (
+        arith,
+        sum_by-cons (λ (e : Device). length e.line.calls) d ds,
+        one_length d ended.0,
+        pends_few d.number script,
+        scripted.few,
+        ended_few words ds ended.1,
+      )
+    where
+      one_length : (e : Device) → HasEnded words script e → length e.line.calls ≡ length (pends script e.number)
+      one_length e is =
+          sym (length-map e.line.calls asked_by) ∙ ap length is.made ∙ length-map (pends script e.number) (λ irq. Some irq)
+
+length-filter : {A : Type 0} (p : A → Bool) (xs : List A) → length (filter p xs) ≤ length xs
+length-filter p [] = omega arith
+length-filter p (x ∷ xs) = rest (length-filter p xs) (p x)
+  where
+    rest : length (filter p xs) ≤ length xs → (b : Bool)
+        → length (if b then x ∷ filter p xs else filter p xs) ≤ suc (length xs)
+    rest less true = omega (arith, less)
+    rest less false = omega (arith, less)
+
+length-below : (n : ℕ) → length (numbers_below n) ≡ n
+unfolding numbers_below
+length-below zero = refl
+length-below (suc n) = omega (arith, length-append (numbers_below n) (n ∷ []), length-below n)
+
+few_devices : (script : List Line) → length (devices script) ≤ 16
+few_devices script =
+    omega (
+      arith,
+      length-filter (λ number. list_any (is_of_device number) script) (numbers_below 16),
+      length-below 16,
+    )
+
+-- what is a slice again, written back
+pub taken_back : {A : Type 0} (xs ys : List A) (n : ℕ) → length xs ≡ length ys → n ≡ length ys
+    → take n (xs ++ drop (length xs) ys) ≡ xs
+taken_back xs ys n same all =
+    ap (λ m. take n (xs ++ drop m ys)) same ∙ ap (λ t. take n (xs ++ t)) (drop_all (length ys) ys (omega arith))
+    ∙ ap (take n) (append-nil xs) ∙ take_all n xs (omega (arith, same, all))
+
+-- behind the devices' work
+module _ (ready : Prepared) (is : IsReady ready) (line : Core) (same : IsSameLine ready.line line) (ended : List Device)
+    (worked : AllWork ready.devices ended) (as_many : length ended ≡ length ready.devices) where
+  pub have_ended : AllByRecursion (HasEnded ready.words ready.script) ended
+  have_ended = (all_ended ready.words ready.script ready.devices ended as_many worked is.waiting).0
+
+  pub known_ended : device_numbers ended ≡ device_numbers ready.devices
+  known_ended = (all_ended ready.words ready.script ready.devices ended as_many worked is.waiting).1
+
+  pub words_ended : AllByRecursion (λ (d : Device). d.line.words ≡ ready.words) ended
+  words_ended =
+      all_weaker (HasEnded ready.words ready.script) (λ (d : Device). d.line.words ≡ ready.words)
+      (λ d ended. ended.words) ended have_ended
+
+  pub room_ended : calls_gathered line.gathered + calls_made ended + 2 ^ 32 ≤ 2 ^ 64
+  room_ended =
+      omega (
+        arith,
+        ap (λ (l : Core). calls_gathered l.gathered) same.1,
+        parts_few ready.script is.scripted ready.line.gathered is.gathered,
+        ended_few ready.script is.scripted ready.words ended have_ended,
+        as_many,
+        ap length is.each,
+        length-append (device_numbers ready.devices) (numbers ready.line.gathered),
+        length-map ready.devices (λ d. d.number),
+        length-map ready.line.gathered (λ p. p.line),
+        few_devices ready.script,
+      )

@@ -1,0 +1,59 @@
+-- What a whole run writes beside the devices, of what `go` and `close` tell.
+use Rattle.std.proofs.Common.{◌≡◌, ◌⊎◌, ℕ, List, [], ◌++◌, Option, subst}
+use Rattle.std.specs.List.{AllByRecursion}
+use Rattle.rt_core.specs.Machine.{Machine, IsFresh}
+use Rattle.rt_ids.specs.Names.{Names}
+use Rattle.rt_outside.specs.Bytes.{Took, TookPrefix}
+use Rattle.rt_run.proofs.Taking.{took_on}
+use Rattle.rt_script.specs.Script.{HasDeviceInRange}
+use Rattle.rt_script.specs.declared.line.Line.{Line}
+use Rattle.rt_live.specs.Account.{account_text, declared_irqs}
+use Rattle.rt_live.specs.Closed.{Closes}
+use Rattle.rt_live.specs.Latched.{Halts, Completes}
+use Rattle.rt_live.specs.Output.{IsLiveText, TookPart}
+use Rattle.rt_live.specs.Ready.{Prepared, IsReady, irqs_of}
+use Rattle.rt_live.specs.Weave.{turns}
+use Rattle.rt_live.specs.Written.{live_text}
+use Rattle.rt_live.specs.declared.account.AccountRow.{AccountRow}
+use Rattle.rt_live.proofs.Concluded.{failed_part, live_text_is, account_part}
+
+module _ (ready : Prepared) (is : IsReady ready) (gone : ready.devices ≡ []) (script : List Line) (same : ready.script ≡ script)
+    (ranges : AllByRecursion HasDeviceInRange ready.script) (rows : List AccountRow) (closed : Closes ready rows)
+    (old next : Machine) (fresh : IsFresh old) (x y : Option (List ℕ)) where
+  -- the sink failed while the core ran
+  pub run_part : Halts (turns script) ready.line old next x y
+      ⊎ Completes (turns script) ready.line old next (λ found. TookPrefix x y (live_text old.image script found))
+      → TookPart old.image script x y
+  run_part =
+      subst (λ (s : List Line). Halts (turns s) ready.line old next x y
+      ⊎ Completes (turns s) ready.line old next (λ found. TookPrefix x y (live_text old.image s found))
+      → TookPart old.image s x y) same
+      (failed_part ready is gone ranges rows closed old next fresh x y)
+
+  module _ (irqs : irqs_of ready.rows ≡ declared_irqs old.image.names) (names : Names) (named : names ≡ next.image.names) (z : Option (List ℕ)) where
+    abbrev Whole : List Line → Type 0
+    Whole s = Completes (turns s) ready.line old next (λ found. Took x y (live_text old.image s found))
+
+    old_names : (s : List Line) → Whole s → names ≡ old.image.names
+    old_names s all = let led = all.ends.leads.image in cc
+
+    -- all was written
+    pub wrote_whole : Whole script → Took y z (account_text names rows)
+        → (bytes : List ℕ) × IsLiveText old.image script bytes × Took x z bytes
+    wrote_whole =
+        subst (λ (s : List Line). Whole s → Took y z (account_text names rows)
+        → (bytes : List ℕ) × IsLiveText old.image s bytes × Took x z bytes) same
+        (λ all took. (
+          live_text old.image ready.script all.ends.found ++ account_text old.image.names rows,
+          live_text_is ready is gone ranges rows closed old next fresh (λ found. Took x y (live_text old.image ready.script found)) all irqs,
+          took_on x y z (live_text old.image ready.script all.ends.found) (account_text old.image.names rows) all.ends.wrote
+              (subst (λ (n : Names). Took y z (account_text n rows)) (old_names ready.script all) took),
+        ))
+
+    -- the sink failed in a line of the account
+    pub wrote_part : Whole script → TookPrefix y z (account_text names rows) → TookPart old.image script x z
+    wrote_part =
+        subst (λ (s : List Line). Whole s → TookPrefix y z (account_text names rows) → TookPart old.image s x z) same
+        (λ all part.
+        account_part ready is gone ranges rows closed old next fresh (λ found. Took x y (live_text old.image ready.script found)) all irqs x y z all.ends.wrote
+        (subst (λ (n : Names). TookPrefix y z (account_text n rows)) (old_names ready.script all) part))

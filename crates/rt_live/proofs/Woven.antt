@@ -1,0 +1,110 @@
+-- On weaves of turns that follow others, and on how many steps, ticks and calls turns are.
+use Rattle.std.proofs.Common.{◌≡◌, ℕ, suc, ◌+◌, ◌*◌, ◌<◌, ◌≤◌, List, [], ◌∷◌, ◌++◌, map, flat_map, length}
+use Rattle.std.proofs.Common.{refl, ap, sym, ◌∙◌, append_assoc, arith}
+use Rattle.std.specs.List.{AllByRecursion}
+use Rattle.std.proofs.lemmas.List.{length-append}
+use Rattle.rt_ids.specs.Event.{Event, Arrive, Tick, Step, steps}
+use Rattle.rt_run.proofs.Advancing.{steps-append}
+use Rattle.rt_run.proofs.Known.{ticks}
+use Rattle.rt_live.specs.Weave.{Turn, Happens, Looks, looks, arrivals_from, arrived, latches_from, latches, weave}
+use Rattle.rt_live.specs.Going.{IsWholeLook}
+
+pub looks-append : (ts us : List Turn) → looks (ts ++ us) ≡ looks ts + looks us
+looks-append [] us = let e : looks us ≡ 0 + looks us = omega arith in e
+looks-append (Looks ∷ ts) us = let e : suc (looks (ts ++ us)) ≡ suc (looks ts) + looks us =
+    omega (arith, looks-append ts us) in e
+looks-append (Happens Step ∷ ts) us = let e : suc (looks (ts ++ us)) ≡ suc (looks ts) + looks us =
+    omega (arith, looks-append ts us) in e
+looks-append (Happens Tick ∷ ts) us = looks-append ts us
+looks-append (Happens (Arrive irq) ∷ ts) us = looks-append ts us
+
+-- as many looks as the first turns want
+pub weave_on : (ts us : List Turn) (found more : List (List ℕ)) → length found ≡ looks ts
+    → weave (ts ++ us) (found ++ more) ≡ weave ts found ++ weave us more
+weave_on [] us [] more many = refl
+weave_on [] us (ws ∷ found) more many = absurd (omega (arith, many))
+weave_on (Happens Tick ∷ ts) us found more many = ap (λ es. Tick ∷ es) (weave_on ts us found more many)
+weave_on (Happens (Arrive irq) ∷ ts) us found more many = ap (λ es. Arrive irq ∷ es) (weave_on ts us found more many)
+weave_on (Happens Step ∷ ts) us [] more many = absurd (omega (arith, many))
+weave_on (Happens Step ∷ ts) us (ws ∷ found) more many =
+    ap (λ es. arrived ws ++ Step ∷ es) (weave_on ts us found more (omega (arith, many)))
+    ∙ sym (append_assoc (arrived ws) (Step ∷ weave ts found) (weave us more))
+weave_on (Looks ∷ ts) us [] more many = absurd (omega (arith, many))
+weave_on (Looks ∷ ts) us (ws ∷ found) more many =
+    ap (λ es. arrived ws ++ es) (weave_on ts us found more (omega (arith, many)))
+    ∙ sym (append_assoc (arrived ws) (weave ts found) (weave us more))
+
+-- fewer: what is behind never comes
+pub weave_short : (ts us : List Turn) (found : List (List ℕ)) → length found < looks ts
+    → weave (ts ++ us) found ≡ weave ts found
+weave_short [] us found few = absurd (omega (arith, few))
+weave_short (Happens Tick ∷ ts) us found few = ap (λ es. Tick ∷ es) (weave_short ts us found few)
+weave_short (Happens (Arrive irq) ∷ ts) us found few = ap (λ es. Arrive irq ∷ es) (weave_short ts us found few)
+weave_short (Happens Step ∷ ts) us [] few = refl
+weave_short (Happens Step ∷ ts) us (ws ∷ found) few =
+    ap (λ es. arrived ws ++ Step ∷ es) (weave_short ts us found (omega (arith, few)))
+weave_short (Looks ∷ ts) us [] few = refl
+weave_short (Looks ∷ ts) us (ws ∷ found) few =
+    ap (λ es. arrived ws ++ es) (weave_short ts us found (omega (arith, few)))
+
+pub no_steps : (irqs : List ℕ) → steps (map Arrive irqs) ≡ 0
+no_steps [] = refl
+no_steps (irq ∷ irqs) = no_steps irqs
+
+no_ticks : (irqs : List ℕ) (es : List Event) → ticks (map Arrive irqs ++ es) ≡ ticks es
+no_ticks [] es = refl
+no_ticks (irq ∷ irqs) es = no_ticks irqs es
+
+pub steps_behind : (irqs : List ℕ) (es : List Event) → steps (map Arrive irqs ++ es) ≡ steps es
+steps_behind irqs es = omega (arith, steps-append (map Arrive irqs) es, no_steps irqs)
+
+-- a look is none
+pub look_steps : (found : List (List ℕ)) → steps (weave (Looks ∷ []) found) ≡ 0
+look_steps [] = refl
+look_steps (ws ∷ found) = steps_behind (arrivals_from 0 ws) []
+
+-- a turn is one core step at most, and one tick at most
+pub steps_woven : (ts : List Turn) (found : List (List ℕ)) → steps (weave ts found) ≤ length ts
+steps_woven [] found = omega arith
+steps_woven (Happens Tick ∷ ts) found = omega (arith, steps_woven ts found)
+steps_woven (Happens (Arrive irq) ∷ ts) found = omega (arith, steps_woven ts found)
+steps_woven (Happens Step ∷ ts) [] = omega arith
+steps_woven (Happens Step ∷ ts) (ws ∷ found) =
+    omega (arith, steps_behind (arrivals_from 0 ws) (Step ∷ weave ts found), steps_woven ts found)
+steps_woven (Looks ∷ ts) [] = omega arith
+steps_woven (Looks ∷ ts) (ws ∷ found) = omega (arith, steps_behind (arrivals_from 0 ws) (weave ts found), steps_woven ts found)
+
+pub ticks_woven : (ts : List Turn) (found : List (List ℕ)) → ticks (weave ts found) ≤ length ts
+ticks_woven [] found = omega arith
+ticks_woven (Happens Tick ∷ ts) found = omega (arith, ticks_woven ts found)
+ticks_woven (Happens (Arrive irq) ∷ ts) found = omega (arith, ticks_woven ts found)
+ticks_woven (Happens Step ∷ ts) [] = omega arith
+ticks_woven (Happens Step ∷ ts) (ws ∷ found) =
+    omega (arith, no_ticks (arrivals_from 0 ws) (Step ∷ weave ts found), ticks_woven ts found)
+ticks_woven (Looks ∷ ts) [] = omega arith
+ticks_woven (Looks ∷ ts) (ws ∷ found) = omega (arith, no_ticks (arrivals_from 0 ws) (weave ts found), ticks_woven ts found)
+
+pub looks_below : (ts : List Turn) → looks ts ≤ length ts
+looks_below [] = omega arith
+looks_below (Looks ∷ ts) = omega (arith, looks_below ts)
+looks_below (Happens Step ∷ ts) = omega (arith, looks_below ts)
+looks_below (Happens Tick ∷ ts) = omega (arith, looks_below ts)
+looks_below (Happens (Arrive irq) ∷ ts) = omega (arith, looks_below ts)
+
+pub length-latches : (k : ℕ) (words : List ℕ) → length (latches_from k words) ≡ length words
+length-latches k [] = refl
+length-latches k (word ∷ words) = ap suc (length-latches (suc k) words)
+
+-- the calls of whole looks
+pub all_latches : (found : List (List ℕ)) → AllByRecursion IsWholeLook found
+    → length (flat_map latches found) ≡ 16 * length found
+all_latches [] whole = refl
+all_latches (ws ∷ found) whole =
+    let e : length (latches ws ++ flat_map latches found) ≡ 16 * suc (length found) =
+    omega (
+      arith,
+      length-append (latches ws) (flat_map latches found),
+      length-latches 0 ws,
+      whole.0,
+      all_latches found whole.1,
+    ) in e

@@ -1,0 +1,7 @@
+use Rattle.std.proofs.Common.{◌≡◌, ◌++◌, map, take, drop}
+use Rattle.rt_live.specs.Inside.Working.{with_counts}
+use Rattle.rt_live.proofs.gathering.add_counts.Given as goal
+
+abbrev pub invariant-loop-row : goal.invariant-loop-row
+invariant-loop-row l =
+    l.rows ≡ map (with_counts l.tally) (take l.row-index l.fn.rows) ++ drop l.row-index l.fn.rows

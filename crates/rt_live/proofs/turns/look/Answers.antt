@@ -1,0 +1,78 @@
+use Rattle.std.proofs.Common.{◌+◌, ◌*◌, length, refl, ap, sym, subst, ◌∙◌, arith}
+use Rattle.rt_lemmas.proofs.Results.{on_err_from}
+use Rattle.std.proofs.lemmas.List.{length-append}
+use Rattle.rt_code.specs.Image.{Image}
+use Rattle.rt_run.proofs.Known.{still_writable}
+use Rattle.rt_words.specs.Lines.{Core}
+use Rattle.rt_live.specs.Weave.{arrived, latches, arrivals_from}
+use Rattle.rt_live.specs.Inside.Able.{MayArrive}
+use Rattle.rt_live.proofs.Looking.{finds_none, find_more, find_cut, looks_alone}
+use Rattle.rt_live.proofs.Owning.{one_call_on, same_line}
+use Rattle.rt_live.proofs.Woven.{no_steps, length-latches}
+use Rattle.rt_live.proofs.turns.look.Goals as goal
+
+pub loop-k-init : goal.loop-k-init
+loop-k-init g c = record {
+  run = finds_none c.args.line.now.calls c.args.core.now _;
+  same = same_line c.args.line.now;
+  none_held = c.requires.empty;
+  quiet = refl;
+}
+
+pub latch-found-requires-clause-words : goal.latch-found-requires-clause-words
+latch-found-requires-clause-words g c = ap (λ (l : Core). l.words) c.loop-k.invariant.same.1 ∙ c.requires.able.words
+
+pub latch-found-requires-clause-room : goal.latch-found-requires-clause-room
+latch-found-requires-clause-room g c =
+    let finds = c.loop-k.invariant.run in
+    omega (
+      arith,
+      ap length finds.latched,
+      length-append c.args.line.now.calls (latches finds.found),
+      length-latches 0 finds.found,
+      finds.many,
+      c.requires.room,
+    )
+
+pub latch-found-requires-clause-word : goal.latch-found-requires-clause-word
+latch-found-requires-clause-word g c = omega (arith, c.requires.able.many)
+
+pub arrive_word-requires-clause-writable : goal.arrive_word-requires-clause-writable
+arrive_word-requires-clause-writable g c =
+    still_writable (arrived c.loop-k.invariant.run.found) c.args.core.now _ c.loop-k.invariant.run.sends.leads
+    c.requires.able.writable
+
+pub arrive_word-requires-clause-few : goal.arrive_word-requires-clause-few
+arrive_word-requires-clause-few g c =
+    let finds = c.loop-k.invariant.run in
+    omega (arith, finds.sends.leads.steps, no_steps (arrivals_from 0 finds.found), c.requires.few)
+
+pub arrive_word-requires-clause-may : goal.arrive_word-requires-clause-may
+arrive_word-requires-clause-may g c = λ bit within set.
+    subst (λ (img : Image). MayArrive img.names (32 * c.loop-k.k + bit))
+    (sym c.loop-k.invariant.run.sends.leads.image)
+    (c.requires.able.may (32 * c.loop-k.k + bit) (c.latch-found.ensures.may bit within set))
+
+pub returns-in_err-arrive_word-clause-err : goal.returns-in_err-arrive_word-clause-err
+returns-in_err-arrive_word-clause-err g c =
+    on_err_from c.from_residual.result
+    (find_cut c.args.line.now.calls _ c.args.core.now _ _ _ c.loop-k.k c.latch-found.result c.loop-k.invariant.run _
+    (ap (λ (l : Core). l.calls) c.latch-found.ensures.call) c.arrive_word.new.core _ (omega arith)
+    c.in_err-arrive_word.ensures.err)
+
+pub returns-in_err-arrive_word-clause-same : goal.returns-in_err-arrive_word-clause-same
+returns-in_err-arrive_word-clause-same g c =
+    one_call_on c.args.line.now _ _ _ c.loop-k.invariant.same c.latch-found.ensures.call
+
+pub loop-k-preserved : goal.loop-k-preserved
+loop-k-preserved g c = record {
+  run =
+      find_more c.args.line.now.calls _ c.args.core.now _ _ _ c.loop-k.k c.latch-found.result c.loop-k.invariant.run _
+      (ap (λ (l : Core). l.calls) c.latch-found.ensures.call) c.arrive_word.new.core _ c.in_ok-arrive_word.ensures.ok;
+  same = one_call_on c.args.line.now _ _ _ c.loop-k.invariant.same c.latch-found.ensures.call;
+  none_held = c.in_ok-arrive_word.ensures.none_held;
+  quiet = c.in_ok-arrive_word.ensures.quiet ∙ c.loop-k.invariant.quiet;
+}
+
+pub returns-clause-ok : goal.returns-clause-ok
+returns-clause-ok g c = looks_alone c.args.line.now.calls _ c.args.core.now _ _ _ c.loop-k.k (omega arith) c.loop-k.invariant.run

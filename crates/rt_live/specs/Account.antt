@@ -1,0 +1,42 @@
+-- The account of a run under `live`, over the calls of all lines: for each declared interrupt, in order, how often it was
+-- raised, merged and latched, and whether it is left pending. The form of its lines is this project's own. The
+-- definitions count in a list of calls; the code adds up what each line counted by itself.
+use Rattle.std.specs.Prelude.{ℕ, List, [], ◌∷◌, ◌++◌, map, flat_map, codes, decimal}
+use Rattle.rt_ids.specs.Names.{Names}
+use Rattle.rt_ids.specs.Naming.{irq_name}
+use Rattle.rt_trace.specs.Text.{spaced}
+use Rattle.rt_words.specs.Account.{raised, merged, latched}
+use Rattle.rt_words.specs.Object.{pending}
+use Rattle.rt_words.specs.declared.call.Call.{Call}
+use Rattle.rt_live.specs.declared.account.AccountRow.{AccountRow}
+
+-- the row of an interrupt, over these calls and the words that they left
+abbrev pub row_of : List Call → List ℕ → ℕ → AccountRow
+row_of calls words irq =
+    record {
+      irq = irq;
+      raised = raised irq calls;
+      merged = merged irq calls;
+      latched = latched irq calls;
+      left = pending words irq;
+    }
+
+-- a row for each of these interrupts
+abbrev pub account_of : List ℕ → List Call → List ℕ → List AccountRow
+account_of irqs calls words = map (row_of calls words) irqs
+
+-- the numbers of the declared interrupts, in order
+abbrev pub declared_irqs : Names → List ℕ
+declared_irqs names = map (λ irq. irq.1) names.irqs
+
+-- the numbers of a row, in the order in which its line has them
+abbrev pub counts_of : AccountRow → List ℕ
+counts_of row = row.raised ∷ row.merged ∷ row.latched ∷ row.left ∷ []
+
+-- the line of a row, with its line feed
+abbrev pub row_text : Names → AccountRow → List ℕ
+row_text names row = codes "account" ++ spaced (irq_name names row.irq ∷ map decimal (counts_of row)) ++ 10 ∷ []
+
+-- the lines of rows
+abbrev pub account_text : Names → List AccountRow → List ℕ
+account_text names rows = flat_map (row_text names) rows

@@ -1,0 +1,57 @@
+-- How far turns of `live` have come: what the looks found, the calls that the core's line made for them, and what the
+-- core did and wrote.
+use Rattle.std.specs.Prelude.{◌≡◌, ℕ, ◌<◌, ◌≤◌, ◌⊎◌, List, [], ◌∷◌, ◌++◌, flat_map, length, drop, Option, Contains}
+use Rattle.std.specs.List.{AllByRecursion}
+use Rattle.rt_core.specs.Machine.{Machine}
+use Rattle.rt_run.specs.Done.{Leads}
+use Rattle.rt_run.specs.Sending.{Sends, Breaks}
+use Rattle.rt_words.specs.Lines.{Core}
+use Rattle.rt_words.specs.declared.call.Call.{Call}
+use Rattle.rt_words.specs.declared.call.Call.TheVariants.{Latch}
+use Rattle.rt_live.specs.Weave.{Turn, looks, arrived, latches, weave}
+use Rattle.rt_live.specs.declared.turns.TheConstants.{WORDS}
+
+-- a look found a word of each number
+abbrev pub IsWholeLook : List ℕ → Type 0
+IsWholeLook words = length words ≡ WORDS
+
+-- All of these turns were done. The line made the latches of their looks and no other call, and the core the events of
+-- the weave; their lines were written.
+pub record Goes (ts : List Turn) (calls calls' : List Call) (old new : Machine) (before after : Option (List ℕ))
+    : Type 0 where
+  pub found : List (List ℕ)
+  pub many : length found ≡ looks ts
+  pub whole : AllByRecursion IsWholeLook found
+  pub latched : calls' ≡ calls ++ flat_map latches found
+  pub sends : Sends (weave ts found) old new before after
+
+-- A fault of the sink came in these turns. The last look may be cut: it then found fewer words than there are. The line
+-- made the latches of the looks and of the cut one, and the core the first of the events of the weave with what the cut
+-- look found behind them; a beginning of their lines was written.
+pub record Stops (ts : List Turn) (calls calls' : List Call) (old new : Machine) (before after : Option (List ℕ))
+    : Type 0 where
+  pub found : List (List ℕ)
+  pub last : List ℕ
+  pub few : (length found < looks ts) ⊎ ((last ≡ []) × (length found ≤ looks ts))
+  pub whole : AllByRecursion IsWholeLook found
+  pub short : length last < WORDS
+  pub latched : calls' ≡ calls ++ flat_map latches (found ++ last ∷ [])
+  pub breaks : Breaks (weave ts found ++ arrived last) old new before after
+
+-- All of these turns were done, as far as the line and the core go, and this was written of what the looks found.
+pub record Ends (ts : List Turn) (calls calls' : List Call) (old new : Machine) (written : List (List ℕ) → Type 0)
+    : Type 0 where
+  pub found : List (List ℕ)
+  pub many : length found ≡ looks ts
+  pub whole : AllByRecursion IsWholeLook found
+  pub latched : calls' ≡ calls ++ flat_map latches found
+  pub leads : Leads (weave ts found) old new
+  pub wrote : written found
+
+-- the line made calls, and nothing else: it made and gathered no line
+abbrev pub IsSameLine : Core → Core → Type 0
+IsSameLine old new = (calls : List Call) × (new ≡ record old { calls = old.calls ++ calls })
+
+-- each word was latched behind the last line that was gathered
+abbrev pub LatchedLast : Core → Type 0
+LatchedLast line = (k : ℕ) → k < WORDS → (word : ℕ) × Contains (drop line.since line.calls) (Latch k word)

@@ -1,0 +1,12 @@
+pub mod Weave
+pub mod Going
+pub mod Written
+pub mod Devices
+pub mod Gathering
+pub mod Latched
+pub mod History
+pub mod Account
+pub mod Output
+pub mod Ready
+pub mod Closed
+pub mod Inside

@@ -1,0 +1,70 @@
+-- What is made ready for a run under `live`: the words, the core's line, and the devices with the lines that they call.
+use Rattle.std.specs.Prelude.{◌≡◌, ℕ, ◌<◌, ◌≤◌, List, [], ◌++◌, length, map, sum_by, Some, Contains, ◌↔◌}
+use Rattle.std.specs.List.{AllByRecursion}
+use Rattle.rt_ids.specs.declared.limits.TheConstants.{IRQ_NUMBERS}
+use Rattle.rt_devices.specs.Work.{requests, asked_by}
+use Rattle.rt_devices.specs.declared.device.Device.{Device}
+use Rattle.rt_script.specs.Script.{IsScript, pends}
+use Rattle.rt_script.specs.declared.line.Line.{Line}
+use Rattle.rt_script.specs.declared.line.Line.TheVariants.{Steps, Ticks, Pends, Device as DeviceLine}
+use Rattle.rt_words.specs.Account.{raised, merged}
+use Rattle.rt_words.specs.Lines.{Row, Core, count, numbers}
+use Rattle.rt_words.specs.Object.{IsPending}
+use Rattle.rt_words.specs.declared.view.Part.{Part}
+use Rattle.rt_live.specs.Devices.{devices}
+use Rattle.rt_live.specs.declared.account.AccountRow.{AccountRow}
+use Rattle.rt_live.specs.declared.turns.TheConstants.{WORDS}
+
+-- what contracts see of it: the lines of the script, which words they are, the core's line, the devices whose lines are
+-- not gathered, and the rows of the account
+pub record Prepared : Type 0 where
+  pub script : List Line
+  pub words : Row
+  pub line : Core
+  pub devices : List Device
+  pub rows : List AccountRow
+
+abbrev pub irqs_of : List AccountRow → List ℕ
+irqs_of rows = map (λ row. row.irq) rows
+
+-- a device's line is of these words and has made no call, and the device is to make its pends of the script
+pub record IsWaiting (row : Row) (script : List Line) (device : Device) : Type 0 where
+  pub words : device.line.words ≡ row
+  pub number : device.line.number ≡ device.number
+  pub unused : device.line.calls ≡ []
+  pub asks : requests device.script.items ≡ pends script device.number
+  pub may : AllByRecursion (λ entry. IsPending row.may entry.0) device.script.items
+
+-- a gathered line has made the pends that the script has for its device, in order and no other
+abbrev pub HasMade : List Line → Part → Type 0
+HasMade script p = map asked_by p.calls ≡ map (λ irq. Some irq) (pends script p.line)
+
+-- a line of the script pends one of these interrupts, if it pends one
+abbrev pub PendsOneOf : List ℕ → Line → Type 0
+PendsOneOf irqs (Pends irq n) = Contains irqs irq
+PendsOneOf irqs (DeviceLine d irq n) = Contains irqs irq
+PendsOneOf irqs (Steps n) = Unit {0}
+PendsOneOf irqs (Ticks n) = Unit {0}
+
+-- a row counts how often its interrupt, of which there is one, was raised and merged by these lines, and no latch
+pub record IsCounted (parts : List Part) (row : AccountRow) : Type 0 where
+  pub in_range : row.irq < IRQ_NUMBERS
+  pub raised : row.raised ≡ sum_by (λ p. raised row.irq p.calls) parts
+  pub merged : row.merged ≡ sum_by (λ p. merged row.irq p.calls) parts
+  pub latched : row.latched ≡ 0
+  pub left : row.left ≡ 0
+
+-- Each device of the script is either waiting, or gathered with its pends; no other line was made. The interrupts that
+-- may be pended are those of the rows, among them all that the script pends. The rows count what was gathered.
+pub record IsReady (ready : Prepared) : Type 0 where
+  pub scripted : IsScript ready.script
+  pub core_words : ready.line.words ≡ ready.words
+  pub many : count ready.words ≡ WORDS
+  pub waiting : AllByRecursion (IsWaiting ready.words ready.script) ready.devices
+  pub gathered : AllByRecursion (HasMade ready.script) ready.line.gathered
+  pub each : map (λ device. device.number) ready.devices ++ numbers ready.line.gathered ≡ devices ready.script
+  pub made : (number : ℕ) → Contains ready.line.made number ↔ Contains (devices ready.script) number
+  pub behind : ready.line.since ≤ length ready.line.calls
+  pub may : (irq : ℕ) → IsPending ready.words.may irq ↔ Contains (irqs_of ready.rows) irq
+  pub rows : AllByRecursion (PendsOneOf (irqs_of ready.rows)) ready.script
+  pub counted : AllByRecursion (IsCounted ready.line.gathered) ready.rows

@@ -1,0 +1,16 @@
+// `live`: a core runs beside device threads that pend interrupts through shared atomic words.
+#![tactic(auto)]
+
+pub mod account;
+mod beside;
+mod ending;
+mod gathering;
+mod left;
+mod making;
+pub mod ready;
+pub mod running;
+pub mod turns;
+
+pub use account::{Account, AccountRow};
+pub use ready::Ready;
+pub use running::{LiveFail, live, run_beside};

@@ -1,0 +1,179 @@
+ghost use Rattle.std.specs.Prelude.{◌≡◌, ◌⊎◌, [], map, IfOk, OnOk, OnErr};
+ghost use Rattle.rt_code.specs.Lines.{HasLines};
+ghost use Rattle.rt_core.specs.Machine.{IsFresh};
+ghost use Rattle.rt_outside.specs.Bytes.{Took, TookPrefix};
+ghost use Rattle.rt_outside.specs.Faults.{HasCause};
+ghost use Rattle.rt_script.specs.Script.{HasNames};
+ghost use Rattle.rt_live.specs.Closed.{Closes};
+ghost use Rattle.rt_live.specs.Devices.{devices};
+ghost use Rattle.rt_live.specs.Account.{declared_irqs};
+ghost use Rattle.rt_live.specs.Latched.{Halts, Completes};
+ghost use Rattle.rt_live.specs.Ready.{IsReady, irqs_of};
+ghost use Rattle.rt_live.specs.Weave.{turns};
+ghost use Rattle.rt_live.specs.Written.{live_text};
+
+use crate::account::{Account, AccountRow};
+use crate::beside::beside;
+use crate::ending::end;
+use crate::gathering::gather_all;
+use crate::left::settle;
+use crate::making::{bits_of, devices_of, rows_of};
+use crate::turns::WORDS;
+use rt_core::Core;
+use rt_devices::{Device, Gate};
+use rt_ids::NoMemory;
+use rt_outside::{Failed, Sink};
+use rt_script::Script;
+use rt_words::{CoreLine, Words};
+use std::alloc::Global;
+use std::marker::{Model, Send, Sync};
+use std::thread::Threads;
+
+/// All that a run under `live` takes memory for: the words, the core's line, and the devices of the script with the
+/// lines that they call. Contracts see the lines of the script, which words they are, the core's line, the devices and
+/// the rows.
+pub struct Ready<'a> {
+    /// The script.
+    pub script: &'a Script,
+    /// The pending words, 16 of them, with the bits of the rows' interrupts.
+    pub words: Words,
+    /// The core's line of the words.
+    pub line: CoreLine,
+    /// The devices whose lines have not been gathered, by rising number.
+    pub devices: Vec<Device>,
+    /// The declared interrupts in order, with the counts of the gathered lines.
+    pub rows: Vec<AccountRow>,
+}
+
+impl<'a> Model for Ready<'a> {
+    ghost use Rattle.rt_live.specs.Ready.{Prepared, IsReady};
+
+    ghost Value = { Prepared };
+
+    ghost view = { λ r. record {
+      script = r.script.now;
+      words = r.words;
+      line = r.line;
+      devices = r.devices.items;
+      rows = r.rows.items;
+    } };
+
+    ghost invariant = { λ r. IsReady (record {
+      script = r.script.now;
+      words = r.words;
+      line = r.line;
+      devices = r.devices.items;
+      rows = r.rows.items;
+    }) };
+}
+
+impl<'a> Drop for Ready<'a> {
+    fn drop(self) {
+        let Ready {
+            script: _,
+            words: _,
+            line: _,
+            devices: _,
+            rows: _,
+        } = self;
+    }
+}
+
+impl<'a> Ready<'a> {
+    /// Takes all memory, and makes a line of the words for each device of the script. `NoMemory` comes for want of
+    /// memory alone.
+    pub fn of(alloc: Global, core: &Core, script: &'a Script) -> Result<Ready<'a>, NoMemory>
+        requires { HasNames core.now.image.names script.now }
+        ensures script { IfOk result (λ ready. ready.script ≡ script.now) }
+        ensures rows { IfOk result (λ ready. irqs_of ready.rows ≡ declared_irqs core.now.image.names) }
+        ensures devices { IfOk result (λ ready. map (λ device. device.number) ready.devices ≡ devices script.now) }
+        ensures unused { IfOk result (λ ready. ready.line.calls ≡ []) }
+    {
+        let rows = rows_of(alloc, &core.image().names)?;
+        let (words, mut line) = Words::make(alloc, WORDS, bits_of(&rows))?;
+        let devices = devices_of(alloc, &words, &mut line, script.lines())?;
+        Ok(Ready {
+            script,
+            words,
+            line,
+            devices,
+            rows,
+        })
+    }
+
+    /// Runs the core beside the devices. It writes the lines of each event as it happens, and at the end the total of
+    /// core steps. It takes no memory, and waits for the devices alone.
+    pub fn go<R: Threads + Sync, K: Sink + Send, G: Gate + Sync>(
+        &mut self,
+        rt: &R,
+        core: &mut Core,
+        out: &mut K,
+        gate: &G,
+    ) -> Result<(), Failed>
+        requires fresh { IsFresh core.old }
+        requires lines { HasLines core.old.image }
+        requires rows { irqs_of self.old.rows ≡ declared_irqs core.old.image.names }
+        requires unused { self.old.line.calls ≡ [] }
+
+        // The line's calls are the latches of the looks, block for block, the last of them behind the last line that was
+        // gathered. What was written is the trace of the weave with just what these looks found.
+        ensures ok { OnOk result (Completes (turns self.old.script) self.new.line core.old core.new
+            (λ found. Took (K.taken out.old) (K.taken out.new) (live_text core.old.image self.old.script found))) }
+
+        // A fault came in the turns, and the last look may be cut, or it came in the line of the total.
+        ensures err { OnErr result
+            (Halts (turns self.old.script) self.new.line core.old core.new (K.taken out.old) (K.taken out.new)
+            ⊎ Completes (turns self.old.script) self.new.line core.old core.new
+            (λ found. TookPrefix (K.taken out.old) (K.taken out.new)
+            (live_text core.old.image self.old.script found))) }
+        ensures cause { HasCause (K.faults out.old) (K.faults out.new) result }
+        ensures quiet { OnOk result (K.faults out.new ≡ K.faults out.old) }
+
+        // Either way each device has made its pends, and its line is gathered.
+        ensures gathered { self.new.devices ≡ [] }
+        ensures script { self.new.script ≡ self.old.script }
+        ensures rows { irqs_of self.new.rows ≡ irqs_of self.old.rows }
+    {
+        let lines = self.script.lines();
+        let done = beside(
+            rt,
+            core,
+            &mut self.line,
+            &self.words,
+            lines,
+            out,
+            gate,
+            &mut self.devices,
+        );
+        gather_all(
+            &mut self.line,
+            &self.words,
+            &mut self.devices,
+            &mut self.rows,
+        );
+        done?;
+        end(core, &mut self.line, &self.words, out, gate)
+    }
+
+    /// Gathers the lines of the devices that have not run, and closes the words. The account counts the calls of all
+    /// lines, and tells what they left. It takes no memory.
+    pub fn close(self) -> Account
+        ensures closes { Closes self.entry result.rows.items }
+
+        // What was closed was as every `Ready` is.
+        ensures ready { IsReady self.entry }
+    {
+        let _events = self.script.lines();
+        let Ready {
+            script: _,
+            words,
+            mut line,
+            mut devices,
+            mut rows,
+        } = self;
+        gather_all(&mut line, &words, &mut devices, &mut rows);
+        let left = words.close(line);
+        settle(&mut rows, &left);
+        Account { rows }
+    }
+}
