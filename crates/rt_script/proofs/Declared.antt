@@ -1,6 +1,5 @@
 -- The lines of a script's text request declared interrupts.
 use Rattle.std.proofs.Common.{◌≡◌, ◌==◌, ℕ, Bool, true, false, List, [], ◌∷◌, ◌++◌, cond, find, map, flat_map, bytes_eq, codes, Option, Some, None, Result, Ok, Err, IfOk, IfSome, IsSome, if◌then◌else◌, ◌||◌, nat_lt, option_map, option_to_list, refl, sym, subst}
-use Rattle.std.specs.List.{AllByRecursion}
 use Rattle.std.specs.Option.{ok_or}
 use Rattle.std.proofs.lemmas.Bool.{eq-eqb}
 use Rattle.rt_ids.specs.Names.{Names, irq_of}

@@ -1,4 +1,5 @@
 pub mod Lines
 pub mod Taking
+pub mod Drawing
 pub mod OneWay
 pub mod Declared

@@ -1,5 +1,6 @@
 pub mod Script
 pub mod Wording
 pub mod Text
+pub mod Generated
 pub mod Inside
 pub mod Laws

@@ -38,7 +38,7 @@ pub fn read_script(alloc: Global, bytes: &[u8], names: &Names) -> Result<Script,
 }
 
 /// The first line of a text that is not empty, without its end, and the text behind it.
-fn first_line(text: &[u8]) -> (&[u8], &[u8])
+pub fn first_line(text: &[u8]) -> (&[u8], &[u8])
     requires { 0 < length text.now }
     ensures lines { lines text.now ≡ result.0.now ∷ lines result.1.now }
     ensures shorter { length result.1.now < length text.now }

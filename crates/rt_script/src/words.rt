@@ -34,14 +34,14 @@ pub fn read_line(names: &Names, line: &[u8]) -> Result<Option<Line>, Wrong>
 }
 
 /// Whether a line has spaces and tabs alone.
-fn is_blank(line: &[u8]) -> bool
+pub fn is_blank(line: &[u8]) -> bool
     ensures { result ≡ spec.is_blank line.now }
 {
     line.iter().all(|b| *b == b' ' || *b == b'\t')
 }
 
 /// Whether a line is a comment.
-fn is_comment(line: &[u8]) -> bool
+pub fn is_comment(line: &[u8]) -> bool
     ensures { result ≡ spec.is_comment line.now }
 {
     match line {
@@ -51,7 +51,7 @@ fn is_comment(line: &[u8]) -> bool
 }
 
 /// Whether a space stands before the first word or behind the last.
-fn is_loose(line: &[u8]) -> bool
+pub fn is_loose(line: &[u8]) -> bool
     ensures { result ≡ spec.is_loose line.now }
 {
     match line {
