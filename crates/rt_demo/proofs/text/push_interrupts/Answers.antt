@@ -1,0 +1,9 @@
+use Rattle.rt_demo.specs.Demo.{interrupt}
+use Rattle.rt_demo.proofs.Numbering.{none_below, one_more}
+use Rattle.rt_demo.proofs.text.push_interrupts.Goals as goal
+
+pub loop-k-init : goal.loop-k-init
+loop-k-init c = none_below interrupt c.args.out.now.items
+
+pub loop-k-preserved : goal.loop-k-preserved
+loop-k-preserved c = one_more interrupt c.loop-k.k c.args.out.now.items _ _ c.loop-k.invariant c.in_ok-push_interrupt.ensures
