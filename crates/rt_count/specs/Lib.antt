@@ -1,0 +1,4 @@
+pub mod Summary
+pub mod Joining
+pub mod Text
+pub mod Inside

@@ -1,0 +1,39 @@
+-- What the runs of all workers count up to.
+use Rattle.std.specs.Prelude.{◌≡◌, ◌*◌, ◌≤◌, List, [], length, fold, Result, Ok, Err, Vec}
+use Rattle.std.specs.Global.{Global}
+use Rattle.std.specs.List.{AllByRecursion}
+use Rattle.rt_ids.specs.declared.limits.TheConstants.{SCRIPT_EVENTS}
+use Rattle.rt_ids.specs.declared.memory.NoMemory.{NoMemory}
+use Rattle.rt_count.specs.Joining.{joined, IsWithin}
+use Rattle.rt_count.specs.declared.summary.Summary.{Summary}
+use Rattle.rt_soak.specs.declared.run.Run.{Run}
+
+-- a summary with runs behind it, one after another
+abbrev pub totalled : Summary → List Run → Summary
+totalled s runs = fold (λ before run. joined before run.summary) s runs
+
+-- one run, with no more of each thing than a script has events
+pub record IsSmall (run : Run) : Type 0 where
+  pub one : run.summary.runs ≡ 1
+  pub within : IsWithin SCRIPT_EVENTS run.summary
+
+-- so many runs have no more of each thing than so many scripts have events
+abbrev pub IsBounded : Summary → Type 0
+IsBounded s = IsWithin (s.runs * SCRIPT_EVENTS) s
+
+-- what a worker answers: its runs, where it did not want memory
+abbrev pub Part : Type 0
+Part = Result (Vec Run Global) NoMemory
+
+abbrev pub runs_in : Part → List Run
+runs_in (Ok runs) = runs.items
+runs_in (Err e) = []
+
+abbrev pub IsThere : Part → Type 0
+IsThere (Ok runs) = Unit {0}
+IsThere (Err e) = ⊥
+
+-- the runs of a worker are no more than those of all may be
+abbrev pub AreFew : Part → Type 0
+AreFew (Ok runs) = (length runs.items ≤ 10000) × AllByRecursion IsSmall runs.items
+AreFew (Err e) = Unit {0}
