@@ -14,6 +14,7 @@ pub mod Stack
 pub mod Waiting
 pub mod Bounds
 pub mod Handlers
+pub mod Forms
 pub mod Sending
 pub mod Meaning
 pub mod Doings

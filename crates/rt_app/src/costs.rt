@@ -54,6 +54,9 @@ pub const DISPATCHER_TASK_SIZE: u32 = 64;
 /// Instructions of the timer handler for each task that may be armed.
 pub const TIMER_TASK_SIZE: u32 = 32;
 
+/// Core steps of an `init` that a script to the stack bound goes through, at most.
+pub const BRIEF_INIT_COST: u32 = 900_000;
+
 /// Instructions of the thread: the end of an absent `init`, and the wait of an absent `idle`.
 pub const THREAD_SIZE: u32 = 2;
 

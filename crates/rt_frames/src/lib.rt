@@ -5,6 +5,7 @@ pub mod armed;
 pub mod bound;
 pub mod cost;
 pub mod flags;
+pub mod form;
 pub mod frame;
 pub mod level;
 pub mod measure;
@@ -15,6 +16,7 @@ pub mod words;
 
 pub use bound::bounds;
 pub use cost::{body_cost, body_size, shared_size, timer_cost};
+pub use form::{is_of_t_form, is_of_w_form};
 pub use frame::Slots;
 pub use level::{level_count, tasks_of_level};
 pub use measure::Measure;

@@ -80,7 +80,7 @@ module _ (app : App) (accepted : IsAccepted app) where
       begins = init_fine app accepted 0 (first_values app) (first_queued app)
 
   -- the stack has a running job that may step, where a turn is there
-  turn_silent : (s : State) (v : Sight) (js : List Job) (vs : List Seen) → s.jobs ≡ js → v.jobs ≡ vs
+  pub turn_silent : (s : State) (v : Sight) (js : List Job) (vs : List Seen) → s.jobs ≡ js → v.jobs ≡ vs
       → StackWell app js vs → v.pending ≡ s.pending → Queued app s.values
       → AllKept app s.time s.values js → MayStep js → candidate app s ≡ None
       → Step app (record s { jobs = js }) (record v { jobs = vs }) None
@@ -133,7 +133,7 @@ module _ (app : App) (accepted : IsAccepted app) where
     abbrev HappensAt : Label → Type 0
     HappensAt label = Happens app s v label (after app s label) (sees app v label)
 
-    given_step : (w : What) → Turn app s → gives s ≡ Some w
+    pub given_step : (w : What) → Turn app s → gives s ≡ Some w
         → Step app s v (Some w) (after app s (Stepped (Some w))) (sees app v (Stepped (Some w)))
     given_step w turn is =
         turn_given s v s.jobs v.jobs w refl refl well.stack well.pending well.queued well.order turn.step turn.quiet is

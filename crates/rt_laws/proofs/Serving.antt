@@ -19,7 +19,7 @@ use Rattle.rt_laws.proofs.Happens.{Happens, Quietly, ByTake, ByStep, happens, af
 use Rattle.rt_laws.proofs.Waiting.{steppers_on, steppers_ended, not_lower, first_of}
 
 -- the handling of an interrupt stands in the stack, and what stands on it has no lower priority
-abbrev Up : ℕ → ℕ → List Job → Type 0
+abbrev pub Up : ℕ → ℕ → List Job → Type 0
 Up irq p [] = ⊥
 Up irq p (job ∷ others) = (job.role ≡ Serving irq) ⊎ ((p ≤ job.priority) × Up irq p others)
 
@@ -36,21 +36,21 @@ module _ (app : App) (accepted : IsAccepted app) (irq : ℕ) where
   own_priority : (role : Role) (q : ℕ) (others : List Job) → role ≡ Serving irq → IsAbove app role q others → p ≡ q
   own_priority role q others is above = (subst (λ r. IsAbove app r q others) is above).0
 
-  up_level : (js : List Job) (vs : List Seen) → StackWell app js vs → Up irq p js → p ≤ level app js
+  pub up_level : (js : List Job) (vs : List Seen) → StackWell app js vs → Up irq p js → p ≤ level app js
   up_level [] vs stack up = absurd up
   up_level (job ∷ others) [] stack up = absurd stack
   up_level (job ∷ others) (seen ∷ seens) stack (inl is) = let same : p ≡ job.priority =
       own_priority job.role job.priority others is stack.1 in omega arith
   up_level (job ∷ others) (seen ∷ seens) stack (inr deeper) = let over = deeper.0 in omega arith
 
-  up_top : (job : Job) (others : List Job) → IsAbove app job.role job.priority others → Up irq p (job ∷ others)
+  pub up_top : (job : Job) (others : List Job) → IsAbove app job.role job.priority others → Up irq p (job ∷ others)
       → p ≤ job.priority
   up_top job others above (inl is) = let same : p ≡ job.priority =
       own_priority job.role job.priority others is above in omega arith
   up_top job others above (inr deeper) = deeper.0
 
   -- the step is not the return itself
-  up_after : (label : Label) (job : Job) (others : List Job) (seen : Seen) (seens : List Seen) (shown : Option What)
+  pub up_after : (label : Label) (job : Job) (others : List Job) (seen : Seen) (seens : List Seen) (shown : Option What)
       (jobs : List Job) (views : List Seen) → IsAbove app job.role job.priority others
       → Up irq p (job ∷ others) → ((j : ℕ) → shown ≡ Some (what.Ret j) → label ≡ Stepped (Some (what.Ret j)))
       → is_return irq label ≡ false → Changes app job seen others seens shown jobs views → Up irq p jobs

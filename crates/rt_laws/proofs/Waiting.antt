@@ -48,7 +48,7 @@ behind_none : (entered n : ℕ) (o since : Option ℕ) → o ≡ None → Behind
 behind_none entered n o since none = subst (λ u. Behind entered n u since) (sym none) tt
 
 -- it stays pending until its take
-pending_stays : (app : App) (irq : ℕ) (v : Sight) (label : Label)
+pub pending_stays : (app : App) (irq : ℕ) (v : Sight) (label : Label)
     → ((j d : ℕ) → label ≡ Stepped (Some (what.Take j d)) → ¬ (j ≡ irq)) → is_pending v irq ≡ true
     → is_pending (sees app v label) irq ≡ true
 pending_stays app irq v (Arrived i) other h = still_set v.pending i irq h
@@ -99,7 +99,7 @@ module _ (app : App) (p : ℕ) (positive : 0 < p) where
         λ above. absurd (omega arith),
       )
 
-  low_start : (js : List Job) (vs : List Seen) → StackWell app js vs → p ≤ 2 ^ app.bits
+  pub low_start : (js : List Job) (vs : List Seen) → StackWell app js vs → p ≤ 2 ^ app.bits
       → (entered : ℕ) × Low app p entered (waiting_bound app p) js vs
   low_start [] vs stack top = (0, tt)
   low_start (job ∷ others) [] stack top = (0, tt)
@@ -129,7 +129,7 @@ module _ (app : App) (p : ℕ) (positive : 0 < p) where
 
   -- what a step of the running job is for those that wait
   module _ (entered left : ℕ) (seen : Seen) (jobs : List Job) (views : List Seen) where
-    data Took : Type 0 where
+    pub data Took : Type 0 where
       Higher : p ≤ seen.priority → Low app p entered left jobs views → Took
       Lower : seen.priority < p → outermost app p seen.inside seen.since ≡ Some entered → 0 < left
           → Low app p entered (left - 1) jobs views → Took
@@ -189,7 +189,7 @@ module _ (app : App) (p : ℕ) (positive : 0 < p) where
         (low_below entered (left - 1) others seens (level_below job.role job.priority others above under)))
 
     -- a lower job that may step while this priority is held off is in the section
-    took : p ≤ level app (job ∷ others) → AllByRecursion (λ n. 0 < n) job.lefts
+    pub took : p ≤ level app (job ∷ others) → AllByRecursion (λ n. 0 < n) job.lefts
         → (given : Option What) (jobs : List Job) (views : List Seen)
         → Changes app job seen others seens given jobs views
         → Took entered left seen jobs views

@@ -15,6 +15,7 @@ pub mod Handles
 pub mod Served
 pub mod Places
 pub mod Messages
+pub mod Unspent
 pub mod Instants
 pub mod Counts
 pub mod Laws
