@@ -6,7 +6,6 @@ use Rattle.std.proofs.lemmas.Option.{slice_get_within}
 use Rattle.rt_lemmas.proofs.Membership.{contains_at}
 use Rattle.rt_ids.specs.Names.{Names}
 use Rattle.rt_ids.specs.Storage.{Starting}
-use Rattle.rt_ids.specs.declared.limits.TheConstants.{CODE_SIZE}
 use Rattle.rt_app.specs.declared.app.App as code
 use Rattle.rt_app.specs.declared.app.Mono.{Mono}
 use Rattle.rt_app.specs.declared.plan.Plan.{Plan}
@@ -35,6 +34,7 @@ use Rattle.rt_gen_queue.specs.Called.{rows_for}
 use Rattle.rt_gen_timer.proofs.Timers.{timers_stand}
 use Rattle.rt_build.specs.Entries.{Entries, irq_rows}
 use Rattle.rt_build.specs.Image.{IdleStands, HasTables, HasCode, IsImageOf}
+use Rattle.rt_build.specs.Order.{IsInOrder, code_size}
 use Rattle.rt_build.specs.Inside.Plan.{IsAcceptedPlan}
 use Rattle.rt_build.specs.Inside.Code.{HasDispatcher, HasHandler, IsCodeOf, entries_of}
 use Rattle.rt_build.specs.declared.code.Code.{Code}
@@ -140,11 +140,18 @@ module _ (plan : Plan) (made : Code) (words bytes : ℕ) (irqs : List IrqRow) (b
     assembled tabled =
         let sound = accepted_are_sound app planned.accepted in
         let same : made.lines.items ≡ img.code = sym (ap (λ (i : Image). i.code) is) in
+        let short : length img.code ≤ code_size app =
+        subst (λ (all : List Line). length all ≤ code_size app) same coded.short in
         record {
-          image = record { at = at; tables = tabled; code = has_code tabled };
+          image = record {
+            at = at;
+            tables = tabled;
+            code = has_code tabled;
+            order = subst (IsInOrder app at) same coded.order;
+            size = short;
+          };
           cells = resource_numbers app at img tabled sound;
-          runnable = runnable app at img tabled sound planned.accepted
-              (subst (λ (all : List Line). length all ≤ CODE_SIZE) same coded.short);
+          runnable = runnable app at img tabled sound planned.accepted short;
           lines = lines app at img tabled sound planned.accepted
               (subst (AllByRecursion (IsNameable (names_of app))) same coded.named);
         }

@@ -11,7 +11,6 @@ use Rattle.rt_ids.specs.declared.ids.BodyId.{BodyId}
 use Rattle.rt_ids.specs.declared.ids.BodyId.TheVariants as body
 use Rattle.rt_ids.specs.declared.ids.Section.TheVariants as section
 use Rattle.rt_ids.specs.declared.cell.CellRow.{CellRow}
-use Rattle.rt_ids.specs.declared.limits.TheConstants.{CODE_SIZE}
 use Rattle.rt_app.specs.Tree.{Body, Task, App}
 use Rattle.rt_app.specs.Accepted.{IsAccepted}
 use Rattle.rt_app.specs.Acceptance.{IsSound}
@@ -31,11 +30,12 @@ use Rattle.rt_code.proofs.Writable.{names_writable}
 use Rattle.rt_gen_queue.specs.Line.{Line, IsNameable}
 use Rattle.rt_build.specs.Entries.{Entries}
 use Rattle.rt_build.specs.Image.{HasTables}
+use Rattle.rt_build.specs.Order.{code_size}
 use Rattle.rt_build.proofs.ImageCells.{resource_numbers, words, few_cells}
 use Rattle.rt_build.proofs.ImageRows.{few_arguments, named_bodies, values_implemented, numbers_apart, plain_names}
 use Rattle.rt_build.proofs.ImageRows.{named_rows}
 
--- all code is within the rule on sizes
+-- the sizes of all parts are within what the rule on sizes counts
 thread_sum : (m : Measure) (id : BodyId) (o : Option Body)
     → cost_of m o ≤ 1 + sum_by (λ p. body_cost m p.body) (thread_members id o)
 thread_sum m id None = omega arith
@@ -50,12 +50,12 @@ task_sum m n (t ∷ ts) =
     (record { id = body.Task n; priority = t.priority; args = t.args; body = t.body }) (task_members (n + 1) ts)
     ∙ (ap (λ k. body_cost m t.body + k) (task_sum m (n + 1) ts) ∙ sym (sum_by-cons (λ t. body_cost m t.body) t ts))
 
-pub all_code : (app : App) → IsSound app
+pub all_code : (app : App)
     → cost_of (size_measure app) app.init + (cost_of (size_measure app) app.idle
     + (sum_by (λ t. body_cost (size_measure app) t.body) app.tasks
     + (sum_by (dispatcher_size app) (levels app) + timer_size app app.mono)))
-    ≤ CODE_SIZE
-all_code app sound =
+    ≤ code_size app
+all_code app =
     let m = size_measure app in
     let size : Member → ℕ = λ p. body_cost m p.body in
     let idles = thread_members body.Idle app.idle in
@@ -64,7 +64,6 @@ all_code app sound =
     let others = sum_by-append size idles tasks in
     omega (
       arith,
-      sound.size,
       whole,
       others,
       thread_sum m body.Init app.init,
@@ -74,14 +73,14 @@ all_code app sound =
 
 module _ (app : App) (at : Entries) (img : Image) (tables : HasTables app at img) (sound : IsSound app)
     (accepted : IsAccepted app) where
-  runnable_sizes : length img.code ≤ CODE_SIZE → HasRightSizes img
+  runnable_sizes : length img.code ≤ code_size app → HasRightSizes img
   runnable_sizes short = record {
     few_bits = let e = tables.bits in let few = accepted.limits.least_bits in omega arith;
     many_bits = let e = tables.bits in let many = accepted.limits.most_bits in omega arith;
     stack_pairs = ap (λ n. n % 8) tables.stack ∙ sound.stack_pairs;
     stack_small = let e = tables.stack in let small = sound.stack_small in omega arith;
     thread_fits = let e = tables.stack in let f = tables.thread in omega arith;
-    code_short = omega arith;
+    code_short = omega (arith, sound.size);
     cells_few = omega (
       arith,
       ap (λ (cells : List CellRow). length cells) tables.cells,
@@ -89,7 +88,7 @@ module _ (app : App) (at : Entries) (img : Image) (tables : HasTables app at img
     );
   }
 
-  pub runnable : length img.code ≤ CODE_SIZE → IsRunnable img
+  pub runnable : length img.code ≤ code_size app → IsRunnable img
   runnable short = record {
     sizes = runnable_sizes short;
     rows = record {

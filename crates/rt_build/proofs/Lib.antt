@@ -12,6 +12,7 @@ pub mod Entries
 pub mod Services
 pub mod Served
 pub mod Grown
+pub mod Abutting
 pub mod BodyRows
 pub mod LevelRows
 pub mod Dispatched
@@ -19,3 +20,4 @@ pub mod ImageCells
 pub mod ImageRows
 pub mod ImageSizes
 pub mod Assembled
+pub mod OneImage

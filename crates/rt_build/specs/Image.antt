@@ -1,9 +1,9 @@
 -- What an image of an application is: its tables say what the application declares, where its interrupts are served and
 -- from which address, and at these addresses the code stands, that is, does what the bodies mean within the printed
 -- costs and in the printed frames (the RTIC 1 book: `init` runs first and then `idle`, a hardware task in its
--- interrupt, a software task from its dispatcher, and the monotonic has an interrupt of its own). Which code that is,
--- and where it lies, is the compiler's choice.
-use Rattle.std.specs.Prelude.{◌≡◌, ℕ, Bool, false, List, length, map, slice_get, Option, Some, None, if◌then◌else◌}
+-- interrupt, a software task from its dispatcher, and the monotonic has an interrupt of its own). In which order its
+-- parts lie is told, and how many instructions there are at most; else the code is the compiler's choice.
+use Rattle.std.specs.Prelude.{◌≡◌, ◌≤◌, ℕ, Bool, false, List, length, map, slice_get, Option, Some, None, if◌then◌else◌}
 use Rattle.std.specs.Prelude.{Contains}
 use Rattle.rt_ids.specs.Lists.{is_some_and}
 use Rattle.rt_ids.specs.Storage.{Starting, AtLevel}
@@ -26,6 +26,7 @@ use Rattle.rt_code.specs.declared.instr.Note.{Note}
 use Rattle.rt_gen_body.specs.Bodies.{TaskStands}
 use Rattle.rt_gen_queue.specs.Called.{rows_for}
 use Rattle.rt_build.specs.Entries.{Entries, irq_rows}
+use Rattle.rt_build.specs.Order.{IsInOrder, code_size}
 
 -- `idle` leads back to itself; where it is not declared, the thread waits for interrupts
 abbrev pub IdleStands : App → List (Instr × Option Note) → List BodyRow → ℕ → Option Body → Type 0
@@ -76,3 +77,6 @@ pub record IsImageOf (app : App) (img : Image) : Type 0 where
   pub at : Entries
   pub tables : HasTables app at img
   pub code : HasCode app at img
+  -- the parts of the code lie in their order, and there is nothing between them or behind them
+  pub order : IsInOrder app at img.code
+  pub size : length img.code ≤ code_size app

@@ -1,8 +1,30 @@
--- The laws of code that stands hold over the memory of every application.
+-- Laws of the images of applications.
+use Rattle.std.specs.Prelude.{◌≡◌, [], IsSome}
+use Rattle.std.specs.List.{AllByRecursion}
+use Rattle.rt_app.specs.Bodies.{member_at}
 use Rattle.rt_app.specs.Tree.{App}
 use Rattle.rt_app.specs.Holding.{storage}
+use Rattle.rt_code.specs.Image.{Image}
 use Rattle.rt_code.specs.StandingLaws.{StandingLaws}
+use Rattle.rt_gen_body.specs.Form.{fixed_body}
+use Rattle.rt_build.specs.Image.{IsImageOf}
+use Rattle.rt_build.specs.Order.{Part, OfBody, OfLevel, OfTimer, fixed_parts, free_parts}
 
--- whatever the application is, accepted or not
+-- Code that stands keeps its laws in the memory of every application, accepted or not.
 abbrev pub CodeKeepsLaws : Type 0
 CodeKeepsLaws = (app : App) → StandingLaws (storage app)
+
+-- each line of a part is fixed
+abbrev pub IsFixedPart : App → Part → Type 0
+IsFixedPart app (OfBody id) = IsSome (fixed_body app (member_at app id))
+IsFixedPart app (OfLevel p) = ⊥
+IsFixedPart app OfTimer = ⊥
+
+-- There are no software tasks and no monotonic, and the bodies emit literals and pend interrupts and do nothing else.
+pub record HasFixedCode (app : App) : Type 0 where
+  pub alone : free_parts app ≡ []
+  pub bodies : AllByRecursion (IsFixedPart app) (fixed_parts app)
+
+-- Such an application has one image, and so one listing.
+abbrev pub FixedCodeHasOneImage : Type 0
+FixedCodeHasOneImage = (app : App) (a b : Image) → HasFixedCode app → IsImageOf app a → IsImageOf app b → a ≡ b

@@ -3,3 +3,4 @@ pub mod Entries
 pub mod Image
 pub mod Inside
 pub mod Laws
+pub mod Order

@@ -4,12 +4,16 @@ ghost use Rattle.rt_app.specs.BodyCost.{size_measure, cost_of, dispatcher_size, 
 ghost use Rattle.rt_app.specs.Level.{levels};
 ghost use Rattle.rt_app.specs.Tree as tree;
 ghost use Rattle.rt_app.specs.View.{app_of, task_of};
+ghost use Rattle.rt_ids.specs.declared.ids.BodyId.TheVariants as body;
 ghost use Rattle.rt_code.specs.declared.image.BodyRow.{BodyRow};
 ghost use Rattle.rt_code.specs.declared.instr.Instr.TheVariants as instr;
 ghost use Rattle.rt_gen_queue.specs.Line.{Line};
+ghost use Rattle.rt_build.specs.Entries.{Entries};
 ghost use Rattle.rt_build.specs.Image.{IdleStands};
+ghost use Rattle.rt_build.specs.Order.{OfBody, timer_parts};
 ghost use Rattle.rt_build.specs.Inside.Plan.{IsAcceptedPlan};
-ghost use Rattle.rt_build.specs.Inside.Code.{Adds, is_of_kind, kind_size, TellsTask, LeavesOthers};
+ghost use Rattle.rt_build.specs.Inside.Code.{Adds, AddsParts, is_of_kind, kind_size, TellsTask, LeavesOthers};
+ghost use Rattle.rt_build.specs.Inside.Code.{AddsTask, AddsTasks, AddsDispatchers};
 ghost use Rattle.rt_build.specs.Inside.Code.{HasTasks, HasDispatchers, HasTimer, IsCodeOf};
 
 use rt_app::{Plan, Task};
@@ -75,6 +79,8 @@ fn push_idle(
     ensures entry { IfOk result (λ entry. entry ≡ length lines.old.items) }
     ensures adds { OnOk result (let app = app_of plan.now.app.now in
         Adds app (cost_of (size_measure app) app.idle) lines.old.items lines.new.items) }
+    ensures part { IfOk result (λ entry. (at : Entries) → at.idle ≡ entry →
+        AddsParts (app_of plan.now.app.now) at (OfBody body.Idle ∷ []) lines.old.items lines.new.items) }
     ensures stands { IfOk result (λ entry. (more : List Line) (bodies : List BodyRow) →
         IdleStands (app_of plan.now.app.now) (lines.new.items ++ more) bodies entry (app_of plan.now.app.now).idle) }
 {
@@ -101,6 +107,9 @@ fn push_task(
     ensures adds { OnOk result (let app = app_of plan.now.app.now in
         (t : tree.Task) → slice_get app.tasks number ≡ Some t →
         Adds app (kind_size app kind t) lines.old.items lines.new.items) }
+    ensures part { OnOk result (let app = app_of plan.now.app.now in
+        (t : tree.Task) → slice_get app.tasks number ≡ Some t →
+        AddsTask app kind number t entries.new lines.old.items lines.new.items) }
     ensures tells { OnOk result (let app = app_of plan.now.app.now in
         (t : tree.Task) → slice_get app.tasks number ≡ Some t →
         TellsTask app kind number t entries.old entries.new lines.new.items) }
@@ -126,6 +135,8 @@ fn push_tasks(
     requires entries { length entries.old ≡ length (app_of plan.now.app.now).tasks }
     ensures adds { OnOk result (let app = app_of plan.now.app.now in
         Adds app (sum_by (kind_size app kind) app.tasks) lines.old.items lines.new.items) }
+    ensures parts { OnOk result
+        (AddsTasks (app_of plan.now.app.now) kind entries.new lines.old.items lines.new.items) }
     ensures others { OnOk result (LeavesOthers (app_of plan.now.app.now) kind entries.old entries.new) }
     ensures stands { OnOk result (HasTasks (app_of plan.now.app.now) lines.new.items kind entries.new) }
 {
@@ -145,6 +156,8 @@ fn push_dispatchers(
     ensures entries { IfOk result (λ entries. length entries.items ≡ length (levels (app_of plan.now.app.now))) }
     ensures adds { OnOk result (let app = app_of plan.now.app.now in
         Adds app (sum_by (dispatcher_size app) (levels app)) lines.old.items lines.new.items) }
+    ensures parts { IfOk result (λ entries.
+        AddsDispatchers (app_of plan.now.app.now) entries.items lines.old.items lines.new.items) }
     ensures stands { IfOk result (λ entries.
         HasDispatchers (app_of plan.now.app.now) lines.new.items entries.items) }
 {
@@ -166,6 +179,9 @@ fn push_timer(
     requires rows { rows.now ≡ plan.now.app.now }
     ensures adds { OnOk result (let app = app_of plan.now.app.now in
         Adds app (timer_size app app.mono) lines.old.items lines.new.items) }
+    ensures part { IfOk result (λ entry. (at : Entries) → at.timer ≡ entry →
+        AddsParts (app_of plan.now.app.now) at (timer_parts (app_of plan.now.app.now).mono) lines.old.items
+        lines.new.items) }
     ensures stands { IfOk result (λ entry. HasTimer (app_of plan.now.app.now) lines.new.items entry) }
 {
     match plan.app.mono {

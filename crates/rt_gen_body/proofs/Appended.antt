@@ -12,8 +12,10 @@ use Rattle.rt_app.specs.Names.{names_of}
 use Rattle.rt_app.specs.Accepted.{IsAccepted}
 use Rattle.rt_gen_queue.specs.Line.{IsNameable, Line}
 use Rattle.rt_gen_body.specs.Bodies.{IsBodyOf, BodyStands}
+use Rattle.rt_gen_body.specs.Form.{HasForm}
 use Rattle.rt_gen_body.specs.Inside.Whole.{code_of}
 use Rattle.rt_gen_body.specs.Inside.Lines.{Lines, next_address, Appends}
+use Rattle.rt_gen_body.proofs.Forms.{code_formed}
 use Rattle.rt_gen_body.proofs.Generated.{generated_stands}
 use Rattle.rt_gen_body.proofs.Nameable.{code_named}
 use Rattle.rt_gen_body.proofs.Sizes.{code_short}
@@ -41,11 +43,16 @@ module _ (app : App) (accepted : IsAccepted app) (id : BodyId) (front new slice 
       ∙ ap (code_of app id (member_at app id)) here in
       is ∙ ap (λ (l : List Line). front ++ l) lines
 
+  behind_is : drop entry new ≡ code_of app id (member_at app id) entry
+  behind_is =
+      ap (drop entry) appended_is ∙ drop_at front (code_of app id (member_at app id) entry) entry (sym begins)
+
   pub appended_named : AllByRecursion (IsNameable (names_of app)) (drop entry new)
   appended_named =
-      let code : List Line = code_of app id (member_at app id) entry in
-      let behind : drop entry new ≡ code = ap (drop entry) appended_is ∙ drop_at front code entry (sym begins) in
-      subst (AllByRecursion (IsNameable (names_of app))) (sym behind) (code_named app accepted id entry)
+      subst (AllByRecursion (IsNameable (names_of app))) (sym behind_is) (code_named app accepted id entry)
+
+  pub appended_formed : HasForm app id entry (drop entry new)
+  appended_formed = subst (HasForm app id entry) (sym behind_is) (code_formed app id entry)
 
   pub appended_short : length new ≤ length front + cost_of (size_measure app) (body_at app id)
   appended_short =

@@ -21,5 +21,6 @@ pub mod Stored
 pub mod Emitted
 pub mod Generated
 pub mod Nameable
+pub mod Forms
 pub mod Sizes
 pub mod Appended

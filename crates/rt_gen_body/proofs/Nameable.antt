@@ -43,7 +43,8 @@ use Rattle.rt_gen_body.specs.Inside.Simple.{bind_code, is_timed, message_code, d
 use Rattle.rt_gen_body.specs.Inside.Simple.{moved_code, values_of, goes_code, send_code}
 use Rattle.rt_gen_body.specs.Inside.Blocks.{guard_at, branch_code, loop_back, loop_code, lock_code, statement_code}
 use Rattle.rt_gen_body.specs.Inside.Blocks.{block_code}
-use Rattle.rt_gen_body.specs.Inside.Whole.{context_of, level_of, end_code, blocks_of, code_of}
+use Rattle.rt_gen_body.specs.Form.{end_line}
+use Rattle.rt_gen_body.specs.Inside.Whole.{context_of, level_of, blocks_of, code_of}
 use Rattle.rt_gen_queue.proofs.Masks.{enter_named, leave_named}
 use Rattle.rt_gen_queue.proofs.Facts.{Spawned}
 use Rattle.rt_gen_queue.proofs.Named.{spawn_named}
@@ -271,7 +272,7 @@ module _ (app : App) (c : Context) (numbers : (i : ℕ) → i < length app.irqs
           (at + length first) placed.1)
 
 module _ (app : App) (accepted : IsAccepted app) where
-  end_named : (id : BodyId) (entry : ℕ) → IsNameable (names_of app) (end_code app id entry)
+  end_named : (id : BodyId) (entry : ℕ) → IsNameable (names_of app) (end_line app id entry)
   end_named body.Init entry = record { instr = tt; note = tt }
   end_named body.Idle entry = record { instr = tt; note = tt }
   end_named (body.Task n) entry = go (slice_get app.tasks n) refl
@@ -302,5 +303,5 @@ module _ (app : App) (accepted : IsAccepted app) where
   pub code_named : (id : BodyId) (entry : ℕ) → AllByRecursion (IsNameable (names_of app))
       (code_of app id (member_at app id) entry)
   code_named id entry =
-      all_append (IsNameable (names_of app)) (blocks_of app (member_at app id) entry) (end_code app id entry ∷ [])
+      all_append (IsNameable (names_of app)) (blocks_of app (member_at app id) entry) (end_line app id entry ∷ [])
       (blocks_named id (member_at app id) entry refl) (end_named id entry, tt)

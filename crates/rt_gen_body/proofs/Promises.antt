@@ -32,7 +32,8 @@ use Rattle.rt_code.proofs.Standing.{stands_with_more}
 use Rattle.rt_gen_queue.specs.Line.{Line, plain, noted, HasCode}
 use Rattle.rt_gen_queue.specs.Called.{row_for, calm, CalledTaskStands, CalledBodyStands}
 use Rattle.rt_gen_body.specs.Inside.Blocks.{block_code}
-use Rattle.rt_gen_body.specs.Inside.Whole.{context_of, level_of, end_code, code_of}
+use Rattle.rt_gen_body.specs.Form.{end_line}
+use Rattle.rt_gen_body.specs.Inside.Whole.{context_of, level_of, code_of}
 use Rattle.rt_gen_body.proofs.Ends.{returns, ends_init, ends_idle, goes_back}
 use Rattle.rt_gen_body.proofs.Spots.{Here}
 use Rattle.rt_gen_body.proofs.Steps.{S}
@@ -44,14 +45,14 @@ use Rattle.rt_gen_body.proofs.Storing.{init_facts, level_facts}
 use Rattle.rt_gen_body.proofs.Whole.{Ending, few_steps, blocks_stand, taken_over, cost_is, spelled, whole_stands}
 
 module _ (app : App) (code : List Line) (bodies : List BodyRow) where
-  init_last : (thread at entry : ℕ) → HasCode code at (end_code app body.Init entry ∷ []) → suc at ≡ thread
+  init_last : (thread at entry : ℕ) → HasCode code at (end_line app body.Init entry ∷ []) → suc at ≡ thread
       → Ending app code bodies thread Starting at (Ends body.Init)
   init_last thread at entry has next n h vs at_is lasts closed rest_is back =
       ends_init (storage app) code bodies thread Starting None n h nothing vs
       (subst (λ (a : ℕ). slice_get code a ≡ Some (noted instr.Serve (note.End body.Init))) (sym at_is) has.0) lasts refl
       (ap suc at_is ∙ next) closed refl rest_is back
 
-  idle_last : (at entry : ℕ) → HasCode code at (end_code app body.Idle entry ∷ [])
+  idle_last : (at entry : ℕ) → HasCode code at (end_line app body.Idle entry ∷ [])
       → Ending app code bodies entry (AtLevel 0) at (Ends body.Idle)
   idle_last at entry has n h vs at_is lasts closed rest_is back =
       ends_idle (storage app) code bodies entry (AtLevel 0) None n h nothing vs
@@ -86,7 +87,7 @@ module _ (app : App) (code : List Line) (bodies : List BodyRow) where
 abbrev pub body_code : App → Member → ℕ → List Line
 body_code app m entry =
     block_code (context_of app m) (level_of app m) (first_lock_slot m.args m.body) entry m.body.block
-    ++ end_code app m.id entry ∷ []
+    ++ end_line app m.id entry ∷ []
 
 -- the code of a body, with other code before and behind it
 body_there : (app : App) (m : Member) (front more : List Line)
@@ -97,12 +98,12 @@ body_there app m front more =
     (code_there front (body_code app m (length front)) more)
 
 end_there : (app : App) (id : BodyId) (front more : List Line)
-    → HasCode ((front ++ end_code app id (length front) ∷ []) ++ more) (length front)
-    (end_code app id (length front) ∷ [])
+    → HasCode ((front ++ end_line app id (length front) ∷ []) ++ more) (length front)
+    (end_line app id (length front) ∷ [])
 end_there app id front more =
-    subst (λ (code : List Line). HasCode code (length front) (end_code app id (length front) ∷ []))
-    (sym (append_assoc front (end_code app id (length front) ∷ []) more))
-    (code_there front (end_code app id (length front) ∷ []) more)
+    subst (λ (code : List Line). HasCode code (length front) (end_line app id (length front) ∷ []))
+    (sym (append_assoc front (end_line app id (length front) ∷ []) more))
+    (code_there front (end_line app id (length front) ∷ []) more)
 
 module _ (app : App) (accepted : IsAccepted app) (sound : IsSound app) (front : List Line) where
   abbrev of_init : Body → Member
@@ -127,8 +128,8 @@ module _ (app : App) (accepted : IsAccepted app) (sound : IsSound app) (front : 
       block_code (context_of app m) (level_of app m) (first_lock_slot m.args m.body) (length front) m.body.block in
       omega (
         arith,
-        length-append front (blocks ++ end_code app m.id (length front) ∷ []),
-        length-append blocks (end_code app m.id (length front) ∷ []),
+        length-append front (blocks ++ end_line app m.id (length front) ∷ []),
+        length-append blocks (end_line app m.id (length front) ∷ []),
       )
 
   pub init_stands : (o : Option Body) → app.init ≡ o → (more : List Line) (bodies : List BodyRow)
@@ -137,7 +138,7 @@ module _ (app : App) (accepted : IsAccepted app) (sound : IsSound app) (front : 
       Starting (length (memory app)) (thread_words app) (length front) (cost_of (cost_measure app) o)
       (declared_doing app o [] (act (Ends body.Init) nothing))
   init_stands None is more bodies =
-      let lines : List Line = end_code app body.Init (length front) ∷ [] in
+      let lines : List Line = end_line app body.Init (length front) ∷ [] in
       let size : suc (length front) ≡ length (front ++ lines) = omega (arith, length-append front lines) in
       end_stands app ((front ++ lines) ++ more) bodies (length (front ++ lines)) (length front)
       (thread_words app) Starting (Ends body.Init)
@@ -154,12 +155,12 @@ module _ (app : App) (accepted : IsAccepted app) (sound : IsSound app) (front : 
       whole_stands app accepted sound m body.Init Starting ((front ++ lines) ++ more) bodies (length (front ++ lines))
       (length front) (thread_words app) (Ends body.Init) at refl
       (init_facts app accepted sound m (has_body app accepted body.Init m at).is_one refl) (omega arith)
-      (code_front ((front ++ lines) ++ more) (length front) blocks (end_code app body.Init (length front) ∷ []) there)
+      (code_front ((front ++ lines) ++ more) (length front) blocks (end_line app body.Init (length front) ∷ []) there)
       (omega (arith, frame)) word
       (init_last app ((front ++ lines) ++ more) bodies (length (front ++ lines)) (length front + length blocks)
       (length front)
       (code_behind ((front ++ lines) ++ more) (length front) (length front + length blocks) blocks
-      (end_code app body.Init (length front) ∷ []) refl there) (sym (size_of m)))
+      (end_line app body.Init (length front) ∷ []) refl there) (sym (size_of m)))
 
   pub idle_stands : (o : Option Body) → app.idle ≡ o → (more : List Line) (bodies : List BodyRow)
       → StandsFrom (storage app) ((front ++ code_of app body.Idle (option_map of_idle o) (length front)) ++ more) bodies
@@ -167,7 +168,7 @@ module _ (app : App) (accepted : IsAccepted app) (sound : IsSound app) (front : 
       (AtLevel 0) (length (memory app)) (thread_words app) (length front) (cost_of (cost_measure app) o)
       (declared_doing app o [] (act (Ends body.Idle) nothing))
   idle_stands None is more bodies =
-      let lines : List Line = end_code app body.Idle (length front) ∷ [] in
+      let lines : List Line = end_line app body.Idle (length front) ∷ [] in
       end_stands app ((front ++ lines) ++ more) bodies (length front) (length front) (thread_words app) (AtLevel 0)
       (Ends body.Idle)
       (idle_last app ((front ++ lines) ++ more) bodies (length front) (length front)
@@ -183,11 +184,11 @@ module _ (app : App) (accepted : IsAccepted app) (sound : IsSound app) (front : 
       (length front) (thread_words app) (Ends body.Idle) at refl
       (level_facts app accepted sound m (has_body app accepted body.Idle m at).is_one refl)
       (omega arith)
-      (code_front ((front ++ lines) ++ more) (length front) blocks (end_code app body.Idle (length front) ∷ []) there)
+      (code_front ((front ++ lines) ++ more) (length front) blocks (end_line app body.Idle (length front) ∷ []) there)
       (omega (arith, frame)) word
       (idle_last app ((front ++ lines) ++ more) bodies (length front + length blocks) (length front)
       (code_behind ((front ++ lines) ++ more) (length front) (length front + length blocks) blocks
-      (end_code app body.Idle (length front) ∷ []) refl there))
+      (end_line app body.Idle (length front) ∷ []) refl there))
 
   pub task_stands : (n : ℕ) (t : Task) → slice_get app.tasks n ≡ Some t → is_software t ≡ false
       → frame_words t.args t.body < 2 ^ 32 → (more : List Line) (bodies : List BodyRow) (thread : ℕ)
@@ -200,7 +201,7 @@ module _ (app : App) (accepted : IsAccepted app) (sound : IsSound app) (front : 
       let blocks : List Line =
       block_code (context_of app m) t.priority (first_lock_slot t.args t.body) (length front) t.body.block in
       let at : member_at app (body.Task n) ≡ Some m = ap (option_map (of_task n)) is in
-      let last : Line = end_code app (body.Task n) (length front) in
+      let last : Line = end_line app (body.Task n) (length front) in
       let last_is : last ≡ plain instr.Ret = ends_as n (length front) (slice_get app.tasks n) false
       (ap (is_some_and is_software) is ∙ bound) in
       let there = body_there app m front more in
@@ -295,7 +296,7 @@ module _ (app : App) (accepted : IsAccepted app) (sound : IsSound app) (front : 
       blocks = block_code (context_of app m) t.priority (first_lock_slot t.args t.body) (length front) t.body.block
 
       last : Line
-      last = end_code app (body.Task n) (length front)
+      last = end_line app (body.Task n) (length front)
 
       at : member_at app (body.Task n) ≡ Some m
       at = ap (option_map (of_task n)) is

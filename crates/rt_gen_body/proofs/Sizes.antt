@@ -33,7 +33,8 @@ use Rattle.rt_gen_timer.proofs.Generated.{spawned, after_short}
 use Rattle.rt_gen_body.specs.Inside.Simple.{is_timed, message_code, delayed_code, cancelled_code, moved_code}
 use Rattle.rt_gen_body.specs.Inside.Simple.{values_of, goes_code, send_code}
 use Rattle.rt_gen_body.specs.Inside.Blocks.{guard_at, branch_code, loop_back, statement_code, block_code}
-use Rattle.rt_gen_body.specs.Inside.Whole.{context_of, level_of, end_code, blocks_of, code_of}
+use Rattle.rt_gen_body.specs.Form.{end_line}
+use Rattle.rt_gen_body.specs.Inside.Whole.{context_of, level_of, blocks_of, code_of}
 use Rattle.rt_gen_queue.proofs.Facts.{Spawned, arguments, few_arguments}
 use Rattle.rt_gen_queue.proofs.Placing.{spawn_long}
 
@@ -227,7 +228,7 @@ module _ (app : App) (accepted : IsAccepted app) where
       let blocks : List Line = blocks_of app (Some m) entry in
       omega (
         arith,
-        length-append blocks (end_code app id entry ∷ []),
+        length-append blocks (end_line app id entry ∷ []),
         block_size app (context_of app m) (has_few app m accepted) m.body.block (level_of app m)
             (first_lock_slot m.args m.body) entry,
         uncapped id m is,

@@ -53,7 +53,7 @@ guard_is app m r within =
     range_at (length app.shared) 0 r (λ k. guard_of app (section.Res k)) (record { ceiling = 0; value = 0 }) within
     ∙ ap (λ k. guard_of app (section.Res k)) e
 
-number_is : (app : App) (i : ℕ) (irqs : List IrqDecl)
+pub number_is : (app : App) (i : ℕ) (irqs : List IrqDecl)
     → slice_index (map (λ d. d.number) irqs) i ≡ or_zero (option_map (λ d. d.number) (slice_get irqs i))
 number_is app i [] = refl
 number_is app zero (d ∷ irqs) = refl

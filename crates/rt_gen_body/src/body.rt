@@ -13,7 +13,8 @@ ghost use Rattle.rt_app.specs.View.{app_of, body_of};
 ghost use Rattle.rt_gen_queue.specs.Line.{IsNameable};
 ghost use Rattle.rt_gen_queue.specs.Guards.{guarded};
 ghost use Rattle.rt_gen_body.specs.Bodies.{IsBodyOf, BodyStands};
-ghost use Rattle.rt_gen_body.specs.Inside.Whole.{guards_of, end_code, blocks_of, code_of};
+ghost use Rattle.rt_gen_body.specs.Form.{end_line, HasForm};
+ghost use Rattle.rt_gen_body.specs.Inside.Whole.{guards_of, blocks_of, code_of};
 ghost use Rattle.rt_gen_body.specs.Inside.Lines.{next_address, Appends};
 ghost use Rattle.rt_gen_body.specs.Inside.Generating.{slots_code};
 
@@ -173,7 +174,7 @@ pub(crate) fn is_called(app: &App, number: TaskId) -> bool
 
 /// The last line of a body that begins at an address.
 fn end(app: &App, id: &BodyId, entry: u32, lines: &mut Lines) -> Result<(), NoMemory>
-    ensures { OnOk result (Appends lines.old lines.new (end_code (app_of app.now) id.now entry ∷ [])) }
+    ensures { OnOk result (Appends lines.old lines.new (end_line (app_of app.now) id.now entry ∷ [])) }
 {
     match id {
         BodyId::Init => lines.push_noted(Instr::Serve, Note::End(*id)),
@@ -210,7 +211,8 @@ fn generate(
 
 /// Appends the code of a body of an application to code, and answers the address where it begins. Its lines name only
 /// what the application declares, and there are no more of them than the rule on sizes counts for the body: one for
-/// `init` or `idle` where it is not declared. It stands there, whatever is appended later: `init` leads to what stands
+/// `init` or `idle` where it is not declared. The last one is the body's end, and those of a body that emits literals
+/// and pends interrupts alone are fixed. It stands there, whatever is appended later: `init` leads to what stands
 /// behind it, `idle` back to its first instruction, a task that is bound to an interrupt returns, and one that
 /// dispatchers call goes back. An error leaves the code as it was.
 pub fn gen_body(
@@ -228,6 +230,7 @@ pub fn gen_body(
     ensures kept { IfOk result (λ entry. take entry code.new.items ≡ code.old.items) }
     ensures lines { IfOk result (λ entry. AllByRecursion (IsNameable (names_of (app_of plan.now.app.now)))
         (drop entry code.new.items)) }
+    ensures form { IfOk result (λ entry. HasForm (app_of plan.now.app.now) id entry (drop entry code.new.items)) }
     ensures size { OnOk result (length code.new.items ≤ length code.old.items
         + cost_of (size_measure (app_of plan.now.app.now)) (body_at (app_of plan.now.app.now) id)) }
     ensures stands { IfOk result (λ entry. BodyStands (app_of plan.now.app.now) id code.new.items entry) }

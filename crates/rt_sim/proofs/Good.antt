@@ -108,14 +108,14 @@ module _ (app : App) where
       (no_reason s w runs.0, no_traps labels (after app s (Stepped (Some w))) (suc n) runs.1)
 
   -- a front of events is declared
-  front_declared : (events : List Event) (n : ℕ) → AreDeclared app events → AreDeclared app (take n events)
+  pub front_declared : (events : List Event) (n : ℕ) → AreDeclared app events → AreDeclared app (take n events)
   front_declared events zero declared = tt
   front_declared [] (suc n) declared = tt
   front_declared (Arrive irq ∷ events) (suc n) declared = (declared.0, front_declared events n declared.1)
   front_declared (Tick ∷ events) (suc n) declared = front_declared events n declared
   front_declared (Step ∷ events) (suc n) declared = front_declared events n declared
 
-front_short : (events : List Event) (n : ℕ) → length (take n events) ≤ length events
+pub front_short : (events : List Event) (n : ℕ) → length (take n events) ≤ length events
 front_short events zero = omega arith
 front_short [] (suc n) = omega arith
 front_short (e ∷ events) (suc n) = omega (arith, front_short events n)
@@ -124,7 +124,7 @@ module _ (app : App) (img : Image) (accepted : IsAccepted app) (is_image : IsIma
   sound : IsSound app
   sound = accepted_are_sound app accepted
 
-  steps_both : (m : Moment) → Fits app img is_image.at.idle m → Queued app m.values
+  pub steps_both : (m : Moment) → Fits app img is_image.at.idle m → Queued app m.values
       → m.time + armings m.values < 2 ^ 31 → StepsBoth app img is_image.at.idle (core_of app.bits m) (state_of m)
   steps_both = step_both app img accepted sound is_image
       (resource_numbers app is_image.at img is_image.tables sound) (idle_sparing app accepted sound)
@@ -144,7 +144,7 @@ module _ (app : App) (img : Image) (accepted : IsAccepted app) (is_image : IsIma
       named_within None at is = absurd (none-some cell is)
       named_within (Some name) at is = omega (arith, declared, slice_get_within img.names.shared r name at)
 
-  reached_by : (events : List Event) → length events < 2 ^ 31 → AreDeclared app events
+  pub reached_by : (events : List Event) → length events < 2 ^ 31 → AreDeclared app events
       → Reaches app accepted img is_image.at.idle steps_both (reset img) (first app) events
   reached_by events few declared =
       reaches app accepted img is_image.at.idle steps_both events (reset img) (first app) (first_sight app)

@@ -28,5 +28,6 @@ pub mod Sparings
 pub mod Bodies
 pub mod Access
 pub mod Good
+pub mod Unspent
 pub mod Rows
 pub mod Prepared

@@ -1,3 +1,4 @@
 pub mod Inside
 pub mod Guarded
 pub mod Good
+pub mod Unspent

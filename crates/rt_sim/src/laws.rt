@@ -1,4 +1,5 @@
 ghost use Rattle.rt_sim.specs.Good.{ImagesAreGood};
+ghost use Rattle.rt_sim.specs.Unspent.{ImagesLeaveSteps};
 
 /// Every image of an accepted application is good: for each list of fewer than 2^31 events in which
 /// only declared interrupts arrive, the trace is a run of Baker's machine that shows just these events, sections are
@@ -6,4 +7,10 @@ ghost use Rattle.rt_sim.specs.Good.{ImagesAreGood};
 /// the printed bounds, nothing traps, and each access to a shared resource is made where it may be.
 pub fn images_are_good()
     ensures { ImagesAreGood }
+{}
+
+/// In every trace of an image of an accepted application, at every moment, each started job has a core step of its cost
+/// left, the thread that waits aside.
+pub fn images_leave_steps()
+    ensures { ImagesLeaveSteps }
 {}

@@ -6,6 +6,6 @@
 pub mod laws;
 pub mod machine;
 
-pub use laws::images_are_good;
+pub use laws::{images_are_good, images_leave_steps};
 pub use machine::prepare;
 pub use rt_run::run_script;

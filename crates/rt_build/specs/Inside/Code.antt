@@ -1,10 +1,10 @@
 -- What stands in the code of an application while it grows, whatever code is put behind it.
 use Rattle.std.specs.Prelude.{◌≡◌, ◌≢◌, ◌==◌, ℕ, ◌+◌, ◌<◌, ◌≤◌, Bool, true, false, not, List, ◌++◌, length, take, drop}
-use Rattle.std.specs.Prelude.{slice_get, slice_index, Some, position, if◌then◌else◌}
+use Rattle.std.specs.Prelude.{slice_get, slice_index, map, Some, [], ◌∷◌, position, if◌then◌else◌}
 use Rattle.std.specs.List.{AllByRecursion}
 use Rattle.rt_ids.specs.Lists.{or_zero}
 use Rattle.rt_ids.specs.Storage.{Starting}
-use Rattle.rt_ids.specs.declared.limits.TheConstants.{CODE_SIZE}
+use Rattle.rt_ids.specs.declared.ids.BodyId.TheVariants as body
 use Rattle.rt_app.specs.declared.app.Mono.{Mono}
 use Rattle.rt_app.specs.Tree.{Task, App}
 use Rattle.rt_app.specs.BodyCost.{cost_measure, size_measure, body_cost, cost_of}
@@ -22,6 +22,7 @@ use Rattle.rt_gen_disp.specs.Code.{dispatcher_code}
 use Rattle.rt_gen_timer.specs.TimerCode.{timer_code}
 use Rattle.rt_build.specs.Entries.{Entries}
 use Rattle.rt_build.specs.Image.{IdleStands}
+use Rattle.rt_build.specs.Order.{Part, OfBody, OfLevel, task_parts, AreAbutting, IsInOrder, code_size}
 use Rattle.rt_build.specs.declared.code.Code.{Code}
 use Rattle.rt_build.specs.declared.code.Kind.{Kind}
 use Rattle.rt_build.specs.declared.code.Kind.TheVariants.{Hardware, Software}
@@ -35,6 +36,10 @@ pub record Adds (app : App) (size : ℕ) (before after : List Line) : Type 0 whe
   pub kept : IsKept before after
   pub named : AllByRecursion (IsNameable (names_of app)) (drop (length before) after)
   pub short : length after ≤ length before + size
+
+-- behind code these parts were put, which begin where these entries say
+abbrev pub AddsParts : App → Entries → List Part → List Line → List Line → Type 0
+AddsParts app at parts before after = AreAbutting app at (length before) parts (drop (length before) after)
 
 -- the tasks that bind an interrupt, and those that do not
 abbrev pub is_of_kind : Kind → Task → Bool
@@ -91,6 +96,34 @@ pub record TellsTask (app : App) (kind : Kind) (n : ℕ) (t : Task) (before afte
     pub same : is_of_kind kind t ≡ false → after ≡ before
     pub others : (k : ℕ) → k ≢ n → slice_index after k ≡ slice_index before k
 
+-- the part that the code of a task adds, if the task is of a kind
+abbrev pub part_of_kind : Kind → ℕ → Task → List Part
+part_of_kind kind n t = if is_of_kind kind t then OfBody (body.Task n) ∷ [] else []
+
+-- behind code it was put, and begins at the address of its number
+abbrev pub AddsTask : App → Kind → ℕ → Task → List ℕ → List Line → List Line → Type 0
+AddsTask app kind n t entries before after =
+    (at : Entries) → (is_of_kind kind t ≡ true → at.task n ≡ slice_index entries n)
+    → AddsParts app at (part_of_kind kind n t) before after
+
+-- Behind code the tasks of a kind below a number were put, which begin at these addresses, and so do those of all; and
+-- the dispatchers of as many levels.
+abbrev pub AddsTasksBelow : App → ℕ → Kind → List ℕ → List Line → List Line → Type 0
+AddsTasksBelow app count kind entries before after =
+    (at : Entries)
+    → ((n : ℕ) → n < count → (t : Task) → slice_get app.tasks n ≡ Some t → is_of_kind kind t ≡ true
+    → at.task n ≡ slice_index entries n)
+    → AddsParts app at (task_parts (is_of_kind kind) 0 (take count app.tasks)) before after
+
+abbrev pub AddsTasks : App → Kind → List ℕ → List Line → List Line → Type 0
+AddsTasks app kind entries before after = AddsTasksBelow app (length app.tasks) kind entries before after
+
+abbrev pub AddsDispatchers : App → List ℕ → List Line → List Line → Type 0
+AddsDispatchers app entries before after =
+    (at : Entries)
+    → ((k p : ℕ) → k < length entries → slice_get (levels app) k ≡ Some p → at.dispatcher p ≡ slice_index entries k)
+    → AddsParts app at (map OfLevel (take (length entries) (levels app))) before after
+
 -- the entries of tasks of another kind are as they were
 pub record LeavesOthers (app : App) (kind : Kind) (before after : List ℕ) : Type 0 where
   pub long : length after ≡ length before
@@ -102,17 +135,6 @@ pub record HasEntries (app : App) (code : Code) : Type 0 where
   pub of_tasks : length code.tasks.items ≡ length app.tasks
   pub of_levels : length code.dispatchers.items ≡ length (levels app)
 
--- all code, which names only what is declared, and of which there is no more than an image may have
-pub record IsCodeOf (app : App) (code : Code) : Type 0 where
-  pub entries : HasEntries app code
-  pub thread : HasThread app code.lines.items code.idle
-  pub hardware : HasTasks app code.lines.items Hardware code.tasks.items
-  pub software : HasTasks app code.lines.items Software code.tasks.items
-  pub dispatchers : HasDispatchers app code.lines.items code.dispatchers.items
-  pub timer : HasTimer app code.lines.items code.timer
-  pub named : AllByRecursion (IsNameable (names_of app)) code.lines.items
-  pub short : length code.lines.items ≤ CODE_SIZE
-
 -- Where the parts of code begin: a task at the address at its number, the dispatcher of a level at that at the level's
 -- place.
 abbrev pub entries_of : App → Code → Entries
@@ -122,3 +144,15 @@ entries_of app code = record {
   dispatcher = λ p. slice_index code.dispatchers.items (or_zero (position (λ q. q == p) (levels app)));
   timer = code.timer;
 }
+
+-- all code, which names only what is declared, lies in its order, and is no longer than the rule on sizes counts
+pub record IsCodeOf (app : App) (code : Code) : Type 0 where
+  pub entries : HasEntries app code
+  pub thread : HasThread app code.lines.items code.idle
+  pub hardware : HasTasks app code.lines.items Hardware code.tasks.items
+  pub software : HasTasks app code.lines.items Software code.tasks.items
+  pub dispatchers : HasDispatchers app code.lines.items code.dispatchers.items
+  pub timer : HasTimer app code.lines.items code.timer
+  pub named : AllByRecursion (IsNameable (names_of app)) code.lines.items
+  pub order : IsInOrder app (entries_of app code) code.lines.items
+  pub short : length code.lines.items ≤ code_size app

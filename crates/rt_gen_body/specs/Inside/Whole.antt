@@ -1,21 +1,16 @@
 -- The code of a whole body of an application, by what the application determines: its blocks, and how it ends.
-use Rattle.std.specs.Prelude.{ℕ, ◌^◌, List, [], ◌∷◌, ◌++◌, length, map, slice_get, Option, Some, None}
-use Rattle.std.specs.Prelude.{if◌then◌else◌}
+use Rattle.std.specs.Prelude.{ℕ, ◌^◌, List, [], ◌∷◌, ◌++◌, length, map, Option, Some, None, if◌then◌else◌}
 use Rattle.std.specs.List.{range_with_len}
-use Rattle.rt_ids.specs.Lists.{is_some_and}
 use Rattle.rt_ids.specs.declared.ids.BodyId.{BodyId}
-use Rattle.rt_ids.specs.declared.ids.BodyId.TheVariants as body
 use Rattle.rt_ids.specs.declared.ids.Section.TheVariants as section
 use Rattle.rt_app.specs.Bodies.{Member}
 use Rattle.rt_app.specs.Frame.{first_expression_slot, first_lock_slot, first_spawn_slot}
-use Rattle.rt_app.specs.Level.{is_software}
 use Rattle.rt_app.specs.Statements.{is_init}
 use Rattle.rt_app.specs.Tree.{App}
-use Rattle.rt_code.specs.declared.instr.Instr.TheVariants as instr
-use Rattle.rt_code.specs.declared.instr.Note.TheVariants as note
-use Rattle.rt_gen_queue.specs.Line.{Line, plain, noted}
+use Rattle.rt_gen_queue.specs.Line.{Line}
 use Rattle.rt_gen_queue.specs.Guards.{guard_of}
 use Rattle.rt_gen_queue.specs.declared.guard.Guard.{Guard}
+use Rattle.rt_gen_body.specs.Form.{end_line}
 use Rattle.rt_gen_body.specs.Inside.Values.{Context}
 use Rattle.rt_gen_body.specs.Inside.Blocks.{block_code}
 
@@ -38,15 +33,6 @@ context_of app m = record {
 abbrev pub level_of : App → Member → ℕ
 level_of app m = if is_init m.id then 2 ^ app.bits else m.priority
 
--- The last line of a body that begins at an address: one that dispatchers call goes back.
-abbrev pub end_code : App → BodyId → ℕ → Line
-end_code app body.Init entry = noted instr.Serve (note.End body.Init)
-end_code app body.Idle entry = noted (instr.Jump entry) (note.End body.Idle)
-end_code app (body.Task n) entry =
-    if is_some_and is_software (slice_get app.tasks n)
-    then noted instr.Back (note.End (body.Task n))
-    else plain instr.Ret
-
 -- a body that is not declared has no blocks, and its end alone
 abbrev pub blocks_of : App → Option Member → ℕ → List Line
 blocks_of app None entry = []
@@ -54,4 +40,4 @@ blocks_of app (Some m) entry =
     block_code (context_of app m) (level_of app m) (first_lock_slot m.args m.body) entry m.body.block
 
 abbrev pub code_of : App → BodyId → Option Member → ℕ → List Line
-code_of app id member entry = blocks_of app member entry ++ end_code app id entry ∷ []
+code_of app id member entry = blocks_of app member entry ++ end_line app id entry ∷ []

@@ -3,6 +3,7 @@ use Rattle.std.proofs.lemmas.Option.{slice_get-get_or}
 use Rattle.rt_app.specs.declared.ceilings.ReadyCeiling.{ReadyCeiling}
 use Rattle.rt_app.specs.BodyCost.{dispatcher_size}
 use Rattle.rt_app.specs.View.{app_of}
+use Rattle.rt_build.proofs.Abutting.{level_added}
 use Rattle.rt_build.proofs.Grown.{adds_behind, dispatcher_put, next_level}
 use Rattle.rt_build.proofs.Levels.{is_level, level_at}
 use Rattle.rt_build.proofs.code.push_dispatchers.Goals as goal
@@ -34,4 +35,11 @@ loop-row-preserved c =
     c.loop-row.entries.items c.push.new.self.items there c.loop-row.invariant.counted c.loop-row.invariant.adds
     c.loop-row.invariant.stands c.in_ok-push.ensures.items own
     (dispatcher_put app row.level entry before after made.entry made.kept made.lines) in
-    record { counted = next.0; adds = next.1; stands = next.2 }
+    record {
+      counted = next.0;
+      adds = next.1;
+      parts = level_added app c.args.lines.now.items before after c.loop-row.invariant.adds.kept own.kept
+          c.loop-row.row-index row.level entry c.loop-row.entries.items c.push.new.self.items there
+          c.loop-row.invariant.counted c.in_ok-push.ensures.items c.loop-row.invariant.parts made.entry made.size;
+      stands = next.2;
+    }

@@ -1,14 +1,20 @@
-use Rattle.std.proofs.Common.{◌≡◌, ℕ, ◌+◌, List, ◌++◌, length, take, drop, sum_by, sym, ap, subst, ◌∙◌, arith}
+use Rattle.std.proofs.Common.{◌≡◌, ◌==◌, ℕ, ◌+◌, List, ◌++◌, length, take, drop, sum_by, slice_index, refl, sym, ap}
+use Rattle.std.proofs.Common.{subst, ◌∙◌, arith}
+use Rattle.std.specs.Prelude.{position}
+use Rattle.rt_ids.specs.Lists.{or_zero}
+use Rattle.rt_ids.specs.declared.ids.BodyId.TheVariants as body
 use Rattle.rt_app.specs.BodyCost.{size_measure, cost_of, dispatcher_size, timer_size}
 use Rattle.rt_app.specs.Level.{levels}
 use Rattle.rt_app.specs.View.{app_of}
-use Rattle.rt_app.proofs.Sound.{accepted_are_sound}
 use Rattle.rt_gen_queue.specs.Line.{Line}
+use Rattle.rt_build.specs.Entries.{Entries}
+use Rattle.rt_build.specs.Order.{OfBody}
 use Rattle.rt_build.specs.Inside.Code.{kind_size, HasTasks, LeavesOthers}
 use Rattle.rt_build.specs.declared.code.Kind.TheVariants.{Hardware, Software}
 use Rattle.rt_build.proofs.Grown.{thread_kept, thread_made, tasks_kept, tasks_left, hardware_apart, kinds_sum}
 use Rattle.rt_build.proofs.Grown.{dispatchers_kept}
 use Rattle.rt_build.proofs.Grown.{adds_then, all_named, adds_behind, kept_then, written}
+use Rattle.rt_build.proofs.Abutting.{part_put, tasks_whole, levels_whole, in_order}
 use Rattle.rt_build.proofs.ImageSizes.{all_code}
 use Rattle.rt_build.proofs.code.push_parts.Goals as goal
 
@@ -63,6 +69,14 @@ returns c =
     let second_pass = written size (take size (one ++ drop (length one) start)) two
     (long_two ∙ ap (λ (es : List ℕ). length es) (sym first_pass))
     (ap (λ (es : List ℕ). length es) first_pass ∙ (long_one ∙ long)) in
+    let at : Entries = record {
+      idle = idle;
+      task = λ n.
+          slice_index (take size (two ++ drop (length two) (take size (one ++ drop (length one) start)))) n;
+      dispatcher = λ p.
+          slice_index c.in_ok-code-2.field-0.items (or_zero (position (λ q. q == p) (levels app)));
+      timer = c.in_ok-code-3.field-0;
+    } in
     let behind_software = kept_then fourth fifth sixth levelled.kept last.kept in
     let behind_hardware = kept_then third fourth sixth software.kept behind_software in
     record {
@@ -80,5 +94,19 @@ returns c =
           c.in_ok-code-2.ensures.stands;
       timer = c.in_ok-code-3.ensures.stands;
       named = all.0;
-      short = omega (arith, all.1, all_code app (accepted_are_sound app c.requires.plan.accepted), kinds_sum app app.tasks);
+      order = in_order app at none first second third fourth fifth sixth c.requires.empty begin.kept
+          c.in_ok-code.ensures.adds.kept hardware.kept software.kept levelled.kept last.kept
+          (part_put app at (OfBody body.Init) c.in_ok-gen_body.field-0 none first c.in_ok-gen_body.ensures.entry
+          (sym (c.in_ok-gen_body.ensures.entry ∙ ap (λ (lines : List Line). length lines) c.requires.empty))
+          c.in_ok-gen_body.ensures.size c.in_ok-gen_body.ensures.form)
+          (c.in_ok-code.ensures.part at refl)
+          (tasks_whole app at one second third Hardware c.in_ok-push_tasks.ensures.parts
+          (λ n t there of. ap (λ (es : List ℕ). slice_index es n) second_pass
+          ∙ left.others n t there (hardware_apart t of)))
+          (tasks_whole app at two third fourth Software c.in_ok-push_tasks-2.ensures.parts
+          (λ n t there of. ap (λ (es : List ℕ). slice_index es n) second_pass))
+          (levels_whole app at c.in_ok-code-2.field-0.items fourth fifth c.in_ok-code-2.ensures.entries
+          c.in_ok-code-2.ensures.parts (λ p. refl))
+          (c.in_ok-code-3.ensures.part at refl);
+      short = omega (arith, all.1, all_code app, kinds_sum app app.tasks);
     }

@@ -3,6 +3,7 @@ use Rattle.std.proofs.lemmas.List.{length-map}
 use Rattle.rt_lemmas.proofs.Places.{there_is}
 use Rattle.rt_app.specs.View.{app_of, task_of}
 use Rattle.rt_build.proofs.Grown.{next_task}
+use Rattle.rt_build.proofs.Abutting.{tasks_added}
 use Rattle.rt_build.proofs.code.push_tasks.Goals as goal
 
 pub loop-number-preserved : goal.loop-number-preserved
@@ -14,4 +15,12 @@ loop-number-preserved c =
     c.push_task.new.lines.items c.args.entries.now c.loop-number.entries c.push_task.new.entries one.1
     c.loop-number.invariant.adds c.loop-number.invariant.others c.loop-number.invariant.stands
     (c.in_ok-push_task.ensures.adds one.0 one.1) (c.in_ok-push_task.ensures.tells one.0 one.1) in
-    record { adds = next.0; others = next.1; stands = next.2 }
+    record {
+      adds = next.0;
+      parts = tasks_added app c.args.lines.now.items c.loop-number.lines.items c.push_task.new.lines.items
+          c.loop-number.invariant.adds.kept (c.in_ok-push_task.ensures.adds one.0 one.1).kept c.args.kind n one.0
+          c.loop-number.entries c.push_task.new.entries one.1 c.loop-number.invariant.parts
+          (c.in_ok-push_task.ensures.tells one.0 one.1) (c.in_ok-push_task.ensures.part one.0 one.1);
+      others = next.1;
+      stands = next.2;
+    }

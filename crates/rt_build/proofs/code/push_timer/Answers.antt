@@ -9,7 +9,10 @@ use Rattle.rt_app.specs.Tree.{App}
 use Rattle.rt_app.specs.View.{app_of}
 use Rattle.rt_gen_queue.specs.Line.{Line, IsNameable}
 use Rattle.rt_gen_timer.specs.TimerCode.{timer_code}
-use Rattle.rt_build.specs.Inside.Code.{Adds, HasTimer}
+use Rattle.rt_build.specs.Entries.{Entries}
+use Rattle.rt_build.specs.Order.{timer_parts}
+use Rattle.rt_build.specs.Inside.Code.{Adds, AddsParts, HasTimer}
+use Rattle.rt_build.proofs.Abutting.{timer_added, parts_none}
 use Rattle.rt_build.proofs.Grown.{adds_none, adds_behind, timer_put, timer_absent}
 use Rattle.rt_build.proofs.code.push_timer.Goals as goal
 
@@ -25,6 +28,12 @@ module _ (app : App) (mono : Mono) (timed : app.mono ≡ Some mono) (before afte
       (adds_behind app (timer_size app (Some mono)) entry before after at kept named short)
   adds_timer (Err e) at kept named short = tt
 
+  part_timer : (r : Result ℕ NoMemory) → IfOk r (λ entry. entry ≡ length before)
+      → OnOk r (length after ≤ length before + timer_size app (Some mono))
+      → IfOk r (λ entry. (at : Entries) → at.timer ≡ entry → AddsParts app at (timer_parts app.mono) before after)
+  part_timer (Ok entry) is short = λ at begins. timer_added app at entry before after is mono timed begins short
+  part_timer (Err e) is short = tt
+
   stands_timer : (r : Result ℕ NoMemory) → IfOk r (λ entry. entry ≡ length before)
       → IfOk r (λ entry. take entry after ≡ before)
       → IfOk r (λ entry. drop entry after ≡ timer_code app mono.priority entry)
@@ -38,6 +47,11 @@ returns-in-Some-clause-adds c =
     c.gen_timer.new.code.items c.gen_timer.result c.gen_timer.ensures.entry c.gen_timer.ensures.kept
     c.gen_timer.ensures.names c.gen_timer.ensures.size
 
+pub returns-in-Some-clause-part : goal.returns-in-Some-clause-part
+returns-in-Some-clause-part c =
+    part_timer (app_of c.args.plan.now.app.now) c.in-Some.mono c.in-Some.is c.args.lines.now.items
+    c.gen_timer.new.code.items c.gen_timer.result c.gen_timer.ensures.entry c.gen_timer.ensures.size
+
 pub returns-in-Some-clause-stands : goal.returns-in-Some-clause-stands
 returns-in-Some-clause-stands c =
     stands_timer (app_of c.args.plan.now.app.now) c.in-Some.mono c.in-Some.is c.args.lines.now.items
@@ -49,6 +63,13 @@ returns-in-None-clause-adds c =
     let app = app_of c.args.plan.now.app.now in
     let lines = c.args.lines.now.items in
     subst (λ (o : Option Mono). Adds app (timer_size app o) lines lines) (sym c.in-None.is) (adds_none app lines)
+
+pub returns-in-None-clause-part : goal.returns-in-None-clause-part
+returns-in-None-clause-part c at begins =
+    let app = app_of c.args.plan.now.app.now in
+    let lines = c.args.lines.now.items in
+    subst (λ (o : Option Mono). AddsParts app at (timer_parts o) lines lines) (sym c.in-None.is)
+    (parts_none app at lines)
 
 pub returns-in-None-clause-stands : goal.returns-in-None-clause-stands
 returns-in-None-clause-stands c =
