@@ -1,0 +1,11 @@
+pub mod Spacing
+pub mod Quiet
+pub mod Tasks
+pub mod Owing
+pub mod Spending
+pub mod Stepping
+pub mod Walk
+pub mod Responding
+pub mod Least
+pub mod Telling
+pub mod OneWay

@@ -1,0 +1,4 @@
+-- What private contracts alone cite.
+pub mod Loads
+pub mod Least
+pub mod Telling

@@ -1,0 +1,9 @@
+pub mod Limits
+pub mod Wording
+pub mod Text
+pub mod Response
+pub mod Report
+pub mod Kept
+pub mod Served
+pub mod Laws
+pub mod Inside

@@ -1,0 +1,20 @@
+// Response times of applications whose interrupts come from outside alone, for least distances between requests.
+#![tactic(auto)]
+
+pub mod laws;
+pub mod limits;
+pub mod line;
+pub mod load;
+mod reading;
+pub mod refusal;
+pub mod response;
+pub mod search;
+pub mod text;
+
+pub use laws::runs_respond;
+pub use limits::{Limit, Limits};
+pub use reading::read_limits;
+pub use refusal::LimitsRefused;
+pub use response::ResponseTime;
+pub use search::times;
+pub use text::report;
