@@ -1,0 +1,128 @@
+-- A good image on lists of events: what the core shows is allowed, and the two machines agree behind it.
+use Rattle.std.proofs.Common.{◌≡◌, ℕ, ◌+◌, ◌^◌, ◌<◌, List, [], ◌∷◌, ◌++◌, length, Option, ap, subst, ◌∙◌, arith, length-append}
+use Rattle.rt_ids.specs.Event.{Event, Arrive, Step}
+use Rattle.rt_trace.specs.Label.{Label, Arrived, Stepped}
+use Rattle.rt_trace.specs.declared.item.What.{What}
+use Rattle.rt_app.specs.Tree.{App}
+use Rattle.rt_app.specs.Accepted.{IsAccepted}
+use Rattle.rt_app.specs.Acceptance.{IsSound}
+use Rattle.rt_app.proofs.Sound.{accepted_are_sound}
+use Rattle.rt_build.specs.Image.{IsImageOf}
+use Rattle.rt_build.proofs.ImageCells.{resource_numbers}
+use Rattle.rt_code.specs.Image.{Image}
+use Rattle.rt_core.specs.Core.{Core, reset}
+use Rattle.rt_core.specs.Stepping.{step}
+use Rattle.rt_core.specs.Trace.{core_after, labels}
+use Rattle.rt_core.specs.Transfer.{pended}
+use Rattle.rt_core.proofs.Happening.{happens_by_event}
+use Rattle.rt_laws.specs.State.{State, first}
+use Rattle.rt_laws.specs.Allowed.{May, after}
+use Rattle.rt_laws.specs.Run.{RunsOn}
+use Rattle.rt_laws.specs.ByItems.{after_all}
+use Rattle.rt_laws.specs.Sight.{first_sight}
+use Rattle.rt_laws.proofs.Armings.{armings, first_armings}
+use Rattle.rt_laws.proofs.ByItems.{after_append}
+use Rattle.rt_laws.proofs.Fine.{Queued}
+use Rattle.rt_laws.proofs.Happens.{first_well}
+use Rattle.rt_run.proofs.Advancing.{core_after-append, labels-append}
+use Rattle.rt_sim.specs.Good.{AreDeclared}
+use Rattle.rt_sim.specs.Inside.Moment.{Moment}
+use Rattle.rt_sim.specs.Inside.States.{core_of, state_of}
+use Rattle.rt_sim.specs.Inside.Fits.{Fits}
+use Rattle.rt_sim.specs.Inside.Agrees.{StepsBoth}
+use Rattle.rt_sim.proofs.Bodies.{init_sparing, idle_sparing, task_sparing, dispatcher_sparing, timer_sparing}
+use Rattle.rt_sim.proofs.Running.{Reaches, reaches}
+use Rattle.rt_sim.proofs.Starting.{agrees_first}
+use Rattle.rt_sim.proofs.Stepping.{step_both}
+
+-- the back of a run is one from where the front leads to
+runs_behind : (app : App) (front behind : List Label) (s : State) → RunsOn app s (front ++ behind)
+    → RunsOn app (after_all app s front) behind
+runs_behind app [] behind s runs = runs
+runs_behind app (label ∷ front) behind s runs = runs_behind app front behind (after app s label) runs.1
+
+module _ (app : App) (img : Image) (accepted : IsAccepted app) (is_image : IsImageOf app img) where
+  abbrev sound : IsSound app
+  sound = accepted_are_sound app accepted
+
+  pub steps_both : (m : Moment) → Fits app img is_image.at.idle m → Queued app m.values
+      → m.time + armings m.values < 2 ^ 31 → StepsBoth app img is_image.at.idle (core_of app.bits m) (state_of m)
+  steps_both = step_both app img accepted sound is_image
+      (resource_numbers app is_image.at img is_image.tables sound) (idle_sparing app accepted sound)
+      (task_sparing app accepted sound) (dispatcher_sparing app accepted sound) (timer_sparing app accepted sound)
+
+  -- the core and the state of Baker's machine behind events
+  abbrev pub core_behind : List Event → Core
+  core_behind events = core_after img (reset img) events
+
+  abbrev pub state_behind : List Event → State
+  state_behind events = after_all app (first app) (labels img (reset img) events)
+
+  pub reached_by : (events : List Event) → length events < 2 ^ 31 → AreDeclared app events
+      → Reaches app accepted img is_image.at.idle steps_both (reset img) (first app) events
+  reached_by events few declared =
+      reaches app accepted img is_image.at.idle steps_both events (reset img) (first app) (first_sight app)
+      (agrees_first app img accepted sound is_image (init_sparing app accepted sound)) (first_well app accepted)
+      (omega (arith, few, first_armings app accepted)) declared
+
+  -- one core step behind events
+  abbrev pub shown_next : List Event → Option What
+  shown_next events = (step img (core_behind events)).1
+
+  labels_step : (events : List Event)
+      → labels img (reset img) (events ++ Step ∷ [])
+      ≡ labels img (reset img) events ++ Stepped (shown_next events) ∷ []
+  labels_step events =
+      let c : Core = core_behind events in
+      labels-append img (reset img) events (Step ∷ [])
+      ∙ ap (λ ls. labels img (reset img) events ++ ls)
+      (happens_by_event.labels_more img c Step []
+      ∙ ap (λ r. r.1 ++ labels img r.0 []) (happens_by_event.step img c)
+      ∙ ap (λ ls. Stepped (step img c).1 ∷ ls) (happens_by_event.labels_none img (step img c).0))
+
+  -- it is allowed, and leads on
+  pub step_allowed : (events : List Event) → length events + 1 < 2 ^ 31 → AreDeclared app (events ++ Step ∷ [])
+      → May app (state_behind events) (Stepped (shown_next events))
+  step_allowed events few declared =
+      let whole = reached_by (events ++ Step ∷ []) (omega (arith, few, length-append events (Step ∷ []))) declared in
+      (runs_behind app (labels img (reset img) events) (Stepped (shown_next events) ∷ []) (first app)
+      (subst (RunsOn app (first app)) (labels_step events) whole.runs)).0
+
+  pub state_step : (events : List Event)
+      → state_behind (events ++ Step ∷ []) ≡ after app (state_behind events) (Stepped (shown_next events))
+  state_step events =
+      ap (after_all app (first app)) (labels_step events)
+      ∙ after_append app (labels img (reset img) events) (Stepped (shown_next events) ∷ []) (first app)
+
+  pub core_step : (events : List Event) → core_behind (events ++ Step ∷ []) ≡ (step img (core_behind events)).0
+  core_step events =
+      let c : Core = core_behind events in
+      core_after-append img (reset img) events (Step ∷ [])
+      ∙ happens_by_event.core_more img c Step []
+      ∙ ap (λ r. core_after img r.0 []) (happens_by_event.step img c)
+      ∙ happens_by_event.core_none img (step img c).0
+
+  -- a request behind events
+  pub state_request : (events : List Event) (irq : ℕ)
+      → state_behind (events ++ Arrive irq ∷ []) ≡ after app (state_behind events) (Arrived irq)
+  state_request events irq =
+      let c : Core = core_behind events in
+      ap (after_all app (first app))
+      (labels-append img (reset img) events (Arrive irq ∷ [])
+      ∙ ap (λ ls. labels img (reset img) events ++ ls)
+      (happens_by_event.labels_more img c (Arrive irq) []
+      ∙ ap (λ r. r.1 ++ labels img r.0 []) (happens_by_event.arrive img c irq)
+      ∙ ap (λ ls. Arrived irq ∷ ls) (happens_by_event.labels_none img (pended c irq))))
+      ∙ after_append app (labels img (reset img) events) (Arrived irq ∷ []) (first app)
+
+  pub core_request : (events : List Event) (irq : ℕ) → core_behind (events ++ Arrive irq ∷ []) ≡ pended (core_behind events) irq
+  core_request events irq =
+      let c : Core = core_behind events in
+      core_after-append img (reset img) events (Arrive irq ∷ [])
+      ∙ happens_by_event.core_more img c (Arrive irq) []
+      ∙ ap (λ r. core_after img r.0 []) (happens_by_event.arrive img c irq)
+      ∙ happens_by_event.core_none img (pended c irq)
+
+  -- nothing has come
+  pub state_first : state_behind [] ≡ first app
+  state_first = ap (after_all app (first app)) (happens_by_event.labels_none img (reset img))

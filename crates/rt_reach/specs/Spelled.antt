@@ -1,0 +1,25 @@
+-- How the lines of such a script are spelled, each with a line feed. The form of a script is this project's own; a
+-- count of one request is left out.
+use Rattle.std.specs.Prelude.{ℕ, List, [], ◌∷◌, ◌++◌, flat_map, codes, decimal}
+use Rattle.rt_ids.specs.Names.{Names}
+use Rattle.rt_ids.specs.Naming.{irq_name}
+
+-- the line that requests an interrupt, and the line of so many core steps
+abbrev pub pend_line : Names → ℕ → List ℕ
+pend_line names irq = codes "pend " ++ irq_name names irq
+
+abbrev pub step_line : ℕ → List ℕ
+step_line steps = codes "step " ++ decimal steps
+
+-- a line with its end
+abbrev pub ended : List ℕ → List ℕ
+ended line = line ++ 10 ∷ []
+
+-- both lines
+abbrev pub level_text : Names → ℕ → ℕ → List ℕ
+level_text names steps irq = ended (pend_line names irq) ++ ended (step_line steps)
+
+-- of these interrupts in order, with so many core steps behind the first
+abbrev pub script_text : Names → ℕ → List ℕ → List ℕ
+script_text names steps [] = []
+script_text names steps (irq ∷ irqs) = level_text names steps irq ++ flat_map (level_text names 1) irqs

@@ -1,0 +1,9 @@
+// The script that goes deepest: on it the stack reaches the printed bound.
+#![tactic(auto)]
+
+mod levels;
+mod script;
+mod take;
+mod text;
+
+pub use script::deepest;
