@@ -1,68 +1,53 @@
--- The clauses of the top call, of words that name a command that is built.
+-- The clauses of the top call, of words that name a command.
 use Rattle.std.proofs.Common.{◌≡◌, ℕ, ◌≤◌, ◌⊎◌, List, [], Option, inl, inr, subst, arith}
 use Rattle.rt_ids.specs.declared.status.Status.{Status}
 use Rattle.rt_ids.specs.declared.status.Status.TheVariants as status
 use Rattle.rt_outside.specs.Faults.{Rose}
 use Rattle.rt_outside.specs.Bytes.{Took}
-use Rattle.rt_top.specs.Words.{Command, IsBuilt, Names, IsCommand, reads}
+use Rattle.rt_top.specs.Words.{Command, Names, IsCommand, reads}
 use Rattle.rt_top.specs.Defined.{Inputs, IsDue, IsAnswer, IsFirstRefused, AreTold, AreReadTold, SkipsFirst, SkipsSecond, WroteAll, WrotePart}
-use Rattle.rt_top.specs.Inside.Decides.{meant, HasFailed, Concludes}
+use Rattle.rt_top.specs.Inside.Decides.{HasFailed, Concludes}
+use Rattle.rt_top.specs.Inside.Meant.{meant}
 use Rattle.rt_top.specs.declared.command.Command as code
-use Rattle.rt_top.specs.declared.command.Command.TheVariants as command
 use Rattle.rt_top.proofs.CommandWords.{one_command}
 use Rattle.rt_top.proofs.Ending as ending
-
-pub built : (c : code.Command) → IsBuilt (meant c)
-built command.Run = tt
-built command.Check = tt
-built command.Fmt = tt
-built command.Build = tt
-built command.Audit = tt
-
-pub reads_first : (c : code.Command) → 1 ≤ reads (meant c)
-reads_first command.Run = omega arith
-reads_first command.Check = omega arith
-reads_first command.Fmt = omega arith
-reads_first command.Build = omega arith
-reads_first command.Audit = omega arith
 
 -- the words name the command
 module _ (words : List (List ℕ)) (c : code.Command) (named : Names words (meant c)) where
   -- and no other
-  pub any : (P : Command → Type 0) → P (meant c) → (d : Command) → IsBuilt d → Names words d → P d
-  any P p d is named_so = subst P (one_command words (meant c) d (built c) is named named_so) p
+  pub any : (P : Command → Type 0) → P (meant c) → (d : Command) → Names words d → P d
+  any P p d named_so = subst P (one_command words (meant c) d named named_so) p
 
   pub is_command : IsCommand words
-  is_command = (meant c, built c, named)
+  is_command = (meant c, named)
 
-  pub first_unread : SkipsFirst words → ⊥
-  first_unread skips = let none = skips (meant c) (built c) named in let some = reads_first c in omega (arith, none, some)
+  pub first_unread : (kept : Type 0) → (reads (meant c) ≡ 0 → kept) → SkipsFirst words → kept
+  first_unread kept keeps skips = keeps (skips (meant c) named)
 
   module _ (t : Inputs) (rose kept rose_second : Type 0) (before after : Option (List ℕ)) (fb fa : ℕ) (result : Status)
       (k : Concludes (meant c) t (rose × kept) rose_second before after fb fa result) where
-    pub answered : (e : Command) → IsBuilt e → Names words e → IsAnswer result → AreReadTold e t result
+    pub answered : (e : Command) → Names words e → IsAnswer result → AreReadTold e t result
         → WroteAll e t result before after
-    answered e is named_so answer =
+    answered e named_so answer =
         any (λ x. AreReadTold x t result → WroteAll x t result before after)
-        (ending.answered (meant c) t (rose × kept) rose_second before after fb fa result k answer) e is named_so
+        (ending.answered (meant c) t (rose × kept) rose_second before after fb fa result k answer) e named_so
 
-    pub complete : (e : Command) (due : Status) → IsBuilt e → Names words e → IsDue e t due → (rose → ⊥)
+    pub complete : (e : Command) (due : Status) → Names words e → IsDue e t due → (rose → ⊥)
         → (rose_second → ⊥) → (Rose fb fa → ⊥) → (result ≡ due) ⊎ (result ≡ status.Memory)
-    complete e due is named_so is_due no_first no_second no_third =
+    complete e due named_so is_due no_first no_second no_third =
         ending.complete (meant c) t (rose × kept) rose_second before after fb fa result due (back is_due)
         (λ both. no_first both.0) no_second no_third k
       where
         back : IsDue e t due → IsDue (meant c) t due
-        back x = subst (λ y. IsDue y t due) (one_command words e (meant c) is (built c) named_so named) x
+        back x = subst (λ y. IsDue y t due) (one_command words e (meant c) named_so named) x
 
     pub no_usage : result ≡ status.Usage → IsCommand words → ⊥
     no_usage usage _ = ending.no_usage (meant c) t (rose × kept) rose_second before after fb fa result k usage
 
-    pub read : result ≡ status.Read → (e : Command) × IsBuilt e × Names words e
+    pub read : result ≡ status.Read → (e : Command) × Names words e
         × (((1 ≤ reads e) × rose × kept) ⊎ ((2 ≤ reads e) × rose_second))
     read is = (
       meant c,
-      built c,
       named,
       flat (ending.read (meant c) t (rose × kept) rose_second before after fb fa result k is),
     )
@@ -78,15 +63,15 @@ module _ (words : List (List ℕ)) (c : code.Command) (named : Names words (mean
     pub write : result ≡ status.Write → Rose fb fa
     write is = ending.write (meant c) t (rose × kept) rose_second before after fb fa result k is
 
-    pub part : (e : Command) → IsBuilt e → Names words e → result ≡ status.Write → AreTold e t ⊎ IsFirstRefused e t
+    pub part : (e : Command) → Names words e → result ≡ status.Write → AreTold e t ⊎ IsFirstRefused e t
         → WrotePart e t before after
-    part e is named_so failed =
+    part e named_so failed =
         any (λ x. AreTold x t ⊎ IsFirstRefused x t → WrotePart x t before after)
-        (ending.part (meant c) t (rose × kept) rose_second before after fb fa result k failed) e is named_so
+        (ending.part (meant c) t (rose × kept) rose_second before after fb fa result k failed) e named_so
 
     pub second_unread : ((reads (meant c) ≤ 1) ⊎ IsFirstRefused (meant c) t → kept) → SkipsSecond words t → kept
-    second_unread keeps skips = keeps (skips (meant c) (built c) named)
+    second_unread keeps skips = keeps (skips (meant c) named)
 
 -- words that name a command
-pub no_words : (words : List (List ℕ)) → (IsCommand words → ⊥) → {A : Type 0} → (c : Command) → IsBuilt c → Names words c → A
-no_words words none c is named = absurd (none (c, is, named))
+pub no_words : (words : List (List ℕ)) → (IsCommand words → ⊥) → {A : Type 0} → (c : Command) → Names words c → A
+no_words words none c named = absurd (none (c, named))

@@ -1,8 +1,10 @@
 -- The words of a command.
-use Rattle.std.proofs.Common.{◌≡◌, ◌<◌, ◌≤◌, ℕ, Bool, IsTrue, true, false, ◌↔◌, List, [], ◌∷◌, length, get_or, codes, bytes_eq, refl, ap, sym, ◌∙◌, arith}
+use Rattle.std.proofs.Common.{◌≡◌, ◌<◌, ◌≤◌, ℕ, Bool, IsTrue, true, false, ◌↔◌, List, [], ◌∷◌, length, get_or, codes, bytes_eq, refl, ap, sym, ◌∙◌, arith, Option, Some, None, IfNone}
 use Rattle.std.proofs.lemmas.Slice.Eq.{bytes_eq-Decides}
+use Rattle.std.specs.Str.Parse.{digits_value}
 use Rattle.std.specs.Borrow.{Bor}
-use Rattle.rt_top.specs.Words.{Command, Run, Check, Fmt, Build, Audit, Live, Soak, Demo, texts, Names, IsBuilt, IsCommand}
+use Rattle.rt_top.specs.Words.{Command, Run, Check, Fmt, Build, Audit, Live, Soak, Demo, Deepest, Times, texts, Names, IsCommand}
+use Rattle.rt_top.specs.Inside.Meant.{IsInRange}
 
 -- three words are the first, and two more
 pub three : (words : List (Bor (List ℕ))) (d : Bor (List ℕ)) → 3 ≤ length words → length words < 4 → (a : List ℕ) × (b : List ℕ) × (texts words ≡ (get_or words 0 d).now ∷ a ∷ b ∷ [])
@@ -52,92 +54,120 @@ module _ (verb : List ℕ) (words : List (Bor (List ℕ))) (d : Bor (List ℕ)) 
         λ is. test ∙ decides.1 (head_of_two (sym t.1 ∙ is.1)),
       )
 
+-- two words, by their places
+pub pair_of : (words : List (Bor (List ℕ))) (d : Bor (List ℕ)) → 2 ≤ length words → length words < 3
+    → texts words ≡ (get_or words 0 d).now ∷ (get_or words 1 d).now ∷ []
+pair_of [] d least most = absurd (omega arith)
+pair_of (x ∷ []) d least most = absurd (omega arith)
+pair_of (x ∷ y ∷ []) d least most = refl
+pair_of (x ∷ y ∷ z ∷ words) d least most = absurd (omega arith)
+
+-- and five
+pub five_of : (words : List (Bor (List ℕ))) (d : Bor (List ℕ)) → 5 ≤ length words → length words < 6
+    → texts words ≡ (get_or words 0 d).now ∷ (get_or words 1 d).now ∷ (get_or words 2 d).now ∷ (get_or words 3 d).now ∷ (get_or words 4 d).now ∷ []
+five_of [] d least most = absurd (omega arith)
+five_of (x ∷ []) d least most = absurd (omega arith)
+five_of (x ∷ y ∷ []) d least most = absurd (omega arith)
+five_of (x ∷ y ∷ z ∷ []) d least most = absurd (omega arith)
+five_of (x ∷ y ∷ z ∷ u ∷ []) d least most = absurd (omega arith)
+five_of (x ∷ y ∷ z ∷ u ∷ v ∷ []) d least most = refl
+five_of (x ∷ y ∷ z ∷ u ∷ v ∷ w ∷ words) d least most = absurd (omega arith)
+
+-- a word that passes the test is this one
+pub is_word : (word verb : List ℕ) (b : Bool) → b ≡ bytes_eq word verb → b ≡ true → word ≡ verb
+is_word word verb b test true_so = (bytes_eq-Decides word verb).0 (sym test ∙ true_so)
+
+-- the last of five words
+pub last_of_five : {a b c d e v w x y z : List ℕ} → a ∷ b ∷ c ∷ d ∷ e ∷ [] ≡ v ∷ w ∷ x ∷ y ∷ z ∷ [] → e ≡ z
+last_of_five is = cc
+
 -- a test that is false refutes what it tests
 refuted : {P : Type 0} (b : Bool) → (IsTrue b ↔ P) → b ≡ false → P → ⊥
 refuted b both is_false p = let is_true : b ≡ true = both.1 p in cc
 
--- words that are none of these are no command that is built
-module _ (words : List (List ℕ)) (run check fmt build audit : Bool)
+-- words that are none of these are no command
+module _ (words : List (List ℕ)) (run check fmt build audit live deepest times : Bool)
     (is_run : IsTrue run ↔ Names words Run) (is_check : IsTrue check ↔ Names words Check)
     (is_fmt : IsTrue fmt ↔ Names words Fmt) (is_build : IsTrue build ↔ Names words Build) (is_audit : IsTrue audit ↔ Names words Audit)
-    (no_run : run ≡ false) (no_check : check ≡ false) (no_fmt : fmt ≡ false) (no_build : build ≡ false) (no_audit : audit ≡ false) where
-  none : (c : Command) → IsBuilt c → Names words c → ⊥
-  none Run built named = refuted run is_run no_run named
-  none Check built named = refuted check is_check no_check named
-  none Fmt built named = refuted fmt is_fmt no_fmt named
-  none Build built named = refuted build is_build no_build named
-  none Audit built named = refuted audit is_audit no_audit named
-  none Live built named = absurd built
-  none (Soak number count workers) built named = absurd built
-  none (Demo n) built named = absurd built
+    (is_live : IsTrue live ↔ Names words Live) (is_deepest : IsTrue deepest ↔ Names words Deepest) (is_times : IsTrue times ↔ Names words Times)
+    (no_run : run ≡ false) (no_check : check ≡ false) (no_fmt : fmt ≡ false) (no_build : build ≡ false) (no_audit : audit ≡ false)
+    (no_live : live ≡ false) (no_deepest : deepest ≡ false) (no_times : times ≡ false) (no_demo : (n : ℕ) → Names words (Demo n) → ⊥)
+    (no_soak : (number count workers : ℕ) → Names words (Soak number count workers) → ⊥) where
+  none : (c : Command) → Names words c → ⊥
+  none Run named = refuted run is_run no_run named
+  none Check named = refuted check is_check no_check named
+  none Fmt named = refuted fmt is_fmt no_fmt named
+  none Build named = refuted build is_build no_build named
+  none Audit named = refuted audit is_audit no_audit named
+  none Live named = refuted live is_live no_live named
+  none Deepest named = refuted deepest is_deepest no_deepest named
+  none Times named = refuted times is_times no_times named
+  none (Soak number count workers) named = no_soak number count workers named
+  none (Demo n) named = no_demo n named
 
   pub no_command : IsCommand words → ⊥
-  no_command (c, built, named) = none c built named
+  no_command (c, named) = none c named
 
--- the words name one command
-three_two : (words : List (List ℕ)) (a b c x y : List ℕ) → words ≡ a ∷ b ∷ c ∷ [] → words ≡ x ∷ y ∷ [] → ⊥
-three_two words a b c x y e f = cc
+-- the last test of words gives a command, or they are none
+pub none_left : {A : Type 0} (words : List (List ℕ)) (last : Option A) → (((number count workers : ℕ) → Names words (Soak number count workers) → ⊥) → IsCommand words → ⊥)
+    → IfNone last ((number count workers : ℕ) → Names words (Soak number count workers) → ⊥) → IfNone last (IsCommand words → ⊥)
+none_left words (Some c) means h = tt
+none_left words None means h = means h
 
-same_verb : (words : List (List ℕ)) (a b x y : List ℕ) → words ≡ a ∷ b ∷ [] → words ≡ x ∷ y ∷ [] → a ≡ x
-same_verb words a b x y e f = cc
+-- the command, where the test is true, else that of the other tests
+abbrev when : Bool → Command → Option Command → Option Command
+when true c other = Some c
+when false c other = other
 
-check_fmt : codes "check" ≡ codes "fmt" → ⊥
-check_fmt e = omega (arith, ap length e)
+-- of two words, by the first
+abbrev of_two : List ℕ → List ℕ → Option Command
+of_two verb word =
+    when (bytes_eq verb (codes "check")) Check (when (bytes_eq verb (codes "fmt")) Fmt (when (bytes_eq verb (codes "build")) Build
+    (when (bytes_eq verb (codes "deepest")) Deepest (when (bytes_eq verb (codes "demo")) (Demo (digits_value 10 word)) None))))
 
-fmt_build : codes "fmt" ≡ codes "build" → ⊥
-fmt_build e = omega (arith, ap length e)
+-- of three
+abbrev of_three : List ℕ → Option Command
+of_three verb =
+    when (bytes_eq verb (codes "run")) Run (when (bytes_eq verb (codes "audit")) Audit (when (bytes_eq verb (codes "live")) Live
+    (when (bytes_eq verb (codes "times")) Times None)))
 
--- words of one length differ in their first byte
-check_build : codes "check" ≡ codes "build" → ⊥
-check_build e = omega (arith, ap (λ w. get_or w 0 0) e)
+-- the one command that words can name
+abbrev pub command_named : List (List ℕ) → Option Command
+command_named (verb ∷ word ∷ []) = of_two verb word
+command_named (verb ∷ word ∷ more ∷ []) = of_three verb
+command_named (verb ∷ app ∷ number ∷ count ∷ workers ∷ []) = Some (Soak (digits_value 10 number) (digits_value 10 count) (digits_value 10 workers))
+command_named other = None
 
-same_long_verb : (words : List (List ℕ)) (a b c x y z : List ℕ) → words ≡ a ∷ b ∷ c ∷ [] → words ≡ x ∷ y ∷ z ∷ [] → a ≡ x
-same_long_verb words a b c x y z e f = cc
+pub names_it : (words : List (List ℕ)) (c : Command) → Names words c → command_named words ≡ Some c
+names_it words Run named = ap command_named named.2
+names_it words Check named = ap command_named named.1
+names_it words Fmt named = ap command_named named.1
+names_it words Build named = ap command_named named.1
+names_it words Audit named = ap command_named named.2
+names_it words Live named = ap command_named named.2
+names_it words (Soak number count workers) named =
+    let e = ap command_named named.named in
+    let a = named.is_number.0.value in
+    let b = named.is_count.0.value in
+    let c = named.is_workers.0.value in cc
+names_it words Deepest named = ap command_named named.1
+names_it words Times named = ap command_named named.2
+names_it words (Demo n) named = let e = ap command_named named.1 in let a = named.2.value in cc
 
-run_audit : codes "run" ≡ codes "audit" → ⊥
-run_audit e = omega (arith, ap length e)
+-- words name one command at most
+pub one_command : (words : List (List ℕ)) (c d : Command) → Names words c → Names words d → c ≡ d
+one_command words c d named other = let e = names_it words c named in let f = names_it words d other in cc
 
-pub one_command : (words : List (List ℕ)) (c d : Command) → IsBuilt c → IsBuilt d → Names words c → Names words d → c ≡ d
-one_command words Run Run built also named other = refl
-one_command words Run Check built also named other = absurd (three_two words _ _ _ _ _ named.2 other.1)
-one_command words Run Fmt built also named other = absurd (three_two words _ _ _ _ _ named.2 other.1)
-one_command words Check Run built also named other = absurd (three_two words _ _ _ _ _ other.2 named.1)
-one_command words Check Check built also named other = refl
-one_command words Check Fmt built also named other = absurd (check_fmt (same_verb words _ _ _ _ named.1 other.1))
-one_command words Fmt Run built also named other = absurd (three_two words _ _ _ _ _ other.2 named.1)
-one_command words Fmt Check built also named other = absurd (check_fmt (same_verb words _ _ _ _ other.1 named.1))
-one_command words Fmt Fmt built also named other = refl
-one_command words Run Build built also named other = absurd (three_two words _ _ _ _ _ named.2 other.1)
-one_command words Run Audit built also named other = absurd (run_audit (same_long_verb words _ _ _ _ _ _ named.2 other.2))
-one_command words Run Live built also named other = absurd also
-one_command words Run (Soak number count workers) built also named other = absurd also
-one_command words Run (Demo n) built also named other = absurd also
-one_command words Check Build built also named other = absurd (check_build (same_verb words _ _ _ _ named.1 other.1))
-one_command words Check Audit built also named other = absurd (three_two words _ _ _ _ _ other.2 named.1)
-one_command words Check Live built also named other = absurd also
-one_command words Check (Soak number count workers) built also named other = absurd also
-one_command words Check (Demo n) built also named other = absurd also
-one_command words Fmt Build built also named other = absurd (fmt_build (same_verb words _ _ _ _ named.1 other.1))
-one_command words Fmt Audit built also named other = absurd (three_two words _ _ _ _ _ other.2 named.1)
-one_command words Fmt Live built also named other = absurd also
-one_command words Fmt (Soak number count workers) built also named other = absurd also
-one_command words Fmt (Demo n) built also named other = absurd also
-one_command words Build Run built also named other = absurd (three_two words _ _ _ _ _ other.2 named.1)
-one_command words Build Check built also named other = absurd (check_build (same_verb words _ _ _ _ other.1 named.1))
-one_command words Build Fmt built also named other = absurd (fmt_build (same_verb words _ _ _ _ other.1 named.1))
-one_command words Build Build built also named other = refl
-one_command words Build Audit built also named other = absurd (three_two words _ _ _ _ _ other.2 named.1)
-one_command words Build Live built also named other = absurd also
-one_command words Build (Soak number count workers) built also named other = absurd also
-one_command words Build (Demo n) built also named other = absurd also
-one_command words Audit Run built also named other = absurd (run_audit (same_long_verb words _ _ _ _ _ _ other.2 named.2))
-one_command words Audit Check built also named other = absurd (three_two words _ _ _ _ _ named.2 other.1)
-one_command words Audit Fmt built also named other = absurd (three_two words _ _ _ _ _ named.2 other.1)
-one_command words Audit Build built also named other = absurd (three_two words _ _ _ _ _ named.2 other.1)
-one_command words Audit Audit built also named other = refl
-one_command words Audit Live built also named other = absurd also
-one_command words Audit (Soak number count workers) built also named other = absurd also
-one_command words Audit (Demo n) built also named other = absurd also
-one_command words Live d built also named other = absurd built
-one_command words (Soak number count workers) d built also named other = absurd built
-one_command words (Demo n) d built also named other = absurd built
+-- the numbers that words name are in range
+pub in_range : (words : List (List ℕ)) (c : Command) → Names words c → IsInRange c
+in_range words (Soak number count workers) named =
+    (named.is_number.1, named.is_count.1, named.is_count.2, named.is_workers.1, named.is_workers.2)
+in_range words (Demo n) named = (named.3, named.4)
+in_range words Run named = tt
+in_range words Check named = tt
+in_range words Fmt named = tt
+in_range words Build named = tt
+in_range words Audit named = tt
+in_range words Live named = tt
+in_range words Deepest named = tt
+in_range words Times named = tt

@@ -1,5 +1,5 @@
 -- From what a command does to what it is to reply.
-use Rattle.std.proofs.Common.{◌≡◌, ◌∙◌, ℕ, ◌<◌, ◌≤◌, ◌⊎◌, true, List, ◌++◌, length, Option, Some, None, inl, inr, refl, sym, subst, arith}
+use Rattle.std.proofs.Common.{◌≡◌, ◌∙◌, ℕ, ◌<◌, ◌≤◌, ◌⊎◌, true, List, ◌++◌, length, Option, Some, None, inl, inr, refl, sym, ap, subst, arith}
 use Rattle.rt_ids.specs.declared.limits.TheConstants.{SCRIPT_BYTES}
 use Rattle.rt_ids.specs.declared.status.Status.{Status}
 use Rattle.rt_ids.specs.declared.status.Status.TheVariants as status
@@ -10,19 +10,30 @@ use Rattle.rt_app.specs.Accepted.{IsAccepted}
 use Rattle.rt_app.specs.Names.{names_of}
 use Rattle.rt_app.specs.Tree.{App}
 use Rattle.rt_build.specs.Accepted.{IsApplication}
+use Rattle.rt_rta.specs.Text as limits
+use Rattle.rt_rta.specs.declared.refusal.LimitsRefused.{LimitsRefused}
+use Rattle.rt_rta.specs.declared.refusal.LimitsRefused.TheVariants as in_limits
 use Rattle.rt_sim.proofs.Good.{images_are_good}
 use Rattle.rt_script.specs.Text as script
 use Rattle.rt_script.specs.declared.refusal.ScriptRefused.{ScriptRefused}
 use Rattle.rt_script.specs.declared.refusal.ScriptRefused.TheVariants as in_script
-use Rattle.rt_top.specs.Words.{Command, Run, Check, Fmt, Build, Audit, reads}
-use Rattle.rt_top.specs.SecondRefusal.{SaysScript}
-use Rattle.rt_top.specs.Outputs.{check_report}
-use Rattle.rt_top.specs.Defined.{Inputs, inputs, RefusesFirst, Defined, refused, faulty, output, IsTold, IsFirstRefused, AreTold, AreReadTold}
-use Rattle.rt_top.specs.Inside.Replies.{Replies, AnswersRun, AnswersAudit}
+use Rattle.rt_top.specs.Words.{Command, Run, Check, Fmt, Build, Audit, Live, Soak, Demo, Deepest, Times, reads}
+use Rattle.rt_code.specs.Image.{Image}
+use Rattle.rt_script.specs.declared.line.Line.{Line}
+use Rattle.rt_top.specs.Refusal.{RefusesApplication}
+use Rattle.rt_top.specs.SecondRefusal.{SaysScript, RefusesScript, SaysLimits}
+use Rattle.rt_top.specs.Outputs.{check_report, TellsSoak, TellsDeepest, TellsTimes}
+use Rattle.rt_top.specs.Outputs as outputs
+use Rattle.rt_top.specs.Defined.{Inputs, inputs, RefusesFirst, RefusesSecond, Defined, refused, faulty, output, IsTold, IsFirstRefused, AreTold, AreReadTold}
+use Rattle.rt_top.specs.Inside.Replies.{Replies, AnswersAudit, AnswersTimes, run_text}
+use Rattle.rt_top.specs.Inside.Started.{HasScript, IsStarted, AnswersRefusal, ShowsLive}
+use Rattle.rt_top.specs.Inside.Meant.{meant}
 use Rattle.rt_top.specs.Inside.Replies as replies
-use Rattle.rt_top.specs.Inside.Decides.{Tells, Stops, Halts, meant, Lists, IsPast, is_done, is_text, is_no, AnswersTrace, IsDecided, HasFailed, Decides}
+use Rattle.rt_top.specs.Inside.Decides.{Tells, Stops, Halts, Lists, IsPast, is_done, is_text, is_no, AnswersTrace, IsDecided, HasFailed, Decides}
 use Rattle.rt_top.specs.Inside.Decides.{Concludes}
+use Rattle.rt_demo.specs.Demo.{demo}
 use Rattle.rt_top.specs.declared.command.Command as code
+use Rattle.rt_top.specs.declared.command.Command.TheVariants as command
 use Rattle.rt_top.specs.declared.reply.Reply.{Reply}
 use Rattle.rt_top.specs.declared.reply.Reply.TheVariants as reply
 use Rattle.rt_top.proofs.Excluding.{tree_passes, application_passes}
@@ -104,6 +115,30 @@ module _ (c : Command) (t : Inputs) (passes : IsFirstRefused c t → ⊥) (two :
         defined text.0 more.0 text.1 more.1;
   }
 
+-- the commands that read a script
+pub script_reads : (c : Command) → HasScript c → 2 ≤ reads c
+script_reads Run has = omega arith
+script_reads Live has = omega arith
+script_reads other has = absurd has
+
+pub refuses_first : (c : Command) → HasScript c → (text line : List ℕ) → RefusesApplication text line → RefusesFirst c text line
+refuses_first Run has text line r = r
+refuses_first Live has text line r = r
+refuses_first other has text line r = absurd has
+
+first_refuses : (c : Command) → HasScript c → (text line : List ℕ) → RefusesFirst c text line → RefusesApplication text line
+first_refuses Run has text line r = r
+first_refuses Live has text line r = r
+first_refuses other has text line r = absurd has
+
+refuses_second : (c : Command) → HasScript c → (text more line : List ℕ) → RefusesScript text more line → RefusesSecond c text more line
+refuses_second Run has text more line r = r
+refuses_second Live has text more line r = r
+refuses_second other has text more line r = absurd has
+
+pub script_reads_first : (c : Command) → HasScript c → 1 ≤ reads c
+script_reads_first c has = let two = script_reads c has in omega (arith, two)
+
 -- the application of the first text
 module _ (first second third : Option (List ℕ)) (app : App) (accepted : (text : List ℕ) → first ≡ Some text → IsApplication text app) where
   abbrev u : Inputs
@@ -155,6 +190,72 @@ module _ (first second third : Option (List ℕ)) (app : App) (accepted : (text 
             says = says;
           })
 
+  -- a summary of runs
+  pub soaked_decided : (number count workers : ℕ) (bytes : List ℕ) → TellsSoak app number count bytes
+      → IsDecided (Soak number count workers) u status.Done bytes
+  soaked_decided number count workers bytes says = record {
+    which = inr (is_done, λ r. application_passes r.0 r.1 app (accepted r.0 r.2) r.3);
+    defined = λ told.
+        let text = told_text first (told.0 (omega arith)) in
+        output status.Done bytes (refl, text.0, text.1, (app, accepted text.0 text.1, says));
+  }
+
+  -- a script to the stack bound
+  pub deepened_decided : (ended : Status) (bytes : List ℕ) → TellsDeepest app ended bytes → IsDecided Deepest u ended bytes
+  deepened_decided ended bytes tells = record {
+    which = inr (past tells, λ r. application_passes r.0 r.1 app (accepted r.0 r.2) r.3);
+    defined = λ told.
+        let text = told_text first ((read_all told tells).0 (omega arith)) in
+        output ended bytes (text.0, text.1, (app, accepted text.0 text.1, tells));
+  }
+    where
+      past : {s : Status} {b : List ℕ} → TellsDeepest app s b → IsPast s
+      past (outputs.reaches_bound bytes form is) = is_done
+      past (outputs.no_script form) = is_no
+
+      read_all : {s : Status} {b : List ℕ} → AreReadTold Deepest u s → TellsDeepest app s b → AreTold Deepest u
+      read_all told (outputs.reaches_bound bytes form is) = told
+      read_all told (outputs.no_script form) = told
+
+  -- response times, or the refusal of limits
+  pub times_passes : IsFirstRefused Times u → ⊥
+  times_passes r = application_passes r.0 r.1 app (accepted r.0 r.2) r.3
+
+  limits_decided : (refusal : LimitsRefused) (line : List ℕ)
+      → ((more : List ℕ) → second ≡ Some more → limits.IsRefused app more refusal)
+      → SaysLimits refusal line → IsDecided Times u status.Text line
+  limits_decided refusal line met says =
+      past_decided Times u times_passes (omega arith) status.Text line is_text (λ text more e f.
+      faulty text more line e f (record { app = app; of_text = accepted text e; refusal = refusal; refused = met more f; says = says }))
+
+  pub long_limits_decided : ((more : List ℕ) → second ≡ Some more → SCRIPT_BYTES < length more) → (line : List ℕ)
+      → SaysLimits in_limits.TooLong line → IsDecided Times u status.Text line
+  long_limits_decided long line says = limits_decided in_limits.TooLong line long says
+
+  pub timed_decided : (own : List ℕ) → ((more : List ℕ) → second ≡ Some more → own ≡ more) → (ended : Status)
+      (bytes : List ℕ) → AnswersTimes app own ended bytes → IsDecided Times u ended bytes
+  timed_decided own same s b (replies.told ls s' b' read tells) =
+      past_decided Times u times_passes (omega arith) s b (past tells) (λ text more e f.
+      output s b (
+        text,
+        more,
+        e,
+        f,
+        record {
+          app = app;
+          of_text = accepted text e;
+          limits = ls;
+          read = subst (λ m. limits.IsLimitsText app m ls) (same more f) read;
+          tells = tells;
+        },
+      ))
+    where
+      past : {s : Status} {b : List ℕ} → TellsTimes app ls s b → IsPast s
+      past (outputs.responds rows form are) = is_done
+      past (outputs.no_times form) = is_no
+  timed_decided own same s b (replies.refused_limits refusal line met says) =
+      limits_decided refusal line (λ more f. subst (λ m. limits.IsRefused app m refusal) (same more f) met) says
+
   -- a listing
   pub listed_decided : IsAccepted app → (bytes : List ℕ) → Lists app bytes
       → IsDecided Build u status.Done bytes
@@ -180,44 +281,85 @@ module _ (first second third : Option (List ℕ)) (app : App) (accepted : (text 
         );
   }
 
-  -- a run, or the refusal of a script
-  pub run_passes : IsFirstRefused Run u → ⊥
-  run_passes r = application_passes r.0 r.1 app (accepted r.0 r.2) r.3
+  -- the refusal of a script, of a command that reads one
+  pub script_passes : (c : Command) → HasScript c → IsFirstRefused c u → ⊥
+  script_passes c has r = application_passes r.0 r.1 app (accepted r.0 r.2) (first_refuses c has r.0 r.1 r.3)
 
-  script_decided : (refusal : ScriptRefused) (line : List ℕ) → ((more : List ℕ) → second ≡ Some more → script.IsRefused (names_of app) more refusal)
-      → SaysScript refusal line → IsDecided Run u status.Text line
-  script_decided refusal line met says =
-      past_decided Run u run_passes (omega arith) status.Text line is_text (λ text more e f.
-      faulty text more line e f (record { app = app; of_text = accepted text e; refusal = refusal; refused = met more f; says = says }))
+  script_decided : (c : Command) → HasScript c → (refusal : ScriptRefused) (line : List ℕ)
+      → ((more : List ℕ) → second ≡ Some more → script.IsRefused (names_of app) more refusal)
+      → SaysScript refusal line → IsDecided c u status.Text line
+  script_decided c has refusal line met says =
+      past_decided c u (script_passes c has) (script_reads c has) status.Text line is_text (λ text more e f.
+      faulty text more line e f (refuses_second c has text more line
+      (record { app = app; of_text = accepted text e; refusal = refusal; refused = met more f; says = says })))
 
-  pub long_script_decided : ((more : List ℕ) → second ≡ Some more → SCRIPT_BYTES < length more) → (line : List ℕ) → SaysScript in_script.TooLong line → IsDecided Run u status.Text line
-  long_script_decided long line says = script_decided in_script.TooLong line long says
+  pub long_script_decided : (c : Command) → HasScript c → ((more : List ℕ) → second ≡ Some more → SCRIPT_BYTES < length more)
+      → (line : List ℕ) → SaysScript in_script.TooLong line → IsDecided c u status.Text line
+  long_script_decided c has long line says = script_decided c has in_script.TooLong line long says
 
-  pub run_decided : (own : List ℕ) → ((more : List ℕ) → second ≡ Some more → own ≡ more) → (ended : Status) (bytes : List ℕ) → AnswersRun app own ended bytes → IsDecided Run u ended bytes
-  run_decided own same s b (replies.ran image asked bytes good read written) =
-      past_decided Run u run_passes (omega arith) status.Done bytes is_done (λ text more e f.
-      output status.Done bytes (
+  pub refusal_decided : (c : Command) → HasScript c → (own : List ℕ) → ((more : List ℕ) → second ≡ Some more → own ≡ more)
+      → (ended : Status) (line : List ℕ) → AnswersRefusal app own ended line → IsDecided c u ended line
+  refusal_decided c has own same ended line a =
+      subst (λ s. IsDecided c u s line) (sym a.text)
+      (script_decided c has a.refusal line
+      (λ more f. subst (λ m. script.IsRefused (names_of app) m a.refusal) (same more f) a.refused) a.says)
+
+-- what a run writes
+module _ (first second third : Option (List ℕ)) (image : Image) (asked : List Line) (s : IsStarted first second image asked) where
+  pub run_decided : (ended : Status) (bytes : List ℕ) → (ended ≡ status.Done) × (bytes ≡ run_text image asked)
+      → IsDecided Run (inputs first second third) ended bytes
+  run_decided ended bytes (is, written) =
+      subst (λ e. IsDecided Run (inputs first second third) e bytes) (sym is)
+      (past_decided Run (inputs first second third) (script_passes first second third s.app s.of_text Run tt) (omega arith) status.Done bytes is_done
+      (λ text more e f. output status.Done bytes (
         refl,
         text,
         more,
         e,
         f,
         record {
-          app = app;
+          app = s.app;
           image = image;
           is = record {
-            of_text = accepted text e;
-            of_application = good.of_application;
-            runnable = good.runnable;
-            good = good.good;
+            of_text = s.of_text text e;
+            of_application = s.good.of_application;
+            runnable = s.good.runnable;
+            good = s.good.good;
           };
           script = asked;
-          read = subst (λ m. script.IsScriptText (names_of app) m asked) (same more f) read;
+          read = s.read more f;
           written = written;
         },
-      ))
-  run_decided own same s b (replies.refused refusal line met says) =
-      script_decided refusal line (λ more f. subst (λ m. script.IsRefused (names_of app) m refusal) (same more f) met) says
+      )))
+
+  -- and what it writes beside the devices
+  pub live_decided : (ended : Status) (bytes : List ℕ) → ShowsLive image asked ended bytes
+      → IsDecided Live (inputs first second third) ended bytes
+  live_decided ended bytes (is, shown, live, written) =
+      subst (λ e. IsDecided Live (inputs first second third) e bytes) (sym is)
+      (past_decided Live (inputs first second third) (script_passes first second third s.app s.of_text Live tt) (omega arith) status.Done bytes is_done
+      (λ text more e f. output status.Done bytes (
+        refl,
+        text,
+        more,
+        e,
+        f,
+        record {
+          app = s.app;
+          image = image;
+          is = record {
+            of_text = s.of_text text e;
+            of_application = s.good.of_application;
+            runnable = s.good.runnable;
+            good = s.good.good;
+          };
+          script = asked;
+          read = s.read more f;
+          shown = shown;
+          live = live;
+          written = written;
+        },
+      )))
 
 -- a command that reads two sources
 pub two_kept : (c : Command) (t : Inputs) (kept : Type 0) → 2 ≤ reads c → (IsFirstRefused c t → kept) → (reads c ≤ 1) ⊎ IsFirstRefused c t → kept
@@ -233,3 +375,48 @@ concludes_as c k same t first second before after fb fa result d =
 
 pub kept_as : (c k : code.Command) → c ≡ k → (t : Inputs) (kept : Type 0) → ((reads (meant k) ≤ 1) ⊎ IsFirstRefused (meant k) t → kept) → (reads (meant c) ≤ 1) ⊎ IsFirstRefused (meant c) t → kept
 kept_as c k same t kept keeps = subst (λ x. (reads (meant x) ≤ 1) ⊎ IsFirstRefused (meant x) t → kept) (sym same) keeps
+
+-- a command that reads a source
+pub some_read : {P : Type 0} (c k : code.Command) → c ≡ k → 1 ≤ reads (meant k) → reads (meant c) ≡ 0 → P
+some_read c k same some none = let e = ap (λ (x : code.Command). reads (meant x)) same in absurd (omega (arith, some, none, e))
+
+-- the commands that read one source, of those that read none or two
+pub reads_one : (c : code.Command) → (c ≡ command.Run → ⊥) → (c ≡ command.Live → ⊥) → (c ≡ command.Audit → ⊥)
+    → (c ≡ command.Times → ⊥) → ((n : ℕ) → c ≡ command.Demo n → ⊥) → reads (meant c) ≡ 1
+reads_one command.Run run live audit times demo = absurd (run refl)
+reads_one command.Live run live audit times demo = absurd (live refl)
+reads_one command.Audit run live audit times demo = absurd (audit refl)
+reads_one command.Times run live audit times demo = absurd (times refl)
+reads_one (command.Demo n) run live audit times demo = absurd (demo n refl)
+reads_one command.Check run live audit times demo = refl
+reads_one command.Fmt run live audit times demo = refl
+reads_one command.Build run live audit times demo = refl
+reads_one command.Deepest run live audit times demo = refl
+reads_one (command.Soak number count workers) run live audit times demo = refl
+
+-- and there is no other
+pub reads_other : (c : code.Command) → reads (meant c) ≡ 1 → (c ≡ command.Check → ⊥) → (c ≡ command.Fmt → ⊥)
+    → (c ≡ command.Build → ⊥) → (c ≡ command.Deepest → ⊥)
+    → ((number count workers : ℕ) → c ≡ command.Soak number count workers → ⊥) → ⊥
+reads_other command.Run one check fmt build deepest soak = omega (arith, one)
+reads_other command.Live one check fmt build deepest soak = omega (arith, one)
+reads_other command.Audit one check fmt build deepest soak = omega (arith, one)
+reads_other command.Times one check fmt build deepest soak = omega (arith, one)
+reads_other (command.Demo n) one check fmt build deepest soak = omega (arith, one)
+reads_other command.Check one check fmt build deepest soak = check refl
+reads_other command.Fmt one check fmt build deepest soak = fmt refl
+reads_other command.Build one check fmt build deepest soak = build refl
+reads_other command.Deepest one check fmt build deepest soak = deepest refl
+reads_other (command.Soak number count workers) one check fmt build deepest soak = soak number count workers refl
+
+-- the demonstration application, of so many tasks
+demo_decided : (t : Inputs) (n : ℕ) (bytes : List ℕ) → bytes ≡ demo n → IsDecided (Demo n) t status.Done bytes
+demo_decided t n bytes says = record {
+  which = inr (is_done, λ r. r.3);
+  defined = λ told. output status.Done bytes (refl, says);
+}
+
+pub demo_decides : (t : Inputs) (first second : Type 0) (n : ℕ) (r : Reply) → Tells status.Done (λ bytes. bytes ≡ demo n) r
+    → Decides (Demo n) t first second r
+demo_decides t first second n r tells =
+    tells_decides (Demo n) t first second status.Done (λ bytes. bytes ≡ demo n) (demo_decided t n) r tells

@@ -14,6 +14,13 @@ use Rattle.rt_baker.specs.declared.verdict.Verdict.TheVariants as judged
 use Rattle.rt_build.specs.Accepted.{broken, IsApplication}
 use Rattle.rt_build.proofs.Firsts.{no_first}
 use Rattle.rt_resolve.specs.Resolved.{resolved}
+use Rattle.rt_app.specs.Forms.{is_of_t_form}
+use Rattle.rt_rta.specs.Text as limits
+use Rattle.rt_rta.specs.declared.limits.Limit.{Limit}
+use Rattle.rt_rta.specs.declared.line.Wrong.TheVariants as limits_wrong
+use Rattle.rt_rta.specs.declared.refusal.LimitsRefused.{LimitsRefused}
+use Rattle.rt_rta.specs.declared.refusal.LimitsRefused.TheVariants as in_limits
+use Rattle.rt_rta.proofs.OneWay.{not_both}
 use Rattle.rt_script.specs.Text as script
 use Rattle.rt_script.specs.declared.line.Line.{Line}
 use Rattle.rt_script.specs.declared.refusal.ScriptRefused.{ScriptRefused}
@@ -26,10 +33,11 @@ use Rattle.rt_trace.specs.declared.operand.Wrong.TheVariants as trace_wrong
 use Rattle.rt_trace.specs.declared.refusal.TraceRefused.{TraceRefused}
 use Rattle.rt_trace.specs.declared.refusal.TraceRefused.TheVariants as in_trace
 use Rattle.rt_trace.proofs.OneWay as traces
-use Rattle.rt_top.specs.Words.{Command, Run, Check, Fmt, Build, Audit, Live, Soak, Demo}
+use Rattle.rt_top.specs.Words.{Command, Run, Check, Fmt, Build, Audit, Live, Soak, Demo, Deepest, Times}
 use Rattle.rt_top.specs.Refusal.{RefusesText, RefusesApplication}
-use Rattle.rt_top.specs.SecondRefusal.{SaysScript, SaysTrace, RefusesScript, RefusesTrace}
-use Rattle.rt_top.specs.Outputs.{IsRun, Says, IsAudited}
+use Rattle.rt_top.specs.SecondRefusal.{SaysScript, SaysTrace, SaysLimits, RefusesScript, RefusesTrace, RefusesLimits}
+use Rattle.rt_top.specs.Outputs.{Says, IsAudited, TellsDeepest, TellsTimes, IsTimed}
+use Rattle.rt_top.specs.Outputs as outputs
 use Rattle.rt_top.specs.Defined.{Inputs, RefusesFirst, RefusesSecond, Writes, Defined, refused, faulty, output, IsTold, IsFirstRefused, AreTold}
 use Rattle.rt_top.proofs.Refused.{not_refused}
 
@@ -60,11 +68,20 @@ script_read names more line s (in_script.TooManyDevices n) is met says =
     scripts.read_one_way.not_both names more s n (script.Alone script_wrong.Device) is met
 script_read names more line s in_script.NoMemory is met says = says
 
-script_passes : (text more line bytes : List ℕ) → IsRun text more bytes → RefusesScript text more line → ⊥
-script_passes text more line bytes run r =
-    script_read (names_of r.app) more line run.script r.refusal
-    (subst (λ a. script.IsScriptText (names_of a) more run.script) (application_only text run.app r.app run.is.of_text r.of_text) run.read)
+script_passes : (text more line : List ℕ) (app : App) → IsApplication text app → (asked : List Line)
+    → script.IsScriptText (names_of app) more asked → RefusesScript text more line → ⊥
+script_passes text more line app is asked read r =
+    script_read (names_of r.app) more line asked r.refusal
+    (subst (λ a. script.IsScriptText (names_of a) more asked) (application_only text app r.app is r.of_text) read)
     r.refused r.says
+
+-- limits
+limits_read : (app : App) (more line : List ℕ) (ls : List Limit) (refusal : LimitsRefused) → limits.IsLimitsText app more ls
+    → limits.IsRefused app more refusal → SaysLimits refusal line → ⊥
+limits_read app more line ls in_limits.TooLong is met says = omega (arith, is.short, met)
+limits_read app more line ls (in_limits.BadLine n) is met says = not_both app more ls n limits_wrong.Form is met
+limits_read app more line ls (in_limits.UnknownInterrupt n) is met says = not_both app more ls n limits_wrong.Interrupt is met
+limits_read app more line ls in_limits.NoMemory is met says = says
 
 -- a trace, over the names
 trace_read : (names : Names) (more line : List ℕ) (shown : Trace) (refusal : TraceRefused) → trace.IsTraceText names more shown
@@ -97,6 +114,28 @@ audited_once text more a b x y one other =
     let says = subst (λ t. Says t other.verdict b y) same other.says in
     one_verdict one.app one.trace one.verdict other.verdict a b x y one.is is one.says says
 
+-- an application is of a form or is not
+deepened_once : (app : App) (a b : Status) (x y : List ℕ) → TellsDeepest app a x → TellsDeepest app b y → a ≡ b
+deepened_once app a b x y (outputs.reaches_bound one form is) (outputs.reaches_bound other form' is') = refl
+deepened_once app a b x y (outputs.reaches_bound one form is) (outputs.no_script form') = absurd cc
+deepened_once app a b x y (outputs.no_script form) (outputs.reaches_bound other form' is') = absurd cc
+deepened_once app a b x y (outputs.no_script form) (outputs.no_script form') = refl
+
+timed_once : (app app' : App) → app' ≡ app → (ls ls' : List Limit) (a b : Status) (x y : List ℕ) → TellsTimes app ls a x
+    → TellsTimes app' ls' b y → a ≡ b
+timed_once app app' same ls ls' a b x y (outputs.responds rows form are) (outputs.responds rows' form' are') = refl
+timed_once app app' same ls ls' a b x y (outputs.responds rows form are) (outputs.no_times form') =
+    let e = ap is_of_t_form same in absurd cc
+timed_once app app' same ls ls' a b x y (outputs.no_times form) (outputs.responds rows' form' are') =
+    let e = ap is_of_t_form same in absurd cc
+timed_once app app' same ls ls' a b x y (outputs.no_times form) (outputs.no_times form') = refl
+
+-- limits, of an application
+limits_pass : (text more line : List ℕ) (ended : Status) (bytes : List ℕ) → IsTimed text more ended bytes → RefusesLimits text more line → ⊥
+limits_pass text more line ended bytes timed r =
+    let app : timed.app ≡ r.app = application_only text timed.app r.app timed.of_text r.of_text in
+    limits_read r.app more line timed.limits r.refusal (subst (λ p. limits.IsLimitsText p more timed.limits) app timed.read) r.refused r.says
+
 -- The ways to end exclude each other.
 
 some_same : (o : Option (List ℕ)) (a b : List ℕ) → o ≡ Some a → o ≡ Some b → a ≡ b
@@ -108,9 +147,11 @@ refused_no_second Check text more line other r s = s
 refused_no_second Fmt text more line other r s = s
 refused_no_second Build text more line other r s = s
 refused_no_second Audit text more line other r s = application_passes text line s.app s.of_text r
-refused_no_second Live text more line other r s = s
+refused_no_second Live text more line other r s = application_passes text line s.app s.of_text r
 refused_no_second (Soak number count workers) text more line other r s = s
 refused_no_second (Demo n) text more line other r s = s
+refused_no_second Deepest text more line other r s = s
+refused_no_second Times text more line other r s = application_passes text line s.app s.of_text r
 
 refused_no_output : (c : Command) (t : Inputs) (text line : List ℕ) (ended : Status) (bytes : List ℕ) → t.first ≡ Some text → RefusesFirst c text line → Writes c t ended bytes → ⊥
 refused_no_output Run t text line ended bytes e r (is, text', more, e', h, run) =
@@ -126,13 +167,22 @@ refused_no_output Build t text line ended bytes e r (is, text', e', w) =
 refused_no_output Audit t text line ended bytes e r (text', more, e', h, audited) =
     application_passes text' line audited.app audited.of_text
     (subst (λ s. RefusesApplication s line) (some_same t.first text text' e e') r)
-refused_no_output Live t text line ended bytes e r w = w
-refused_no_output (Soak number count workers) t text line ended bytes e r w = w
-refused_no_output (Demo n) t text line ended bytes e r w = w
+refused_no_output Live t text line ended bytes e r (is, text', more, e', h, live) =
+    application_passes text' line live.app live.is.of_text
+    (subst (λ s. RefusesFirst Live s line) (some_same t.first text text' e e') r)
+refused_no_output (Soak number count workers) t text line ended bytes e r (is, text', e', (app, accepted, says)) =
+    application_passes text' line app accepted
+    (subst (λ s. RefusesFirst (Soak number count workers) s line) (some_same t.first text text' e e') r)
+refused_no_output (Demo n) t text line ended bytes e r w = r
+refused_no_output Deepest t text line ended bytes e r (text', e', (app, accepted, tells)) =
+    application_passes text' line app accepted (subst (λ s. RefusesApplication s line) (some_same t.first text text' e e') r)
+refused_no_output Times t text line ended bytes e r (text', more, e', h, timed) =
+    application_passes text' line timed.app timed.of_text
+    (subst (λ s. RefusesApplication s line) (some_same t.first text text' e e') r)
 
 faulty_no_output : (c : Command) (t : Inputs) (text more line : List ℕ) (ended : Status) (bytes : List ℕ) → t.first ≡ Some text → t.second ≡ Some more → RefusesSecond c text more line → Writes c t ended bytes → ⊥
 faulty_no_output Run t text more line ended bytes e f s (is, text', more', e', f', run) =
-    script_passes text' more' line bytes run
+    script_passes text' more' line run.app run.is.of_text run.script run.read
     (subst (λ m. RefusesScript text' m line) (some_same t.second more more' f f') (subst (λ u. RefusesScript u more line) (some_same t.first text text' e e') s))
 faulty_no_output Check t text more line ended bytes e f s w = s
 faulty_no_output Fmt t text more line ended bytes e f s w = s
@@ -140,9 +190,15 @@ faulty_no_output Build t text more line ended bytes e f s w = s
 faulty_no_output Audit t text more line ended bytes e f s (text', more', e', f', audited) =
     trace_passes text' more' line bytes ended audited
     (subst (λ m. RefusesTrace text' m line) (some_same t.second more more' f f') (subst (λ u. RefusesTrace u more line) (some_same t.first text text' e e') s))
-faulty_no_output Live t text more line ended bytes e f s w = s
+faulty_no_output Live t text more line ended bytes e f s (is, text', more', e', f', live) =
+    script_passes text' more' line live.app live.is.of_text live.script live.read
+    (subst (λ m. RefusesScript text' m line) (some_same t.second more more' f f') (subst (λ u. RefusesScript u more line) (some_same t.first text text' e e') s))
 faulty_no_output (Soak number count workers) t text more line ended bytes e f s w = s
 faulty_no_output (Demo n) t text more line ended bytes e f s w = s
+faulty_no_output Deepest t text more line ended bytes e f s w = s
+faulty_no_output Times t text more line ended bytes e f s (text', more', e', f', timed) =
+    limits_pass text' more' line ended bytes timed
+    (subst (λ m. RefusesLimits text' m line) (some_same t.second more more' f f') (subst (λ u. RefusesLimits u more line) (some_same t.first text text' e e') s))
 
 one_output : (c : Command) (t : Inputs) (a b : Status) (x y : List ℕ) → Writes c t a x → Writes c t b y → a ≡ b
 one_output Run t a b x y w v = w.0 ∙ sym v.0
@@ -152,9 +208,17 @@ one_output Build t a b x y w v = w.0 ∙ sym v.0
 one_output Audit t a b x y (text, more, e, f, one) (text', more', e', f', other) =
     audited_once text more a b x y one
     (subst (λ u. IsAudited u more b y) (some_same t.first text' text e' e) (subst (λ m. IsAudited text' m b y) (some_same t.second more' more f' f) other))
-one_output Live t a b x y w v = absurd w
-one_output (Soak number count workers) t a b x y w v = absurd w
-one_output (Demo n) t a b x y w v = absurd w
+one_output Live t a b x y w v = w.0 ∙ sym v.0
+one_output (Soak number count workers) t a b x y w v = w.0 ∙ sym v.0
+one_output (Demo n) t a b x y w v = w.0 ∙ sym v.0
+one_output Deepest t a b x y (text, e, (app, is, tells)) (text', e', (app', is', tells')) =
+    let same : text' ≡ text = some_same t.first text' text e' e in
+    deepened_once app a b x y tells
+    (subst (λ p. TellsDeepest p b y) (application_only text app' app (subst (λ u. IsApplication u app') same is') is) tells')
+one_output Times t a b x y (text, more, e, f, one) (text', more', e', f', other) =
+    let same : text' ≡ text = some_same t.first text' text e' e in
+    let app : other.app ≡ one.app = application_only text other.app one.app (subst (λ u. IsApplication u other.app) same other.of_text) one.of_text in
+    timed_once one.app other.app app one.limits other.limits a b x y one.tells other.tells
 
 pub one_due : (c : Command) (t : Inputs) (a b : Status) (x y : List ℕ) → Defined c t a x → Defined c t b y → a ≡ b
 one_due c t a b x y (refused text line e r) (refused text' line' e' r') = refl
@@ -178,9 +242,11 @@ told_output Check t ended bytes (is, text, e, w) = (λ _. is_told t.first text e
 told_output Fmt t ended bytes (is, text, e, w) = (λ _. is_told t.first text e, λ few. absurd (omega (arith, few)))
 told_output Build t ended bytes (is, text, e, w) = (λ _. is_told t.first text e, λ few. absurd (omega (arith, few)))
 told_output Audit t ended bytes (text, more, e, f, audited) = (λ _. is_told t.first text e, λ _. is_told t.second more f)
-told_output Live t ended bytes w = absurd w
-told_output (Soak number count workers) t ended bytes w = absurd w
-told_output (Demo n) t ended bytes w = absurd w
+told_output Live t ended bytes (is, text, more, e, f, live) = (λ _. is_told t.first text e, λ _. is_told t.second more f)
+told_output (Soak number count workers) t ended bytes (is, text, e, w) = (λ _. is_told t.first text e, λ few. absurd (omega (arith, few)))
+told_output Deepest t ended bytes (text, e, w) = (λ _. is_told t.first text e, λ few. absurd (omega (arith, few)))
+told_output Times t ended bytes (text, more, e, f, w) = (λ _. is_told t.first text e, λ _. is_told t.second more f)
+told_output (Demo n) t ended bytes w = (λ few. absurd (omega (arith, few)), λ few. absurd (omega (arith, few)))
 
 pub told_of_due : (c : Command) (t : Inputs) (ended : Status) (bytes : List ℕ) → Defined c t ended bytes → IsFirstRefused c t ⊎ AreTold c t
 told_of_due c t a x (refused text line e r) = inl (text, line, e, r)

@@ -1,6 +1,6 @@
 -- What follows from a reply, and from a reply that was finished.
 use Rattle.std.proofs.Common.{◌≡◌, ℕ, ◌≤◌, ◌⊎◌, List, [], Option, Some, None, Result, Ok, Err, IfOk, OnErr, Vec, Global}
-use Rattle.std.proofs.Common.{inl, inr, refl, sym, subst, append-nil}
+use Rattle.std.proofs.Common.{inl, inr, refl, ap, sym, subst, append-nil, IsErrOf}
 use Rattle.rt_ids.specs.declared.status.Status.{Status}
 use Rattle.rt_ids.specs.declared.status.Status.TheVariants as status
 use Rattle.rt_run.proofs.Taking.{took_none}
@@ -59,3 +59,14 @@ pub made_tells : {E : Type 0} (wanted : Status) (P : List ℕ → Type 0) (made 
     → OnErr made (r ≡ reply.Stop status.Memory) → Tells wanted P r
 made_tells wanted P (Ok text) p r is none = subst (Tells wanted P) (sym is) (refl, p)
 made_tells wanted P (Err e) p r none is = subst (Tells wanted P) (sym is) refl
+
+-- what ends from a sink that was as it is ends from it
+pub ends_from : (P : Status → List ℕ → Type 0) (S : Status → Type 0) (before between after : Option (List ℕ)) (fb fm fa : ℕ) (result : Status)
+    → between ≡ before → fm ≡ fb → EndsAs P S between after fm fa result → EndsAs P S before after fb fa result
+ends_from P S before between after fb fm fa result same still ends =
+    subst (λ f. EndsAs P S before after f fa result) still (subst (λ b. EndsAs P S b after fm fa result) same ends)
+
+-- what is heard of a status is heard of the error that it is
+pub heard_err : {T : Type 0} (P : Type 0) {wanted : Status} (ended : Status) → P ⊎ (ended ≡ wanted) → P ⊎ IsErrOf {T = T} (Err ended) wanted
+heard_err P ended (inl still) = inl still
+heard_err P ended (inr is) = inr (ap Err is)

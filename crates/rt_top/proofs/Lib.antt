@@ -4,6 +4,7 @@ mod Deciding
 mod Ending
 mod Excluding
 mod FirstText
+mod Formed
 mod Giving
 mod Refused
 mod Listed

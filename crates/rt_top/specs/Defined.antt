@@ -3,11 +3,12 @@
 use Rattle.std.specs.Prelude.{◌≡◌, ℕ, ◌≤◌, ◌⊎◌, List, Option, Some, None}
 use Rattle.rt_ids.specs.declared.status.Status.{Status}
 use Rattle.rt_ids.specs.declared.status.Status.TheVariants as status
+use Rattle.rt_demo.specs.Demo.{demo}
 use Rattle.rt_outside.specs.Bytes.{Took, TookPrefix}
-use Rattle.rt_top.specs.Words.{Command, Run, Check, Fmt, Build, Audit, Names, IsBuilt, reads}
+use Rattle.rt_top.specs.Words.{Command, Run, Check, Fmt, Build, Audit, Live, Soak, Demo, Deepest, Times, Names, reads}
 use Rattle.rt_top.specs.Refusal.{RefusesText, RefusesApplication}
-use Rattle.rt_top.specs.SecondRefusal.{RefusesScript, RefusesTrace}
-use Rattle.rt_top.specs.Outputs.{IsFormatted, IsChecked, IsListed, IsRun, IsAudited}
+use Rattle.rt_top.specs.SecondRefusal.{RefusesScript, RefusesTrace, RefusesLimits}
+use Rattle.rt_top.specs.Outputs.{IsFormatted, IsChecked, IsListed, IsRun, IsAudited, IsLive, IsSoaked, IsDeepened, IsTimed}
 
 -- what the sources have left, where they tell
 pub record Inputs : Type 0 where
@@ -26,12 +27,18 @@ RefusesFirst Check text line = RefusesApplication text line
 RefusesFirst Fmt text line = RefusesText text line
 RefusesFirst Build text line = RefusesApplication text line
 RefusesFirst Audit text line = RefusesApplication text line
-RefusesFirst other text line = ⊥
+RefusesFirst Live text line = RefusesApplication text line
+RefusesFirst (Soak number count workers) text line = RefusesApplication text line
+RefusesFirst (Demo n) text line = ⊥
+RefusesFirst Deepest text line = RefusesApplication text line
+RefusesFirst Times text line = RefusesApplication text line
 
 -- the line refuses the second text, where the first is not refused
 abbrev pub RefusesSecond : Command → List ℕ → List ℕ → List ℕ → Type 0
 RefusesSecond Run text more line = RefusesScript text more line
 RefusesSecond Audit text more line = RefusesTrace text more line
+RefusesSecond Live text more line = RefusesScript text more line
+RefusesSecond Times text more line = RefusesLimits text more line
 RefusesSecond other text more line = ⊥
 
 -- with this status these bytes are the output for texts that are not refused
@@ -44,7 +51,15 @@ Writes Fmt t ended bytes = (ended ≡ status.Done) × (text : List ℕ) × (t.fi
 Writes Build t ended bytes = (ended ≡ status.Done) × (text : List ℕ) × (t.first ≡ Some text) × IsListed text bytes
 Writes Audit t ended bytes =
     (text more : List ℕ) × (t.first ≡ Some text) × (t.second ≡ Some more) × IsAudited text more ended bytes
-Writes other t ended bytes = ⊥
+Writes Live t ended bytes =
+    (ended ≡ status.Done) × (text more : List ℕ) × (t.first ≡ Some text) × (t.second ≡ Some more)
+    × IsLive text more bytes
+Writes (Soak number count workers) t ended bytes =
+    (ended ≡ status.Done) × (text : List ℕ) × (t.first ≡ Some text) × IsSoaked text number count bytes
+Writes (Demo n) t ended bytes = (ended ≡ status.Done) × (bytes ≡ demo n)
+Writes Deepest t ended bytes = (text : List ℕ) × (t.first ≡ Some text) × IsDeepened text ended bytes
+Writes Times t ended bytes =
+    (text more : List ℕ) × (t.first ≡ Some text) × (t.second ≡ Some more) × IsTimed text more ended bytes
 
 -- the status and the bytes that are due: the refusal of the first text, that of the second, or the output
 pub data Defined (c : Command) (t : Inputs) : Status → List ℕ → Type 0 where
@@ -84,11 +99,11 @@ AreReadTold c t ended = AreTold c t
 
 -- the words name no command that comes to the first source
 abbrev pub SkipsFirst : List (List ℕ) → Type 0
-SkipsFirst words = (c : Command) → IsBuilt c → Names words c → reads c ≡ 0
+SkipsFirst words = (c : Command) → Names words c → reads c ≡ 0
 
 -- they name none that comes to the second
 abbrev pub SkipsSecond : List (List ℕ) → Inputs → Type 0
-SkipsSecond words t = (c : Command) → IsBuilt c → Names words c → (reads c ≤ 1) ⊎ IsFirstRefused c t
+SkipsSecond words t = (c : Command) → Names words c → (reads c ≤ 1) ⊎ IsFirstRefused c t
 
 -- the sink took all that is defined
 abbrev pub WroteAll : Command → Inputs → Status → Option (List ℕ) → Option (List ℕ) → Type 0

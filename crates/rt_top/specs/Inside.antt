@@ -2,3 +2,5 @@
 pub mod Replies
 pub mod Decides
 pub mod Auditor
+pub mod Meant
+pub mod Started

@@ -1,5 +1,5 @@
 -- What each command writes where its texts are not refused.
-use Rattle.std.specs.Prelude.{◌≡◌, ℕ, true, List, ◌++◌, codes, decimal, length}
+use Rattle.std.specs.Prelude.{◌≡◌, ℕ, true, false, List, ◌++◌, codes, decimal, length}
 use Rattle.rt_ids.specs.declared.status.Status.{Status}
 use Rattle.rt_ids.specs.declared.status.Status.TheVariants as status
 use Rattle.rt_ast.specs.Tree as tree
@@ -8,6 +8,7 @@ use Rattle.rt_grammar.specs.Text.{IsText}
 use Rattle.rt_app.specs.Tree.{App}
 use Rattle.rt_app.specs.Bounds.{bounds}
 use Rattle.rt_app.specs.Ceiling.{ceilings}
+use Rattle.rt_app.specs.Forms.{is_of_t_form, is_of_w_form}
 use Rattle.rt_app.specs.Names.{names_of}
 use Rattle.rt_baker.specs.Audit.{IsVerdict}
 use Rattle.rt_baker.specs.declared.verdict.Verdict.{Verdict}
@@ -16,11 +17,21 @@ use Rattle.rt_build.specs.Accepted.{IsApplication}
 use Rattle.rt_build.specs.Image.{IsImageOf}
 use Rattle.rt_code.specs.Image.{Image}
 use Rattle.rt_code.specs.Runnable.{IsRunnable}
+use Rattle.rt_count.specs.Text.{summary_text}
+use Rattle.rt_count.specs.declared.summary.Summary.{Summary}
 use Rattle.rt_listing.specs.Listing.{listing}
+use Rattle.rt_live.specs.Output.{IsLiveText}
+use Rattle.rt_reach.specs.Reached.{ReachesTheBound}
 use Rattle.rt_report.specs.Report.{report}
+use Rattle.rt_rta.specs.Report.{report as times_report}
+use Rattle.rt_rta.specs.Response.{AreResponseTimes}
+use Rattle.rt_rta.specs.Text.{IsLimitsText}
+use Rattle.rt_rta.specs.declared.limits.Limit.{Limit}
+use Rattle.rt_rta.specs.declared.response.ResponseTime.{ResponseTime}
 use Rattle.rt_script.specs.Text.{IsScriptText}
 use Rattle.rt_script.specs.declared.line.Line.{Line}
 use Rattle.rt_sim.specs.Good.{Good}
+use Rattle.rt_soak.specs.Soak.{IsSoak}
 use Rattle.rt_run.specs.Written.{text_of}
 use Rattle.rt_trace.specs.Reading.{IsTraceText}
 use Rattle.rt_trace.specs.Trace.{Trace}
@@ -78,3 +89,50 @@ pub record IsAudited (text more : List ℕ) (ended : Status) (bytes : List ℕ) 
   pub verdict : Verdict
   pub is : IsVerdict app trace verdict
   pub says : Says trace verdict ended bytes
+
+-- `live`: the listing of a good image, and then what the image may write beside the devices of the script: a trace, and
+-- the account of every pend of every device
+pub record IsLive (text more bytes : List ℕ) : Type 0 where
+  pub app : App
+  pub image : Image
+  pub is : IsGoodImage text app image
+  pub script : List Line
+  pub read : IsScriptText (names_of app) more script
+  pub shown : List ℕ
+  pub live : IsLiveText image script shown
+  pub written : bytes ≡ listing image ++ codes "trace\n" ++ shown
+
+-- the summary of so many runs of one good image of an application, each under the script that is generated for it
+abbrev pub TellsSoak : App → ℕ → ℕ → List ℕ → Type 0
+TellsSoak app number count bytes = (s : Summary) × IsSoak app number count s × (bytes ≡ summary_text s)
+
+-- `soak`: that summary
+abbrev pub IsSoaked : List ℕ → ℕ → ℕ → List ℕ → Type 0
+IsSoaked text number count bytes = (app : App) × IsApplication text app × TellsSoak app number count bytes
+
+-- the line for an application that is not of the form that a command is for
+abbrev pub no_line : List ℕ
+no_line = codes "no\n"
+
+-- the status and the bytes of `deepest` for an application, by its form
+pub data TellsDeepest (app : App) : Status → List ℕ → Type 0 where
+  reaches_bound : (bytes : List ℕ) → is_of_w_form app ≡ true → ReachesTheBound app bytes → TellsDeepest app status.Done bytes
+  no_script : is_of_w_form app ≡ false → TellsDeepest app status.No no_line
+
+-- `deepest`: a script on which the stack reaches its bound
+abbrev pub IsDeepened : List ℕ → Status → List ℕ → Type 0
+IsDeepened text ended bytes = (app : App) × IsApplication text app × TellsDeepest app ended bytes
+
+-- the status and the bytes of `times` for an application and limits, by its form
+pub data TellsTimes (app : App) (limits : List Limit) : Status → List ℕ → Type 0 where
+  responds : (rows : List ResponseTime) → is_of_t_form app ≡ true → AreResponseTimes app limits rows
+      → TellsTimes app limits status.Done (times_report rows)
+  no_times : is_of_t_form app ≡ false → TellsTimes app limits status.No no_line
+
+-- `times`: the response time of each level under these limits
+pub record IsTimed (text more : List ℕ) (ended : Status) (bytes : List ℕ) : Type 0 where
+  pub app : App
+  pub of_text : IsApplication text app
+  pub limits : List Limit
+  pub read : IsLimitsText app more limits
+  pub tells : TellsTimes app limits ended bytes

@@ -1,10 +1,13 @@
--- The line that refuses the second text of a command, a script or a trace: which of the two it is, the number of its
+-- The line that refuses the second text of a command, a script, a trace or limits: which of these it is, the number of its
 -- first wrong line, and what is wrong there. A text that is too long is refused at its first line. Want of memory
 -- refuses nothing.
 use Rattle.std.specs.Prelude.{◌≡◌, ℕ, true, List, ◌++◌, codes, decimal}
 use Rattle.rt_app.specs.Names.{names_of}
 use Rattle.rt_app.specs.Tree.{App}
 use Rattle.rt_build.specs.Accepted.{IsApplication}
+use Rattle.rt_rta.specs.Text as limits
+use Rattle.rt_rta.specs.declared.refusal.LimitsRefused.{LimitsRefused}
+use Rattle.rt_rta.specs.declared.refusal.LimitsRefused.TheVariants as in_limits
 use Rattle.rt_script.specs.Text as script
 use Rattle.rt_script.specs.declared.refusal.ScriptRefused.{ScriptRefused}
 use Rattle.rt_script.specs.declared.refusal.ScriptRefused.TheVariants as in_script
@@ -36,6 +39,17 @@ SaysTrace (in_trace.BadLine n) line = line ≡ trace_line n (codes " 2 bad line\
 SaysTrace (in_trace.UnknownName n) line = line ≡ trace_line n (codes " 3 unknown name\n")
 SaysTrace in_trace.NoMemory line = ⊥
 
+-- the line of a line of limits with a number
+abbrev pub limits_line : ℕ → List ℕ → List ℕ
+limits_line number words = codes "limits:" ++ decimal number ++ words
+
+-- the line for the refusal of limits
+abbrev pub SaysLimits : LimitsRefused → List ℕ → Type 0
+SaysLimits in_limits.TooLong line = line ≡ limits_line 1 (codes " 1 too long\n")
+SaysLimits (in_limits.BadLine n) line = line ≡ limits_line n (codes " 2 bad line\n")
+SaysLimits (in_limits.UnknownInterrupt n) line = line ≡ limits_line n (codes " 3 unknown interrupt\n")
+SaysLimits in_limits.NoMemory line = ⊥
+
 -- the line refuses a text that is no script over the names of an application
 pub record RefusesScript (text more line : List ℕ) : Type 0 where
   pub app : App
@@ -51,3 +65,11 @@ pub record RefusesTrace (text more line : List ℕ) : Type 0 where
   pub refusal : TraceRefused
   pub refused : trace.IsRefused (names_of app) more refusal
   pub says : SaysTrace refusal line
+
+-- the line refuses a text that tells no limits of an application
+pub record RefusesLimits (text more line : List ℕ) : Type 0 where
+  pub app : App
+  pub of_text : IsApplication text app
+  pub refusal : LimitsRefused
+  pub refused : limits.IsRefused app more refusal
+  pub says : SaysLimits refusal line

@@ -1,9 +1,9 @@
 -- The words behind the program's name, by position, and the command that they name.
 use Rattle.std.specs.Prelude.{◌≡◌, ℕ, ◌<◌, ◌≤◌, ◌^◌, true, List, [], ◌∷◌, ◌++◌, codes, length, map}
 use Rattle.std.specs.List.{list_all}
+use Rattle.std.specs.Str.Parse.{digits_value}
 use Rattle.std.specs.Borrow.{Bor}
 use Rattle.rt_ids.specs.Byte.{is_digit}
-use Rattle.rt_lex.specs.Number.{value_of}
 
 -- the bytes of the words
 abbrev pub texts : List (Bor (List ℕ)) → List (List ℕ)
@@ -19,13 +19,15 @@ pub data Command : Type 0 where
   Live : Command
   Soak : (number count workers : ℕ) → Command
   Demo : (n : ℕ) → Command
+  Deepest : Command
+  Times : Command
 
 -- a word of one to twenty digits, which spell this number
 pub record IsNumber (word : List ℕ) (n : ℕ) : Type 0 where
   pub some : 1 ≤ length word
   pub short : length word ≤ 20
   pub digits : list_all is_digit word ≡ true
-  pub value : value_of 10 word ≡ n
+  pub value : digits_value 10 word ≡ n
 
 -- the numbers of `soak` are in range
 pub record IsSoak (words : List (List ℕ)) (number count workers : ℕ) : Type 0 where
@@ -48,6 +50,8 @@ Names words Audit = (app trace : List ℕ) × (words ≡ codes "audit" ∷ app �
 Names words Live = (app script : List ℕ) × (words ≡ codes "live" ∷ app ∷ script ∷ [])
 Names words (Soak number count workers) = IsSoak words number count workers
 Names words (Demo n) = (word : List ℕ) × (words ≡ codes "demo" ∷ word ∷ []) × IsNumber word n × (1 ≤ n) × (n ≤ 48)
+Names words Deepest = (app : List ℕ) × (words ≡ codes "deepest" ∷ app ∷ [])
+Names words Times = (app limits : List ℕ) × (words ≡ codes "times" ∷ app ∷ limits ∷ [])
 
 -- how many of the sources it reads, in order
 abbrev pub reads : Command → ℕ
@@ -59,22 +63,16 @@ reads Audit = 2
 reads Live = 2
 reads (Soak number count workers) = 1
 reads (Demo n) = 0
+reads Deepest = 1
+reads Times = 2
 
--- the commands that are built
-abbrev pub IsBuilt : Command → Type 0
-IsBuilt Run = Unit {0}
-IsBuilt Check = Unit {0}
-IsBuilt Fmt = Unit {0}
-IsBuilt Build = Unit {0}
-IsBuilt Audit = Unit {0}
-IsBuilt other = ⊥
-
--- the words name a command that is built
+-- the words name a command
 abbrev pub IsCommand : List (List ℕ) → Type 0
-IsCommand words = (c : Command) × IsBuilt c × Names words c
+IsCommand words = (c : Command) × Names words c
 
 -- the line for all other words
 abbrev pub usage_line : List ℕ
 usage_line =
     codes "usage: rtic run APP SCRIPT | check APP | fmt APP | build APP | audit APP TRACE | live APP SCRIPT"
-    ++ codes " | soak APP NUMBER COUNT WORKERS | demo N\n"
+    ++ codes " | soak APP NUMBER COUNT WORKERS | demo N | deepest APP | verify IMAGE | times APP LIMITS"
+    ++ codes " | pair APP1 APP2 SCRIPT\n"

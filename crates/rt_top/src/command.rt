@@ -1,9 +1,18 @@
-ghost use Rattle.std.specs.Prelude.{◌≡◌, ◌↔◌, IsTrue, IfSome, IfNone};
+ghost use Rattle.std.specs.Prelude.{◌≡◌, ℕ, ◌↔◌, IsTrue, IfSome, IfNone};
 ghost use Rattle.rt_top.specs.Words as word;
 ghost use Rattle.rt_top.specs.Words.{texts, Names, IsCommand};
-ghost use Rattle.rt_top.specs.Inside.Decides.{meant};
+ghost use Rattle.rt_top.specs.Inside.Meant.{meant};
 
-/// A command that is built.
+use crate::number::number_in;
+
+/// The most runs of one `soak`.
+const MOST_RUNS: u64 = 10_000;
+/// The most workers of one `soak`.
+const MOST_WORKERS: u64 = 64;
+/// The most hardware tasks of one `demo`.
+const MOST_DEMO_TASKS: u64 = 48;
+
+/// A command, with its numbers.
 #[derive(Clone, Copy, PartialEq, Eq)]
 pub(crate) enum Command {
     /// `run APP SCRIPT`
@@ -16,9 +25,23 @@ pub(crate) enum Command {
     Build,
     /// `audit APP TRACE`
     Audit,
+    /// `live APP SCRIPT`
+    Live,
+    /// `soak APP NUMBER COUNT WORKERS`
+    Soak {
+        number: u64,
+        count: u32,
+        workers: u8,
+    },
+    /// `demo N`
+    Demo(u8),
+    /// `deepest APP`
+    Deepest,
+    /// `times APP LIMITS`
+    Times,
 }
 
-/// The command that the words name, None where that is none that is built.
+/// The command that the words name, None where they name none.
 pub(crate) fn command_of(words: &[&str]) -> Option<Command>
     ensures some { IfSome result (λ c. Names (texts words.now) (meant c)) }
     ensures none { IfNone result (¬ IsCommand (texts words.now)) }
@@ -33,8 +56,16 @@ pub(crate) fn command_of(words: &[&str]) -> Option<Command>
         Some(Command::Build)
     } else if is_audit(words) {
         Some(Command::Audit)
+    } else if is_live(words) {
+        Some(Command::Live)
+    } else if is_deepest(words) {
+        Some(Command::Deepest)
+    } else if is_times(words) {
+        Some(Command::Times)
+    } else if let Some(tasks) = demo_tasks(words) {
+        Some(Command::Demo(tasks))
     } else {
-        None
+        soak_of(words)
     }
 }
 
@@ -85,5 +116,70 @@ fn is_audit(words: &[&str]) -> bool
     match words {
         [verb, _, _] => *verb == "audit",
         _ => false,
+    }
+}
+
+/// Whether the words are `live APP SCRIPT`.
+fn is_live(words: &[&str]) -> bool
+    ensures { IsTrue result ↔ Names (texts words.now) word.Live }
+{
+    match words {
+        [verb, _, _] => *verb == "live",
+        _ => false,
+    }
+}
+
+/// Whether the words are `deepest APP`.
+fn is_deepest(words: &[&str]) -> bool
+    ensures { IsTrue result ↔ Names (texts words.now) word.Deepest }
+{
+    match words {
+        [verb, _] => *verb == "deepest",
+        _ => false,
+    }
+}
+
+/// Whether the words are `times APP LIMITS`.
+fn is_times(words: &[&str]) -> bool
+    ensures { IsTrue result ↔ Names (texts words.now) word.Times }
+{
+    match words {
+        [verb, _, _] => *verb == "times",
+        _ => false,
+    }
+}
+
+/// The number of tasks, where the words are `demo N`.
+fn demo_tasks(words: &[&str]) -> Option<u8>
+    ensures some { IfSome result (λ n. Names (texts words.now) (word.Demo n)) }
+    ensures none { IfNone result ((n : ℕ) → ¬ Names (texts words.now) (word.Demo n)) }
+{
+    match words {
+        [verb, tasks] if *verb == "demo" => {
+            let tasks = number_in(tasks, 1, MOST_DEMO_TASKS)?;
+            Some(tasks as u8)
+        }
+        _ => None,
+    }
+}
+
+/// The command, where the words are `soak APP NUMBER COUNT WORKERS`.
+fn soak_of(words: &[&str]) -> Option<Command>
+    ensures some { IfSome result (λ c. Names (texts words.now) (meant c)) }
+    ensures none { IfNone result ((number count workers : ℕ) →
+        ¬ Names (texts words.now) (word.Soak number count workers)) }
+{
+    match words {
+        [verb, _, number, count, workers] if *verb == "soak" => {
+            let number = number_in(number, 0, u64::MAX)?;
+            let count = number_in(count, 1, MOST_RUNS)? as u32;
+            let workers = number_in(workers, 1, MOST_WORKERS)? as u8;
+            Some(Command::Soak {
+                number,
+                count,
+                workers,
+            })
+        }
+        _ => None,
     }
 }

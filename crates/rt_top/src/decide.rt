@@ -3,32 +3,40 @@ ghost use Rattle.rt_outside.specs.Faults.{Rose};
 ghost use Rattle.rt_top.specs.Words.{reads};
 ghost use Rattle.rt_top.specs.Ends.{IsKept};
 ghost use Rattle.rt_top.specs.Defined.{inputs, IsFirstRefused};
-ghost use Rattle.rt_top.specs.Inside.Decides.{meant, Concludes};
+ghost use Rattle.rt_top.specs.Inside.Decides.{Concludes};
+ghost use Rattle.rt_top.specs.Inside.Meant.{meant, IsInRange};
 
 use crate::audit::audit;
-use crate::build::build;
-use crate::check::check;
 use crate::command::Command;
-use crate::format::fmt;
+use crate::demo::demo;
+use crate::live::live;
 use crate::reply::finish;
 use crate::run::run;
+use crate::single::single;
+use crate::times::times;
+use rt_devices::Gate;
 use rt_ids::Status;
 use rt_outside::{Sink, Source};
 use std::alloc::Global;
+use std::thread::Threads;
 
 /// Does what the command is, and answers the status that the program ends with.
-pub(crate) fn decide<A: Source, B: Source, K: Sink>(
+pub(crate) fn decide<R: Threads + Sync, A: Source, B: Source, K: Sink + Send, G: Gate + Sync>(
+    rt: &R,
     alloc: Global,
     command: Command,
     app: &mut A,
     second: &mut B,
     out: &mut K,
+    gate: &G,
 ) -> Status
+    requires { IsInRange (meant command) }
     ensures concludes { (third : Option (List ℕ)) →
         Concludes (meant command) (inputs (A.left app.old) (B.left second.old) third)
         (Rose (A.faults app.old) (A.faults app.new) × IsKept B.left B.faults second.old second.new)
         (Rose (B.faults second.old) (B.faults second.new))
         (K.taken out.old) (K.taken out.new) (K.faults out.old) (K.faults out.new) result }
+    ensures first_kept { reads (meant command) ≡ 0 → IsKept A.left A.faults app.old app.new }
     ensures kept { (third : Option (List ℕ)) → let t = inputs (A.left app.old) (B.left second.old) third in
         (reads (meant command) ≤ 1) ⊎ IsFirstRefused (meant command) t → IsKept B.left B.faults second.old second.new }
     ensures first_heard { (A.faults app.new ≡ A.faults app.old) ⊎ (result ≡ Status.Read) }
@@ -37,9 +45,10 @@ pub(crate) fn decide<A: Source, B: Source, K: Sink>(
 {
     match command {
         Command::Run => run(alloc, app, second, out),
-        Command::Check => finish(out, &check(alloc, app)),
-        Command::Fmt => finish(out, &fmt(alloc, app)),
-        Command::Build => finish(out, &build(alloc, app)),
+        Command::Live => live(rt, alloc, app, second, out, gate),
         Command::Audit => finish(out, &audit(alloc, app, second)),
+        Command::Times => finish(out, &times(alloc, app, second)),
+        Command::Demo(tasks) => finish(out, &demo(alloc, tasks)),
+        other => finish(out, &single(rt, alloc, other, app)),
     }
 }

@@ -1,6 +1,7 @@
 ghost use Rattle.std.specs.Prelude.{◌≡◌, ◌⊎◌, ◌++◌, decimal, IfOk, OnErr};
 ghost use Rattle.rt_top.specs.Refusal.{refusal_line};
 ghost use Rattle.rt_top.specs.SecondRefusal.{script_line, SaysScript, trace_line, SaysTrace};
+ghost use Rattle.rt_top.specs.SecondRefusal.{limits_line, SaysLimits};
 ghost use Rattle.rt_top.specs.Ends.{Wrote};
 ghost use Rattle.rt_top.specs.Inside.Decides.{Tells, Finishes};
 ghost use Rattle.rt_ids.specs.declared.status.Status.TheVariants as status;
@@ -9,9 +10,13 @@ use crate::refusal::refusal_line;
 use itoa::Buffer;
 use rt_ids::{Fault, NoMemory, Status, push_bytes};
 use rt_outside::{Sink, put_all};
+use rt_rta::LimitsRefused;
 use rt_script::ScriptRefused;
 use rt_trace::TraceRefused;
 use std::alloc::Global;
+
+/// The line for an application that is not of the form that a command is for.
+pub(crate) const NOT_OF_FORM: &[u8] = b"no\n";
 
 /// What a command replies. Nothing is written yet.
 #[derive(Drop)]
@@ -114,6 +119,29 @@ fn trace_line(alloc: Global, line: u32, words: &[u8]) -> Reply
     ensures { Tells status.Text (λ bytes. bytes ≡ trace_line line words.now) result }
 {
     numbered(alloc, Status::Text, b"trace:", u64::from(line), words)
+}
+
+/// The reply of a refusal of limits.
+pub(crate) fn refuse_limits(alloc: Global, refusal: LimitsRefused) -> Reply
+    ensures { Tells status.Text (SaysLimits refusal) result }
+{
+    match refusal {
+        LimitsRefused::TooLong => limits_line(alloc, 1, b" 1 too long\n"),
+        LimitsRefused::BadLine(line) => limits_line(alloc, line, b" 2 bad line\n"),
+        LimitsRefused::UnknownInterrupt(line) => limits_line(
+            alloc,
+            line,
+            b" 3 unknown interrupt\n",
+        ),
+        LimitsRefused::NoMemory => Reply::Stop(Status::Memory),
+    }
+}
+
+/// The reply that a line of limits is refused in these words.
+fn limits_line(alloc: Global, line: u32, words: &[u8]) -> Reply
+    ensures { Tells status.Text (λ bytes. bytes ≡ limits_line line words.now) result }
+{
+    numbered(alloc, Status::Text, b"limits:", u64::from(line), words)
 }
 
 /// Writes a reply, and answers the status that the program ends with.

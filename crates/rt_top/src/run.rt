@@ -1,8 +1,6 @@
 ghost use Rattle.std.specs.Prelude.{◌≡◌, ◌⊎◌, ◌++◌, ℕ, List, Option, true, codes, IfOk, OnOk, OnErr};
 ghost use Rattle.rt_outside.specs.Bytes.{Took, TookPrefix};
 ghost use Rattle.rt_outside.specs.Faults.{Rose, HasCause};
-ghost use Rattle.rt_app.specs.View.{app_of};
-ghost use Rattle.rt_app.specs.Accepted.{IsAccepted};
 ghost use Rattle.rt_code.specs.Lines.{HasLines};
 ghost use Rattle.rt_core.specs.Machine.{IsFresh};
 ghost use Rattle.rt_listing.specs.Listing.{listing};
@@ -13,19 +11,15 @@ ghost use Rattle.rt_top.specs.Words as word;
 ghost use Rattle.rt_top.specs.Ends.{IsKept};
 ghost use Rattle.rt_top.specs.Defined.{inputs, IsFirstRefused};
 ghost use Rattle.rt_top.specs.Inside.Decides.{Concludes, EndsAs};
-ghost use Rattle.rt_top.specs.Inside.Replies.{WantsMemory, AnswersRun, run_text};
+ghost use Rattle.rt_top.specs.Inside.Replies.{WantsMemory, run_text};
 
-use crate::reading::{read_accepted, read_second};
-use crate::reply::{finish, refuse_script};
-use rt_app::App;
+use crate::start::start;
 use rt_code::Image;
 use rt_core::Core;
-use rt_ids::limits::SCRIPT_BYTES;
 use rt_ids::{NoMemory, Status, push_bytes};
 use rt_listing::listing;
 use rt_outside::{Failed, Sink, Source, put_all};
-use rt_script::{Script, ScriptRefused, read_script};
-use rt_sim::prepare;
+use rt_script::Script;
 use std::alloc::Global;
 
 /// `run APP SCRIPT`: the listing of the application's image, and that image's trace under the script.
@@ -47,30 +41,9 @@ pub(crate) fn run<A: Source, B: Source, K: Sink>(
     ensures second_heard { (B.faults second.new ≡ B.faults second.old) ⊎ (result ≡ Status.Read) }
     ensures sink_heard { (K.faults out.new ≡ K.faults out.old) ⊎ (result ≡ Status.Write) }
 {
-    let accepted = match read_accepted(alloc, app) {
-        Ok(accepted) => accepted,
-        Err(reply) => return finish(out, &reply),
-    };
-    match read_second(alloc, second, SCRIPT_BYTES) {
-        Ok(Some(text)) => run_text(alloc, &accepted, &text, out),
-        Ok(None) => finish(out, &refuse_script(alloc, ScriptRefused::TooLong)),
+    match start(alloc, app, second, out) {
+        Ok((mut core, script)) => run_script(alloc, &mut core, &script, out),
         Err(status) => status,
-    }
-}
-
-/// Runs an application under a script's text.
-fn run_text<K: Sink>(alloc: Global, app: &App, text: &[u8], out: &mut K) -> Status
-    requires accepted { IsAccepted (app_of app.now) }
-    ensures ends { EndsAs (AnswersRun (app_of app.now) text.now) WantsMemory
-        (K.taken out.old) (K.taken out.new) (K.faults out.old) (K.faults out.new) result }
-    ensures heard { (K.faults out.new ≡ K.faults out.old) ⊎ (result ≡ Status.Write) }
-{
-    let Ok(mut core) = prepare(alloc, app) else {
-        return Status::Memory;
-    };
-    match read_script(alloc, text, &core.image().names) {
-        Ok(script) => run_script(alloc, &mut core, &script, out),
-        Err(refusal) => finish(out, &refuse_script(alloc, refusal)),
     }
 }
 
@@ -94,7 +67,7 @@ fn run_script<K: Sink>(alloc: Global, core: &mut Core, script: &Script, out: &mu
 }
 
 /// The listing of an image, with the line that stands in front of a trace.
-fn heading(alloc: Global, image: &Image) -> Result<Vec<u8>, NoMemory>
+pub(crate) fn heading(alloc: Global, image: &Image) -> Result<Vec<u8>, NoMemory>
     ensures { IfOk result (λ text. text.items ≡ listing image.now ++ codes "trace\n") }
 {
     let mut text = listing(alloc, image)?;

@@ -1,15 +1,15 @@
 ghost use Rattle.std.specs.Prelude.{◌≡◌, ◌≤◌, ◌⊎◌, ℕ, List, [], Option};
 ghost use Rattle.rt_outside.specs.Faults.{Rose};
 ghost use Rattle.rt_outside.specs.Bytes.{Took};
-ghost use Rattle.rt_top.specs.Words.{Command, texts, Names, IsBuilt, IsCommand, reads, usage_line};
+ghost use Rattle.rt_top.specs.Words.{Command, texts, Names, IsCommand, reads, usage_line};
 ghost use Rattle.rt_top.specs.Defined.{inputs, IsDue, IsAnswer, IsFirstRefused, AreTold, AreReadTold};
 ghost use Rattle.rt_top.specs.Defined.{SkipsFirst, SkipsSecond, WroteAll, WrotePart};
 ghost use Rattle.rt_top.specs.Ends.{Wrote, IsKept};
 
 use crate::command::command_of;
 use crate::decide::decide;
-use crate::gate::Gate;
 use crate::reply::answer;
+use rt_devices::Gate;
 use rt_ids::Status;
 use rt_outside::{Sink, Source};
 use std::alloc::Global;
@@ -18,19 +18,20 @@ use std::thread::Threads;
 /// The line for words that are no command.
 const USAGE: &[u8] =
     b"usage: rtic run APP SCRIPT | check APP | fmt APP | build APP | audit APP TRACE | live APP SCRIPT \
-| soak APP NUMBER COUNT WORKERS | demo N\n";
+| soak APP NUMBER COUNT WORKERS | demo N | deepest APP | verify IMAGE | times APP LIMITS \
+| pair APP1 APP2 SCRIPT\n";
 
 /// Runs the command that the words name, and answers its status. `app` is the source of the application, `second` of
 /// the script or the trace; `third` is read by no command yet. All that is written goes to `out`.
 pub fn rtic<R: Threads + Sync, A: Source, B: Source, C: Source, K: Sink + Send, G: Gate + Sync>(
-    _rt: &R,
+    rt: &R,
     alloc: Global,
     words: &[&str],
     app: &mut A,
     second: &mut B,
     third: &mut C,
     out: &mut K,
-    _gate: &G,
+    gate: &G,
 ) -> Status
     // With an answer all that is defined was written, and nothing else.
     //
@@ -47,17 +48,17 @@ pub fn rtic<R: Threads + Sync, A: Source, B: Source, C: Source, K: Sink + Send, 
     // instant, and ready and due messages were served; of `run` and `build` likewise for every list of events. With
     // `no N` and `No` it is none, and N is the number of the first item that is wrong, from 1, or one more than there
     // are items where only the total is.
-    ensures answered { (c : Command) → IsBuilt c → Names (texts words.now) c → IsAnswer result →
+    ensures answered { (c : Command) → Names (texts words.now) c → IsAnswer result →
         let t = inputs (A.left app.old) (B.left second.old) (C.left third.old) in
         AreReadTold c t result → WroteAll c t result (K.taken out.old) (K.taken out.new) }
 
     // Where nothing failed, the status is the one that is due, or memory was wanted.
-    ensures complete { (c : Command) (due : Status) → IsBuilt c → Names (texts words.now) c →
+    ensures complete { (c : Command) (due : Status) → Names (texts words.now) c →
         IsDue c (inputs (A.left app.old) (B.left second.old) (C.left third.old)) due →
         ¬ Rose (A.faults app.old) (A.faults app.new) → ¬ Rose (B.faults second.old) (B.faults second.new) →
         ¬ Rose (K.faults out.old) (K.faults out.new) → (result ≡ due) ⊎ (result ≡ Status.Memory) }
 
-    // Words that are no command that is built give the usage line.
+    // Words that are no command give the usage line.
     ensures usage { ¬ IsCommand (texts words.now) →
         Wrote (K.taken out.old) (K.taken out.new) (K.faults out.old) (K.faults out.new)
         Status.Usage result usage_line }
@@ -71,7 +72,7 @@ pub fn rtic<R: Threads + Sync, A: Source, B: Source, C: Source, K: Sink + Send, 
     ensures third_unread { IsKept C.left C.faults third.old third.new }
 
     // A source that the command reads failed, and then no source behind it was read and nothing was written.
-    ensures read { result ≡ Status.Read → (c : Command) × IsBuilt c × Names (texts words.now) c
+    ensures read { result ≡ Status.Read → (c : Command) × Names (texts words.now) c
         × (((1 ≤ reads c) × Rose (A.faults app.old) (A.faults app.new) × IsKept B.left B.faults second.old second.new)
         ⊎ ((2 ≤ reads c) × Rose (B.faults second.old) (B.faults second.new))) }
     ensures silent { (result ≡ Status.Read) ⊎ (result ≡ Status.Memory) → Took (K.taken out.old) (K.taken out.new) [] }
@@ -83,12 +84,12 @@ pub fn rtic<R: Threads + Sync, A: Source, B: Source, C: Source, K: Sink + Send, 
 
     // The sink failed, having taken a beginning of what is defined.
     ensures write { result ≡ Status.Write → Rose (K.faults out.old) (K.faults out.new) }
-    ensures part { (c : Command) → IsBuilt c → Names (texts words.now) c → result ≡ Status.Write →
+    ensures part { (c : Command) → Names (texts words.now) c → result ≡ Status.Write →
         let t = inputs (A.left app.old) (B.left second.old) (C.left third.old) in
         AreTold c t ⊎ IsFirstRefused c t → WrotePart c t (K.taken out.old) (K.taken out.new) }
 {
     match command_of(words) {
-        Some(command) => decide(alloc, command, app, second, out),
+        Some(command) => decide(rt, alloc, command, app, second, out, gate),
         None => answer(out, USAGE, Status::Usage),
     }
 }

@@ -17,17 +17,7 @@ use Rattle.rt_top.specs.Refusal.{refusal_line}
 use Rattle.rt_top.specs.Ends.{Wrote}
 use Rattle.rt_top.specs.Defined.{Inputs, Defined, IsFirstRefused, AreReadTold}
 use Rattle.rt_top.specs.Inside.Replies.{Gives, Replies, AnswersAudit}
-use Rattle.rt_top.specs.declared.command.Command.{Command}
-use Rattle.rt_top.specs.declared.command.Command.TheVariants as command
 use Rattle.rt_top.specs.declared.reply.Reply.{Reply}
-
--- the command of the code, as a command of the definitions
-abbrev pub meant : Command → word.Command
-meant command.Run = word.Run
-meant command.Check = word.Check
-meant command.Fmt = word.Fmt
-meant command.Build = word.Build
-meant command.Audit = word.Audit
 
 -- the reply is with this status, and this is so of its text; or memory was wanted
 abbrev pub Tells : Status → (List ℕ → Type 0) → Reply → Type 0

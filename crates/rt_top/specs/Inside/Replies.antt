@@ -6,20 +6,18 @@ use Rattle.rt_app.specs.Names.{names_of}
 use Rattle.rt_app.specs.Tree.{App}
 use Rattle.rt_baker.specs.Audit.{IsVerdict}
 use Rattle.rt_baker.specs.declared.verdict.Verdict.{Verdict}
-use Rattle.rt_build.specs.Image.{IsImageOf}
 use Rattle.rt_code.specs.Image.{Image}
-use Rattle.rt_code.specs.Runnable.{IsRunnable}
 use Rattle.rt_listing.specs.Listing.{listing}
-use Rattle.rt_script.specs.Text as script
 use Rattle.rt_script.specs.declared.line.Line.{Line}
-use Rattle.rt_script.specs.declared.refusal.ScriptRefused.{ScriptRefused}
-use Rattle.rt_sim.specs.Good.{Good}
+use Rattle.rt_rta.specs.Text as limits
+use Rattle.rt_rta.specs.declared.limits.Limit.{Limit}
+use Rattle.rt_rta.specs.declared.refusal.LimitsRefused.{LimitsRefused}
 use Rattle.rt_run.specs.Written.{text_of}
 use Rattle.rt_trace.specs.Reading as trace
 use Rattle.rt_trace.specs.Trace.{Trace}
 use Rattle.rt_trace.specs.declared.refusal.TraceRefused.{TraceRefused}
-use Rattle.rt_top.specs.Outputs.{Says}
-use Rattle.rt_top.specs.SecondRefusal.{SaysScript, SaysTrace}
+use Rattle.rt_top.specs.Outputs.{Says, TellsTimes}
+use Rattle.rt_top.specs.SecondRefusal.{SaysTrace, SaysLimits}
 use Rattle.rt_top.specs.declared.reply.Reply.{Reply}
 use Rattle.rt_top.specs.declared.reply.Reply.TheVariants as reply
 
@@ -48,20 +46,6 @@ IsHeardIn before after r = (after ≡ before) ⊎ IsErrOf r (reply.Stop status.R
 abbrev pub run_text : Image → List Line → List ℕ
 run_text image asked = listing image ++ codes "trace\n" ++ text_of image asked
 
--- the image is a good one of the application, which a core runs
-pub record IsGoodOf (app : App) (image : Image) : Type 0 where
-  pub of_application : IsImageOf app image
-  pub runnable : IsRunnable image
-  pub good : Good app image
-
--- what `run` answers to a script's text
-pub data AnswersRun (app : App) (more : List ℕ) : Status → List ℕ → Type 0 where
-  ran : (image : Image) (asked : List Line) (bytes : List ℕ) → IsGoodOf app image
-      → script.IsScriptText (names_of app) more asked → bytes ≡ run_text image asked
-      → AnswersRun app more status.Done bytes
-  refused : (refusal : ScriptRefused) (line : List ℕ) → script.IsRefused (names_of app) more refusal
-      → SaysScript refusal line → AnswersRun app more status.Text line
-
 -- what `audit` answers to a trace
 abbrev pub AnswersVerdict : App → Trace → Status → List ℕ → Type 0
 AnswersVerdict app shown ended bytes =
@@ -73,3 +57,10 @@ pub data AnswersAudit (app : App) (more : List ℕ) : Status → List ℕ → Ty
       → AnswersVerdict app shown ended bytes → AnswersAudit app more ended bytes
   refused : (refusal : TraceRefused) (line : List ℕ) → trace.IsRefused (names_of app) more refusal
       → SaysTrace refusal line → AnswersAudit app more status.Text line
+
+-- what `times` answers to a text of limits
+pub data AnswersTimes (app : App) (more : List ℕ) : Status → List ℕ → Type 0 where
+  told : (ls : List Limit) (ended : Status) (bytes : List ℕ) → limits.IsLimitsText app more ls
+      → TellsTimes app ls ended bytes → AnswersTimes app more ended bytes
+  refused_limits : (refusal : LimitsRefused) (line : List ℕ) → limits.IsRefused app more refusal
+      → SaysLimits refusal line → AnswersTimes app more status.Text line

@@ -6,7 +6,7 @@ use Rattle.rt_top.proofs.Clauses.{answered, complete, no_usage, is_command, firs
 use Rattle.rt_top.proofs.top.rtic.Goals as goal
 
 pub returns-in-Some-clause-answered : goal.returns-in-Some-clause-answered
-returns-in-Some-clause-answered g c command is named is_answer told =
+returns-in-Some-clause-answered g c command named is_answer told =
     answered (texts c.args.words.now) c.in-Some.command c.in-Some.ensures.some
     (inputs (g.A.Source.left c.args.app.now) (g.B.Source.left c.args.second.now) (g.C.Source.left c.args.third.now))
     (Rose (g.A.Source.faults c.args.app.now) (g.A.Source.faults c.decide.new.app))
@@ -14,10 +14,10 @@ returns-in-Some-clause-answered g c command is named is_answer told =
     (Rose (g.B.Source.faults c.args.second.now) (g.B.Source.faults c.decide.new.second))
     (g.K.Sink.taken c.args.out.now) (g.K.Sink.taken c.decide.new.out) (g.K.Sink.faults c.args.out.now)
     (g.K.Sink.faults c.decide.new.out) c.decide.result (c.decide.ensures.concludes (g.C.Source.left c.args.third.now))
-    command is named is_answer told
+    command named is_answer told
 
 pub returns-in-Some-clause-complete : goal.returns-in-Some-clause-complete
-returns-in-Some-clause-complete g c command due is named is_due no_first no_second no_sink =
+returns-in-Some-clause-complete g c command due named is_due no_first no_second no_sink =
     complete (texts c.args.words.now) c.in-Some.command c.in-Some.ensures.some
     (inputs (g.A.Source.left c.args.app.now) (g.B.Source.left c.args.second.now) (g.C.Source.left c.args.third.now))
     (Rose (g.A.Source.faults c.args.app.now) (g.A.Source.faults c.decide.new.app))
@@ -25,7 +25,7 @@ returns-in-Some-clause-complete g c command due is named is_due no_first no_seco
     (Rose (g.B.Source.faults c.args.second.now) (g.B.Source.faults c.decide.new.second))
     (g.K.Sink.taken c.args.out.now) (g.K.Sink.taken c.decide.new.out) (g.K.Sink.faults c.args.out.now)
     (g.K.Sink.faults c.decide.new.out) c.decide.result (c.decide.ensures.concludes (g.C.Source.left c.args.third.now))
-    command due is named is_due no_first no_second no_sink
+    command due named is_due no_first no_second no_sink
 
 pub returns-in-Some-clause-usage : goal.returns-in-Some-clause-usage
 returns-in-Some-clause-usage g c none =
@@ -44,7 +44,8 @@ returns-in-Some-clause-no_usage g c is_usage =
 
 pub returns-in-Some-clause-first_unread : goal.returns-in-Some-clause-first_unread
 returns-in-Some-clause-first_unread g c skips =
-    absurd (first_unread (texts c.args.words.now) c.in-Some.command c.in-Some.ensures.some skips)
+    first_unread (texts c.args.words.now) c.in-Some.command c.in-Some.ensures.some
+    (IsKept g.A.Source.left g.A.Source.faults c.args.app.now c.decide.new.app) c.decide.ensures.first_kept skips
 
 pub returns-in-Some-clause-second_unread : goal.returns-in-Some-clause-second_unread
 returns-in-Some-clause-second_unread g c skips =
@@ -91,7 +92,7 @@ returns-in-Some-clause-write g c is_write =
     is_write
 
 pub returns-in-Some-clause-part : goal.returns-in-Some-clause-part
-returns-in-Some-clause-part g c command is named is_write told =
+returns-in-Some-clause-part g c command named is_write told =
     part (texts c.args.words.now) c.in-Some.command c.in-Some.ensures.some
     (inputs (g.A.Source.left c.args.app.now) (g.B.Source.left c.args.second.now) (g.C.Source.left c.args.third.now))
     (Rose (g.A.Source.faults c.args.app.now) (g.A.Source.faults c.decide.new.app))
@@ -99,16 +100,16 @@ returns-in-Some-clause-part g c command is named is_write told =
     (Rose (g.B.Source.faults c.args.second.now) (g.B.Source.faults c.decide.new.second))
     (g.K.Sink.taken c.args.out.now) (g.K.Sink.taken c.decide.new.out) (g.K.Sink.faults c.args.out.now)
     (g.K.Sink.faults c.decide.new.out) c.decide.result (c.decide.ensures.concludes (g.C.Source.left c.args.third.now))
-    command is named is_write told
+    command named is_write told
 
 pub returns-in-None-clause-answered : goal.returns-in-None-clause-answered
-returns-in-None-clause-answered g c command is named is_answer told = no_words (texts c.args.words.now) c.in-None.ensures.none command is named
+returns-in-None-clause-answered g c command named is_answer told = no_words (texts c.args.words.now) c.in-None.ensures.none command named
 
 pub returns-in-None-clause-complete : goal.returns-in-None-clause-complete
-returns-in-None-clause-complete g c command due is named is_due no_first no_second no_sink = no_words (texts c.args.words.now) c.in-None.ensures.none command is named
+returns-in-None-clause-complete g c command due named is_due no_first no_second no_sink = no_words (texts c.args.words.now) c.in-None.ensures.none command named
 
 pub returns-in-None-clause-part : goal.returns-in-None-clause-part
-returns-in-None-clause-part g c command is named is_write told = no_words (texts c.args.words.now) c.in-None.ensures.none command is named
+returns-in-None-clause-part g c command named is_write told = no_words (texts c.args.words.now) c.in-None.ensures.none command named
 
 pub returns-in-None-clause-usage : goal.returns-in-None-clause-usage
 returns-in-None-clause-usage g c none = c.answer.ensures.wrote

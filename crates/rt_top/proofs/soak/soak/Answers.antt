@@ -1,0 +1,29 @@
+use Rattle.std.proofs.Common.{arith}
+use Rattle.rt_ids.specs.declared.status.Status.TheVariants as status
+use Rattle.rt_outside.specs.Faults.{Rose}
+use Rattle.rt_app.specs.View.{app_of}
+use Rattle.rt_top.specs.Words.{Soak}
+use Rattle.rt_top.specs.Refusal.{RefusesApplication}
+use Rattle.rt_top.specs.Defined.{inputs}
+use Rattle.rt_top.specs.Outputs.{TellsSoak}
+use Rattle.rt_top.proofs.Giving.{made_tells}
+use Rattle.rt_top.proofs.Deciding.{halts_decides, tells_decides, soaked_decided}
+use Rattle.rt_top.proofs.soak.soak.Goals as goal
+
+pub returns-in-Err-clause-decides : goal.returns-in-Err-clause-decides
+returns-in-Err-clause-decides g c second third =
+    halts_decides (Soak c.args.number c.args.count c.args.workers) (inputs (g.A.Source.left c.args.app.now) second third) (omega arith) RefusesApplication
+    (λ text line r. r) (Rose (g.A.Source.faults c.args.app.now) (g.A.Source.faults c.read_accepted.new.app))
+    (Rose (g.A.Source.faults c.args.app.now) (g.A.Source.faults c.read_accepted.new.app)) ⊥ (λ h. h)
+    c.in-Err.reply c.in-Err.ensures.halts
+
+pub returns-clause-decides : goal.returns-clause-decides
+returns-clause-decides g c second third =
+    let number = c.args.number in
+    let count = c.args.count in
+    tells_decides (Soak number count c.args.workers) (inputs (g.A.Source.left c.args.app.now) second third)
+    (Rose (g.A.Source.faults c.args.app.now) (g.A.Source.faults c.read_accepted.new.app)) ⊥ status.Done
+    (TellsSoak (app_of c.in-Ok.accepted) number count)
+    (soaked_decided (g.A.Source.left c.args.app.now) second third (app_of c.in-Ok.accepted) (λ text told. c.in-Ok.ensures.accepted text told) number count c.args.workers)
+    c.told.result
+    (made_tells status.Done (TellsSoak (app_of c.in-Ok.accepted) number count) c.soaked.result c.soaked.ensures c.told.result c.told.ensures.text c.told.ensures.memory)

@@ -1,0 +1,110 @@
+ghost use Rattle.std.specs.Prelude.{◌≡◌, ◌⊎◌, ◌++◌, [], ℕ, List, Option, OnOk, OnErr};
+ghost use Rattle.rt_outside.specs.Bytes.{Took, TookPrefix};
+ghost use Rattle.rt_outside.specs.Faults.{Rose, HasCause};
+ghost use Rattle.rt_code.specs.Lines.{HasLines};
+ghost use Rattle.rt_core.specs.Machine.{IsFresh};
+ghost use Rattle.rt_live.specs.Account.{declared_irqs};
+ghost use Rattle.rt_live.specs.Output.{IsLiveText};
+ghost use Rattle.rt_live.specs.Ready.{irqs_of};
+ghost use Rattle.rt_script.specs.Script.{IsScript, HasNames};
+ghost use Rattle.rt_top.specs.Words as word;
+ghost use Rattle.rt_top.specs.Ends.{IsKept};
+ghost use Rattle.rt_top.specs.Defined.{inputs, IsFirstRefused};
+ghost use Rattle.rt_top.specs.Inside.Decides.{Concludes, EndsAs};
+ghost use Rattle.rt_top.specs.Inside.Replies.{WantsMemory};
+ghost use Rattle.rt_top.specs.Inside.Started.{ShowsLive};
+
+use crate::run::heading;
+use crate::start::start;
+use rt_core::Core;
+use rt_devices::Gate;
+use rt_ids::Status;
+use rt_live::{Ready, run_beside};
+use rt_outside::{Failed, Sink, Source, put_all};
+use rt_script::Script;
+use std::alloc::Global;
+use std::thread::Threads;
+
+/// `live APP SCRIPT`: the listing of the application's image, and that image's trace beside the devices of the script,
+/// with their account.
+pub(crate) fn live<R: Threads + Sync, A: Source, B: Source, K: Sink + Send, G: Gate + Sync>(
+    rt: &R,
+    alloc: Global,
+    app: &mut A,
+    second: &mut B,
+    out: &mut K,
+    gate: &G,
+) -> Status
+    ensures concludes { (third : Option (List ℕ)) →
+        Concludes word.Live (inputs (A.left app.old) (B.left second.old) third)
+        (Rose (A.faults app.old) (A.faults app.new) × IsKept B.left B.faults second.old second.new)
+        (Rose (B.faults second.old) (B.faults second.new))
+        (K.taken out.old) (K.taken out.new) (K.faults out.old) (K.faults out.new) result }
+    ensures kept { (third : Option (List ℕ)) →
+        IsFirstRefused word.Live (inputs (A.left app.old) (B.left second.old) third) →
+        IsKept B.left B.faults second.old second.new }
+    ensures first_heard { (A.faults app.new ≡ A.faults app.old) ⊎ (result ≡ Status.Read) }
+    ensures second_heard { (B.faults second.new ≡ B.faults second.old) ⊎ (result ≡ Status.Read) }
+    ensures sink_heard { (K.faults out.new ≡ K.faults out.old) ⊎ (result ≡ Status.Write) }
+{
+    match start(alloc, app, second, out) {
+        Ok((mut core, script)) => run_live(rt, alloc, &mut core, &script, out, gate),
+        Err(status) => status,
+    }
+}
+
+/// Runs a core under a script beside the script's devices: writes the listing of its image, its trace and the account.
+/// It wants no memory behind the first byte.
+fn run_live<R: Threads + Sync, K: Sink + Send, G: Gate + Sync>(
+    rt: &R,
+    alloc: Global,
+    core: &mut Core,
+    script: &Script,
+    out: &mut K,
+    gate: &G,
+) -> Status
+    requires fresh { IsFresh core.old }
+    requires lines { HasLines core.old.image }
+    requires names { HasNames core.old.image.names script.now }
+    ensures ends { EndsAs (ShowsLive core.old.image script.now) WantsMemory
+        (K.taken out.old) (K.taken out.new) (K.faults out.old) (K.faults out.new) result }
+    ensures heard { (K.faults out.new ≡ K.faults out.old) ⊎ (result ≡ Status.Write) }
+{
+    let _lines = script.lines();
+    let Ok(front) = heading(alloc, core.image()) else {
+        return Status::Memory;
+    };
+    let Ok(ready) = Ready::of(alloc, core, script) else {
+        return Status::Memory;
+    };
+    match put_live(rt, core, ready, &front, out, gate) {
+        Ok(()) => Status::Done,
+        Err(_) => Status::Write,
+    }
+}
+
+/// Writes what stands in front of a trace, and then the trace of the core's image and the account while it runs beside
+/// the devices.
+fn put_live<R: Threads + Sync, K: Sink + Send, G: Gate + Sync>(
+    rt: &R,
+    core: &mut Core,
+    ready: Ready<'_>,
+    front: &[u8],
+    out: &mut K,
+    gate: &G,
+) -> Result<(), Failed>
+    requires fresh { IsFresh core.old }
+    requires lines { HasLines core.old.image }
+    requires script { IsScript ready.script }
+    requires rows { irqs_of ready.rows ≡ declared_irqs core.old.image.names }
+    requires unused { ready.line.calls ≡ [] }
+    ensures ok { OnOk result ((shown : List ℕ) × IsLiveText core.old.image ready.entry.script shown
+        × Took (K.taken out.old) (K.taken out.new) (front.now ++ shown)) }
+    ensures err { OnErr result ((shown : List ℕ) × IsLiveText core.old.image ready.entry.script shown
+        × TookPrefix (K.taken out.old) (K.taken out.new) (front.now ++ shown)) }
+    ensures cause { HasCause (K.faults out.old) (K.faults out.new) result }
+    ensures quiet { OnOk result (K.faults out.new ≡ K.faults out.old) }
+{
+    put_all(out, front)?;
+    run_beside(ready, rt, core, out, gate)
+}

@@ -1,0 +1,45 @@
+ghost use Rattle.std.specs.Prelude.{◌≡◌, ℕ, List, Option};
+ghost use Rattle.rt_outside.specs.Faults.{Rose};
+ghost use Rattle.rt_top.specs.Words.{reads};
+ghost use Rattle.rt_top.specs.Defined.{inputs};
+ghost use Rattle.rt_top.specs.Inside.Decides.{Decides};
+ghost use Rattle.rt_top.specs.Inside.Meant.{meant, IsInRange};
+ghost use Rattle.rt_top.specs.Inside.Replies.{IsHeard};
+
+use crate::build::build;
+use crate::check::check;
+use crate::command::Command;
+use crate::deepest::deepest;
+use crate::format::fmt;
+use crate::reply::Reply;
+use crate::soak::soak;
+use rt_outside::Source;
+use std::alloc::Global;
+use std::thread::Threads;
+
+/// What a command replies that reads the application alone.
+pub(crate) fn single<R: Threads + Sync, A: Source>(
+    rt: &R,
+    alloc: Global,
+    command: Command,
+    app: &mut A,
+) -> Reply
+    requires one { reads (meant command) ≡ 1 }
+    requires range { IsInRange (meant command) }
+    ensures decides { (second third : Option (List ℕ)) → Decides (meant command) (inputs (A.left app.old) second third)
+        (Rose (A.faults app.old) (A.faults app.new)) ⊥ result }
+    ensures heard { IsHeard (A.faults app.old) (A.faults app.new) result }
+{
+    match command {
+        Command::Check => check(alloc, app),
+        Command::Fmt => fmt(alloc, app),
+        Command::Build => build(alloc, app),
+        Command::Soak {
+            number,
+            count,
+            workers,
+        } => soak(rt, alloc, app, number, count, workers),
+        Command::Deepest => deepest(alloc, app),
+        _ => unreachable!(),
+    }
+}
