@@ -19,8 +19,8 @@ from pathlib import Path
 EXAMPLES = Path(__file__).resolve().parent.parent / "examples"
 # the tables in the order in which the crate runs them
 TABLES = (
-    "tokens", "canonical", "syntax", "limits", "reports", "refusals", "runs", "builds", "messages", "failing",
-    "scripts", "audits", "commands",
+    "tokens", "canonical", "syntax", "limits", "reports", "refusals", "runs", "builds", "messages", "alone", "live",
+    "slow", "held", "soaks", "demos", "failing", "scripts", "audits", "cuts", "lines", "commands",
 )
 SECTIONS = "enter leave"
 UNSET = "enter leave set"

@@ -7,4 +7,5 @@ pub mod ran;
 mod wanted;
 
 pub use ran::{Outside, Ran, run_on};
+pub use rt_top::{Gate, NoGate, rtic};
 pub use wanted::verdict;

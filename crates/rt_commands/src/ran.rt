@@ -1,8 +1,11 @@
-use rt_ids::Status;
+use rt_ids::{NoMemory, Status};
 use rt_outside::{MemSink, MemSource};
-use rt_top::{NoGate, rtic};
+use rt_top::{Gate, rtic};
 use std::alloc::Global;
 use std::thread::Threads;
+
+/// Bytes that a sink has room for, where nothing else is said.
+const ROOM: u32 = 1 << 23;
 
 /// The sources of a command and its sink. No command reads the third source.
 pub struct Outside {
@@ -23,6 +26,18 @@ impl Drop for Outside {
     }
 }
 
+impl Outside {
+    /// Sources of these texts and a sink, in which nothing fails but a read of the third source.
+    pub fn of(alloc: Global, app: &[u8], second: &[u8]) -> Result<Outside, NoMemory> {
+        Ok(Outside {
+            app: MemSource::new(alloc, app, &[])?,
+            second: MemSource::new(alloc, second, &[])?,
+            third: MemSource::new(alloc, b"third", &[0])?,
+            out: MemSink::new(alloc, ROOM, &[])?,
+        })
+    }
+}
+
 /// How a command ended, and what is left outside.
 #[derive(Drop)]
 pub struct Ran {
@@ -30,12 +45,25 @@ pub struct Ran {
     pub outside: Outside,
 }
 
-/// Runs words on sources in memory.
-pub fn run_on<R: Threads + Sync>(
+impl Ran {
+    /// What was written.
+    pub fn output(&self) -> &[u8] {
+        self.outside.out.bytes()
+    }
+
+    /// Whether it ended with status 0.
+    pub fn is_done(&self) -> bool {
+        self.status.number() == 0
+    }
+}
+
+/// Runs words on sources in memory, with a gate that is told what comes next.
+pub fn run_on<R: Threads + Sync, G: Gate + Sync>(
     rt: &R,
     alloc: Global,
     words: &[&str],
     mut outside: Outside,
+    gate: &G,
 ) -> Ran {
     let status = rtic(
         rt,
@@ -45,7 +73,7 @@ pub fn run_on<R: Threads + Sync>(
         &mut outside.second,
         &mut outside.third,
         &mut outside.out,
-        &NoGate,
+        gate,
     );
     Ran { status, outside }
 }

@@ -2,6 +2,7 @@ use crate::ran::{Outside, Ran, run_on};
 use anyhow::{Context, Result};
 use rt_cases::Case;
 use rt_outside::{MemSink, MemSource, read_text};
+use rt_top::NoGate;
 use std::alloc::Global;
 use std::thread::Threads;
 
@@ -108,6 +109,6 @@ pub fn verdict<R: Threads + Sync>(
         line => line,
     };
     let words = words(alloc, line)?;
-    let mut ran = run_on(rt, alloc, &words, outside(alloc, case)?);
+    let mut ran = run_on(rt, alloc, &words, outside(alloc, case)?, &NoGate);
     told_with_left(alloc, &mut ran, case)
 }

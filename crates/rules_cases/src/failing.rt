@@ -1,7 +1,9 @@
-// Runs whose sink fails at its first write, at its second, and so on, until a run makes no such write.
+// Runs whose sink fails at its first write, at its second, and so on, until a run makes no such write; and likewise
+// the reads of each source.
+use crate::live::is_audited;
 use anyhow::{Context, Result};
 use rt_cases::Case;
-use rt_commands::{Outside, Ran, run_on};
+use rt_commands::{NoGate, Outside, Ran, run_on};
 use rt_outside::{MemSink, MemSource};
 use std::alloc::Global;
 use std::thread::Threads;
@@ -9,58 +11,183 @@ use std::thread::Threads;
 /// Bytes that a sink has room for.
 const ROOM: u32 = 1 << 20;
 
-/// More writes than a run makes.
-const WRITES: u32 = 1000;
+/// More writes than a run makes, and more reads.
+const CALLS: u32 = 10_000;
 
-/// How `run` ends on the texts of a case, with a sink that fails at the writes with these numbers.
-fn ran<R: Threads + Sync>(rt: &R, alloc: Global, case: &Case, fails: &[u32]) -> Result<Ran> {
-    let outside = Outside {
-        app: MemSource::new(alloc, case.bytes("app"), &[])?,
-        second: MemSource::new(alloc, case.bytes("second"), &[])?,
-        third: MemSource::new(alloc, b"third", &[0])?,
-        out: MemSink::new(alloc, ROOM, fails)?,
-    };
-    Ok(run_on(rt, alloc, &["run", "app", "script"], outside))
+/// The trace in front of one failing write of so many is audited.
+const PERIOD: u32 = 32;
+
+/// No call fails.
+const NONE: &[u32] = &[];
+
+/// The numbers of calls that fail, of each source and of the sink.
+#[derive(Clone, Copy)]
+struct Fails<'a> {
+    app: &'a [u32],
+    second: &'a [u32],
+    out: &'a [u32],
 }
 
-/// Whether a run ended with a failed write, and a beginning of the whole output was taken.
-fn is_cut(ran: &Ran, whole: &[u8]) -> bool {
-    let taken = ran.outside.out.bytes();
-    ran.status.number() == 6 && taken.len() < whole.len() && whole.starts_with(taken)
+impl<'a> Fails<'a> {
+    /// These reads of the application fail, or of the second text.
+    fn of_read(reads: &'a [u32], is_app: bool) -> Fails<'a> {
+        if is_app {
+            Fails {
+                app: reads,
+                second: NONE,
+                out: NONE,
+            }
+        } else {
+            Fails {
+                app: NONE,
+                second: reads,
+                out: NONE,
+            }
+        }
+    }
+}
+
+/// What of an output is the same in each run.
+#[derive(Clone, Copy)]
+enum Fixed<'a> {
+    /// All of it.
+    Whole(&'a [u8]),
+    /// What stands in front of the items of the trace.
+    Front(&'a [u8]),
+}
+
+/// How a command ends on the texts of a case.
+fn ran<R: Threads + Sync>(
+    rt: &R,
+    alloc: Global,
+    command: &str,
+    case: &Case,
+    fails: Fails<'_>,
+) -> Result<Ran> {
+    let outside = Outside {
+        app: MemSource::new(alloc, case.bytes("app"), fails.app)?,
+        second: MemSource::new(alloc, case.bytes("second"), fails.second)?,
+        third: MemSource::new(alloc, b"third", &[0])?,
+        out: MemSink::new(alloc, ROOM, fails.out)?,
+    };
+    Ok(run_on(rt, alloc, &[command, "app", "script"], outside, &NoGate))
+}
+
+/// Whether what was taken is a beginning of an output. Of one whose trace may differ, the trace is audited at some of
+/// the writes that fail.
+fn is_beginning<R: Threads + Sync>(
+    rt: &R,
+    alloc: Global,
+    app: &[u8],
+    taken: &[u8],
+    fixed: Fixed<'_>,
+    write: u32,
+) -> Result<bool> {
+    match fixed {
+        Fixed::Whole(text) => Ok(taken.len() < text.len() && text.starts_with(taken)),
+        Fixed::Front(text) if taken.len() < text.len() => Ok(text.starts_with(taken)),
+        Fixed::Front(text) if write % PERIOD != 0 => Ok(taken.starts_with(text)),
+        Fixed::Front(text) => Ok(taken.starts_with(text) && is_audited(rt, alloc, app, taken)?),
+    }
 }
 
 /// What is told of failing writes, where so many have to fail at least before a run ends without one.
 fn told_of_writes<R: Threads + Sync>(
     rt: &R,
     alloc: Global,
+    command: &str,
     case: &Case,
-    whole: &[u8],
+    fixed: Fixed<'_>,
 ) -> Result<&'static str> {
     let least = case.number("writes").context("no number of writes")?;
-    for write in 0..WRITES {
-        let ran = ran(rt, alloc, case, &[write])?;
-        if ran.status.number() == 0 {
+    for write in 0..CALLS {
+        let only = [write];
+        let fails = Fails {
+            app: NONE,
+            second: NONE,
+            out: &only,
+        };
+        let ran = ran(rt, alloc, command, case, fails)?;
+        if ran.is_done() {
             return Ok(if write < least {
                 "there are fewer writes"
             } else {
                 "ok"
             });
         }
-        if !is_cut(&ran, whole) {
+        let app = case.bytes("app");
+        if ran.status.number() != 6 || !is_beginning(rt, alloc, app, ran.output(), fixed, write)? {
             return Ok("a write that fails leaves something else");
         }
     }
     Ok("each run fails")
 }
 
-/// What is told of a case: `ok`, or what differs. Its parts are the texts `app` and `second`, a script; the least number
-/// of `bytes` of its output, and the least number of `writes`.
-pub fn verdict<R: Threads + Sync>(rt: &R, alloc: Global, case: &Case) -> Result<&'static str> {
-    let least = case.number("bytes").context("no number of bytes")?;
-    let whole = ran(rt, alloc, case, &[])?;
-    let output = whole.outside.out.bytes();
-    if whole.status.number() != 0 || output.len() < least as usize {
+/// What is told of failing reads of the application, or of the second text: `ok`, or what differs.
+fn told_of_reads<R: Threads + Sync>(
+    rt: &R,
+    alloc: Global,
+    command: &str,
+    case: &Case,
+    is_app: bool,
+) -> Result<&'static str> {
+    let least = case.number("reads").context("no number of reads")?;
+    for read in 0..CALLS {
+        let only = [read];
+        let fails = Fails::of_read(&only, is_app);
+        let ran = ran(rt, alloc, command, case, fails)?;
+        if ran.is_done() {
+            return Ok(if read < least {
+                "there are fewer reads"
+            } else {
+                "ok"
+            });
+        }
+        if ran.status.number() != 5 || !ran.output().is_empty() {
+            return Ok("a read that fails leaves something else");
+        }
+    }
+    Ok("each run fails")
+}
+
+/// What is told of the writes of a case's command. The whole output of `run` is the same each time, and of `live` what
+/// stands in front of the trace.
+fn told_of_output<R: Threads + Sync>(
+    rt: &R,
+    alloc: Global,
+    command: &str,
+    case: &Case,
+) -> Result<&'static str> {
+    let least = case.number("bytes").context("no number of bytes")? as usize;
+    let none = Fails {
+        app: NONE,
+        second: NONE,
+        out: NONE,
+    };
+    let whole = ran(rt, alloc, command, case, none)?;
+    let output = std::str::from_utf8(whole.output()).ok().context("no text")?;
+    if !whole.is_done() || output.len() < least {
         return Ok("the output is shorter");
     }
-    told_of_writes(rt, alloc, case, output)
+    if command == "run" {
+        return told_of_writes(rt, alloc, command, case, Fixed::Whole(whole.output()));
+    }
+    let (_listing, trace) = output.split_once("\ntrace\n").context("no trace")?;
+    let front = output.strip_suffix(trace).context("no trace")?;
+    let front = Fixed::Front(front.as_bytes());
+    told_of_writes(rt, alloc, command, case, front)
+}
+
+/// What is told of a case: `ok`, or what differs. Its parts are the `command`, the texts `app` and `second`, a
+/// script; the least number of `bytes` of its output, the least number of `writes`, and the least number of `reads`
+/// of each text.
+pub fn verdict<R: Threads + Sync>(rt: &R, alloc: Global, case: &Case) -> Result<&'static str> {
+    let command = case.text("command").context("no command")?.trim();
+    for is_app in [true, false] {
+        let told = told_of_reads(rt, alloc, command, case, is_app)?;
+        if told != "ok" {
+            return Ok(told);
+        }
+    }
+    told_of_output(rt, alloc, command, case)
 }

@@ -1,84 +1,172 @@
-// Runs the tables of commands that stand in data/, and prints a line for each case: its name, and `ok` or what differs.
-// What tokens, canonical texts, reports, refusals, listings, traces and verdicts are to be comes from an independent
-// implementation.
+// Runs the tables of commands that stand in data/, and prints a line for each case: its name, and `ok` or what
+// differs. What tokens, canonical texts, reports, refusals, listings, traces and verdicts are to be comes from an
+// independent implementation.
 #![tactic(auto)]
 
+mod cuts;
+mod demos;
 mod failing;
+mod held;
+mod live;
 mod messages;
+mod slow;
+mod soaks;
 mod tokens;
 
 use anyhow::Result;
-use rt_cases::cases;
+use rt_cases::{Case, cases};
 use rt_commands::verdict;
+use std::alloc::Global;
 use std::fs;
 use std::rt::Files;
 use std::thread::Threads;
+use std::time::Clock;
 
-/// Prints a line for each case of a file, whose words are these where the case has none.
-fn run<R: Threads + Sync + Files + Print + AllocGlobal>(
+/// How the cases of a table are run.
+#[derive(Clone, Copy)]
+enum Table {
+    /// The tokens of texts.
+    Tokens,
+    /// One command, with these words where the case has none.
+    Command(&'static str),
+    /// Runs whose code is the compiler's choice: of the trace the items are compared, and the whole output is audited.
+    Messages,
+    /// Runs whose reads and writes fail in turn.
+    Failing,
+    /// Runs beside device threads.
+    Live,
+    /// Such runs into a sink that is slow at times.
+    Slow,
+    /// Such runs with a gate that holds the core and a device.
+    Held,
+    /// Many runs as one.
+    Soaks,
+}
+
+/// What is told of a case: `ok`, or what differs.
+fn told<R: Threads + Clock + Sync>(
+    rt: &R,
+    alloc: Global,
+    table: Table,
+    case: &Case,
+) -> Result<&'static str> {
+    match table {
+        Table::Tokens => tokens::verdict(alloc, case),
+        Table::Command(words) => verdict(rt, alloc, words, case),
+        Table::Messages => messages::verdict(rt, alloc, case),
+        Table::Failing => failing::verdict(rt, alloc, case),
+        Table::Live => live::verdict(rt, alloc, case),
+        Table::Slow => slow::verdict(rt, alloc, case),
+        Table::Held => held::verdict(rt, alloc, case),
+        Table::Soaks => soaks::verdict(rt, alloc, case),
+    }
+}
+
+/// Prints the line of a case.
+fn print_case<R: Threads + Clock + Sync + Print + AllocGlobal>(
+    rt: &R,
+    table: Table,
+    case: &Case,
+) -> Result<()> {
+    let told = told(rt, rt.alloc(), table, case)?;
+    println!(rt; "{}: {told}", case.name())?;
+    Ok(())
+}
+
+/// Prints a line for each case of a file.
+fn run<R: Threads + Clock + Sync + Files + Print + AllocGlobal>(
     rt: &R,
     file: &str,
-    words: &str,
+    table: Table,
 ) -> Result<()> {
     let text = fs::read_to_string(rt, file)?;
     for case in &cases(rt.alloc(), text.as_str())? {
-        println!(rt;
-            "{}: {}",
-            case.name(),
-            verdict(rt, rt.alloc(), words, case)?
-        )?;
+        print_case(rt, table, case)?;
     }
     Ok(())
 }
 
-/// Prints a line for each case of runs whose code is the compiler's choice: of the trace the items are compared, and
-/// the whole output is audited.
-fn run_messages<R: Threads + Sync + Files + Print + AllocGlobal>(rt: &R, file: &str) -> Result<()> {
-    let text = fs::read_to_string(rt, file)?;
-    for case in &cases(rt.alloc(), text.as_str())? {
-        println!(rt;
-            "{}: {}",
-            case.name(),
-            messages::verdict(rt, rt.alloc(), case)?
-        )?;
+/// How the cases of a table are run that stand for many texts each.
+#[derive(Clone, Copy)]
+enum Sweep {
+    /// A text that is cut behind each byte.
+    Cuts,
+    /// A trace without each of its lines.
+    Lines,
+    /// Demonstration applications.
+    Demos,
+}
+
+/// The first of a case's texts that is not as it is to be, by its number.
+fn wrong<R: Threads + Sync>(
+    rt: &R,
+    alloc: Global,
+    sweep: Sweep,
+    case: &Case,
+) -> Result<Option<u32>> {
+    match sweep {
+        Sweep::Cuts => cuts::wrong_cut(rt, alloc, case),
+        Sweep::Lines => cuts::wrong_line(rt, alloc, case),
+        Sweep::Demos => demos::wrong(rt, alloc, case),
+    }
+}
+
+/// Prints the line of a case that stands for many texts.
+fn print_sweep<R: Threads + Sync + Print + AllocGlobal>(
+    rt: &R,
+    sweep: Sweep,
+    case: &Case,
+) -> Result<()> {
+    match wrong(rt, rt.alloc(), sweep, case)? {
+        None => println!(rt; "{}: ok", case.name())?,
+        Some(number) => println!(rt; "{}: {number} differs", case.name())?,
     }
     Ok(())
 }
 
-/// Prints a line for each case of runs whose writes fail in turn.
-fn run_failing<R: Threads + Sync + Files + Print + AllocGlobal>(rt: &R, file: &str) -> Result<()> {
+/// Prints a line for each case of a file whose cases stand for many texts each.
+fn run_sweep<R: Threads + Sync + Files + Print + AllocGlobal>(
+    rt: &R,
+    file: &str,
+    sweep: Sweep,
+) -> Result<()> {
     let text = fs::read_to_string(rt, file)?;
     for case in &cases(rt.alloc(), text.as_str())? {
-        println!(rt;
-            "{}: {}",
-            case.name(),
-            failing::verdict(rt, rt.alloc(), case)?
-        )?;
+        print_sweep(rt, sweep, case)?;
     }
     Ok(())
 }
 
-/// Prints a line for each case of the table of tokens.
-fn run_tokens<R: Files + Print + AllocGlobal>(rt: &R, file: &str) -> Result<()> {
-    let text = fs::read_to_string(rt, file)?;
-    for case in &cases(rt.alloc(), text.as_str())? {
-        println!(rt; "{}: {}", case.name(), tokens::verdict(rt.alloc(), case)?)?;
-    }
-    Ok(())
+/// Runs the tables of single commands, and of applications with messages.
+fn run_commands<R: Threads + Clock + Sync + Files + Print + AllocGlobal>(rt: &R) -> Result<()> {
+    run(rt, "tokens", Table::Tokens)?;
+    run(rt, "canonical", Table::Command("fmt app"))?;
+    run(rt, "syntax", Table::Command("fmt app"))?;
+    run(rt, "limits", Table::Command("fmt app"))?;
+    run(rt, "reports", Table::Command("check app"))?;
+    run(rt, "refusals", Table::Command("check app"))?;
+    run(rt, "runs", Table::Command("run app script"))?;
+    run(rt, "builds", Table::Command("build app"))?;
+    run(rt, "messages", Table::Messages)
+}
+
+/// Runs the tables of device threads, of worker threads, and of large input.
+fn run_threads<R: Threads + Clock + Sync + Files + Print + AllocGlobal>(rt: &R) -> Result<()> {
+    run(rt, "alone", Table::Command("live app script"))?;
+    run(rt, "live", Table::Live)?;
+    run(rt, "slow", Table::Slow)?;
+    run(rt, "held", Table::Held)?;
+    run(rt, "soaks", Table::Soaks)?;
+    run_sweep(rt, "demos", Sweep::Demos)
 }
 
 fn main(rt: HostRuntime) -> Result<()> {
-    run_tokens(&rt, "tokens")?;
-    run(&rt, "canonical", "fmt app")?;
-    run(&rt, "syntax", "fmt app")?;
-    run(&rt, "limits", "fmt app")?;
-    run(&rt, "reports", "check app")?;
-    run(&rt, "refusals", "check app")?;
-    run(&rt, "runs", "run app script")?;
-    run(&rt, "builds", "build app")?;
-    run_messages(&rt, "messages")?;
-    run_failing(&rt, "failing")?;
-    run(&rt, "scripts", "run app script")?;
-    run(&rt, "audits", "audit app trace")?;
-    run(&rt, "commands", "")
+    run_commands(&rt)?;
+    run_threads(&rt)?;
+    run(&rt, "failing", Table::Failing)?;
+    run(&rt, "scripts", Table::Command("run app script"))?;
+    run(&rt, "audits", Table::Command("audit app trace"))?;
+    run_sweep(&rt, "cuts", Sweep::Cuts)?;
+    run_sweep(&rt, "lines", Sweep::Lines)?;
+    run(&rt, "commands", Table::Command(""))
 }

@@ -1,22 +1,9 @@
+use crate::live::is_audited;
 use anyhow::{Context, Result};
 use rt_cases::Case;
-use rt_commands::{Outside, Ran, run_on};
-use rt_outside::{MemSink, MemSource};
+use rt_commands::{NoGate, Outside, Ran, run_on};
 use std::alloc::Global;
 use std::thread::Threads;
-
-/// Bytes that a sink has room for.
-const ROOM: u32 = 1 << 20;
-
-/// The outside of a command on these texts, in which nothing fails.
-fn outside(alloc: Global, app: &[u8], second: &[u8]) -> Result<Outside> {
-    Ok(Outside {
-        app: MemSource::new(alloc, app, &[])?,
-        second: MemSource::new(alloc, second, &[])?,
-        third: MemSource::new(alloc, b"third", &[0])?,
-        out: MemSink::new(alloc, ROOM, &[])?,
-    })
-}
 
 /// Whether an item begins with one of some words.
 fn begins_with(item: &str, words: &str) -> bool {
@@ -49,9 +36,7 @@ fn items(alloc: Global, output: &str, words: &str) -> Result<Vec<u8>> {
 
 /// Whether the items of a run are those of its case.
 fn has_its_items(alloc: Global, ran: &Ran, case: &Case) -> Result<bool> {
-    let output = std::str::from_utf8(ran.outside.out.bytes())
-        .ok()
-        .context("no text")?;
+    let output = std::str::from_utf8(ran.output()).ok().context("no text")?;
     let words = case.text("without").context("no words")?;
     let found = items(alloc, output, words)?;
     Ok(found.as_slice() == case.bytes("items"))
@@ -64,22 +49,18 @@ fn has_its_listing<R: Threads + Sync>(
     app: &[u8],
     ran: &Ran,
 ) -> Result<bool> {
-    let built = run_on(rt, alloc, &["build", "app"], outside(alloc, app, b"")?);
-    Ok(
-        ran.outside
-            .out
-            .bytes()
-            .starts_with(built.outside.out.bytes()),
-    )
+    let outside = Outside::of(alloc, app, b"")?;
+    let built = run_on(rt, alloc, &["build", "app"], outside, &NoGate);
+    Ok(ran.output().starts_with(built.output()))
 }
 
 /// What is told of a case: `ok`, or what differs. Its parts are the texts `app` and `second`, a script, and what is
 /// wanted of the trace: `items`, but for those that begin with a word of `without`. The whole output is audited too.
 pub fn verdict<R: Threads + Sync>(rt: &R, alloc: Global, case: &Case) -> Result<&'static str> {
     let app = case.bytes("app");
-    let script = outside(alloc, app, case.bytes("second"))?;
-    let ran = run_on(rt, alloc, &["run", "app", "script"], script);
-    if ran.status.number() != 0 {
+    let outside = Outside::of(alloc, app, case.bytes("second"))?;
+    let ran = run_on(rt, alloc, &["run", "app", "script"], outside, &NoGate);
+    if !ran.is_done() {
         return Ok("the exit status differs");
     }
     if !has_its_items(alloc, &ran, case)? {
@@ -88,9 +69,7 @@ pub fn verdict<R: Threads + Sync>(rt: &R, alloc: Global, case: &Case) -> Result<
     if !has_its_listing(rt, alloc, app, &ran)? {
         return Ok("the listing differs");
     }
-    let trace = outside(alloc, app, ran.outside.out.bytes())?;
-    let audited = run_on(rt, alloc, &["audit", "app", "trace"], trace);
-    Ok(if audited.status.number() == 0 {
+    Ok(if is_audited(rt, alloc, app, ran.output())? {
         "ok"
     } else {
         "the audit says no"
