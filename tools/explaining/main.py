@@ -6,7 +6,7 @@ import stat
 import subprocess
 import traceback
 
-from . import audits, scripts, texts, words as wording
+from . import audits, limits, scripts, texts, words as wording
 from .expected import may_stand, met, told
 from .report import Report, shown
 from .rules import Rules
@@ -19,7 +19,7 @@ WARNINGS = 20
 APPLICATION, SECOND = 262_144, 268_435_456
 DONE, REFUSED, USAGE, BAD_LINE, NO, UNREAD = range(6)
 REFUSAL = re.compile(rb"(\d+):(\d+) E(\d\d) ([^\n]*)\n")
-LINE_REFUSAL = re.compile(rb"(script|trace):(\d+) (\d) ([^\n]*)\n")
+LINE_REFUSAL = re.compile(rb"(script|trace|limits):(\d+) (\d) ([^\n]*)\n")
 NOT_ASKED = "what may stand here is asked of the proved program, which is not built: ./build makes it"
 
 
@@ -29,7 +29,9 @@ class Explained:
     def __init__(self, program, words):
         self.program, self.words = program, words
         self.names = [shown(name) for name in words[1:]]
-        self.paths = [self.kept(number, name) for number, name in enumerate(words[1:])]
+        files = wording.files_of(words)
+        self.paths = [self.kept(number, name) for number, name in enumerate(files)]
+        self.handed = words[:1] + self.paths + words[1 + len(files) :]
         self.report = Report()
         self.table = Table()
 
@@ -67,8 +69,10 @@ class Explained:
             self.bad_line(found[1].decode(), int(found[2]), int(found[3]), found[4].decode())
         elif status == NO and front.startswith(b"no "):
             self.wrong_item(int(front[3:]))
+        elif status == NO and front == b"no\n":
+            self.report.line(wording.FORMS[self.words[0]])
         elif status == UNREAD:
-            self.report.line(shown(wording.of_files(self.words[1:])))
+            self.report.line(shown(wording.of_files(wording.files_of(self.words))))
 
     def sentences(self, rows):
         for kind, sentence in rows:
@@ -161,6 +165,9 @@ class Explained:
         if which == "script":
             size = os.path.getsize(self.paths[1])
             said = scripts.script_line(app, number, source, lines, size, self.table)
+        elif which == "limits":
+            size = os.path.getsize(self.paths[1])
+            said = limits.limits_line(app, number, source, lines, size, self.table)
         else:
             said = scripts.trace_line(app, number, source, lines, line, self.table)
         self.report.head(self.names[1], line, said.start + 1, f"{which} {number} {words}")
@@ -195,7 +202,7 @@ class Explained:
 def explained_call(program, words):
     """Runs the words, and answers the program's status and the report of what more is said."""
     explained = Explained(program, words)
-    status, front = program.run(words[:1] + explained.paths)
+    status, front = program.run(explained.handed)
     try:
         explained.explain(status, front)
     except (OSError, subprocess.TimeoutExpired) as fault:

@@ -1,23 +1,64 @@
-"""Statuses 2 and 5: which command is not built, and which file could not be read."""
+"""Statuses 2 and 5: which command is not built or which word is wrong, and which file could not be read."""
 import difflib
 import os
+import re
 
 COMMANDS = {
     "run": ("APP", "SCRIPT"), "check": ("APP",), "fmt": ("APP",), "build": ("APP",), "audit": ("APP", "TRACE"),
+    "live": ("APP", "SCRIPT"), "soak": ("APP", "NUMBER", "COUNT", "WORKERS"), "demo": ("N",), "deepest": ("APP",),
+    "times": ("APP", "LIMITS"),
 }
+RANGES = {"NUMBER": (0, (1 << 64) - 1), "COUNT": (1, 10_000), "WORKERS": (1, 64), "N": (1, 48)}
+DIGITS = re.compile(r"[0-9]{1,20}")
 TO_COME = {
-    "live": "`run` runs a script on one core",
-    "soak": "`run` runs one script at a time",
-    "demo": "`examples/` has applications",
+    "verify": "`audit` judges a trace of any image",
+    "pair": "`run` runs one application",
 }
-BUILT = "the commands are `run APP SCRIPT`, `check APP`, `fmt APP`, `build APP` and `audit APP TRACE`"
+FORMS = {
+    "deepest": "`deepest` is for hardware tasks alone, without a monotonic, and an `init` that has no `pend` and costs at "
+               "most 900,000",
+    "times": "`times` is for hardware tasks alone, without a monotonic and without a `pend`",
+}
+LISTED = [f"`{' '.join((name,) + words)}`" for name, words in COMMANDS.items()]
+BUILT = f"the commands are {', '.join(LISTED[:-1])} and {LISTED[-1]}"
+
+
+def files_of(words):
+    """Those of the words behind a command that name its files."""
+    return [word for word, kind in zip(words[1:], COMMANDS.get(words[0] if words else "", ())) if kind not in RANGES]
+
+
+def is_in_range(word, kind):
+    """Whether a word can stand where one of this kind is wanted."""
+    if kind not in RANGES:
+        return True
+    least, most = RANGES[kind]
+    return bool(DIGITS.fullmatch(word)) and least <= int(word) <= most
 
 
 def wrong_word(words):
     """The position of the word that is wrong, or behind the last where one is missing."""
     if not words or words[0] not in COMMANDS:
         return 0
-    return min(len(words), len(COMMANDS[words[0]]) + 1)
+    wanted = COMMANDS[words[0]]
+    if len(words) - 1 == len(wanted):
+        for place, (word, kind) in enumerate(zip(words[1:], wanted)):
+            if not is_in_range(word, kind):
+                return place + 1
+    return min(len(words), len(wanted) + 1)
+
+
+def of_command(words):
+    """The sentence on words that begin with a command that is built."""
+    wanted, given = COMMANDS[words[0]], len(words) - 1
+    if given == len(wanted):
+        place = wrong_word(words)
+        least, most = RANGES[wanted[place - 1]]
+        return f"{wanted[place - 1]} is {least} to {most:,}, in one to twenty digits, and `{words[place]}` is not"
+    kind = "file" if not RANGES.keys() & set(wanted) else "word"
+    noun, verb = kind if len(wanted) == 1 else kind + "s", "stands" if given == 1 else "stand"
+    listed = ", ".join(wanted[:-1]) + " and " + wanted[-1] if len(wanted) > 1 else wanted[0]
+    return f"`{words[0]}` takes {len(wanted)} {noun}, {listed}, and {given or 'none'} {verb} here"
 
 
 def of_words(words):
@@ -29,10 +70,7 @@ def of_words(words):
         return [("cause", f"`{name}` is not built yet: the usage line names the commands to come too"),
                 ("help", TO_COME[name])]
     if name in COMMANDS:
-        files, given = COMMANDS[name], len(words) - 1
-        noun, verb = "file" if len(files) == 1 else "files", "stands" if given == 1 else "stand"
-        told = f"`{name}` takes {len(files)} {noun}, {' and '.join(files)}"
-        return [("cause", f"{told}, and {given or 'none'} {verb} here")]
+        return [("cause", of_command(words))]
     if name.startswith("-"):
         return [("cause", "there are no options"), ("help", BUILT)]
     near = difflib.get_close_matches(name, COMMANDS, 1, 0.6)

@@ -77,7 +77,7 @@ def words_of(call, second):
         return [FILES[0] if word == "FILE" else word for word in call[1:]], 2, "usage: "
     if call[0] == "warns":
         return ["check", FILES[0]], 0, ""
-    two = second or call[0] in ("run", "audit")
+    two = second or call[0] in ("run", "audit", "live", "times")
     return [call[0]] + list(FILES[: 2 if two else 1]), int(call[1]), " ".join(call[2:])
 
 

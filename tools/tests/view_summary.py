@@ -149,6 +149,18 @@ def compare_words():
     expect("no total is told", status == 0 and "the trace has no total" in text)
 
 
+def compare_account():
+    """An output of `live` is shown as that of `run`: the lines of its account are passed over, behind a total alone."""
+    with open(os.path.join(DATA, "two.run"), encoding="utf-8") as file:
+        run = file.read()
+    account = "account A 1 0 1 0\naccount B 0 0 0 0\n"
+    for form in ((), ("--text",), ("--vcd", "-")):
+        wanted, got = view("-", *form, text=run), view("-", *form, text=run + account)
+        expect(f"an account, {form}: {got[0]} {got[2]}", got == wanted and got[0] == 0)
+    status, _, told = view("-", text=run.replace("total", "account") + account)
+    expect(f"an account without a total: {status} {told}", status == 3 and "no line of an output" in told)
+
+
 def compare_program():
     """Where the proved program is built, its outputs on the examples are taken."""
     program = os.path.join(ROOT, "crates", "rtic", "out", "rtic")
@@ -171,6 +183,7 @@ for each in RUNS:
     compare_run(each)
 compare_told()
 compare_words()
+compare_account()
 compare_command()
 compare_program()
 for fault in faults:

@@ -1,0 +1,60 @@
+"""Refused lines of limits texts: which word, and what is due."""
+import re
+
+from .scripts import HASH, NUMERAL, Line, similar, words_with_places
+from .table import Phrase
+
+NAME = re.compile(r"[A-Za-z_][A-Za-z0-9_]*")
+
+
+def limits_line(app, number, source, lines, size, table):
+    """What is wrong with the last of these lines of a limits text that is refused with this number."""
+    said = Line(source)
+    words = words_with_places(source)
+    if number == 1:
+        said.cause = table.cause("limits 1", A=Phrase(f"{size:,}"))
+        said.helps = [table.mending("limits 1")]
+    elif number == 3:
+        unknown(app, said, words[1], table)
+    else:
+        bad_line(said, words, lines, table)
+    if said.cause is None:
+        said.cause, said.helps = table.cause("limits 2"), [table.mending("limits 2")]
+    return said
+
+
+def bad_line(said, words, lines, table):
+    """What is wrong with a line that is of no form, or the second one for its interrupt."""
+    source, forms = said.source, table.mending("limits 2")
+    if "\t" in source.strip(" \t\r"):
+        return said.at("\t", "words are separated by spaces, and this is a tab")
+    if source != source.strip(" \t") or source.endswith("\r"):
+        return said.at(source.strip(" \t"), "a blank stands before the first word, or behind the last")
+    if words[0] != "every":
+        said.at(words[0], f"no line of limits begins with `{words[0]}`")
+        said.helps = [HASH if words[0].startswith(("//", "--", ";", "/*")) else forms]
+    elif len(words) != 3:
+        said.at(words[-1] if len(words) < 3 else words[3], "the form is `every I N`")
+    elif not NAME.fullmatch(words[1]):
+        said.at(words[1], f"`every` wants the name of an interrupt, and `{words[1]}` is none")
+    elif not NUMERAL.fullmatch(words[2]) or len(words[2]) > 9:
+        said.at(words[2], f"`{words[2]}` is no number of one to nine digits")
+    elif int(words[2]) == 0:
+        said.at(words[2], "requests lie at least 1 core step apart")
+    else:
+        first = next(at for at, line in enumerate(lines, 1) if line.split()[:2] == words[:2])
+        said.at(words[1], f"`{words[1]}` has a limit already, in line {first}")
+    return said
+
+
+def unknown(app, said, name, table):
+    """No task binds the interrupt."""
+    bound = [task.binds.text for task in app.tasks if task.binds]
+    told = ", ".join(f"`{one}`" for one in bound[:12]) + (" and others" if len(bound) > 12 else "")
+    said.at(name, table.cause("limits 3", N=name))
+    said.helps = [table.mending("limits 3", I=Phrase(told or "none"))]
+    task = app.task(name)
+    if task and task.binds:
+        said.helps = [f"`{name}` is a task, and binds the interrupt `{task.binds.text}`"]
+    else:
+        similar(said, "an interrupt", name, bound)
