@@ -7,10 +7,12 @@ use Rattle.rt_trace.specs.declared.item.What.{What}
 use Rattle.rt_trace.specs.declared.item.What.TheVariants as what
 use Rattle.rt_count.specs.declared.summary.Summary.{Summary}
 
+-- an interrupt was taken
 abbrev pub is_take : What → Bool
 is_take (what.Take irq depth) = true
 is_take w = false
 
+-- a value was emitted
 abbrev pub is_emit : What → Bool
 is_emit (what.Emit value) = true
 is_emit w = false

@@ -6,6 +6,7 @@ use Rattle.rt_count.specs.declared.summary.Summary.{Summary}
 abbrev pub line : List ℕ → ℕ → List ℕ
 line word n = word ++ decimal n ++ codes "\n"
 
+-- the six lines of a summary
 abbrev pub summary_text : Summary → List ℕ
 summary_text s =
     line (codes "runs ") s.runs ++ line (codes "takes ") s.takes ++ line (codes "emits ") s.emits

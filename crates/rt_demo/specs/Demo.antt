@@ -18,6 +18,7 @@ head =
     codes "app demo(bits = 4, dispatchers = [D0, D1]);\n"
     ++ codes "interrupts { D0 = 200, D1 = 201, TM = 202"
 
+-- what stands behind the declared interrupts of tasks, whatever their number
 abbrev pub common : List ℕ
 common =
     codes " }\n"
@@ -47,6 +48,7 @@ options k =
     ++ numbered (codes ", priority = ") (3 + k % 12)
     ++ numbered (codes ", shared = [r") (k % 4) ++ codes "]) {\n"
 
+-- the section of a task: it adds the task's number to the resource that it locks
 abbrev pub section : ℕ → List ℕ
 section k =
     numbered (codes "    lock r") (k % 4) ++ numbered (codes " {\n        r") (k % 4)

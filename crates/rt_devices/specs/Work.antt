@@ -15,11 +15,13 @@ abbrev pub asked_by : Call → Option ℕ
 asked_by (Pend irq answer) = Some irq
 asked_by (Latch k word) = None
 
+-- a pend that found its interrupt not pending
 abbrev pub is_raised : Call → Bool
 is_raised (Pend irq Raised) = true
 is_raised (Pend irq Merged) = false
 is_raised (Latch k word) = false
 
+-- a pend that found its interrupt pending already
 abbrev pub is_merged : Call → Bool
 is_merged (Pend irq Raised) = false
 is_merged (Pend irq Merged) = true

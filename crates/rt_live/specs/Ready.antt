@@ -24,6 +24,7 @@ pub record Prepared : Type 0 where
   pub devices : List Device
   pub rows : List AccountRow
 
+-- the interrupts of these rows, in order
 abbrev pub irqs_of : List AccountRow → List ℕ
 irqs_of rows = map (λ row. row.irq) rows
 

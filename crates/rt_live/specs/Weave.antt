@@ -12,6 +12,7 @@ use Rattle.rt_script.specs.declared.line.Line.{Line}
 use Rattle.rt_words.specs.declared.call.Call.{Call}
 use Rattle.rt_words.specs.declared.call.Call.TheVariants.{Latch}
 
+-- one thing that is done on the core's side
 pub data Turn : Type 0 where
   -- an event of the core; a core step comes behind a look
   Happens : (event : Event) → Turn
@@ -44,6 +45,7 @@ abbrev pub latches_from : ℕ → List ℕ → List Call
 latches_from k [] = []
 latches_from k (word ∷ words) = Latch k word ∷ latches_from (suc k) words
 
+-- those of a whole look, from word 0 up
 abbrev pub latches : List ℕ → List Call
 latches words = latches_from 0 words
 

@@ -4,10 +4,11 @@ use Rattle.std.specs.Prelude.{ℕ, List, [], ◌∷◌, ◌++◌, flat_map, code
 use Rattle.rt_ids.specs.Names.{Names}
 use Rattle.rt_ids.specs.Naming.{irq_name}
 
--- the line that requests an interrupt, and the line of so many core steps
+-- the line that requests an interrupt
 abbrev pub pend_line : Names → ℕ → List ℕ
 pend_line names irq = codes "pend " ++ irq_name names irq
 
+-- the line of so many core steps
 abbrev pub step_line : ℕ → List ℕ
 step_line steps = codes "step " ++ decimal steps
 
