@@ -1,17 +1,14 @@
 -- The equations of a step and of events.
 use Rattle.std.proofs.Common.{◌≡◌, Bool, false, if◌then◌else◌, Option, Some, None, option_map, slice_get, refl, sym, ap, ◌∙◌}
 use Rattle.std.proofs.lemmas.Option.{none-some}
-use Rattle.rt_code.specs.Effect.{effect}
 use Rattle.rt_code.specs.Image.{Image}
 use Rattle.rt_code.specs.declared.image.IrqRow.{IrqRow}
-use Rattle.rt_code.specs.declared.instr.Instr.{Instr}
-use Rattle.rt_code.specs.declared.instr.Note.{Note}
 use Rattle.rt_trace.specs.declared.item.What.{What}
 use Rattle.rt_core.specs.Core.{Core}
 use Rattle.rt_core.specs.Laws.{HappensByEvent, StepsByCause}
 use Rattle.rt_core.specs.Outcome.{settle}
 use Rattle.rt_core.specs.Priority.{pick}
-use Rattle.rt_core.specs.Stepping.{go_on, run, attempt, step}
+use Rattle.rt_core.specs.Stepping.{run, attempt, step}
 use Rattle.rt_core.specs.Trace.{happen, core_after, labels}
 
 -- a step, by whether the core is stopped
@@ -48,7 +45,7 @@ none_picked : (o : Option IrqRow) → option_map (λ row. row.number) o ≡ None
 none_picked None h = refl
 none_picked (Some row) h = absurd (none-some row.number (sym h))
 
--- the step of a core whose line at the code address is done
-pub line_steps : (img : Image) (c : Core) (line : Instr × Option Note) → c.stopped ≡ false → option_map (λ row. row.number) (pick img c) ≡ None
-    → slice_get img.code c.processor.address ≡ Some line → step img c ≡ settle (go_on img c line.1 (effect line.0 c.time c.processor))
-line_steps img c line h none at = steps_by_cause.line img c line h (none_picked (pick img c) none) at
+-- the step of a core that goes on with an instruction
+pub instruction_steps : (img : Image) (c : Core) → c.stopped ≡ false → option_map (λ row. row.number) (pick img c) ≡ None
+    → step img c ≡ settle (run img c (slice_get img.code c.processor.address))
+instruction_steps img c h none = step_is img c ∙ ap (step_by img c) h ∙ ap (λ o. settle (attempt img c o)) (none_picked (pick img c) none)

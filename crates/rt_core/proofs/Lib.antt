@@ -2,6 +2,7 @@ mod Contexts
 mod Arriving
 mod Tables
 mod Calls
+mod Calling
 pub mod Picking
 mod Numbers
 mod Entry

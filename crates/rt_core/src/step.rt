@@ -1,13 +1,14 @@
-ghost use Rattle.std.specs.Prelude.{◌≡◌, ℕ, suc, ◌+◌, ◌<◌, ◌^◌, Some, None, option_map, slice_get, IfOk, IfErr, OnErr};
+ghost use Rattle.std.specs.Prelude.{◌≡◌, ℕ, suc, ◌+◌, ◌<◌, ◌^◌, Some, None, false, IsTrue, option_map, slice_get};
+ghost use Rattle.std.specs.Prelude.{Ok, IfOk, IfErr, OnErr};
 ghost use Rattle.rt_code.specs.Effect.{effect};
 ghost use Rattle.rt_code.specs.Processor.{Traps, Leads};
 ghost use Rattle.rt_code.specs.declared.processor.Request.TheVariants as request;
 ghost use Rattle.rt_core.specs.Core as spec;
 ghost use Rattle.rt_core.specs.Priority as priority;
-ghost use Rattle.rt_core.specs.Outcome.{Outcome, Trapped, settle};
+ghost use Rattle.rt_core.specs.Outcome.{Outcome, Trapped, Done, settle};
 ghost use Rattle.rt_core.specs.Note as notes;
 ghost use Rattle.rt_core.specs.Stepping as stepping;
-ghost use Rattle.rt_core.specs.Inside.Came.{Comes};
+ghost use Rattle.rt_core.specs.Inside.Came.{Comes, effect_of, is_silent, note_at};
 
 use crate::alarm::Alarm;
 use crate::execution::{changes_a_mask, execution_of};
@@ -18,6 +19,13 @@ use rt_trace::{Args, What};
 
 /// The number of the first external interrupt's exception.
 const FIRST_EXCEPTION: u32 = 16;
+
+/// Whether an instruction asked nothing of the core, and has no note.
+fn is_silent(came: &Result<Request, Trap>, note: &Option<Note>) -> bool
+    ensures { result ≡ is_silent came.now note.now }
+{
+    note.is_none() && matches!(came, Ok(Request::Nothing))
+}
 
 impl Core {
     /// The interrupt that is taken next.
@@ -245,15 +253,20 @@ impl Core {
         Ok(asked)
     }
 
-    /// An instruction, with its note: the item is that of the instruction itself, else of the note.
-    fn go_on(&mut self, instr: Instr, note: Option<Note>) -> Result<Option<What>, Trap>
-        requires { self.old.core.processor.address + 1 < 2 ^ 32 }
+    /// What comes of an instruction that had its own effect: the item is that of the instruction itself, else of the
+    /// note.
+    fn finish(
+        &mut self,
+        came: Result<Request, Trap>,
+        note: Option<Note>,
+    ) -> Result<Option<What>, Trap>
+        requires { (row from : ℕ) → came ≡ Ok (request.Call row from)
+            → self.old.core.processor.address + 1 < 2 ^ 32 }
         ensures outcome { Comes result self.new.core
-            (stepping.go_on self.old.image self.old.core note
-            (effect instr self.old.core.time self.old.core.processor)) }
+            (stepping.go_on self.old.image self.old.core note (effect_of self.old.core.processor came)) }
         ensures rest { self.new ≡ record self.old { core = self.new.core } }
     {
-        let asked = self.execute(instr)?;
+        let asked = came?;
         let shown = self.answer(asked)?;
         match (note, shown) {
             (Some(note), None) => Ok(Some(self.shown_by(note).ok_or(Trap::Stack)?)),
@@ -262,6 +275,7 @@ impl Core {
     }
 
     /// A trap stops the core and shows its number.
+    #[inline(never)]
     fn stop(&mut self, trap: Trap) -> Option<What>
         ensures settled { settle (Trapped self.old.core trap) ≡ (self.new.core, result) }
         ensures rest { self.new ≡ record self.old { core = self.new.core } }
@@ -283,6 +297,7 @@ impl Core {
     }
 
     /// The entry of an interrupt as a step.
+    #[inline(never)]
     fn take(&mut self, irq: Irq) -> Option<What>
         requires { option_map (λ row. row.number) (priority.pick self.old.image self.old.core) ≡ Some irq }
         ensures settled { settle
@@ -294,21 +309,60 @@ impl Core {
         self.settle(came)
     }
 
-    /// An instruction with its note as a step.
-    fn run(&mut self, instr: Instr, note: Option<Note>) -> Option<What>
-        requires { self.old.core.processor.address + 1 < 2 ^ 32 }
-        ensures settled { settle
-            (stepping.go_on self.old.image self.old.core note (effect instr self.old.core.time self.old.core.processor))
-            ≡ (self.new.core, result) }
+    /// The note on the instruction at a code address.
+    fn note_at(&self, address: u32) -> Option<Note>
+        ensures { result ≡ note_at self.now.image address }
+    {
+        match self.program.line(address) {
+            Some((_, note)) => note,
+            None => None,
+        }
+    }
+
+    /// What came of the instruction at a code address, with its note, as a step.
+    #[inline(never)]
+    fn conclude(&mut self, came: Result<Request, Trap>, address: u32) -> Option<What>
+        requires { (row from : ℕ) → came ≡ Ok (request.Call row from)
+            → self.old.core.processor.address + 1 < 2 ^ 32 }
+        ensures settled { settle (stepping.go_on self.old.image self.old.core (note_at self.old.image address)
+            (effect_of self.old.core.processor came)) ≡ (self.new.core, result) }
         ensures rest { self.new ≡ record self.old { core = self.new.core } }
     {
-        let came = self.go_on(instr, note);
+        let note = self.note_at(address);
+        let came = self.finish(came, note);
         self.settle(came)
+    }
+
+    /// The instruction at the code address. It answers whether that is the whole step, since it asks nothing of the core
+    /// and has no note; where it is not, it writes what came of it.
+    fn go(&mut self, came: &mut Result<Request, Trap>) -> bool
+        ensures silent { IsTrue result → stepping.run self.old.image self.old.core
+            (slice_get self.old.image.code self.old.core.processor.address) ≡ Done self.new.core None }
+        ensures came { result ≡ false → stepping.run self.old.image self.old.core
+            (slice_get self.old.image.code self.old.core.processor.address)
+            ≡ stepping.go_on self.old.image self.new.core
+            (note_at self.old.image self.old.core.processor.address)
+            (effect_of self.new.core.processor came.new) }
+        ensures next { result ≡ false → (row from : ℕ) → came.new ≡ Ok (request.Call row from)
+            → self.new.core.processor.address + 1 < 2 ^ 32 }
+        ensures rest { self.new ≡ record self.old { core = self.new.core } }
+    {
+        let Some((instr, note)) = self.program.line(self.registers.address) else {
+            *came = Err(Trap::Jump);
+            return false;
+        };
+        let asked = self.execute(instr);
+        if is_silent(&asked, &note) {
+            return true;
+        }
+        *came = asked;
+        false
     }
 
     /// One core step: the entry of the interrupt that is to be taken, else one instruction. It answers the item that
     /// the step gives, and None where it gives none. A trap gives its item and stops the core, and every later step is
     /// silent.
+    #[inline(always)]
     #[tactic(auto, unfolding(crate::specs::Stepping::step))]
     pub fn step(&mut self) -> Option<What>
         requires { self.old.steps < 2 ^ 31 }
@@ -325,9 +379,11 @@ impl Core {
         if let Some(irq) = self.picked() {
             return self.take(irq);
         }
-        let Some((instr, note)) = self.program.line(self.registers.address) else {
-            return self.stop(Trap::Jump);
-        };
-        self.run(instr, note)
+        let address = self.registers.address;
+        let mut came = Ok(Request::Nothing);
+        if self.go(&mut came) {
+            return None;
+        }
+        self.conclude(came, address)
     }
 }
