@@ -69,6 +69,18 @@ impl Frames {
         })
     }
 
+    /// The thread's frame of so many words of 0 is alone again.
+    pub fn reset(&mut self, thread_words: u32)
+        requires fits { thread_words ≤ self.old.size }
+        ensures { self.new ≡ moves.thread self.old.size self.old.entry thread_words }
+    {
+        self.region.pop(self.region.used());
+        self.region.push(thread_words);
+        self.frame = thread_words;
+        self.caller = None;
+        self.callers.clear();
+    }
+
     /// The stack bytes in use.
     pub fn depth(&self) -> u32
         ensures bytes { result ≡ spec.depth self.now }

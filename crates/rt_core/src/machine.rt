@@ -1,4 +1,4 @@
-ghost use Rattle.std.specs.Prelude.{◌≡◌, ℕ, suc, ◌+◌, ◌*◌, ◌<◌, ◌≤◌, ◌^◌, [], ◌∷◌, map, replicate, false, IfOk};
+ghost use Rattle.std.specs.Prelude.{◌≡◌, ℕ, suc, ◌+◌, ◌*◌, ◌<◌, ◌≤◌, ◌^◌, [], ◌∷◌, map, replicate, false, IfOk, OnOk, OnErr};
 ghost use Rattle.std.specs.Prelude.{if◌then◌else◌};
 ghost use Rattle.std.specs.Int.{bit_at};
 ghost use Rattle.rt_ids.specs.declared.limits.TheConstants.{IRQ_NUMBERS};
@@ -152,6 +152,30 @@ impl Core {
         let _ = &self.stopped;
         let image = self.program.copy_of_image(alloc)?;
         Core::new(alloc, image)
+    }
+
+    /// A core after reset once more, with the same image. Where there is no memory it stays as it was.
+    pub fn reset(&mut self, alloc: Global) -> Result<(), NoMemory>
+        ensures image { OnOk result (self.new.image ≡ self.old.image) }
+        ensures fresh { OnOk result (IsFresh self.new) }
+        ensures err { OnErr result (self.new ≡ self.old) }
+    {
+        let image = self.program.image();
+        let thread_words = image.thread_words;
+        self.cells = first_values(alloc, &image.cells)?;
+        self.frames.reset(thread_words);
+        self.nvic.reset();
+        self.registers = Registers {
+            address: 0,
+            basepri: 0,
+            primask: true,
+        };
+        self.execution = execution_of(&self.nvic, &self.registers);
+        self.time = 0;
+        self.alarm = None;
+        self.stopped = false;
+        self.steps = 0;
+        Ok(())
     }
 
     /// An interrupt request arrives for each set bit of a word, the lowest first: bit b of word k is the interrupt 32 k

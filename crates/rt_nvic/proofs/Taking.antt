@@ -8,7 +8,7 @@ use Rattle.rt_nvic.specs.declared.best.Best.{Best}
 use Rattle.rt_nvic.specs.declared.sizes.TheConstants.{NONE_READY, ACTIVE, WORDS}
 use Rattle.rt_nvic.specs.Nvic.{Nvic, IsSized, value_of, picked, IsReady}
 use Rattle.rt_nvic.specs.Inside.First.{shown, limit_of}
-use Rattle.rt_nvic.specs.Inside.Best.{IsBest}
+use Rattle.rt_nvic.specs.Inside.Best.{IsBest, IsBestOf}
 use Rattle.rt_nvic.specs.Inside.Bits.{flags, AreReady}
 use Rattle.rt_nvic.specs.Inside.Fields.{IsKept}
 use Rattle.rt_nvic.proofs.Fitting.{sized}
@@ -122,4 +122,34 @@ kept_at_first active long =
         irq = chosen_from (shown none (replicate IRQ_NUMBERS false)) NONE_READY IRQ_NUMBERS None (λ irq l r. none_at_first irq l r);
         value = refl;
       });
+    }
+
+-- where no bit is set, those are the bits of the ready ones, whatever is enabled
+bits_cleared : (priorities : List (Option ℕ)) (irq : ℕ) → (bit_of (replicate WORDS 0) irq == 1)
+    ≡ (get_or (replicate IRQ_NUMBERS false) irq false && is_some (get_or priorities irq None))
+bits_cleared priorities irq =
+    clear_at_first irq
+    ∙ sym (ap (λ (b : Bool). b && is_some (get_or priorities irq None)) (get_or-same IRQ_NUMBERS irq false))
+
+pub none_set : (irq : ℕ) → bit_of (replicate WORDS 0) irq ≡ 1 → irq < IRQ_NUMBERS
+none_set irq set = absurd (false≢true (sym (clear_at_first irq) ∙ ap (λ n. n == 1) set))
+
+-- what is kept once nothing is pending and nothing active
+pub kept_cleared : (priorities : List (Option ℕ)) (active : List ℕ) (best : Best) → length priorities ≡ IRQ_NUMBERS
+    → length active ≡ ACTIVE → IsBestOf priorities (replicate WORDS 0) IRQ_NUMBERS best
+    → IsKept priorities (replicate WORDS 0) active ACTIVE (replicate WORDS 0) best
+kept_cleared priorities active best long active_long is =
+    let words : List ℕ = replicate WORDS 0 in
+    let Ready : List Bool → Type 0 = λ pending. AreReady priorities pending words in
+    let ready : AreReady priorities (flags words) words =
+    subst Ready (sym flags_none) (record { each = bits_cleared priorities }) in
+    record {
+      fixed = record {
+        priorities_long = long;
+        pending_long = length-replicate {A = ℕ} WORDS 0;
+        active_long = active_long;
+        top_within = omega arith;
+      };
+      ready = ready;
+      best = is (flags words) ready;
     }

@@ -173,6 +173,16 @@ impl Nvic {
         irq
     }
 
+    /// Nothing is pending or active any more. What is enabled stays so, with its priority value.
+    pub fn reset(&mut self)
+        ensures { self.new ≡ record self.old { pending = replicate IRQ_NUMBERS false; active = [] } }
+    {
+        self.pending = [0; WORDS];
+        self.top = ACTIVE;
+        self.ready = Ready::none();
+        self.best = Best::of(&self.priorities, &self.ready);
+    }
+
     /// The interrupt that was entered last, and None where none is active.
     #[inline]
     pub fn last_entered(&self) -> Option<Irq>
