@@ -33,21 +33,28 @@ impl Plan {
     }
 }
 
-/// One run, on a core of its own, which is as the given one was after reset.
-fn one_run(alloc: Global, core: &Core, irqs: &[Irq], number: u64, run: u32) -> Result<Run, NoMemory>
-    ensures run { IfOk result (λ made. made ≡ run_of core.now.image irqs.now number run) }
+/// One run, from reset, on a core that may have run before.
+fn one_run(
+    alloc: Global,
+    core: &mut Core,
+    irqs: &[Irq],
+    number: u64,
+    run: u32,
+) -> Result<Run, NoMemory>
+    ensures run { IfOk result (λ made. made ≡ run_of core.old.image irqs.now number run) }
     ensures small { IfOk result IsSmall }
+    ensures image { core.new.image ≡ core.old.image }
 {
     let script = generated(alloc, number, u64::from(run), irqs)?;
-    let mut core = core.fresh(alloc)?;
-    let summary = count_run(&mut core, &script);
+    core.reset(alloc)?;
+    let summary = count_run(core, &script);
     Ok(Run {
         number: run,
         summary,
     })
 }
 
-/// The runs from one number up to another, in order.
+/// The runs from one number up to another, in order, on one core with the image of the given one.
 fn runs_between(
     alloc: Global,
     core: &Core,
@@ -62,9 +69,10 @@ fn runs_between(
     ensures small { IfOk result (λ runs. AllByRecursion IsSmall runs.items) }
     ensures few { IfOk result (λ runs. length runs.items ≤ 10000) }
 {
+    let mut own = core.fresh(alloc)?;
     let mut runs = Vec::with_capacity(alloc, (end - first) as usize)?;
     for run in first..end {
-        runs.push(one_run(alloc, core, irqs, number, run)?)?;
+        runs.push(one_run(alloc, &mut own, irqs, number, run)?)?;
     }
     Ok(runs)
 }

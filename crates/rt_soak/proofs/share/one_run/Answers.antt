@@ -7,7 +7,7 @@ use Rattle.rt_soak.proofs.share.one_run.Goals as goal
 pub returns-clause-run : goal.returns-clause-run
 returns-clause-run c =
     run_made c.args.core.now.image _ c.args.irqs.now c.args.number c.args.run c.in_ok-script.script
-    c.count_run-summary.result c.in_ok-core.ensures.image
+    c.count_run-summary.result c.in_ok-reset.ensures.image
     (c.in_ok-script.ensures ∙ ap (generated c.args.irqs.now c.args.number) c.from.ensures)
     c.count_run-summary.ensures.counts
 
