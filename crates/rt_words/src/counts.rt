@@ -23,6 +23,10 @@ pub(crate) fn count_bits(counts: &mut [u32; COUNTS], word: u8, bits: u32)
     ensures { (irq : ℕ)
         → slice_index counts.new irq ≡ slice_index counts.old irq + cond (latches irq (Latch word bits)) 1 0 }
 {
+    // Most words that are latched are empty.
+    if bits == 0 {
+        return;
+    }
     let first = usize::from(word) * BITS;
     for bit in 0..BITS {
         if (bits >> bit) & 1 == 1 {
