@@ -1,0 +1,9 @@
+pub mod Limits
+pub mod Point
+pub mod Leading
+pub mod Level
+pub mod Stack
+pub mod Rules
+pub mod Checked
+pub mod Safe
+pub mod Laws

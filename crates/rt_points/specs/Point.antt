@@ -1,0 +1,36 @@
+-- Where code can be: at an address, for someone who runs it, with some sections open. It is what can be told of a moment
+-- without the data: an abstract state of a data flow analysis (Kildall, A Unified Approach to Global Program
+-- Optimization, 1973), as the Java verifier has one (The Java Virtual Machine Specification, section 4.10.2).
+use Rattle.std.specs.Prelude.{ℕ, List, map}
+use Rattle.rt_ids.specs.declared.ids.Section.{Section}
+
+-- whose code runs
+pub data Owner : Type 0 where
+  -- `init`
+  Starting : Owner
+  -- the thread behind `init`
+  Thread : Owner
+  -- the handler of the interrupt at this place in the table of interrupts
+  Handling : (place : ℕ) → Owner
+
+-- How an open section holds others off: by nothing; or by BASEPRI, raised to a value, or by PRIMASK, and what the mask
+-- was before is saved in a slot (ARMv7-M Architecture Reference Manual, section B1.4.3).
+pub data Kind : Type 0 where
+  Mark : Kind
+  Raise : (slot : ℕ) → (value : ℕ) → Kind
+  Mask : (slot : ℕ) → Kind
+
+-- an open section
+pub record Opened : Type 0 where
+  pub section : Section
+  pub kind : Kind
+
+pub record Point : Type 0 where
+  pub address : ℕ
+  pub owner : Owner
+  -- the open sections, innermost first
+  pub inside : List Opened
+
+-- what the open sections guard
+abbrev pub sections : List Opened → List Section
+sections inside = map (λ o. o.section) inside

@@ -1,0 +1,64 @@
+-- A safe image: whatever happens to a core that runs it, nothing traps, the stack stays in its region, sections are
+-- exclusive and none is found taken (Baker, Stack-Based Scheduling of Realtime Processes, 1991), and cells for which
+-- owners contend are touched inside their section. Who is inside what is read from what the core shows. It is said of
+-- all lists of events; no point, rule, mask or frame is named here but for the cells that are meant.
+use Rattle.std.specs.Prelude.{◌≡◌, ℕ, ◌≤◌, List, [], ◌∷◌, take, Some}
+use Rattle.std.specs.List.{AllByRecursion, Contains}
+use Rattle.rt_ids.specs.Choice.{IsIn}
+use Rattle.rt_ids.specs.Event.{Event}
+use Rattle.rt_ids.specs.declared.ids.BodyId.TheVariants as body
+use Rattle.rt_ids.specs.declared.ids.Section.{Section}
+use Rattle.rt_trace.specs.Label.{Label, Stepped}
+use Rattle.rt_trace.specs.declared.item.What.{What}
+use Rattle.rt_trace.specs.declared.item.What.TheVariants as what
+use Rattle.rt_app.specs.Tree.{App}
+use Rattle.rt_code.specs.Access.{Access, cell_of}
+use Rattle.rt_code.specs.Image.{Image}
+use Rattle.rt_core.specs.Access.{access}
+use Rattle.rt_core.specs.Core.{reset}
+use Rattle.rt_core.specs.Trace.{core_after, labels, trace, depth_after}
+use Rattle.rt_laws.specs.Properties.{Exclusive, NeverWaits}
+use Rattle.rt_laws.specs.Sight.{Seen, Sight, first_sight, sees}
+use Rattle.rt_points.specs.Rules.{IsContended}
+
+-- the item is another than a trap, which stops the core
+abbrev pub IsNoTrap : What → Type 0
+IsNoTrap (what.Trap number) = ⊥
+IsNoTrap w = Unit {0}
+
+-- What holds of one list of events: whichever application one reads priorities from, which these properties do not use.
+pub record RunsSafely (img : Image) (events : List Event) : Type 0 where
+  pub no_trap : AllByRecursion (λ item. IsNoTrap item.what) (trace img events)
+  -- the stack bytes in use are within the region at every moment
+  pub stack_within : (n : ℕ) → depth_after img (take n events) ≤ img.stack_bytes
+  -- no two jobs are inside one section
+  pub exclusive : (app : App) → Exclusive app (labels img (reset img) events)
+  -- where a section is entered no job is inside it
+  pub never_waits : (app : App) → NeverWaits app (labels img (reset img) events)
+
+-- what one sees of the jobs behind labels
+abbrev pub seen_behind : App → Sight → List Label → Sight
+seen_behind app v [] = v
+seen_behind app v (label ∷ more) = seen_behind app (sees app v label) more
+
+-- the running job is inside the section
+abbrev pub IsInside : List Seen → Section → Type 0
+IsInside [] x = ⊥
+IsInside (job ∷ others) x = IsIn job.inside x
+
+-- Behind these events, where `init` has ended: if the next step touches the cell, the running job is inside the section.
+abbrev pub TouchesInside : App → Image → ℕ → Section → List Event → Type 0
+TouchesInside app img cell x events =
+    Contains (labels img (reset img) events) (Stepped (Some (what.End body.Init)))
+    → (a : Access) → access img (core_after img (reset img) events) ≡ Some a → cell_of a ≡ cell
+    → IsInside (seen_behind app (first_sight app) (labels img (reset img) events)).jobs x
+
+-- each cell for which owners contend has one section, inside which alone it is touched outside `init`, whatever happens
+abbrev pub TouchesAreGuarded : Image → Type 0
+TouchesAreGuarded img =
+    (cell : ℕ) → IsContended img cell
+    → (x : Section) × ((app : App) (events : List Event) → TouchesInside app img cell x events)
+
+pub record IsSafe (img : Image) : Type 0 where
+  pub runs : (events : List Event) → RunsSafely img events
+  pub guarded : TouchesAreGuarded img

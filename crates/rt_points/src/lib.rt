@@ -1,0 +1,8 @@
+// Images from anywhere: the points that their code comes to, seven rules for what stands there, and what safe means.
+#![tactic(auto)]
+
+pub mod laws;
+pub mod rule;
+
+pub use laws::images_are_judged_one_way;
+pub use rule::{MOST_OPEN, Rule, STACK_BYTES};
