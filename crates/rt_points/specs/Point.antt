@@ -3,27 +3,15 @@
 -- Optimization, 1973), as the Java verifier has one (The Java Virtual Machine Specification, section 4.10.2).
 use Rattle.std.specs.Prelude.{ℕ, List, map}
 use Rattle.rt_ids.specs.declared.ids.Section.{Section}
-
--- whose code runs
-pub data Owner : Type 0 where
-  -- `init`
-  Starting : Owner
-  -- the thread behind `init`
-  Thread : Owner
-  -- the handler of the interrupt at this place in the table of interrupts
-  Handling : (place : ℕ) → Owner
-
+-- whose code runs: `init`, the thread behind it, or the handler of the interrupt at a place in the table of interrupts
+pub use Rattle.rt_points.specs.declared.point.Owner.{Owner}
+pub use Rattle.rt_points.specs.declared.point.Owner.TheVariants.{Starting, Thread, Handling}
 -- How an open section holds others off: by nothing; or by BASEPRI, raised to a value, or by PRIMASK, and what the mask
 -- was before is saved in a slot (ARMv7-M Architecture Reference Manual, section B1.4.3).
-pub data Kind : Type 0 where
-  Mark : Kind
-  Raise : (slot : ℕ) → (value : ℕ) → Kind
-  Mask : (slot : ℕ) → Kind
-
--- an open section
-pub record Opened : Type 0 where
-  pub section : Section
-  pub kind : Kind
+pub use Rattle.rt_points.specs.declared.point.Kind.{Kind}
+pub use Rattle.rt_points.specs.declared.point.Kind.TheVariants.{Mark, Raise, Mask}
+-- an open section, with its kind
+pub use Rattle.rt_points.specs.declared.point.Opened.{Opened}
 
 pub record Point : Type 0 where
   pub address : ℕ

@@ -2,7 +2,9 @@
 #![tactic(auto)]
 
 pub mod laws;
+pub mod point;
 pub mod rule;
 
 pub use laws::images_are_judged_one_way;
+pub use point::{Kind, Opened, Owner};
 pub use rule::{MOST_OPEN, Rule, STACK_BYTES};
