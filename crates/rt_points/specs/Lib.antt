@@ -5,5 +5,4 @@ pub mod Level
 pub mod Stack
 pub mod Rules
 pub mod Checked
-pub mod Safe
 pub mod Laws

@@ -1,0 +1,49 @@
+-- Which lines stand at a point of an image that keeps the rules, by what they do to the sections.
+use Rattle.std.specs.Prelude.{◌≡◌, ℕ, Bool, true, false, List, [], ◌∷◌, Option, Some, None}
+use Rattle.rt_ids.specs.declared.ids.BodyId.TheVariants as body
+use Rattle.rt_ids.specs.declared.ids.Section.{Section}
+use Rattle.rt_code.specs.declared.instr.Instr.{Instr}
+use Rattle.rt_code.specs.declared.instr.Instr.TheVariants as instr
+use Rattle.rt_code.specs.declared.instr.Note.{Note}
+use Rattle.rt_code.specs.declared.instr.Note.TheVariants as note
+use Rattle.rt_points.specs.declared.point.Kind.{Kind}
+use Rattle.rt_points.specs.declared.point.Kind.TheVariants.{Mark, Raise, Mask}
+use Rattle.rt_points.specs.declared.point.Opened.{Opened}
+use Rattle.rt_points.specs.declared.point.Owner.TheVariants.{Starting, Thread, Handling}
+use Rattle.rt_points.specs.Point.{Point}
+use Rattle.rt_points.specs.Rules.{closing, IsUnsaved, written}
+
+-- the instruction that opens a section of a kind
+abbrev pub opening : Kind → Instr
+opening Mark = instr.Mark
+opening (Raise slot value) = instr.Raise slot value
+opening (Mask slot) = instr.Mask slot
+
+-- an instruction that may be used, changes no mask, and ends no job
+abbrev pub is_simple : Instr → Bool
+is_simple (instr.LoadAt d c s) = false
+is_simple (instr.StoreAt c s a) = false
+is_simple (instr.Alarm s irq) = false
+is_simple instr.NoAlarm = false
+is_simple (instr.Raise d v) = false
+is_simple (instr.Restore s) = false
+is_simple (instr.Mask d) = false
+is_simple (instr.Unmask s) = false
+is_simple instr.Serve = false
+is_simple (instr.Call row s) = false
+is_simple instr.Back = false
+is_simple instr.Ret = false
+is_simple i = true
+
+pub data IsLine (p : Point) (i : Instr) (told : Option Note) : Type 0 where
+  -- no section opens or closes, and what open sections saved is kept
+  Simply : is_simple i ≡ true → told ≡ None → IsUnsaved p.inside (written i) → IsLine p i told
+  -- the thread begins anew
+  Anew : (to : ℕ) → i ≡ instr.Jump to → told ≡ Some (note.End body.Idle) → p.owner ≡ Thread → IsLine p i told
+  Opens : (x : Section) → (kind : Kind) → i ≡ opening kind → told ≡ Some (note.Enter x) → IsLine p i told
+  -- the innermost section closes
+  Closes : (x : Section) → (kind : Kind) → (outer : List Opened)
+      → p.inside ≡ record { section = x; kind = kind } ∷ outer → i ≡ closing kind → told ≡ Some (note.Leave x)
+      → IsLine p i told
+  EndsInit : i ≡ instr.Serve → told ≡ Some (note.End body.Init) → p.owner ≡ Starting → p.inside ≡ [] → IsLine p i told
+  Returns : (place : ℕ) → i ≡ instr.Ret → told ≡ None → p.owner ≡ Handling place → p.inside ≡ [] → IsLine p i told
