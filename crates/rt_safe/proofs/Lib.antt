@@ -6,3 +6,5 @@ pub mod Execution
 pub mod Taking
 pub mod Saving
 pub mod Advancing
+pub mod Sections
+pub mod Ending
