@@ -1,9 +1,9 @@
 -- Behind an instruction that opens and closes no section the core fits again, at the address that it leads to.
-use Rattle.std.proofs.Common.{◌≡◌, ◌≢◌, ◌⊎◌, inl, inr, ℕ, suc, ◌==◌, Bool, true, false, if◌then◌else◌, List, [], ◌∷◌, length, slice_index, slice_set, slice_get, Option, Some, None, refl, sym, ap, subst, ◌∙◌, length-set}
+use Rattle.std.proofs.Common.{◌≡◌, inl, inr, ℕ, suc, ◌==◌, Bool, true, false, if◌then◌else◌, List, ◌∷◌, length, slice_index, slice_set, slice_get, Option, Some, None, refl, sym, ap, subst, ◌∙◌, length-set}
 use Rattle.std.specs.List.{AllByRecursion}
 use Rattle.rt_ids.specs.Operation.{operate}
 use Rattle.rt_ids.specs.declared.ids.BodyId.TheVariants as body
-use Rattle.rt_code.specs.Effect.{slot, next, written, stored, done, effect}
+use Rattle.rt_code.specs.Effect.{slot, next, written, stored, done}
 use Rattle.rt_code.specs.Image.{Image}
 use Rattle.rt_code.specs.Processor.{Processor, Effect, Leads as LeadsTo}
 use Rattle.rt_code.specs.declared.instr.Instr.{Instr}
@@ -20,16 +20,13 @@ use Rattle.rt_core.specs.Priority.{pick}
 use Rattle.rt_core.specs.Stepping.{step, go_on}
 use Rattle.rt_core.proofs.Happening.{steps_by_cause}
 use Rattle.rt_points.specs.declared.point.Opened.{Opened}
-use Rattle.rt_points.specs.declared.point.Owner.{Owner}
-use Rattle.rt_points.specs.declared.point.Owner.TheVariants.{Starting}
 use Rattle.rt_points.specs.Checked.{IsChecked}
-use Rattle.rt_points.specs.Leading.{IsPoint, Leads, LeadsOn, StandsAt, owner_after, inside_after}
+use Rattle.rt_points.specs.Leading.{Leads, LeadsOn, owner_after, inside_after}
 use Rattle.rt_points.specs.Point.{Point}
 use Rattle.rt_points.specs.Rules as rules
 use Rattle.rt_safe.specs.Inside.Fits.{is_starting, base_under, Saves, Fits}
 use Rattle.rt_safe.specs.Inside.Lines.{is_simple}
 use Rattle.rt_safe.specs.Inside.Steps.{insides_of, insides_after, FindsNone, IsNoTrapShown, Steps}
-use Rattle.rt_safe.proofs.Keeping.{owner_of_simple}
 use Rattle.rt_safe.proofs.Lines.{HasLine, slots_there, cells_there}
 use Rattle.rt_safe.proofs.Saving.{saves_kept, stacked_alike}
 

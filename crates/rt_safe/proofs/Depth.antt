@@ -1,11 +1,11 @@
 -- The stack in use, and the bytes that the priority values above what runs take, are within what the stack needs: each
 -- handler has a smaller value than what it interrupted, so each value counts once.
-use Rattle.std.proofs.Common.{◌≡◌, ℕ, zero, suc, ◌+◌, ◌*◌, ◌/◌, ◌<◌, ◌≤◌, ◌==◌, ◌⊎◌, inl, inr, nat_le, max, Bool, true, false, cond, List, [], ◌∷◌, length, map, sum_by, filter, Option, Some, None, unwrap_or, option_map, slice_get, refl, sym, ap, subst, ◌∙◌, arith, eq-eqb}
+use Rattle.std.proofs.Common.{◌≡◌, ℕ, zero, suc, ◌+◌, ◌*◌, ◌/◌, ◌<◌, ◌≤◌, ◌==◌, ◌⊎◌, inl, inr, Bool, true, false, cond, List, [], ◌∷◌, length, map, sum_by, filter, Option, Some, None, unwrap_or, option_map, slice_get, refl, sym, ap, subst, ◌∙◌, arith, eq-eqb}
 use Rattle.std.specs.List.{cons_option}
 use Rattle.std.proofs.lemmas.Bool.{cases_lt, le-leb}
 use Rattle.std.proofs.lemmas.List.Sums.{sum_by-cons}
-use Rattle.std.proofs.lemmas.Option.{same_Some, none-some}
-use Rattle.rt_ids.specs.Lists.{greatest, then_from}
+use Rattle.std.proofs.lemmas.Option.{none-some}
+use Rattle.rt_ids.specs.Lists.{then_from}
 use Rattle.rt_ids.specs.declared.limits.TheConstants.{THREAD_VALUE}
 use Rattle.rt_code.specs.Image.{Image, entry_words}
 use Rattle.rt_code.specs.Stack as stack
@@ -19,7 +19,7 @@ use Rattle.rt_points.specs.Point.{Point}
 use Rattle.rt_points.specs.Leading.{handler_at}
 use Rattle.rt_points.specs.Level.{owner_value, frame_of, level_value}
 use Rattle.rt_points.specs.Stack.{handlers, frames_at, bytes_of, bytes_below, stack_need}
-use Rattle.rt_safe.specs.Inside.Fits.{base_under, IsLowest, IsIn, IsOn, IsStacked, Fits}
+use Rattle.rt_safe.specs.Inside.Fits.{IsLowest, IsStacked, Fits}
 use Rattle.rt_safe.proofs.Levels.{level_within}
 
 -- one frame more takes no less

@@ -1,5 +1,5 @@
 -- Where `init` ends the thread goes on with interrupts served; where a handler returns, what it interrupted runs on.
-use Rattle.std.proofs.Common.{◌≡◌, ◌≢◌, ℕ, suc, ◌<◌, ◌≤◌, Bool, true, false, List, [], ◌∷◌, length, Option, Some, None, refl, sym, ap, subst, ◌∙◌, arith}
+use Rattle.std.proofs.Common.{◌≡◌, ◌≢◌, ℕ, suc, false, List, [], ◌∷◌, Option, Some, None, refl, sym, ap, subst, ◌∙◌, arith}
 use Rattle.std.proofs.lemmas.Bool.{false≢true}
 use Rattle.rt_ids.specs.declared.ids.BodyId.TheVariants as body
 use Rattle.rt_code.specs.Effect.{done}
@@ -16,13 +16,12 @@ use Rattle.rt_core.specs.Outcome.{settle}
 use Rattle.rt_core.specs.Priority.{pick}
 use Rattle.rt_core.specs.Stepping.{step, go_on, with_note}
 use Rattle.rt_core.specs.Transfer.{resumed}
-use Rattle.rt_points.specs.declared.point.Owner.{Owner}
 use Rattle.rt_points.specs.declared.point.Owner.TheVariants.{Starting, Thread, Handling}
 use Rattle.rt_points.specs.Checked.{IsChecked}
 use Rattle.rt_points.specs.Leading.{IsPoint, Leads, owner_after}
-use Rattle.rt_points.specs.Level.{owner_value, frame_of, level_value}
+use Rattle.rt_points.specs.Level.{owner_value, frame_of}
 use Rattle.rt_points.specs.Point.{Point, sections}
-use Rattle.rt_safe.specs.Inside.Fits.{is_starting, base_inside, mask_inside, base_under, IsLowest, IsOn, IsStacked, Fits}
+use Rattle.rt_safe.specs.Inside.Fits.{is_starting, base_inside, mask_inside, base_under, IsLowest, IsStacked, Fits}
 use Rattle.rt_safe.specs.Inside.Steps.{insides_of, Steps}
 use Rattle.rt_safe.proofs.Advancing.{line_steps}
 use Rattle.rt_safe.proofs.Levels.{level_within, unmasked}

@@ -1,17 +1,16 @@
 -- The execution priority of a core that fits is the level value of the point at which it runs.
-use Rattle.std.proofs.Common.{◌≡◌, ℕ, ◌<◌, ◌≤◌, min, Bool, true, false, List, [], ◌∷◌, refl, sym, ap, subst, ◌∙◌, arith, Option, Some, unwrap_or, option_map}
+use Rattle.std.proofs.Common.{◌≡◌, ℕ, ◌<◌, min, Bool, false, List, [], ◌∷◌, sym, ap, ◌∙◌, arith}
 use Rattle.rt_ids.specs.declared.limits.TheConstants.{THREAD_VALUE}
 use Rattle.rt_code.specs.Image.{Image}
-use Rattle.rt_code.specs.declared.image.Handler.{Handler}
 use Rattle.rt_core.specs.Core.{Context, Core}
 use Rattle.rt_core.specs.Priority.{running_value, base_value, mask_value, execution}
 use Rattle.rt_points.specs.declared.point.Owner.{Owner}
-use Rattle.rt_points.specs.declared.point.Owner.TheVariants.{Starting, Thread, Handling}
+use Rattle.rt_points.specs.declared.point.Owner.TheVariants.{Handling}
 use Rattle.rt_points.specs.Checked.{IsChecked}
-use Rattle.rt_points.specs.Leading.{IsPoint, handler_at}
+use Rattle.rt_points.specs.Leading.{IsPoint}
 use Rattle.rt_points.specs.Level.{owner_value, level_value}
 use Rattle.rt_points.specs.Point.{Point}
-use Rattle.rt_safe.specs.Inside.Fits.{is_starting, base_inside, mask_inside, base_under, IsLowest, IsIn, IsOn, IsStacked, Fits}
+use Rattle.rt_safe.specs.Inside.Fits.{is_starting, base_inside, mask_inside, base_under, IsOn, IsStacked, Fits}
 use Rattle.rt_safe.proofs.Levels.{held_off, begun, inside_holds, unmasked, lowest_starts}
 use Rattle.rt_safe.proofs.Depth.{value_is}
 use Rattle.rt_safe.proofs.Keeping.{raised_well}

@@ -1,5 +1,5 @@
 -- What holds of the open sections of each point: by induction over the lines that lead to it.
-use Rattle.std.proofs.Common.{◌≡◌, ◌≢◌, ℕ, zero, suc, ◌<◌, ◌≤◌, true, List, [], ◌∷◌, drop, Option, Some, None, slice_get, refl, sym, ap, subst, ◌∙◌, arith}
+use Rattle.std.proofs.Common.{◌≡◌, ◌≢◌, zero, suc, ◌<◌, ◌≤◌, true, List, [], ◌∷◌, drop, Option, Some, refl, sym, ap, subst, ◌∙◌, arith}
 use Rattle.std.proofs.lemmas.Option.{same_Some, none-some}
 use Rattle.rt_ids.specs.Choice.{IsIn}
 use Rattle.rt_ids.specs.declared.ids.Section.{Section}
@@ -12,11 +12,11 @@ use Rattle.rt_points.specs.declared.point.Kind.{Kind}
 use Rattle.rt_points.specs.declared.point.Kind.TheVariants.{Mark, Raise, Mask}
 use Rattle.rt_points.specs.declared.point.Opened.{Opened}
 use Rattle.rt_points.specs.declared.point.Owner.{Owner}
-use Rattle.rt_points.specs.declared.point.Owner.TheVariants.{Starting, Thread, Handling}
+use Rattle.rt_points.specs.declared.point.Owner.TheVariants.{Starting, Handling}
 use Rattle.rt_points.specs.declared.rule.Rule.TheVariants as rule
 use Rattle.rt_points.specs.Checked.{IsChecked}
-use Rattle.rt_points.specs.Leading.{IsPoint, Begins, Enters, Leads, LeadsTo, LeadsOn, StandsAt, owner_after, kind_of, inside_after}
-use Rattle.rt_points.specs.Level.{owner_value, lowered, level_value}
+use Rattle.rt_points.specs.Leading.{IsPoint, Begins, Enters, Leads, StandsAt, owner_after, kind_of, inside_after}
+use Rattle.rt_points.specs.Level.{owner_value, level_value}
 use Rattle.rt_points.specs.Point.{Point, sections}
 use Rattle.rt_points.specs.Rules.{closing, EntersAt}
 use Rattle.rt_safe.specs.Inside.Lines.{opening, is_simple, IsLine, Simply, Anew, Opens, Closes, EndsInit, Returns}

@@ -1,18 +1,16 @@
 -- The execution priority of the core is the level value of the point at which it runs.
-use Rattle.std.proofs.Common.{◌≡◌, ℕ, ◌<◌, ◌≤◌, ◌==◌, min, Bool, true, false, if◌then◌else◌, List, [], ◌∷◌, refl, sym, ap, subst, ◌∙◌, arith}
+use Rattle.std.proofs.Common.{◌≡◌, ℕ, ◌<◌, ◌≤◌, ◌==◌, min, Bool, true, false, if◌then◌else◌, List, [], ◌∷◌, refl, sym, ap, ◌∙◌, arith}
 use Rattle.std.proofs.lemmas.Bool.{eqb-true}
 use Rattle.rt_ids.specs.declared.limits.TheConstants.{THREAD_VALUE}
 use Rattle.rt_code.specs.Image.{Image}
-use Rattle.rt_core.specs.Core.{Context, Core}
-use Rattle.rt_core.specs.Priority.{running_value, base_value, mask_value, execution}
+use Rattle.rt_core.specs.Priority.{base_value, mask_value}
 use Rattle.rt_points.specs.declared.point.Kind.{Kind}
 use Rattle.rt_points.specs.declared.point.Kind.TheVariants.{Mark, Raise, Mask}
 use Rattle.rt_points.specs.declared.point.Opened.{Opened}
 use Rattle.rt_points.specs.declared.point.Owner.{Owner}
 use Rattle.rt_points.specs.declared.point.Owner.TheVariants.{Starting, Thread, Handling}
-use Rattle.rt_points.specs.Point.{Point}
 use Rattle.rt_points.specs.Level.{owner_value, lowered, level_value}
-use Rattle.rt_safe.specs.Inside.Fits.{is_starting, base_by, mask_by, base_inside, mask_inside, base_under, IsLowest, IsIn, IsOn, IsStacked, Fits}
+use Rattle.rt_safe.specs.Inside.Fits.{is_starting, base_by, mask_by, base_inside, mask_inside, IsLowest}
 
 -- the three masks together
 unfoldable pub held_off : ℕ → ℕ → Bool → ℕ

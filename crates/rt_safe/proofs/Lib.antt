@@ -8,3 +8,8 @@ pub mod Saving
 pub mod Advancing
 pub mod Sections
 pub mod Ending
+pub mod Apart
+pub mod Stepping
+pub mod Seeing
+pub mod Running
+pub mod Safe

@@ -1,8 +1,7 @@
 -- What open sections saved is kept where other slots are written; and who is interrupted stays so whatever the running
 -- one's address and sections are.
-use Rattle.std.proofs.Common.{◌≡◌, ℕ, ◌<◌, Bool, List, [], ◌∷◌, length, slice_set, slice_index, refl, sym, ap, subst, ◌∙◌, arith, length-set, get_or-set_other}
+use Rattle.std.proofs.Common.{◌≡◌, ℕ, Bool, List, [], ◌∷◌, slice_set, sym, subst, ◌∙◌, arith, length-set, get_or-set_other}
 use Rattle.std.specs.List.{AllByRecursion}
-use Rattle.rt_ids.specs.Operation.{number_of}
 use Rattle.rt_code.specs.Image.{Image}
 use Rattle.rt_core.specs.Core.{Context}
 use Rattle.rt_points.specs.declared.point.Kind.{Kind}
@@ -10,7 +9,7 @@ use Rattle.rt_points.specs.declared.point.Kind.TheVariants.{Mark, Raise, Mask}
 use Rattle.rt_points.specs.declared.point.Opened.{Opened}
 use Rattle.rt_points.specs.Point.{Point}
 use Rattle.rt_points.specs.Rules as rules
-use Rattle.rt_safe.specs.Inside.Fits.{base_inside, mask_inside, SavesBy, Saves, IsLowest, IsOn, IsStacked}
+use Rattle.rt_safe.specs.Inside.Fits.{base_inside, mask_inside, SavesBy, Saves, IsLowest, IsStacked}
 
 -- the slot of no open section is written
 pub saves_kept : (slots : List ℕ) (d v : ℕ) (inside : List Opened) (base : ℕ) (mask : Bool)

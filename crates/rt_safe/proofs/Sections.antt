@@ -1,8 +1,7 @@
 -- Where a section opens or closes the core fits again: its mask is set, and what it was is saved; or it is put back.
-use Rattle.std.proofs.Common.{◌≡◌, ◌≢◌, ℕ, suc, ◌<◌, ◌≤◌, ◌==◌, nat_le, Bool, true, false, if◌then◌else◌, List, [], ◌∷◌, drop, length, slice_index, slice_set, Option, Some, None, refl, sym, ap, subst, ◌∙◌, arith, length-set, get_or-set_same}
+use Rattle.std.proofs.Common.{◌≡◌, ℕ, suc, ◌<◌, ◌≤◌, ◌==◌, Bool, true, false, if◌then◌else◌, List, ◌∷◌, drop, length, Option, Some, None, refl, sym, ap, subst, ◌∙◌, arith, length-set, get_or-set_same}
 use Rattle.std.specs.List.{AllByRecursion}
 use Rattle.std.proofs.lemmas.Bool.{le-leb}
-use Rattle.rt_ids.specs.Choice.{IsIn}
 use Rattle.rt_ids.specs.Operation.{number_of}
 use Rattle.rt_ids.specs.declared.ids.BodyId.TheVariants as body
 use Rattle.rt_ids.specs.declared.ids.Section.{Section}
@@ -11,25 +10,22 @@ use Rattle.rt_code.specs.Image.{Image}
 use Rattle.rt_code.specs.Operands.{slots_of}
 use Rattle.rt_code.specs.Processor.{Processor, Traps, Leads as LeadsTo}
 use Rattle.rt_code.specs.declared.instr.Instr.{Instr}
-use Rattle.rt_code.specs.declared.instr.Instr.TheVariants as instr
 use Rattle.rt_code.specs.declared.instr.Note.{Note}
 use Rattle.rt_code.specs.declared.instr.Note.TheVariants as note
 use Rattle.rt_code.specs.declared.processor.Request.TheVariants as request
 use Rattle.rt_code.specs.declared.processor.Trap.TheVariants as trap
 use Rattle.rt_trace.specs.declared.item.What.TheVariants as what
-use Rattle.rt_core.specs.Core.{Context, Core}
+use Rattle.rt_core.specs.Core.{Core}
 use Rattle.rt_core.specs.Leading.{with_processor}
 use Rattle.rt_core.specs.Note.{left_value}
 use Rattle.rt_core.specs.Outcome.{settle}
 use Rattle.rt_core.specs.Priority.{pick}
-use Rattle.rt_core.specs.Stepping.{step, go_on}
+use Rattle.rt_core.specs.Stepping.{go_on}
 use Rattle.rt_points.specs.declared.point.Kind.{Kind}
 use Rattle.rt_points.specs.declared.point.Kind.TheVariants.{Mark, Raise, Mask}
 use Rattle.rt_points.specs.declared.point.Opened.{Opened}
-use Rattle.rt_points.specs.declared.point.Owner.TheVariants.{Starting}
-use Rattle.rt_points.specs.declared.rule.Rule.TheVariants as rule
 use Rattle.rt_points.specs.Checked.{IsChecked}
-use Rattle.rt_points.specs.Leading.{IsPoint, Leads, LeadsOn, StandsAt, owner_after, kind_of, inside_after}
+use Rattle.rt_points.specs.Leading.{IsPoint, Leads, LeadsOn}
 use Rattle.rt_points.specs.Level.{frame_of}
 use Rattle.rt_points.specs.Point.{Point, sections}
 use Rattle.rt_points.specs.Rules as rules

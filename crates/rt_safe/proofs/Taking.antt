@@ -1,31 +1,29 @@
 -- Where an interrupt is taken, the core fits again: its handler runs at its entry, on what it interrupted.
-use Rattle.std.proofs.Common.{◌≡◌, ◌≢◌, ℕ, ◌+◌, ◌<◌, ◌≤◌, min, nat_lt, Bool, true, false, if◌then◌else◌, List, [], ◌∷◌, length, replicate, slice_get, slice_index_or, Option, Some, None, refl, sym, ap, subst, ◌∙◌, arith}
+use Rattle.std.proofs.Common.{◌≡◌, ◌≢◌, ℕ, ◌<◌, ◌≤◌, min, nat_lt, Bool, true, false, if◌then◌else◌, List, ◌∷◌, slice_index_or, Option, Some, None, refl, sym, ap, ◌∙◌, arith}
 use Rattle.std.proofs.lemmas.Bool.{false≢true}
 use Rattle.std.proofs.lemmas.Bool.Decides.{nat_tests}
 use Rattle.std.proofs.lemmas.List.{length-replicate}
 use Rattle.rt_lemmas.proofs.Bools.{and_parts}
 use Rattle.rt_ids.specs.Choice.{IsIn}
 use Rattle.rt_ids.specs.Lists.{then_from}
-use Rattle.rt_code.specs.Image.{Image, entry_words}
+use Rattle.rt_code.specs.Image.{Image}
 use Rattle.rt_code.specs.declared.image.Handler.{Handler}
 use Rattle.rt_code.specs.declared.image.IrqRow.{IrqRow}
 use Rattle.rt_code.specs.declared.processor.Trap.TheVariants as trap
 use Rattle.rt_trace.specs.declared.item.What.TheVariants as what
 use Rattle.rt_core.specs.Core.{Core, depth}
-use Rattle.rt_core.specs.Outcome.{Outcome, Trapped, Done, settle}
+use Rattle.rt_core.specs.Outcome.{Trapped, Done, settle}
 use Rattle.rt_core.specs.Priority.{running_value, base_value, mask_value, value_or_none, execution, can_preempt, pick}
-use Rattle.rt_core.specs.Stepping.{step}
-use Rattle.rt_core.specs.Transfer.{has_room, entered, enter}
+use Rattle.rt_core.specs.Transfer.{entered, enter}
 use Rattle.rt_core.proofs.Happening.{steps_by_cause}
 use Rattle.rt_core.proofs.Picking.{picked_row}
-use Rattle.rt_points.specs.declared.point.Owner.{Owner}
-use Rattle.rt_points.specs.declared.point.Owner.TheVariants.{Starting, Thread, Handling}
+use Rattle.rt_points.specs.declared.point.Owner.TheVariants.{Starting, Handling}
 use Rattle.rt_points.specs.declared.rule.Rule.TheVariants as rule
 use Rattle.rt_points.specs.Checked.{IsChecked}
-use Rattle.rt_points.specs.Leading.{IsPoint, Enters, handler_at, starts_at}
-use Rattle.rt_points.specs.Level.{frame_of, level_value}
+use Rattle.rt_points.specs.Leading.{Enters, handler_at, starts_at}
+use Rattle.rt_points.specs.Level.{level_value}
 use Rattle.rt_points.specs.Point.{Point}
-use Rattle.rt_safe.specs.Inside.Fits.{is_starting, IsIn as IsAt, IsOn, Fits}
+use Rattle.rt_safe.specs.Inside.Fits.{is_starting, Fits}
 use Rattle.rt_safe.specs.Inside.Steps.{Steps}
 use Rattle.rt_safe.proofs.Depth.{frame_is, room_above}
 use Rattle.rt_safe.proofs.Execution.{execution_is}

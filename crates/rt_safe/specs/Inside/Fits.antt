@@ -9,7 +9,7 @@ use Rattle.rt_points.specs.declared.point.Kind.{Kind}
 use Rattle.rt_points.specs.declared.point.Kind.TheVariants.{Mark, Raise, Mask}
 use Rattle.rt_points.specs.declared.point.Opened.{Opened}
 use Rattle.rt_points.specs.declared.point.Owner.{Owner}
-use Rattle.rt_points.specs.declared.point.Owner.TheVariants.{Starting, Thread, Handling}
+use Rattle.rt_points.specs.declared.point.Owner.TheVariants.{Starting, Handling}
 use Rattle.rt_points.specs.Point.{Point}
 use Rattle.rt_points.specs.Leading.{handler_at, IsPoint}
 use Rattle.rt_points.specs.Level.{level_value, frame_of}
