@@ -1,4 +1,4 @@
-// Images from anywhere: the points that their code comes to, seven rules for what stands there, and what safe means.
+// Images from anywhere: the points that their code comes to, and seven rules for what stands there.
 #![tactic(auto)]
 
 pub mod laws;

@@ -1,5 +1,7 @@
 -- Behind an instruction that opens and closes no section the core fits again, at the address that it leads to.
-use Rattle.std.proofs.Common.{◌≡◌, inl, inr, ℕ, suc, ◌==◌, Bool, true, false, if◌then◌else◌, List, ◌∷◌, length, slice_index, slice_set, slice_get, Option, Some, None, refl, sym, ap, subst, ◌∙◌, length-set}
+use Rattle.std.proofs.Common.{◌≡◌, inl, inr, ℕ, suc, ◌==◌, Bool, true, false, if◌then◌else◌, List, ◌∷◌, length}
+use Rattle.std.proofs.Common.{slice_index, slice_set, slice_get, Option, Some, None, refl, sym, ap, subst, ◌∙◌}
+use Rattle.std.proofs.Common.{length-set}
 use Rattle.std.specs.List.{AllByRecursion}
 use Rattle.rt_ids.specs.Operation.{operate}
 use Rattle.rt_ids.specs.declared.ids.BodyId.TheVariants as body
@@ -40,7 +42,8 @@ IsSilent (Some (what.End body.Idle)) = Unit {0}
 IsSilent shown = ⊥
 
 -- what an effect leads to on a core, where these sections are open
-pub record Advances (img : Image) (c : Core) (inside : List Opened) (i : Instr) (told : Option Note) (e : Effect) : Type 0 where
+pub record Advances (img : Image) (c : Core) (inside : List Opened) (i : Instr) (told : Option Note) (e : Effect)
+    : Type 0 where
   pub after : Processor
   pub pending : List Bool
   pub shown : Option What
@@ -74,7 +77,8 @@ module _ (img : Image) (c : Core) (inside : List Opened) where
   }
 
   -- a cell is written
-  stores : (i : Instr) (n v : ℕ) (e : Effect) → settle (go_on img c None e) ≡ (record c { processor = stored c.processor n v }, None)
+  stores : (i : Instr) (n v : ℕ) (e : Effect)
+      → settle (go_on img c None e) ≡ (record c { processor = stored c.processor n v }, None)
       → LeadsOn i c.processor.address (suc c.processor.address) → Advances img c inside i None e
   stores i n v e is to = record {
     after = stored c.processor n v;
@@ -121,14 +125,17 @@ module _ (img : Image) (c : Core) (inside : List Opened) where
   simply (instr.Copy d s) simple free = writes (instr.Copy d s) d (slot c.processor s) _ None refl refl tt free
   simply (instr.Calc op d a b) simple free =
       writes (instr.Calc op d a b) d (operate op (slot c.processor a) (slot c.processor b)) _ None refl refl tt free
-  simply (instr.Load d n) simple free = writes (instr.Load d n) d (slice_index c.processor.cells n) _ None refl refl tt free
+  simply (instr.Load d n) simple free =
+      writes (instr.Load d n) d (slice_index c.processor.cells n) _ None refl refl tt free
   simply (instr.Store n s) simple free = stores (instr.Store n s) n (slot c.processor s) _ refl refl
   simply (instr.Jump l) simple free = goes (instr.Jump l) None l c.pending _ None refl refl tt
   simply (instr.JumpZ s l) simple free = jumps s l (slot c.processor s == 0)
   simply (instr.Emit s) simple free =
-      goes (instr.Emit s) None (suc c.processor.address) c.pending _ (Some (what.Emit (slot c.processor s))) refl refl tt
+      goes (instr.Emit s) None (suc c.processor.address) c.pending _
+      (Some (what.Emit (slot c.processor s))) refl refl tt
   simply (instr.Post irq) simple free =
-      goes (instr.Post irq) None (suc c.processor.address) (slice_set c.pending irq true) _ (Some (what.Post irq)) refl refl tt
+      goes (instr.Post irq) None (suc c.processor.address) (slice_set c.pending irq true) _
+      (Some (what.Post irq)) refl refl tt
   simply (instr.Clock d) simple free = writes (instr.Clock d) d c.time _ (Some (what.Clock c.time)) refl refl tt free
   simply instr.Mark simple free = goes instr.Mark None (suc c.processor.address) c.pending _ None refl refl tt
   simply instr.Wait simple free = goes instr.Wait None c.processor.address c.pending _ None refl refl tt
@@ -140,7 +147,8 @@ module _ (img : Image) (c : Core) (inside : List Opened) where
       goes (instr.Jump to) (Some (note.End body.Idle)) to c.pending _ (Some (what.End body.Idle)) refl refl tt
 
 -- what a silent item tells
-silent_insides : (shown : Option What) → IsSilent shown → (ps : List Point) → insides_after shown (insides_of ps) ≡ insides_of ps
+silent_insides : (shown : Option What) → IsSilent shown → (ps : List Point)
+    → insides_after shown (insides_of ps) ≡ insides_of ps
 silent_insides None is ps = refl
 silent_insides (Some (what.Emit value)) is ps = refl
 silent_insides (Some (what.Post irq)) is ps = refl
@@ -169,7 +177,7 @@ no_end shown is end = subst IsSilent end is
 
 module _ (img : Image) (checked : IsChecked img) (c : Core) (p : Point) (qs : List Point) (fits : Fits img c p qs) where
   -- the step of a line that stands at the point, where no interrupt is taken
-  pub line_steps : (line : HasLine img checked p) → pick img c ≡ None
+  pub line_steps : (line : HasLine img p) → pick img c ≡ None
       → step img c ≡ settle (go_on img c line.told (done line.instr c.time c.processor))
   line_steps line picked =
       let i : Instr = line.instr in
@@ -180,7 +188,7 @@ module _ (img : Image) (checked : IsChecked img) (c : Core) (p : Point) (qs : Li
       (ap (slice_get img.code) fits.address ∙ line.stands.1)
       ∙ ap (λ e. settle (go_on img c line.told e)) (effect_is_done i c.time c.processor cells slots)
 
-  module _ (line : HasLine img checked p) (picked : pick img c ≡ None)
+  module _ (line : HasLine img p) (picked : pick img c ≡ None)
       (one : Advances img c p.inside line.instr line.told (done line.instr c.time c.processor))
       (owner : owner_after line.instr p.owner ≡ p.owner)
       (inside : inside_after line.instr line.told p.inside ≡ p.inside) where

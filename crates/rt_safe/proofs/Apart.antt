@@ -1,5 +1,6 @@
 -- Where a core fits no two jobs are inside one section, and who enters one finds nobody inside it.
-use Rattle.std.proofs.Common.{◌≡◌, ◌≢◌, ℕ, zero, suc, ◌<◌, List, [], ◌∷◌, slice_get, Some, refl, sym, ap, subst, ◌∙◌, arith}
+use Rattle.std.proofs.Common.{◌≡◌, ◌≢◌, ℕ, zero, suc, ◌<◌, List, [], ◌∷◌, slice_get, Some, refl, sym, ap, subst, ◌∙◌}
+use Rattle.std.proofs.Common.{arith}
 use Rattle.std.specs.List.{AllByRecursion}
 use Rattle.std.proofs.lemmas.Bool.{false≢true}
 use Rattle.std.proofs.lemmas.Option.{same_Some, none-some}
@@ -27,7 +28,8 @@ use Rattle.rt_safe.proofs.Levels.{level_within}
 -- no section is open in two of these
 abbrev pub AreApart : List (List Section) → Type 0
 AreApart insides =
-    (i j : ℕ) (a b : List Section) (x : Section) → slice_get insides i ≡ Some a → slice_get insides j ≡ Some b → IsIn a x
+    (i j : ℕ) (a b : List Section) (x : Section) → slice_get insides i ≡ Some a → slice_get insides j ≡ Some b
+    → IsIn a x
     → IsIn b x → i ≡ j
 
 -- of those that are open in the first none is open in the second
@@ -51,6 +53,15 @@ module _ (img : Image) where
   pub not_init : (p q : Point) (base : ℕ) (x : Context) → IsOn img p q base x → p.owner ≢ Starting
   not_init p q base x on starting = absurd (false≢true (ap is_starting (sym on.handles ∙ starting)))
 
+  -- `init` has interrupted nobody
+  pub alone_in_init : (p : Point) (qs : List Point) (below : List Context) → p.owner ≡ Starting
+      → IsStacked img p qs below
+      → qs ≡ []
+  alone_in_init p [] below starting stacked = refl
+  alone_in_init p (q ∷ qs) [] starting stacked = absurd stacked
+  alone_in_init p (q ∷ qs) (x ∷ below) starting stacked =
+      absurd (not_init p q (base_under qs) x stacked.0 starting)
+
   -- those that were interrupted are at points
   all_points : (p : Point) (qs : List Point) (below : List Context) → IsStacked img p qs below
       → AllByRecursion (IsPoint img) qs
@@ -70,14 +81,12 @@ module _ (img : Image) where
       let here : owner_value img p.owner < level_value img q.owner q.inside = omega (arith, value, on.above) in (
         here,
         all_weaker (λ r. owner_value img q.owner < level_value img r.owner r.inside)
-            (λ r. owner_value img p.owner < level_value img r.owner r.inside) (λ r less. omega (arith, here, within, less)) qs
+            (λ r. owner_value img p.owner < level_value img r.owner r.inside)
+            (λ r less. omega (arith, here, within, less)) qs
             (all_above q qs below stacked.1),
       )
 
-  -- at a point, above which someone is
-  IsUnder : Point → Point → Type 0
-  IsUnder p q = IsPoint img q × (owner_value img p.owner < level_value img q.owner q.inside)
-
+  -- both
   all_under : (p : Point) (qs : List Point) (below : List Context) → IsStacked img p qs below
       → AllByRecursion (λ q. IsPoint img q × (owner_value img p.owner < level_value img q.owner q.inside)) qs
   all_under p qs below stacked =
@@ -92,8 +101,9 @@ module _ (img : Image) (checked : IsChecked img) where
   apart_of p (q ∷ qs) (x ∷ below) at stacked =
       more_apart (sections p.inside) (insides_of (q ∷ qs))
       (all_map (λ r. sections r.inside) _ (IsApart (sections p.inside))
-      (λ r under y mine theirs. are_apart img checked p r y at under.0 (not_init img p q (base_under qs) x stacked.0) under.1
-      mine theirs) (q ∷ qs) (all_under img p (q ∷ qs) (x ∷ below) stacked))
+      (λ r under y mine theirs.
+      are_apart img checked p r y at under.0 (not_init img p q (base_under qs) x stacked.0) under.1 mine theirs)
+      (q ∷ qs) (all_under img p (q ∷ qs) (x ∷ below) stacked))
       (apart_of q qs below stacked.0.interrupted.point stacked.1)
 
   pub finds_none : (p : Point) (qs : List Point) (below : List Context) (i : Instr) (x : Section) → EntersAt img p i x
@@ -103,6 +113,7 @@ module _ (img : Image) (checked : IsChecked img) where
   finds_none p (q ∷ qs) (y ∷ below) i x enters stacked = (
     (checked rule.Ceilings p i x enters).free,
     all_map (λ r. sections r.inside) _ (λ inside. ¬ IsIn inside x)
-        (λ r under theirs. enters_apart img checked p r x i enters under.0 (not_init img p q (base_under qs) y stacked.0) under.1
-        theirs) (q ∷ qs) (all_under img p (q ∷ qs) (y ∷ below) stacked),
+        (λ r under theirs.
+        enters_apart img checked p r x i enters under.0 (not_init img p q (base_under qs) y stacked.0) under.1 theirs)
+        (q ∷ qs) (all_under img p (q ∷ qs) (y ∷ below) stacked),
   )

@@ -1,6 +1,8 @@
 -- The stack in use, and the bytes that the priority values above what runs take, are within what the stack needs: each
 -- handler has a smaller value than what it interrupted, so each value counts once.
-use Rattle.std.proofs.Common.{◌≡◌, ℕ, zero, suc, ◌+◌, ◌*◌, ◌/◌, ◌<◌, ◌≤◌, ◌==◌, ◌⊎◌, inl, inr, Bool, true, false, cond, List, [], ◌∷◌, length, map, sum_by, filter, Option, Some, None, unwrap_or, option_map, slice_get, refl, sym, ap, subst, ◌∙◌, arith, eq-eqb}
+use Rattle.std.proofs.Common.{◌≡◌, ℕ, zero, suc, ◌+◌, ◌*◌, ◌/◌, ◌<◌, ◌≤◌, ◌==◌, ◌⊎◌, inl, inr, Bool, true, false, cond}
+use Rattle.std.proofs.Common.{List, [], ◌∷◌, length, map, sum_by, filter, Option, Some, None, unwrap_or, option_map}
+use Rattle.std.proofs.Common.{slice_get, refl, sym, ap, subst, ◌∙◌, arith, eq-eqb}
 use Rattle.std.specs.List.{cons_option}
 use Rattle.std.proofs.lemmas.Bool.{cases_lt, le-leb}
 use Rattle.std.proofs.lemmas.List.Sums.{sum_by-cons}
@@ -28,30 +30,37 @@ more_bytes entry frame [] = omega arith
 more_bytes entry frame (g ∷ frames) = omega arith
 
 module _ (entry value : ℕ) where
+  abbrev having_value : List Handler → List Handler
+  having_value hs = filter (λ h. h.value == value) hs
+
   abbrev taken : List Handler → ℕ
-  taken hs = bytes_of entry (map (λ h. h.frame) (filter (λ h. h.value == value) hs))
+  taken hs = bytes_of entry (map (λ h. h.frame) (having_value hs))
 
   first_counts : (h : Handler) (hs : List Handler) → h.value ≡ value → 4 * (entry + h.frame) ≤ taken (h ∷ hs)
   first_counts h hs is = by (h.value == value) (eq-eqb h.value value is)
     where
       by : (b : Bool) → b ≡ true
-          → 4 * (entry + h.frame) ≤ bytes_of entry (map (λ h. h.frame) (cond b (h ∷ filter (λ h. h.value == value) hs) (filter (λ h. h.value == value) hs)))
+          → 4 * (entry + h.frame)
+          ≤ bytes_of entry (map (λ h. h.frame) (cond b (h ∷ having_value hs) (having_value hs)))
       by true at = omega arith
       by false at = absurd (cc)
 
   more_count : (h : Handler) (hs : List Handler) → taken hs ≤ taken (h ∷ hs)
   more_count h hs = by (h.value == value)
     where
-      by : (b : Bool) → taken hs ≤ bytes_of entry (map (λ h. h.frame) (cond b (h ∷ filter (λ h. h.value == value) hs) (filter (λ h. h.value == value) hs)))
-      by true = more_bytes entry h.frame (map (λ h. h.frame) (filter (λ h. h.value == value) hs))
+      by : (b : Bool)
+          → taken hs ≤ bytes_of entry (map (λ h. h.frame) (cond b (h ∷ having_value hs) (having_value hs)))
+      by true = more_bytes entry h.frame (map (λ h. h.frame) (having_value hs))
       by false = omega arith
 
   -- the frame of each handler of the value counts
-  row_counts : (irqs : List IrqRow) (place : ℕ) (h : Handler) → then_from (slice_get irqs place) (λ row. row.handler) ≡ Some h
+  row_counts : (irqs : List IrqRow) (place : ℕ) (h : Handler)
+      → then_from (slice_get irqs place) (λ row. row.handler) ≡ Some h
       → h.value ≡ value → 4 * (entry + h.frame) ≤ taken (handlers irqs)
   row_counts [] place h at is = absurd (none-some h at)
   row_counts (row ∷ irqs) zero h at is =
-      subst (λ o. 4 * (entry + h.frame) ≤ taken (cons_option o (handlers irqs))) (sym at) (first_counts h (handlers irqs) is)
+      subst (λ o. 4 * (entry + h.frame) ≤ taken (cons_option o (handlers irqs))) (sym at)
+      (first_counts h (handlers irqs) is)
   row_counts (row ∷ irqs) (suc place) h at is = by row.handler (row_counts irqs place h at is)
     where
       by : (o : Option Handler) → 4 * (entry + h.frame) ≤ taken (handlers irqs)
@@ -60,7 +69,8 @@ module _ (entry value : ℕ) where
       by (Some g) before = let more = more_count g (handlers irqs) in omega (arith, before, more)
 
 module _ (img : Image) where
-  value_counts : (value : ℕ) → bytes_below img (suc value) ≡ bytes_below img value + bytes_of (entry_words img) (frames_at img value)
+  value_counts : (value : ℕ) → bytes_below img (suc value)
+      ≡ bytes_below img value + bytes_of (entry_words img) (frames_at img value)
   unfolding bytes_below
   value_counts value = refl
 
@@ -83,7 +93,8 @@ module _ (img : Image) where
   handler_counts : (place : ℕ) (h : Handler) → handler_at img place ≡ Some h
       → bytes_below img h.value + 4 * (entry_words img + h.frame) ≤ bytes_below img (suc h.value)
   handler_counts place h is =
-      let one = row_counts (entry_words img) h.value img.irqs place h is refl in omega (arith, one, value_counts h.value)
+      let one = row_counts (entry_words img) h.value img.irqs place h is refl in
+      omega (arith, one, value_counts h.value)
 
   abbrev used_by : ℕ → List Context → ℕ
   used_by frame below = frame + sum_by (context_words (entry_words img)) below
@@ -95,7 +106,8 @@ module _ (img : Image) where
   over place h level words is less room =
       omega (arith, room, handler_counts place h is, bytes_rise (suc h.value) level less)
 
-  lowest_within : (owner : Owner) → IsLowest owner → 4 * frame_of img owner + bytes_below img (owner_value img owner) ≤ stack_need img
+  lowest_within : (owner : Owner) → IsLowest owner
+      → 4 * frame_of img owner + bytes_below img (owner_value img owner) ≤ stack_need img
   lowest_within Starting is = omega (arith, none_counts)
   lowest_within Thread is = omega arith
   lowest_within (Handling place) is = absurd is
@@ -124,7 +136,8 @@ module _ (img : Image) where
       let none : length (stack.words_of x.caller) ≡ 0 = ap (λ o. length (stack.words_of o)) on.caller in
       let less = level_within img q.owner q.inside in
       let more = over on.place on.handler (owner_value img q.owner)
-      (length x.slots + sum_by (context_words (entry_words img)) below) on.enabled (omega (arith, on.above, less)) before in
+      (length x.slots + sum_by (context_words (entry_words img)) below) on.enabled
+      (omega (arith, on.above, less)) before in
       let same : bytes_below img (owner_value img p.owner) ≡ bytes_below img on.handler.value =
       ap (bytes_below img) value in
       omega (arith, more, same, own, none, sum_by-cons (context_words (entry_words img)) x below)

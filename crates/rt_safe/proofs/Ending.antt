@@ -1,5 +1,6 @@
 -- Where `init` ends the thread goes on with interrupts served; where a handler returns, what it interrupted runs on.
-use Rattle.std.proofs.Common.{◌≡◌, ◌≢◌, ℕ, suc, false, List, [], ◌∷◌, Option, Some, None, refl, sym, ap, subst, ◌∙◌, arith}
+use Rattle.std.proofs.Common.{◌≡◌, ◌≢◌, ℕ, suc, false, List, [], ◌∷◌, Option, Some, None, refl, sym, ap, subst, ◌∙◌}
+use Rattle.std.proofs.Common.{arith}
 use Rattle.std.proofs.lemmas.Bool.{false≢true}
 use Rattle.rt_ids.specs.declared.ids.BodyId.TheVariants as body
 use Rattle.rt_code.specs.Effect.{done}
@@ -31,8 +32,8 @@ thread_differs : Thread ≢ Starting
 thread_differs same = false≢true (ap is_starting same)
 
 -- `init` interrupted nobody, and so does the thread behind it
-on_thread : (img : Image) (p r : Point) → p.owner ≡ Starting → r.owner ≡ Thread → (qs : List Point) (below : List Context)
-    → IsStacked img p qs below → IsStacked img r qs below
+on_thread : (img : Image) (p r : Point) → p.owner ≡ Starting → r.owner ≡ Thread
+    → (qs : List Point) (below : List Context) → IsStacked img p qs below → IsStacked img r qs below
 on_thread img p r starting thread [] [] stacked = subst IsLowest (sym thread) tt
 on_thread img p r starting thread [] (x ∷ below) stacked = absurd stacked
 on_thread img p r starting thread (q ∷ qs) [] stacked = absurd stacked
@@ -40,8 +41,9 @@ on_thread img p r starting thread (q ∷ qs) (x ∷ below) stacked =
     absurd (false≢true (ap is_starting (sym stacked.0.handles ∙ starting)))
 
 module _ (img : Image) (checked : IsChecked img) (c : Core) (p : Point) (qs : List Point) (fits : Fits img c p qs)
-    (line : HasLine img checked p) (picked : pick img c ≡ None) where
-  module _ (is : line.instr ≡ instr.Serve) (tells : line.told ≡ Some (note.End body.Init)) (starting : p.owner ≡ Starting)
+    (line : HasLine img p) (picked : pick img c ≡ None) where
+  module _ (is : line.instr ≡ instr.Serve) (tells : line.told ≡ Some (note.End body.Init))
+      (starting : p.owner ≡ Starting)
       (none : p.inside ≡ []) where
     abbrev thread : Point
     thread = record { address = suc p.address; owner = Thread; inside = [] }

@@ -33,7 +33,8 @@ module _ (img : Image) where
 
 module _ (img : Image) (checked : IsChecked img) where
   masks_are : (p : Point) (qs : List Point) (below : List Context) → IsPoint img p → IsStacked img p qs below
-      → held_off (running_value below) (base_inside p.inside (base_under qs)) (mask_inside p.inside (is_starting p.owner))
+      → held_off (running_value below) (base_inside p.inside (base_under qs))
+      (mask_inside p.inside (is_starting p.owner))
       ≡ level_value img p.owner p.inside
   masks_are p [] [] at stacked =
       inside_holds img THREAD_VALUE 0 (is_starting p.owner) p.owner p.inside (raised_well img checked p at)
@@ -46,7 +47,8 @@ module _ (img : Image) (checked : IsChecked img) where
       unmasked img q.owner q.inside (omega (arith, on.above)) in
       let start : held_off on.handler.value (base_under (q ∷ qs)) false ≡ on.handler.value =
       begins_on img (running_value below) on.handler.value (base_under (q ∷ qs)) (level_value img q.owner q.inside)
-      (mask_inside q.inside (is_starting q.owner)) (masks_are q qs below on.interrupted.point stacked.1) on.above clear in
+      (mask_inside q.inside (is_starting q.owner))
+      (masks_are q qs below on.interrupted.point stacked.1) on.above clear in
       let begins : held_off x.value (base_under (q ∷ qs)) (is_starting p.owner) ≡ owner_value img p.owner =
       ap (λ v. held_off v (base_under (q ∷ qs)) (is_starting p.owner)) on.value
       ∙ ap (held_off on.handler.value (base_under (q ∷ qs))) (not_starting img p.owner on.place on.handles)

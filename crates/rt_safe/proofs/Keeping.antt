@@ -1,5 +1,6 @@
 -- What holds of the open sections of each point: by induction over the lines that lead to it.
-use Rattle.std.proofs.Common.{◌≡◌, ◌≢◌, zero, suc, ◌<◌, ◌≤◌, true, List, [], ◌∷◌, drop, Option, Some, refl, sym, ap, subst, ◌∙◌, arith}
+use Rattle.std.proofs.Common.{◌≡◌, ◌≢◌, zero, suc, ◌<◌, ◌≤◌, true, List, [], ◌∷◌, drop, Option, Some, refl, sym, ap}
+use Rattle.std.proofs.Common.{subst, ◌∙◌, arith}
 use Rattle.std.proofs.lemmas.Option.{same_Some, none-some}
 use Rattle.rt_ids.specs.Choice.{IsIn}
 use Rattle.rt_ids.specs.declared.ids.Section.{Section}
@@ -83,7 +84,8 @@ module _ (img : Image) (checked : IsChecked img) where
     points_keep p (Enters place h is) = none (Handling place)
     points_keep p (Leads from q at leads) =
         let stands : StandsAt img from leads.line.0 leads.line.1 = (at, leads.stands) in
-        let after = one_on from leads.line.0 leads.line.1 stands (line_told img checked from leads.line.0 leads.line.1 stands)
+        let after = one_on from leads.line.0 leads.line.1 stands
+        (line_told img checked from leads.line.0 leads.line.1 stands)
         (points_keep from at) in
         subst (λ o. P o p.inside) (sym leads.owner)
         (subst (P (owner_after leads.line.0 from.owner)) (sym leads.inside) after)
@@ -92,7 +94,8 @@ module _ (img : Image) (checked : IsChecked img) where
   pub raised_well : (p : Point) → IsPoint img p → AreRaisedWell img p.owner p.inside
   raised_well = points_keep (AreRaisedWell img) (λ owner. tt) more (λ owner o outer all. all.1)
     where
-      more : (p : Point) (x : Section) (kind : Kind) → EntersAt img p (opening kind) x → AreRaisedWell img p.owner p.inside
+      more : (p : Point) (x : Section) (kind : Kind) → EntersAt img p (opening kind) x
+          → AreRaisedWell img p.owner p.inside
           → AreRaisedWell img p.owner (record { section = x; kind = kind } ∷ p.inside)
       more p x kind enters before = (by kind enters, before)
         where
@@ -129,7 +132,8 @@ module _ (img : Image) (checked : IsChecked img) where
       ((q : Point) × (j : Instr) × (q.owner ≡ owner) × EntersAt img q j o.section) × WereEntered owner outer
 
   pub were_entered : (p : Point) → IsPoint img p → WereEntered p.owner p.inside
-  were_entered = points_keep WereEntered (λ owner. tt) (λ p x kind enters before. ((p, opening kind, refl, enters), before))
+  were_entered = points_keep WereEntered (λ owner. tt)
+      (λ p x kind enters before. ((p, opening kind, refl, enters), before))
       (λ owner o outer all. all.1)
 
   -- the level value is at most that inside each open section

@@ -1,5 +1,6 @@
 -- The execution priority of the core is the level value of the point at which it runs.
-use Rattle.std.proofs.Common.{◌≡◌, ℕ, ◌<◌, ◌≤◌, ◌==◌, min, Bool, true, false, if◌then◌else◌, List, [], ◌∷◌, refl, sym, ap, ◌∙◌, arith}
+use Rattle.std.proofs.Common.{◌≡◌, ℕ, ◌<◌, ◌≤◌, ◌==◌, min, Bool, true, false, if◌then◌else◌, List, [], ◌∷◌, refl, sym}
+use Rattle.std.proofs.Common.{ap, ◌∙◌, arith}
 use Rattle.std.proofs.lemmas.Bool.{eqb-true}
 use Rattle.rt_ids.specs.declared.limits.TheConstants.{THREAD_VALUE}
 use Rattle.rt_code.specs.Image.{Image}
@@ -89,7 +90,8 @@ module _ (img : Image) where
       by (Raise slot value) some before = before (omega (arith, some))
       by (Mask slot) some before = absurd (omega (arith, some))
 
-  pub lowest_starts : (owner : Owner) → IsLowest owner → held_off THREAD_VALUE 0 (is_starting owner) ≡ owner_value img owner
+  pub lowest_starts : (owner : Owner) → IsLowest owner
+      → held_off THREAD_VALUE 0 (is_starting owner) ≡ owner_value img owner
   unfolding held_off
   lowest_starts Starting is = refl
   lowest_starts Thread is = refl

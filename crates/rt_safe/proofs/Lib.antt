@@ -13,3 +13,4 @@ pub mod Stepping
 pub mod Seeing
 pub mod Running
 pub mod Safe
+pub mod Runnable

@@ -1,5 +1,6 @@
 -- The line at a point of an image that keeps the rules is one of a few kinds.
-use Rattle.std.proofs.Common.{◌≡◌, ℕ, ◌<◌, true, List, [], ◌∷◌, length, Option, Some, None, option_map, refl, ap, subst, ◌∙◌}
+use Rattle.std.proofs.Common.{◌≡◌, ℕ, ◌<◌, true, List, [], ◌∷◌, length, Option, Some, None, option_map, refl, ap, subst}
+use Rattle.std.proofs.Common.{◌∙◌}
 use Rattle.std.specs.List.{AllByRecursion}
 use Rattle.std.specs.Option.{option_to_list}
 use Rattle.std.proofs.lemmas.Bool.{false≢true, lt-ltb}
@@ -22,7 +23,8 @@ use Rattle.rt_points.specs.declared.rule.Rule.TheVariants as rule
 use Rattle.rt_points.specs.Checked.{IsChecked}
 use Rattle.rt_points.specs.Leading.{IsPoint, StandsAt}
 use Rattle.rt_points.specs.Point.{Point}
-use Rattle.rt_points.specs.Rules.{is_plain, touched, HasItsCell, IsOperable, IsNotedWell, opens, ClosesInnermost, JumpsInThread}
+use Rattle.rt_points.specs.Rules.{is_plain, touched, HasItsCell, IsOperable, IsNotedWell, opens, ClosesInnermost}
+use Rattle.rt_points.specs.Rules.{JumpsInThread}
 use Rattle.rt_safe.specs.Inside.Lines.{IsLine, Simply, Anew, Opens, Closes, EndsInit, Returns}
 
 -- slots that are below the words of a frame are in it
@@ -40,7 +42,8 @@ access_is (instr.StoreAt c s a) q plain = absurd (false≢true plain)
 access_is i q plain = refl
 
 -- and that is there
-pub cells_there : (i : Instr) (q : Processor) (n : ℕ) → is_plain i ≡ true → n ≡ length q.cells → HasItsCell n (touched i)
+pub cells_there : (i : Instr) (q : Processor) (n : ℕ) → is_plain i ≡ true → n ≡ length q.cells
+    → HasItsCell n (touched i)
     → are_there (cells_of i q) q.cells ≡ true
 cells_there i q n plain long has =
     ap (λ a. are_there (option_to_list (option_map cell_of a)) q.cells) (access_is i q plain) ∙ by (touched i) has
@@ -91,20 +94,20 @@ module _ (img : Image) (p : Point) where
   line_is i (Some (note.End body.Idle)) op noted = begins_anew i noted.stands
   line_is i (Some n) op noted = absurd noted.stands
 
-module _ (img : Image) (checked : IsChecked img) where
-  -- the line at a point, with what the rules say of it
-  pub record HasLine (p : Point) : Type 0 where
-    pub instr : Instr
-    pub told : Option Note
-    pub stands : StandsAt img p instr told
-    pub operable : IsOperable img p instr
-    pub noted : IsNotedWell img p instr told
-    pub kind : IsLine p instr told
+-- the line at a point, with what the rules say of it
+pub record HasLine (img : Image) (p : Point) : Type 0 where
+  pub instr : Instr
+  pub told : Option Note
+  pub stands : StandsAt img p instr told
+  pub operable : IsOperable img p instr
+  pub noted : IsNotedWell img p instr told
+  pub kind : IsLine p instr told
 
+module _ (img : Image) (checked : IsChecked img) where
   pub line_told : (p : Point) (i : Instr) (told : Option Note) → StandsAt img p i told → IsLine p i told
   line_told p i told at = line_is img p i told (checked rule.Operands p i told at) (checked rule.Notes p i told at)
 
-  pub line_at : (p : Point) → IsPoint img p → HasLine p
+  pub line_at : (p : Point) → IsPoint img p → HasLine img p
   line_at p at =
       let line = there_is img.code p.address (checked rule.Addresses p at) in
       let stands : StandsAt img p line.0.0 line.0.1 = (at, line.1) in

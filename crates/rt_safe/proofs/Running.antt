@@ -1,5 +1,6 @@
 -- Over all events: a core that fits comes to one that fits, and what it shows keeps the properties.
-use Rattle.std.proofs.Common.{◌≡◌, ◌≢◌, ◌⊎◌, inl, inr, ℕ, suc, List, [], ◌∷◌, ◌++◌, Option, Some, refl, sym, ap, subst, ◌∙◌}
+use Rattle.std.proofs.Common.{◌≡◌, ◌≢◌, ◌⊎◌, inl, inr, ℕ, suc, List, [], ◌∷◌, ◌++◌, Option, Some, refl, sym, ap, subst}
+use Rattle.std.proofs.Common.{◌∙◌}
 use Rattle.std.specs.List.{AllByRecursion, Contains}
 use Rattle.std.proofs.lemmas.Option.{none-some}
 use Rattle.rt_lemmas.proofs.Membership.{contains_none, contains_cases}
@@ -162,7 +163,8 @@ module _ (img : Image) (checked : IsChecked img) where
         by (contains_cases first.label (labels img first.core events) (Stepped (Some (what.End body.Init))) is)
       where
         by : (first.label ≡ Stepped (Some (what.End body.Init)))
-            ⊎ Contains (labels img first.core events) (Stepped (Some (what.End body.Init))) → rest.point.owner ≢ Starting
+            ⊎ Contains (labels img first.core events) (Stepped (Some (what.End body.Init)))
+            → rest.point.owner ≢ Starting
         by (inl here) = rest.started (first.ended (ap shown_of here))
         by (inr behind) = rest.ended behind
 
@@ -179,7 +181,8 @@ module _ (img : Image) (checked : IsChecked img) where
       exclusive = λ app v sight.
           subst (AtEach (λ v label behind. AreExclusive (sees app v label).jobs) app v) (sym labels_are) (
             exclusive_of (sees app v first.label).jobs (insides_of (first.point ∷ first.below)) (seen_first app v sight)
-                (apart_of img checked first.point first.below first.core.below first.fits.running.point first.fits.stack),
+                (apart_of img checked first.point first.below first.core.below first.fits.running.point
+                first.fits.stack),
             rest.exclusive app (sees app v first.label) (seen_first app v sight),
           );
       never_waits = λ app v sight.
@@ -192,7 +195,8 @@ module _ (img : Image) (checked : IsChecked img) where
           (untrapped first.label (labels img first.core events) n first.no_trap rest.no_trap);
     }
 
-  pub reaches : (events : List Event) (c : Core) (p : Point) (qs : List Point) → Fits img c p qs → Reaches img c p qs events
+  pub reaches : (events : List Event) (c : Core) (p : Point) (qs : List Point) → Fits img c p qs
+      → Reaches img c p qs events
   reaches [] c p qs fits = none c p qs fits
   reaches (e ∷ events) c p qs fits =
       let first : Happens img c p qs e = happens c p qs fits e in

@@ -1,9 +1,12 @@
 -- An image that keeps the rules is safe.
-use Rattle.std.proofs.Common.{◌≡◌, ◌≢◌, ℕ, if◌then◌else◌, List, [], take, slice_get, Option, Some, None, refl, sym, ap, subst, ◌∙◌}
+use Rattle.std.proofs.Common.{◌≡◌, ◌≢◌, inl, inr, ℕ, if◌then◌else◌, List, [], ◌∷◌, take}
+use Rattle.std.proofs.Common.{slice_get, Option, Some, None, refl, sym, ap, subst, ◌∙◌}
+use Rattle.std.proofs.lemmas.Bool.{false≢true}
 use Rattle.std.proofs.lemmas.List.{length-map, length-replicate}
 use Rattle.std.proofs.lemmas.Option.{none-some}
 use Rattle.rt_ids.specs.Event.{Event}
 use Rattle.rt_ids.specs.declared.ids.Section.{Section}
+use Rattle.rt_trace.specs.Label.{Label}
 use Rattle.rt_app.specs.Tree.{App}
 use Rattle.rt_code.specs.Access.{Access, cell_of, access_of, access_with}
 use Rattle.rt_code.specs.Effect.{effect}
@@ -14,21 +17,23 @@ use Rattle.rt_core.specs.Access.{access, access_by, access_by_line}
 use Rattle.rt_core.specs.Core.{Core, reset}
 use Rattle.rt_core.specs.Priority.{pick}
 use Rattle.rt_core.specs.Trace.{core_after, labels}
-use Rattle.rt_laws.specs.Sight.{first_sight}
-use Rattle.rt_points.specs.declared.point.Owner.TheVariants.{Starting}
+use Rattle.rt_laws.specs.Sight.{Seen, first_sight}
+use Rattle.rt_points.specs.declared.point.Owner.{Owner}
+use Rattle.rt_points.specs.declared.point.Owner.TheVariants.{Starting, Thread, Handling}
 use Rattle.rt_points.specs.declared.rule.Rule.TheVariants as rule
 use Rattle.rt_points.specs.Checked.{IsChecked}
 use Rattle.rt_points.specs.Leading.{Begins, starts_at}
 use Rattle.rt_points.specs.Point.{Point, sections}
 use Rattle.rt_points.specs.Rules.{Touches, IsGuardedBy}
-use Rattle.rt_safe.specs.Inside.Fits.{Fits}
+use Rattle.rt_safe.specs.Inside.Fits.{is_starting, Fits}
 use Rattle.rt_safe.specs.Inside.Steps.{insides_of}
 use Rattle.rt_safe.specs.Laws.{CheckedImagesAreSafe}
-use Rattle.rt_safe.specs.Safe.{seen_behind, TouchesInside, RunsSafely}
+use Rattle.rt_safe.specs.Safe.{seen_behind, IsTouchedBy, TouchesInside, RunsSafely}
+use Rattle.rt_safe.proofs.Apart.{alone_in_init}
 use Rattle.rt_safe.proofs.Depth.{depth_within}
 use Rattle.rt_safe.proofs.Lines.{HasLine, line_at, access_is}
 use Rattle.rt_safe.proofs.Running.{Reaches, reaches}
-use Rattle.rt_safe.proofs.Seeing.{inside_of}
+use Rattle.rt_safe.proofs.Seeing.{seen_insides, inside_of, init_of}
 
 -- after reset the core is where `init` begins
 reset_fits : (img : Image) → Fits img (reset img) (starts_at 0 Starting) []
@@ -53,9 +58,10 @@ module _ (img : Image) (checked : IsChecked img) where
   touches_at : (c : Core) (p : Point) (qs : List Point) → Fits img c p qs → p.owner ≢ Starting → (a : Access)
       → access img c ≡ Some a → Touches img (cell_of a) p
   touches_at c p qs fits outside a is =
-      by (pick img c) (sym (ap (λ b. if◌then◌else◌ {A = Option Access} b None (access_by img c (pick img c))) fits.stopped) ∙ is)
+      by (pick img c)
+      (sym (ap (λ b. if◌then◌else◌ {A = Option Access} b None (access_by img c (pick img c))) fits.stopped) ∙ is)
     where
-      line : HasLine img checked p
+      line : HasLine img p
       line = line_at img checked p fits.running.point
 
       by : (o : Option IrqRow) → access_by img c o ≡ Some a → Touches img (cell_of a) p
@@ -88,14 +94,36 @@ module _ (img : Image) (checked : IsChecked img) where
         never_waits = λ app. whole.never_waits app (first_sight app) refl;
       }
 
-  touches_inside : (cell : ℕ) (x : Section) → IsGuardedBy img cell x
-      → (app : App) (events : List Event) → TouchesInside app img cell x events
-  touches_inside cell x guarded app events ended a is at =
-      let whole = reached events in
-      let touches = touches_at (core_after img (reset img) events) whole.point whole.below whole.fits (whole.ended ended) a is in
-      inside_of (seen_behind app (first_sight app) (labels img (reset img) events)).jobs (sections whole.point.inside)
-      (insides_of whole.below) x (whole.seen app (first_sight app) refl)
-      (guarded whole.point (subst (λ n. Touches img n whole.point) at touches))
+  touches_inside : (cell : ℕ) (x : Section) → IsGuardedBy img cell x → (app : App) (events : List Event)
+      → TouchesInside app img cell x events
+  touches_inside cell x guarded app events a is at = by whole.point.owner refl
+    where
+      whole : Reaches img (reset img) (starts_at 0 Starting) [] events
+      whole = reached events
+
+      shown : List Label
+      shown = labels img (reset img) events
+
+      jobs : List Seen
+      jobs = (seen_behind app (first_sight app) shown).jobs
+
+      seen : seen_insides jobs ≡ insides_of (whole.point ∷ whole.below)
+      seen = whole.seen app (first_sight app) refl
+
+      outside : whole.point.owner ≢ Starting → IsTouchedBy shown jobs x
+      outside other =
+          let touches = touches_at (core_after img (reset img) events) whole.point whole.below whole.fits other a is in
+          inl (inside_of jobs (sections whole.point.inside) (insides_of whole.below) x seen
+          (guarded whole.point (subst (λ n. Touches img n whole.point) at touches)))
+
+      by : (owner : Owner) → whole.point.owner ≡ owner → IsTouchedBy shown jobs x
+      by Starting same =
+          let alone : whole.below ≡ [] =
+          alone_in_init img whole.point whole.below (core_after img (reset img) events).below same whole.fits.stack in
+          inr (init_of shown jobs (sections whole.point.inside) (seen ∙ ap (λ qs. insides_of (whole.point ∷ qs)) alone)
+          (λ ended. whole.ended ended same))
+      by Thread same = outside (λ starting. false≢true (ap is_starting (sym same ∙ starting)))
+      by (Handling place) same = outside (λ starting. false≢true (ap is_starting (sym same ∙ starting)))
 
 pub checked_images_are_safe : CheckedImagesAreSafe
 checked_images_are_safe img checked = record {

@@ -1,6 +1,7 @@
 -- What open sections saved is kept where other slots are written; and who is interrupted stays so whatever the running
 -- one's address and sections are.
-use Rattle.std.proofs.Common.{◌≡◌, ℕ, Bool, List, [], ◌∷◌, slice_set, sym, subst, ◌∙◌, arith, length-set, get_or-set_other}
+use Rattle.std.proofs.Common.{◌≡◌, ℕ, Bool, List, [], ◌∷◌, slice_set, sym, subst, ◌∙◌, arith, length-set}
+use Rattle.std.proofs.Common.{get_or-set_other}
 use Rattle.std.specs.List.{AllByRecursion}
 use Rattle.rt_code.specs.Image.{Image}
 use Rattle.rt_core.specs.Core.{Context}

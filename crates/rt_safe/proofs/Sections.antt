@@ -1,5 +1,6 @@
 -- Where a section opens or closes the core fits again: its mask is set, and what it was is saved; or it is put back.
-use Rattle.std.proofs.Common.{◌≡◌, ℕ, suc, ◌<◌, ◌≤◌, ◌==◌, Bool, true, false, if◌then◌else◌, List, ◌∷◌, drop, length, Option, Some, None, refl, sym, ap, subst, ◌∙◌, arith, length-set, get_or-set_same}
+use Rattle.std.proofs.Common.{◌≡◌, ℕ, suc, ◌<◌, ◌≤◌, ◌==◌, Bool, true, false, if◌then◌else◌, List, ◌∷◌, drop, length}
+use Rattle.std.proofs.Common.{Option, Some, None, refl, sym, ap, subst, ◌∙◌, arith, length-set, get_or-set_same}
 use Rattle.std.specs.List.{AllByRecursion}
 use Rattle.std.proofs.lemmas.Bool.{le-leb}
 use Rattle.rt_ids.specs.Operation.{number_of}
@@ -29,7 +30,8 @@ use Rattle.rt_points.specs.Leading.{IsPoint, Leads, LeadsOn}
 use Rattle.rt_points.specs.Level.{frame_of}
 use Rattle.rt_points.specs.Point.{Point, sections}
 use Rattle.rt_points.specs.Rules as rules
-use Rattle.rt_safe.specs.Inside.Fits.{is_starting, base_by, mask_by, base_inside, mask_inside, base_under, SavesBy, Saves, Fits}
+use Rattle.rt_safe.specs.Inside.Fits.{is_starting, base_by, mask_by, base_inside, mask_inside, base_under, SavesBy}
+use Rattle.rt_safe.specs.Inside.Fits.{Saves, Fits}
 use Rattle.rt_safe.specs.Inside.Lines.{opening}
 use Rattle.rt_safe.specs.Inside.Steps.{insides_of, FindsNone, Steps}
 use Rattle.rt_safe.proofs.Advancing.{line_steps}
@@ -49,7 +51,8 @@ closed p Mark = next p
 closed p (Raise d v) = record (next p) { basepri = slot p d }
 closed p (Mask d) = record (next p) { primask = slot p d == 1 }
 
-opening_leads : (kind : Kind) (time : ℕ) (p : Processor) → done (opening kind) time p ≡ LeadsTo (opened p kind) request.Nothing
+opening_leads : (kind : Kind) (time : ℕ) (p : Processor)
+    → done (opening kind) time p ≡ LeadsTo (opened p kind) request.Nothing
 unfolding opened
 opening_leads Mark time p = refl
 opening_leads (Raise d v) time p = refl
@@ -162,7 +165,7 @@ no_init_end_left : (x : Section) (value : Option ℕ) → Some (what.Leave x val
 no_init_end_left x value same = cc (same)
 
 module _ (img : Image) (checked : IsChecked img) (c : Core) (p : Point) (qs : List Point) (fits : Fits img c p qs)
-    (line : HasLine img checked p) (picked : pick img c ≡ None) where
+    (line : HasLine img p) (picked : pick img c ≡ None) where
   module _ (x : Section) (kind : Kind) (is : line.instr ≡ opening kind) (tells : line.told ≡ Some (note.Enter x))
       (free : FindsNone (Some (what.Enter x)) (insides_of (p ∷ qs))) where
     abbrev inner : Point
@@ -220,7 +223,8 @@ module _ (img : Image) (checked : IsChecked img) (c : Core) (p : Point) (qs : Li
       ended = λ end. absurd (no_init_end x end);
     }
 
-  module _ (x : Section) (kind : Kind) (outer : List Opened) (inside : p.inside ≡ record { section = x; kind = kind } ∷ outer)
+  module _ (x : Section) (kind : Kind) (outer : List Opened)
+      (inside : p.inside ≡ record { section = x; kind = kind } ∷ outer)
       (is : line.instr ≡ rules.closing kind) (tells : line.told ≡ Some (note.Leave x)) where
     abbrev outside : Point
     outside = record { address = suc p.address; owner = p.owner; inside = outer }
@@ -241,8 +245,10 @@ module _ (img : Image) (checked : IsChecked img) (c : Core) (p : Point) (qs : Li
         × Saves c.processor.slots outer (base_under qs) (is_starting p.owner)
     saved = subst (λ s. Saves c.processor.slots s (base_under qs) (is_starting p.owner)) inside fits.running.saves
 
-    after_closing : IsClosed c.processor kind (base_inside outer (base_under qs)) (mask_inside outer (is_starting p.owner))
-    after_closing = is_closed c.processor kind (base_inside outer (base_under qs)) (mask_inside outer (is_starting p.owner))
+    after_closing : IsClosed c.processor kind (base_inside outer (base_under qs))
+        (mask_inside outer (is_starting p.owner))
+    after_closing = is_closed c.processor kind (base_inside outer (base_under qs))
+        (mask_inside outer (is_starting p.owner))
         (fits.basepri ∙ ap (λ s. base_inside s (base_under qs)) inside)
         (fits.primask ∙ ap (λ s. mask_inside s (is_starting p.owner)) inside) saved.0
 
@@ -251,7 +257,8 @@ module _ (img : Image) (checked : IsChecked img) (c : Core) (p : Point) (qs : Li
       running = record {
         point = leaves;
         frame = ap length after_closing.slots ∙ fits.running.frame;
-        saves = subst (λ slots. Saves slots outer (base_under qs) (is_starting p.owner)) (sym after_closing.slots) saved.1;
+        saves = subst (λ slots. Saves slots outer (base_under qs) (is_starting p.owner))
+            (sym after_closing.slots) saved.1;
       };
       stack = stacked_alike img p outside refl qs c.below fits.stack;
       address = after_closing.address ∙ ap suc fits.address;

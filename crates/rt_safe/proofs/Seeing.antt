@@ -1,6 +1,7 @@
 -- What one sees of the jobs by what the core shows: the open sections of each are those of the points.
-use Rattle.std.proofs.Common.{◌≡◌, ℕ, suc, List, [], ◌∷◌, drop, map, slice_get, Option, Some, None, refl, sym, ap, subst}
-use Rattle.std.specs.List.{AllByRecursion}
+use Rattle.std.proofs.Common.{◌≡◌, ℕ, suc, List, [], ◌∷◌, drop, map, slice_get, Option, Some, None, refl, sym, ap}
+use Rattle.std.proofs.Common.{subst}
+use Rattle.std.specs.List.{AllByRecursion, Contains}
 use Rattle.std.proofs.lemmas.Option.{same_Some, none-some}
 use Rattle.rt_lemmas.proofs.Lists.{all_unmap, mapped_at}
 use Rattle.rt_ids.specs.Choice.{IsIn}
@@ -13,7 +14,7 @@ use Rattle.rt_app.specs.Tree.{App}
 use Rattle.rt_laws.specs.Properties.{AreExclusive, FindsFree}
 use Rattle.rt_laws.specs.Sight.{Seen, Sight, on_running, entering, leaving, sees}
 use Rattle.rt_safe.specs.Inside.Steps.{on_first, insides_after, FindsNone, IsNoTrapShown}
-use Rattle.rt_safe.specs.Safe.{IsNoTrap, IsInside}
+use Rattle.rt_safe.specs.Safe.{IsNoTrap, IsInside, IsInit}
 use Rattle.rt_safe.proofs.Apart.{AreApart}
 
 -- the item of a step, and none for what is no step
@@ -38,7 +39,8 @@ returned_seen : (jobs : List Seen) → seen_insides (drop 1 jobs) ≡ drop 1 (se
 returned_seen [] = refl
 returned_seen (job ∷ others) = refl
 
-ended_seen : (jobs : List Seen) → seen_insides (on_running (λ job. record job { priority = 0 }) jobs) ≡ seen_insides jobs
+ended_seen : (jobs : List Seen)
+    → seen_insides (on_running (λ job. record job { priority = 0 }) jobs) ≡ seen_insides jobs
 ended_seen [] = refl
 ended_seen (job ∷ others) = refl
 
@@ -69,6 +71,14 @@ pub inside_of : (jobs : List Seen) (inside : List Section) (others : List (List 
 inside_of [] inside others x same is = absurd (none-some inside (ap (λ xs. slice_get xs 0) same))
 inside_of (job ∷ rest) inside others x same is =
     subst (λ s. IsIn s x) (sym (same_Some job.inside inside (ap (λ xs. slice_get xs 0) same))) is
+
+-- one job alone, where `init` has not ended, is `init`
+pub init_of : (labels : List Label) (jobs : List Seen) (inside : List Section) → seen_insides jobs ≡ inside ∷ []
+    → ¬ Contains labels (Stepped (Some (what.End body.Init))) → IsInit labels jobs
+init_of labels [] inside same going = absurd (none-some inside (ap (λ xs. slice_get xs 0) same))
+init_of labels (job ∷ []) inside same going = going
+init_of labels (job ∷ other ∷ rest) inside same going =
+    absurd (none-some other.inside (sym (ap (λ xs. slice_get xs 1) same)))
 
 -- a label that shows no trap has no item of one
 pub untrapped : (label : Label) (labels : List Label) (n : ℕ) → IsNoTrapShown (shown_of label)

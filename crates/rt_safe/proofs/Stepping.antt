@@ -26,7 +26,7 @@ use Rattle.rt_safe.proofs.Sections.{opens_section, closes_section}
 use Rattle.rt_safe.proofs.Taking.{takes}
 
 module _ (img : Image) (checked : IsChecked img) (c : Core) (p : Point) (qs : List Point) (fits : Fits img c p qs) where
-  by_line : (line : HasLine img checked p) → pick img c ≡ None → IsLine p line.instr line.told → Steps img c p qs
+  by_line : (line : HasLine img p) → pick img c ≡ None → IsLine p line.instr line.told → Steps img c p qs
   by_line line picked (Simply simple untold unsaved) =
       advances img checked c p qs fits line picked
       (subst (λ n. Advances img c p.inside line.instr n (done line.instr c.time c.processor)) (sym untold)
@@ -58,5 +58,5 @@ module _ (img : Image) (checked : IsChecked img) (c : Core) (p : Point) (qs : Li
     where
       by : (o : Option IrqRow) → pick img c ≡ o → Steps img c p qs
       by None picked =
-          let line : HasLine img checked p = line_at img checked p fits.running.point in by_line line picked line.kind
+          let line : HasLine img p = line_at img checked p fits.running.point in by_line line picked line.kind
       by (Some row) picked = takes img checked c p qs fits row picked

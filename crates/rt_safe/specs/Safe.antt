@@ -2,7 +2,7 @@
 -- exclusive and none is found taken (Baker, Stack-Based Scheduling of Realtime Processes, 1991), and cells for which
 -- owners contend are touched inside their section. Who is inside what is read from what the core shows. It is said of
 -- all lists of events; no point, rule, mask or frame is named here but for the cells that are meant.
-use Rattle.std.specs.Prelude.{◌≡◌, ℕ, ◌≤◌, List, [], ◌∷◌, take, Some}
+use Rattle.std.specs.Prelude.{◌≡◌, ℕ, ◌≤◌, ◌⊎◌, List, [], ◌∷◌, take, Some}
 use Rattle.std.specs.List.{AllByRecursion, Contains}
 use Rattle.rt_ids.specs.Choice.{IsIn}
 use Rattle.rt_ids.specs.Event.{Event}
@@ -46,12 +46,21 @@ abbrev pub IsInside : List Seen → Section → Type 0
 IsInside [] x = ⊥
 IsInside (job ∷ others) x = IsIn job.inside x
 
--- Behind these events, where `init` has ended: if the next step touches the cell, the running job is inside the section.
+-- the running job is `init`: the thread alone, and `init` has not ended
+abbrev pub IsInit : List Label → List Seen → Type 0
+IsInit labels (job ∷ []) = ¬ Contains labels (Stepped (Some (what.End body.Init)))
+IsInit labels jobs = ⊥
+
+-- of a cell that is touched where these labels were shown and the jobs are seen so: by whom it is touched
+abbrev pub IsTouchedBy : List Label → List Seen → Section → Type 0
+IsTouchedBy labels jobs x = IsInside jobs x ⊎ IsInit labels jobs
+
+-- if the next step behind these events touches the cell, the running job is inside the section, or it is `init`
 abbrev pub TouchesInside : App → Image → ℕ → Section → List Event → Type 0
 TouchesInside app img cell x events =
-    Contains (labels img (reset img) events) (Stepped (Some (what.End body.Init)))
-    → (a : Access) → access img (core_after img (reset img) events) ≡ Some a → cell_of a ≡ cell
-    → IsInside (seen_behind app (first_sight app) (labels img (reset img) events)).jobs x
+    (a : Access) → access img (core_after img (reset img) events) ≡ Some a → cell_of a ≡ cell
+    → IsTouchedBy (labels img (reset img) events)
+    (seen_behind app (first_sight app) (labels img (reset img) events)).jobs x
 
 -- each cell for which owners contend has one section, inside which alone it is touched outside `init`, whatever happens
 abbrev pub TouchesAreGuarded : Image → Type 0

@@ -3,4 +3,4 @@
 
 pub mod laws;
 
-pub use laws::checked_images_are_safe;
+pub use laws::{checked_images_are_safe, checked_images_run};

@@ -60,7 +60,7 @@ IsLowest owner = Unit {0}
 
 module _ (img : Image) where
   -- a point of the image, and the frame of the owner that is there
-  pub record IsIn (p : Point) (slots : List ℕ) (base : ℕ) : Type 0 where
+  pub record RunsAt (p : Point) (slots : List ℕ) (base : ℕ) : Type 0 where
     pub point : IsPoint img p
     pub frame : length slots ≡ frame_of img p.owner
     pub saves : Saves slots p.inside base (is_starting p.owner)
@@ -75,7 +75,7 @@ module _ (img : Image) where
     pub above : handler.value < level_value img q.owner q.inside
     pub address : x.address ≡ q.address
     pub caller : x.caller ≡ None
-    pub interrupted : IsIn q x.slots base
+    pub interrupted : RunsAt q x.slots base
 
   -- each handler on what it interrupted, the thread last
   abbrev pub IsStacked : Point → List Point → List Context → Type 0
@@ -85,7 +85,7 @@ module _ (img : Image) where
 
   -- all of it
   pub record Fits (c : Core) (p : Point) (qs : List Point) : Type 0 where
-    pub running : IsIn p c.processor.slots (base_under qs)
+    pub running : RunsAt p c.processor.slots (base_under qs)
     pub stack : IsStacked p qs c.below
     pub address : c.processor.address ≡ p.address
     pub basepri : c.processor.basepri ≡ base_inside p.inside (base_under qs)
