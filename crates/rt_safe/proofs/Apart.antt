@@ -29,8 +29,7 @@ use Rattle.rt_safe.proofs.Levels.{level_within}
 abbrev pub AreApart : List (List Section) → Type 0
 AreApart insides =
     (i j : ℕ) (a b : List Section) (x : Section) → slice_get insides i ≡ Some a → slice_get insides j ≡ Some b
-    → IsIn a x
-    → IsIn b x → i ≡ j
+    → IsIn a x → IsIn b x → i ≡ j
 
 -- of those that are open in the first none is open in the second
 abbrev IsApart : List Section → List Section → Type 0
@@ -55,8 +54,7 @@ module _ (img : Image) where
 
   -- `init` has interrupted nobody
   pub alone_in_init : (p : Point) (qs : List Point) (below : List Context) → p.owner ≡ Starting
-      → IsStacked img p qs below
-      → qs ≡ []
+      → IsStacked img p qs below → qs ≡ []
   alone_in_init p [] below starting stacked = refl
   alone_in_init p (q ∷ qs) [] starting stacked = absurd stacked
   alone_in_init p (q ∷ qs) (x ∷ below) starting stacked =

@@ -14,24 +14,27 @@ use Rattle.rt_points.specs.Point.{Point}
 use Rattle.rt_points.specs.Leading.{handler_at, IsPoint}
 use Rattle.rt_points.specs.Level.{level_value, frame_of}
 
+-- whether it is `init`
 abbrev pub is_starting : Owner → Bool
 is_starting Starting = true
 is_starting owner = false
 
--- behind the opening of a section of this kind: BASEPRI has its value, or PRIMASK is set
+-- BASEPRI behind the opening of a section of this kind, from what it was before
 abbrev pub base_by : Kind → ℕ → ℕ
 base_by (Raise slot value) before = value
 base_by kind before = before
 
+-- and PRIMASK likewise
 abbrev pub mask_by : Kind → Bool → Bool
 mask_by (Mask slot) before = true
 mask_by kind before = before
 
--- BASEPRI and PRIMASK inside open sections, from what they were before them
+-- BASEPRI inside open sections, from what it was before them
 abbrev pub base_inside : List Opened → ℕ → ℕ
 base_inside [] before = before
 base_inside (o ∷ outer) before = base_by o.kind (base_inside outer before)
 
+-- and PRIMASK likewise
 abbrev pub mask_inside : List Opened → Bool → Bool
 mask_inside [] before = before
 mask_inside (o ∷ outer) before = mask_by o.kind (mask_inside outer before)
@@ -55,7 +58,7 @@ Saves slots (o ∷ outer) base mask =
 
 -- `init` or the thread behind it, which interrupt nobody
 abbrev pub IsLowest : Owner → Type 0
-IsLowest (Handling row) = ⊥
+IsLowest (Handling place) = ⊥
 IsLowest owner = Unit {0}
 
 module _ (img : Image) where
@@ -83,7 +86,8 @@ module _ (img : Image) where
   IsStacked p (q ∷ qs) (x ∷ below) = IsOn p q (base_under qs) x × IsStacked q qs below
   IsStacked p qs below = ⊥
 
-  -- all of it
+  -- All of it, for a core that runs at the first point, over the others, the last interrupted first. No alarm is set, and
+  -- no body is called.
   pub record Fits (c : Core) (p : Point) (qs : List Point) : Type 0 where
     pub running : RunsAt p c.processor.slots (base_under qs)
     pub stack : IsStacked p qs c.below

@@ -35,6 +35,7 @@ is_simple instr.Back = false
 is_simple instr.Ret = false
 is_simple i = true
 
+-- what a line is to the sections that are open at a point
 pub data IsLine (p : Point) (i : Instr) (told : Option Note) : Type 0 where
   -- no section opens or closes, and what open sections saved is kept
   Simply : is_simple i ≡ true → told ≡ None → IsUnsaved p.inside (written i) → IsLine p i told

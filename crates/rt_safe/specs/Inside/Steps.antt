@@ -37,10 +37,12 @@ abbrev pub FindsNone : Option What → List (List Section) → Type 0
 FindsNone (Some (what.Enter x)) insides = AllByRecursion (λ inside. ¬ IsIn inside x) insides
 FindsNone shown insides = Unit {0}
 
+-- a step that shows no trap
 abbrev pub IsNoTrapShown : Option What → Type 0
 IsNoTrapShown None = Unit {0}
 IsNoTrapShown (Some w) = IsNoTrap w
 
+-- where a core steps to that fits at a point, over those that were interrupted
 pub record Steps (img : Image) (c : Core) (p : Point) (qs : List Point) : Type 0 where
   pub core : Core
   pub shown : Option What
