@@ -1,0 +1,239 @@
+-- What is kept of those who enter sections, with one more point.
+use Rattle.std.proofs.Common.{◌≡◌, ◌≢◌, ◌⊎◌, ◌↔◌, ◌&&◌, ◌≤◌, ◌<◌, Bool, true, false, not, IsTrue, ℕ, max, min, List, [], ◌∷◌, ◌++◌}
+use Rattle.std.proofs.Common.{map, slice_get, Option, Some, None, refl, sym, ap, subst, ◌∙◌, inl, inr, ⊎_elim, arith}
+use Rattle.std.specs.List.{AllByRecursion, list_any, Contains}
+use Rattle.std.proofs.lemmas.Bool.{cases_lt}
+use Rattle.std.proofs.lemmas.List.Folds.{list_any-append}
+use Rattle.std.proofs.lemmas.List.Elements.{Contains-append_left, Contains-push_cases, Contains-push}
+use Rattle.rt_lemmas.proofs.Bools.{or_left, or_right, or_cases, and_parts}
+use Rattle.rt_lemmas.proofs.Membership.{all_append}
+use Rattle.rt_ids.specs.Choice.{IsIn}
+use Rattle.rt_ids.specs.Holder.{is_same_section}
+use Rattle.rt_ids.specs.declared.ids.Section.{Section}
+use Rattle.rt_code.specs.Image.{Image}
+use Rattle.rt_code.specs.declared.instr.Instr.{Instr}
+use Rattle.rt_code.specs.declared.instr.Note.{Note}
+use Rattle.rt_code.specs.declared.instr.Note.TheVariants as note
+use Rattle.rt_points.specs.Point.{Point, sections}
+use Rattle.rt_points.specs.declared.point.Owner.TheVariants.{Starting}
+use Rattle.rt_points.specs.Level.{owner_value}
+use Rattle.rt_judge.specs.Inside.Kept.{EntersBy, FreeAt}
+use Rattle.rt_judge.specs.Inside.Entering.{Enterer, level_behind, IsGreatestLevel, IsLeastValue, IsLeastOrNone, IsEntering}
+use Rattle.rt_judge.specs.Inside.Entering.{TellsOfSections, least, with_entering, added, entered}
+use Rattle.rt_judge.specs.declared.entering.Entering.{Entering}
+use Rattle.rt_judge.specs.declared.entering.Sections.{Sections}
+use Rattle.rt_judge.proofs.SameSections.{same_is, is_same}
+use Rattle.rt_judge.proofs.Seen.{tells_more, any_inside, inside_any, all_map, all_front, all_last}
+
+abbrev Line : Type 0
+Line = Instr × Option Note
+
+instr_in : Instr → Option Line → Instr
+instr_in d None = d
+instr_in d (Some line) = line.0
+
+note_section : Section → Option Note → Section
+note_section d (Some (note.Enter x)) = x
+note_section d told = d
+
+section_in : Section → Option Line → Section
+section_in d None = d
+section_in d (Some line) = note_section d line.1
+
+-- at one point one line stands
+module _ (img : Image) (p : Point) (i j : Instr) (x y : Section) (stands : EntersBy img p i x) (other : EntersBy img p j y) where
+  same_line : Some (i, Some (note.Enter x)) ≡ Some (j, Some (note.Enter y))
+  same_line = sym stands ∙ other
+
+  one_instr : i ≡ j
+  unfolding instr_in
+  one_instr = ap (instr_in i) same_line
+
+  one_section : x ≡ y
+  unfolding section_in, note_section
+  one_section = ap (section_in x) same_line
+
+-- the value of the next who enters, `init` aside
+abbrev pub IsValueOf : Image → Point → Option ℕ → Type 0
+IsValueOf img p None = p.owner ≡ Starting
+IsValueOf img p (Some value) = (p.owner ≢ Starting) × (owner_value img p.owner ≡ value)
+
+seen_before : (img : Image) (ps : List Point) (p : Point) (y : Section) (q : Point) (j : Instr) → Enterer img ps y q j
+    → Enterer img (ps ++ p ∷ []) y q j
+seen_before img ps p y q j e = record { seen = Contains-append_left ps (p ∷ []) q e.seen; enters = e.enters }
+
+module _ (img : Image) (ps : List Point) (p : Point) (i : Instr) (x : Section) (stands : EntersBy img p i x) where
+  -- the next point enters this section
+  here : Enterer img (ps ++ p ∷ []) x p i
+  here = record { seen = Contains-push ps p; enters = stands }
+
+  -- who enters is one of before, or the next
+  by_cases : {G : Type 0} (y : Section) (q : Point) (j : Instr) → Enterer img (ps ++ p ∷ []) y q j
+      → (Enterer img ps y q j → G) → (p ≡ q → i ≡ j → x ≡ y → G) → G
+  by_cases y q j e before now = ⊎_elim
+      (λ seen. before (record { seen = seen; enters = e.enters }))
+      (λ same. let enters : EntersBy img p j y = subst (λ r. EntersBy img r j y) (sym same) e.enters in
+          now same (one_instr img p i j x y stands enters) (one_section img p i j x y stands enters))
+      (Contains-push_cases ps p q e.seen)
+
+  level_now : ℕ
+  level_now = level_behind img p i x
+
+  level_same : (q : Point) (j : Instr) → p ≡ q → i ≡ j → level_behind img q j x ≡ level_now
+  unfolding level_now
+  level_same q j same one = sym (ap (λ r. level_behind img r i x) same ∙ ap (λ k. level_behind img q k x) one)
+
+  greatest : (old : ℕ) → IsGreatestLevel img ps x old → IsGreatestLevel img (ps ++ p ∷ []) x (max old level_now)
+  greatest old g = ⊎_elim
+      (λ lower. record {
+        all = λ q j e. by_cases x q j e
+            (λ before. let le = g.all q j before in omega (arith, le, lower))
+            (λ same one _. let is = level_same q j same one in omega (arith, is, lower));
+        point = p;
+        instr = i;
+        enterer = here;
+        is = at_most old lower;
+      })
+      (λ higher. record {
+        all = λ q j e. by_cases x q j e
+            (λ before. let le = g.all q j before in omega (arith, le, higher))
+            (λ same one _. let is = level_same q j same one in omega (arith, is, higher));
+        point = g.point;
+        instr = g.instr;
+        enterer = seen_before img ps p x g.point g.instr g.enterer;
+        is = let e = g.is in omega (arith, e, higher);
+      })
+      (cases_lt old level_now)
+    where
+      at_most : (old : ℕ) → old < level_now → level_behind img p i x ≡ max old level_now
+      unfolding level_now
+      at_most old lower = omega (arith, lower)
+
+  value_same : (q : Point) (value : ℕ) → p ≡ q → owner_value img p.owner ≡ value → owner_value img q.owner ≡ value
+  value_same q value same is = ap (λ (r : Point). owner_value img r.owner) (sym same) ∙ is
+
+  least_value : (old new : Option ℕ) → IsLeastOrNone img ps x old → IsValueOf img p new
+      → IsLeastOrNone img (ps ++ p ∷ []) x (least old new)
+  least_value None None none value = λ q j e. by_cases x q j e (none q j) (λ same _ _. subst (λ (r : Point). r.owner ≡ Starting) same value)
+  least_value None (Some v) none value = record {
+    all = λ q j e outside. by_cases x q j e
+        (λ before. absurd (outside (none q j before)))
+        (λ same _ _. let is = value_same q v same value.1 in omega (arith, is));
+    point = p;
+    instr = i;
+    enterer = here;
+    outside = value.0;
+    is = value.1;
+  }
+  least_value (Some u) None l value = record {
+    all = λ q j e outside. by_cases x q j e
+        (λ before. l.all q j before outside)
+        (λ same _ _. absurd (outside (subst (λ (r : Point). r.owner ≡ Starting) same value)));
+    point = l.point;
+    instr = l.instr;
+    enterer = seen_before img ps p x l.point l.instr l.enterer;
+    outside = l.outside;
+    is = l.is;
+  }
+  least_value (Some u) (Some v) l value = ⊎_elim
+      (λ lower. record {
+        all = λ q j e outside. by_cases x q j e
+            (λ before. let le = l.all q j before outside in omega (arith, le, lower))
+            (λ same _ _. let is = value_same q v same value.1 in omega (arith, is, lower));
+        point = l.point;
+        instr = l.instr;
+        enterer = seen_before img ps p x l.point l.instr l.enterer;
+        outside = l.outside;
+        is = let e = l.is in omega (arith, e, lower);
+      })
+      (λ higher. record {
+        all = λ q j e outside. by_cases x q j e
+            (λ before. let le = l.all q j before outside in omega (arith, le, higher))
+            (λ same _ _. let is = value_same q v same value.1 in omega (arith, is, higher));
+        point = p;
+        instr = i;
+        enterer = here;
+        outside = value.0;
+        is = let e = value.1 in omega (arith, e, higher);
+      })
+      (cases_lt u v)
+
+  -- a row with the next who enters
+  module _ (e : Entering) (of : e.section ≡ x) (level : e.level ≡ level_behind img p i x) (value : IsValueOf img p e.value) where
+    first_row : ((q : Point) (j : Instr) → ¬ Enterer img ps x q j) → IsEntering img (ps ++ p ∷ []) x e
+    first_row none = record {
+      level = record {
+        all = λ q j enters. by_cases x q j enters
+            (λ before. absurd (none q j before))
+            (λ same one _. let is = level_same q j same one in let now = now_is in omega (arith, is, now, level));
+        point = p;
+        instr = i;
+        enterer = here;
+        is = sym level;
+      };
+      value = least_value None e.value (λ q j before. absurd (none q j before)) value;
+    }
+      where
+        now_is : level_now ≡ level_behind img p i x
+        unfolding level_now
+        now_is = refl
+
+    other_row : (row : Entering) → row.section ≢ x → IsEntering img ps row.section row
+        → IsEntering img (ps ++ p ∷ []) row.section row
+    other_row row apart is = record {
+      level = record {
+        all = λ q j enters. by_cases row.section q j enters (is.level.all q j) (λ _ _ same. absurd (apart (sym same)));
+        point = is.level.point;
+        instr = is.level.instr;
+        enterer = seen_before img ps p row.section is.level.point is.level.instr is.level.enterer;
+        is = is.level.is;
+      };
+      value = other_value row.value is.value;
+    }
+      where
+        other_value : (v : Option ℕ) → IsLeastOrNone img ps row.section v → IsLeastOrNone img (ps ++ p ∷ []) row.section v
+        other_value None none = λ q j enters. by_cases row.section q j enters (none q j) (λ _ _ same. absurd (apart (sym same)))
+        other_value (Some v) l = record {
+          all = λ q j enters outside. by_cases row.section q j enters (λ before. l.all q j before outside) (λ _ _ same. absurd (apart (sym same)));
+          point = l.point;
+          instr = l.instr;
+          enterer = seen_before img ps p row.section l.point l.instr l.enterer;
+          outside = l.outside;
+          is = l.is;
+        }
+
+    same_row : (row : Entering) → row.section ≡ x → IsEntering img ps row.section row
+        → IsEntering img (ps ++ p ∷ []) row.section (with_entering e row)
+    same_row row same is =
+        let old = subst (λ y. IsEntering img ps y row) same is in
+        subst (λ y. IsEntering img (ps ++ p ∷ []) y (with_entering e row)) (sym same)
+        (record {
+          level = subst (λ n. IsGreatestLevel img (ps ++ p ∷ []) x (max row.level n)) (sym (level ∙ sym now_is))
+              (greatest row.level old.level);
+          value = least_value row.value e.value old.value value;
+        })
+      where
+        now_is : level_now ≡ level_behind img p i x
+        unfolding level_now
+        now_is = refl
+
+    -- the rows, each of its own section
+    step_row : (row : Entering) → IsEntering img ps row.section row
+        → IsEntering img (ps ++ p ∷ []) (added e row).section (added e row)
+    step_row row is = ⊎_elim
+        (λ same. subst (λ r. IsEntering img (ps ++ p ∷ []) r.section r) (sym (added_here row same))
+            (same_row row (same_is row.section e.section same ∙ of) is))
+        (λ apart. subst (λ r. IsEntering img (ps ++ p ∷ []) r.section r) (sym (added_apart row apart))
+            (other_row row (λ same. absurd (let both : is_same_section row.section e.section ≡ true =
+                subst (λ y. is_same_section row.section y ≡ true) (same ∙ sym of) (is_same row.section) in cc)) is))
+        (either (is_same_section row.section e.section))
+      where
+        either : (b : Bool) → (b ≡ true) ⊎ (b ≡ false)
+        either true = inl refl
+        either false = inr refl
+
+        added_here : (row : Entering) → is_same_section row.section e.section ≡ true → added e row ≡ with_entering e row
+        added_here row same = rw same refl
+
+        added_apart : (row : Entering) → is_same_section row.section e.section ≡ false → added e row ≡ row
+        added_apart row apart = rw apart refl

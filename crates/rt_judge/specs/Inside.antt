@@ -1,0 +1,9 @@
+-- What private contracts say.
+pub mod Exits
+pub mod Points
+pub mod Places
+pub mod Walks
+pub mod Kept
+pub mod Entering
+pub mod Touching
+pub mod Finds

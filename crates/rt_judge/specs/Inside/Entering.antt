@@ -1,0 +1,84 @@
+-- What is kept of those who enter a section, by the points that were looked at.
+use Rattle.std.specs.Prelude.{◌≡◌, ◌≢◌, ◌↔◌, ℕ, ◌≤◌, ◌++◌, [], ◌∷◌, Bool, true, IsTrue, nat_le, min, max, map}
+use Rattle.std.specs.Prelude.{List, Some, Option, None, if◌then◌else◌}
+use Rattle.std.specs.List.{Contains, AllByRecursion, list_any}
+use Rattle.rt_ids.specs.Holder.{is_same_section}
+use Rattle.rt_ids.specs.declared.ids.Section.{Section}
+use Rattle.rt_code.specs.Image.{Image}
+use Rattle.rt_code.specs.declared.instr.Instr.{Instr}
+use Rattle.rt_code.specs.declared.instr.Note.TheVariants as note
+use Rattle.rt_points.specs.Point.{Point}
+use Rattle.rt_points.specs.declared.point.Owner.TheVariants.{Starting}
+use Rattle.rt_points.specs.Leading.{inside_after}
+use Rattle.rt_points.specs.Level.{owner_value, level_value}
+use Rattle.rt_judge.specs.Inside.Kept.{EntersBy, FreeAt}
+use Rattle.rt_judge.specs.declared.entering.Entering.{Entering}
+use Rattle.rt_judge.specs.declared.entering.Sections.{Sections}
+
+-- what may not be there passes
+abbrev pub none_or : (ℕ → Bool) → Option ℕ → Bool
+none_or test None = true
+none_or test (Some n) = test n
+
+-- one of the points at which a section is entered
+pub record Enterer (img : Image) (ps : List Point) (x : Section) (p : Point) (i : Instr) : Type 0 where
+  pub seen : Contains ps p
+  pub enters : EntersBy img p i x
+
+-- the level value behind an entering
+abbrev pub level_behind : Image → Point → Instr → Section → ℕ
+level_behind img p i x = level_value img p.owner (inside_after i (Some (note.Enter x)) p.inside)
+
+-- the greatest level value behind an entering
+pub record IsGreatestLevel (img : Image) (ps : List Point) (x : Section) (level : ℕ) : Type 0 where
+  pub all : (p : Point) (i : Instr) → Enterer img ps x p i → level_behind img p i x ≤ level
+  pub point : Point
+  pub instr : Instr
+  pub enterer : Enterer img ps x point instr
+  pub is : level_behind img point instr x ≡ level
+
+-- the least priority value of an enterer other than `init`
+pub record IsLeastValue (img : Image) (ps : List Point) (x : Section) (value : ℕ) : Type 0 where
+  pub all : (p : Point) (i : Instr) → Enterer img ps x p i → p.owner ≢ Starting → value ≤ owner_value img p.owner
+  pub point : Point
+  pub instr : Instr
+  pub enterer : Enterer img ps x point instr
+  pub outside : point.owner ≢ Starting
+  pub is : owner_value img point.owner ≡ value
+
+abbrev pub IsLeastOrNone : Image → List Point → Section → Option ℕ → Type 0
+IsLeastOrNone img ps x None = (p : Point) (i : Instr) → Enterer img ps x p i → p.owner ≡ Starting
+IsLeastOrNone img ps x (Some value) = IsLeastValue img ps x value
+
+pub record IsEntering (img : Image) (ps : List Point) (x : Section) (e : Entering) : Type 0 where
+  pub level : IsGreatestLevel img ps x e.level
+  pub value : IsLeastOrNone img ps x e.value
+
+-- what the rows have of sections: each of its own, and there is one for each that is entered
+pub record TellsOfSections (img : Image) (ps : List Point) (s : Sections) : Type 0 where
+  pub free : IsTrue s.free ↔ AllByRecursion (FreeAt img) ps
+  pub rows : AllByRecursion (λ row. IsEntering img ps row.section row) s.rows.items
+  pub each : (x : Section) (p : Point) (i : Instr) → Enterer img ps x p i
+      → list_any (λ row. is_same_section row.section x) s.rows.items ≡ true
+
+-- the lesser of two values that may not be there
+abbrev pub least : Option ℕ → Option ℕ → Option ℕ
+least (Some a) (Some b) = Some (min a b)
+least (Some a) None = Some a
+least None other = other
+
+-- a row with one more entering of its section
+abbrev pub with_entering : Entering → Entering → Entering
+with_entering e row = record row { level = max row.level e.level; value = least row.value e.value }
+
+abbrev pub added : Entering → Entering → Entering
+added e row = if is_same_section row.section e.section then with_entering e row else row
+
+-- the rows with one more entering
+abbrev pub entered : Entering → List Entering → List Entering
+entered e rows =
+    if list_any (λ row. is_same_section row.section e.section) rows then map (added e) rows else rows ++ e ∷ []
+
+-- each entering holds off everyone who enters
+abbrev pub holds_off : Entering → Bool
+holds_off row = none_or (λ value. nat_le row.level value) row.value

@@ -1,0 +1,1 @@
+-- What was found at points, rule by rule.

@@ -1,0 +1,67 @@
+ghost use Rattle.std.specs.Prelude.{◌≡◌, ◌≤◌};
+ghost use Rattle.rt_ids.specs.declared.limits.TheConstants.{THREAD_VALUE};
+ghost use Rattle.rt_points.specs.Leading.{handler_at};
+ghost use Rattle.rt_points.specs.Level.{owner_value, frame_of, lowered, level_value};
+
+use rt_code::{Handler, Image};
+use rt_ids::limits::THREAD_VALUE;
+use rt_points::{Kind, Opened, Owner};
+
+/// The handler of the interrupt at a place, where it is enabled.
+pub fn handler_at(image: &Image, place: usize) -> Option<Handler>
+    ensures { result ≡ handler_at image.now place }
+{
+    match image.irqs.get(place) {
+        Some(row) => row.handler,
+        None => None,
+    }
+}
+
+/// The priority value of an owner: 0 to 256.
+pub fn owner_value(image: &Image, owner: Owner) -> u32
+    ensures { result ≡ owner_value image.now owner }
+{
+    match owner {
+        Owner::Starting => 0,
+        Owner::Thread => u32::from(THREAD_VALUE),
+        Owner::Handling(place) => match handler_at(image, place) {
+            Some(handler) => u32::from(handler.value),
+            None => u32::from(THREAD_VALUE),
+        },
+    }
+}
+
+/// The words of an owner's frame.
+pub fn frame_of(image: &Image, owner: Owner) -> u32
+    ensures { result ≡ frame_of image.now owner }
+{
+    match owner {
+        Owner::Starting | Owner::Thread => image.thread_words,
+        Owner::Handling(place) => match handler_at(image, place) {
+            Some(handler) => handler.frame,
+            None => 0,
+        },
+    }
+}
+
+/// The level value inside a section of a kind.
+fn lowered(kind: Kind, value: u32) -> u32
+    ensures { result ≡ lowered kind value }
+{
+    match kind {
+        Kind::Mark => value,
+        Kind::Raise(_, raised) => raised.min(value),
+        Kind::Mask(_) => 0,
+    }
+}
+
+/// The level value of an owner with these sections open.
+pub fn level_value(image: &Image, owner: Owner, opened: &[Opened]) -> u32
+    ensures { result ≡ level_value image.now owner opened.now }
+{
+    let mut value = owner_value(image, owner);
+    for o in opened {
+        value = lowered(o.kind, value);
+    }
+    value
+}

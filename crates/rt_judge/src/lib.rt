@@ -1,0 +1,16 @@
+// The judge of images from anywhere: whether one keeps the seven rules, or the least that it breaks.
+#![tactic(auto)]
+
+mod entering;
+mod exits;
+mod findings;
+mod level;
+mod nesting;
+mod notes;
+mod numbers;
+mod operands;
+mod touching;
+pub mod verdict;
+mod walk;
+
+pub use verdict::{Verified, judge};
