@@ -1,12 +1,12 @@
 -- What is kept of those who enter sections, with one more point.
 use Rattle.std.proofs.Common.{◌≡◌, ◌≢◌, ◌⊎◌, ◌↔◌, ◌&&◌, ◌≤◌, ◌<◌, Bool, true, false, not, IsTrue, ℕ, max, min, List, [], ◌∷◌, ◌++◌}
-use Rattle.std.proofs.Common.{map, slice_get, Option, Some, None, refl, sym, ap, subst, ◌∙◌, inl, inr, ⊎_elim, arith}
+use Rattle.std.proofs.Common.{map, slice_get, Option, Some, None, if◌then◌else◌, refl, sym, ap, subst, ◌∙◌, inl, inr, ⊎_elim, arith}
 use Rattle.std.specs.List.{AllByRecursion, list_any, Contains}
 use Rattle.std.proofs.lemmas.Bool.{cases_lt}
 use Rattle.std.proofs.lemmas.List.Folds.{list_any-append}
 use Rattle.std.proofs.lemmas.List.Elements.{Contains-append_left, Contains-push_cases, Contains-push}
-use Rattle.rt_lemmas.proofs.Bools.{or_left, or_right, or_cases, and_parts}
-use Rattle.rt_lemmas.proofs.Membership.{all_append}
+use Rattle.rt_lemmas.proofs.Bools.{or_left, both_of_none, not_true}
+use Rattle.rt_lemmas.proofs.Membership.{all_append, any_left, any_right}
 use Rattle.rt_ids.specs.Choice.{IsIn}
 use Rattle.rt_ids.specs.Holder.{is_same_section}
 use Rattle.rt_ids.specs.declared.ids.Section.{Section}
@@ -15,11 +15,11 @@ use Rattle.rt_code.specs.declared.instr.Instr.{Instr}
 use Rattle.rt_code.specs.declared.instr.Note.{Note}
 use Rattle.rt_code.specs.declared.instr.Note.TheVariants as note
 use Rattle.rt_points.specs.Point.{Point, sections}
-use Rattle.rt_points.specs.declared.point.Owner.TheVariants.{Starting}
+use Rattle.rt_points.specs.declared.point.Owner.TheVariants.{Starting, Thread, Handling}
 use Rattle.rt_points.specs.Level.{owner_value}
 use Rattle.rt_judge.specs.Inside.Kept.{EntersBy, FreeAt}
 use Rattle.rt_judge.specs.Inside.Entering.{Enterer, level_behind, IsGreatestLevel, IsLeastValue, IsLeastOrNone, IsEntering}
-use Rattle.rt_judge.specs.Inside.Entering.{TellsOfSections, least, with_entering, added, entered}
+use Rattle.rt_judge.specs.Inside.Entering.{TellsOfSections, least, with_entering, added, entered, outside_value, EntersNone}
 use Rattle.rt_judge.specs.declared.entering.Entering.{Entering}
 use Rattle.rt_judge.specs.declared.entering.Sections.{Sections}
 use Rattle.rt_judge.proofs.SameSections.{same_is, is_same}
@@ -28,35 +28,57 @@ use Rattle.rt_judge.proofs.Seen.{tells_more, any_inside, inside_any, all_map, al
 abbrev Line : Type 0
 Line = Instr × Option Note
 
-instr_in : Instr → Option Line → Instr
+abbrev instr_in : Instr → Option Line → Instr
 instr_in d None = d
 instr_in d (Some line) = line.0
 
-note_section : Section → Option Note → Section
+abbrev note_section : Section → Option Note → Section
 note_section d (Some (note.Enter x)) = x
 note_section d told = d
 
-section_in : Section → Option Line → Section
+abbrev section_in : Section → Option Line → Section
 section_in d None = d
 section_in d (Some line) = note_section d line.1
 
+abbrev told_line : Instr → Option Note → Option Line
+told_line i told = Some (i, told)
+
+abbrev note_in : Option Note → Option Line → Option Note
+note_in d None = d
+note_in d (Some line) = line.1
+
+abbrev line_of : Instr → Section → Option Line
+line_of i x = Some (i, Some (note.Enter x))
+
+is_not : (b : Bool) → ¬ (b ≡ true) → not b ≡ true
+is_not true h = absurd (h refl)
+is_not false h = refl
+
 -- at one point one line stands
 module _ (img : Image) (p : Point) (i j : Instr) (x y : Section) (stands : EntersBy img p i x) (other : EntersBy img p j y) where
-  same_line : Some (i, Some (note.Enter x)) ≡ Some (j, Some (note.Enter y))
-  same_line = sym stands ∙ other
+  same_line : line_of i x ≡ line_of j y
+  same_line =
+      let was : slice_get img.code p.address ≡ line_of i x = stands in
+      let is : slice_get img.code p.address ≡ line_of j y = other in
+      sym was ∙ is
 
   one_instr : i ≡ j
-  unfolding instr_in
   one_instr = ap (instr_in i) same_line
 
   one_section : x ≡ y
-  unfolding section_in, note_section
   one_section = ap (section_in x) same_line
 
 -- the value of the next who enters, `init` aside
 abbrev pub IsValueOf : Image → Point → Option ℕ → Type 0
 IsValueOf img p None = p.owner ≡ Starting
 IsValueOf img p (Some value) = (p.owner ≢ Starting) × (owner_value img p.owner ≡ value)
+
+pub value_of_next : (img : Image) (p : Point) → IsValueOf img p (outside_value img p.owner)
+value_of_next img p = elim p.owner as (λ o. p.owner ≡ o → IsValueOf img p (outside_value img o)) [
+  | Starting ↦ λ e. e
+  | Thread ↦ λ e. ((λ is. let both : Thread ≡ Starting = sym e ∙ is in cc), ap (owner_value img) e)
+  | Handling place ↦ λ e. ((λ is. let both : Handling place ≡ Starting = sym e ∙ is in cc), ap (owner_value img) e)
+] refl
 
 seen_before : (img : Image) (ps : List Point) (p : Point) (y : Section) (q : Point) (j : Instr) → Enterer img ps y q j
     → Enterer img (ps ++ p ∷ []) y q j
@@ -76,11 +98,10 @@ module _ (img : Image) (ps : List Point) (p : Point) (i : Instr) (x : Section) (
           now same (one_instr img p i j x y stands enters) (one_section img p i j x y stands enters))
       (Contains-push_cases ps p q e.seen)
 
-  level_now : ℕ
+  abbrev level_now : ℕ
   level_now = level_behind img p i x
 
   level_same : (q : Point) (j : Instr) → p ≡ q → i ≡ j → level_behind img q j x ≡ level_now
-  unfolding level_now
   level_same q j same one = sym (ap (λ r. level_behind img r i x) same ∙ ap (λ k. level_behind img q k x) one)
 
   greatest : (old : ℕ) → IsGreatestLevel img ps x old → IsGreatestLevel img (ps ++ p ∷ []) x (max old level_now)
@@ -106,7 +127,6 @@ module _ (img : Image) (ps : List Point) (p : Point) (i : Instr) (x : Section) (
       (cases_lt old level_now)
     where
       at_most : (old : ℕ) → old < level_now → level_behind img p i x ≡ max old level_now
-      unfolding level_now
       at_most old lower = omega (arith, lower)
 
   value_same : (q : Point) (value : ℕ) → p ≡ q → owner_value img p.owner ≡ value → owner_value img q.owner ≡ value
@@ -175,7 +195,6 @@ module _ (img : Image) (ps : List Point) (p : Point) (i : Instr) (x : Section) (
     }
       where
         now_is : level_now ≡ level_behind img p i x
-        unfolding level_now
         now_is = refl
 
     other_row : (row : Entering) → row.section ≢ x → IsEntering img ps row.section row
@@ -214,7 +233,6 @@ module _ (img : Image) (ps : List Point) (p : Point) (i : Instr) (x : Section) (
         })
       where
         now_is : level_now ≡ level_behind img p i x
-        unfolding level_now
         now_is = refl
 
     -- the rows, each of its own section
@@ -237,3 +255,138 @@ module _ (img : Image) (ps : List Point) (p : Point) (i : Instr) (x : Section) (
 
         added_apart : (row : Entering) → is_same_section row.section e.section ≡ false → added e row ≡ row
         added_apart row apart = rw apart refl
+
+    section_added : (row : Entering) → (added e row).section ≡ row.section
+    section_added row = elim (is_same_section row.section e.section) as
+        (λ b. is_same_section row.section e.section ≡ b → (added e row).section ≡ row.section) [
+        | true ↦ λ same. rw same refl
+        | false ↦ λ apart. rw apart refl
+      ] refl
+
+    any_added : (y : Section) (rows : List Entering) → list_any (λ row. is_same_section row.section y) (map (added e) rows)
+        ≡ list_any (λ row. is_same_section row.section y) rows
+    any_added y [] = refl
+    any_added y (row ∷ rows) = rw (section_added row, any_added y rows) refl
+
+    rows_on : (rows : List Entering) → AllByRecursion (λ row. IsEntering img ps row.section row) rows
+        → AllByRecursion (λ row. IsEntering img (ps ++ p ∷ []) row.section row) (map (added e) rows)
+    rows_on [] all = tt
+    rows_on (row ∷ rows) all = (step_row row all.0, rows_on rows all.1)
+
+    rows_apart : (rows : List Entering) → list_any (λ row. is_same_section row.section e.section) rows ≡ false
+        → AllByRecursion (λ row. IsEntering img ps row.section row) rows
+        → AllByRecursion (λ row. IsEntering img (ps ++ p ∷ []) row.section row) rows
+    rows_apart [] none all = tt
+    rows_apart (row ∷ rows) none all =
+        let parts = both_of_none (is_same_section row.section e.section) (list_any (λ r. is_same_section r.section e.section) rows) none in
+        (other_row row (λ same. absurd (let yes : is_same_section row.section e.section ≡ true =
+            subst (λ y. is_same_section row.section y ≡ true) (same ∙ sym of) (is_same row.section) in
+            let no = parts.0 in cc)) all.0,
+        rows_apart rows parts.1 all.1)
+
+    -- what the rows have, with the next
+    module _ (s t : Sections) (tells : TellsOfSections img ps s) (free : t.free ≡ (s.free && not (list_any (λ o. is_same_section o.section x) p.inside)))
+        (rows : t.rows.items ≡ entered e s.rows.items) where
+      free_here : IsTrue (not (list_any (λ o. is_same_section o.section x) p.inside)) ↔ FreeAt img p
+      free_here = (
+        λ closed j y enters inside.
+            let same = one_section img p i j x y stands enters in
+            let yes = inside_any x p.inside (subst (λ z. IsIn (sections p.inside) z) (sym same) inside) in
+            let no = not_true (list_any (λ o. is_same_section o.section x) p.inside) closed in
+            absurd (cc),
+        λ open_free. is_not (list_any (λ o. is_same_section o.section x) p.inside)
+            (λ yes. open_free i x stands (any_inside x p.inside yes)),
+      )
+
+      rows_now : AllByRecursion (λ row. IsEntering img (ps ++ p ∷ []) row.section row) (entered e s.rows.items)
+      rows_now = elim (list_any (λ row. is_same_section row.section e.section) s.rows.items) as
+          (λ b. list_any (λ row. is_same_section row.section e.section) s.rows.items ≡ b
+          → AllByRecursion (λ row. IsEntering img (ps ++ p ∷ []) row.section row)
+          (if b then map (added e) s.rows.items else s.rows.items ++ e ∷ [])) [
+          | true ↦ λ there. rows_on s.rows.items tells.rows
+          | false ↦ λ none. all_append (λ row. IsEntering img (ps ++ p ∷ []) row.section row) s.rows.items (e ∷ [])
+              (rows_apart s.rows.items none tells.rows)
+              (subst (λ y. IsEntering img (ps ++ p ∷ []) y e) (sym of)
+              (first_row (λ q j before. absurd (let yes = tells.each x q j before in
+              let no = subst (λ y. list_any (λ row. is_same_section row.section y) s.rows.items ≡ false) of none in cc))), tt)
+        ] refl
+
+      each_now : (y : Section) (q : Point) (j : Instr) → Enterer img (ps ++ p ∷ []) y q j
+          → list_any (λ row. is_same_section row.section y) (entered e s.rows.items) ≡ true
+      each_now y q j enters = elim (list_any (λ row. is_same_section row.section e.section) s.rows.items) as
+          (λ b. list_any (λ row. is_same_section row.section e.section) s.rows.items ≡ b
+          → list_any (λ row. is_same_section row.section y) (if b then map (added e) s.rows.items else s.rows.items ++ e ∷ []) ≡ true) [
+          | true ↦ λ there. any_added y s.rows.items ∙ by_cases y q j enters (tells.each y q j)
+              (λ _ _ same. subst (λ z. list_any (λ row. is_same_section row.section z) s.rows.items ≡ true) (of ∙ same) there)
+          | false ↦ λ none. by_cases y q j enters
+              (λ before. any_left (λ row. is_same_section row.section y) s.rows.items (e ∷ []) (tells.each y q j before))
+              (λ _ _ same. any_right (λ row. is_same_section row.section y) s.rows.items (e ∷ [])
+                  (or_left (is_same_section e.section y) false
+                  (subst (λ z. is_same_section e.section z ≡ true) (of ∙ same) (is_same e.section))))
+        ] refl
+
+      pub takes_enter : TellsOfSections img (ps ++ p ∷ []) t
+      takes_enter = record {
+        free = subst (λ b. IsTrue b ↔ AllByRecursion (FreeAt img) (ps ++ p ∷ [])) (sym free)
+            (tells_more s.free (not (list_any (λ o. is_same_section o.section x) p.inside)) (FreeAt img) ps p tells.free free_here);
+        rows = subst (λ r. AllByRecursion (λ row. IsEntering img (ps ++ p ∷ []) row.section row) r) (sym rows) rows_now;
+        each = λ y q j enters. subst (λ r. list_any (λ row. is_same_section row.section y) r ≡ true) (sym rows) (each_now y q j enters);
+      }
+
+pub no_enter : (img : Image) (p : Point) (i : Instr) (told : Option Note) → slice_get img.code p.address ≡ Some (i, told)
+    → EntersNone told → (j : Instr) (y : Section) → ¬ EntersBy img p j y
+no_enter img p i told stands none j y enters =
+    let was : slice_get img.code p.address ≡ told_line i told = stands in
+    let is : slice_get img.code p.address ≡ line_of j y = enters in
+    subst EntersNone (ap (note_in told) (sym was ∙ is)) none
+
+row_more : (img : Image) (ps : List Point) (p : Point)
+    → ((y : Section) (q : Point) (j : Instr) → Enterer img (ps ++ p ∷ []) y q j → Enterer img ps y q j)
+    → (row : Entering) → IsEntering img ps row.section row → IsEntering img (ps ++ p ∷ []) row.section row
+row_more img ps p before row is = record {
+  level = record {
+    all = λ q j e. is.level.all q j (before row.section q j e);
+    point = is.level.point;
+    instr = is.level.instr;
+    enterer = seen_before img ps p row.section is.level.point is.level.instr is.level.enterer;
+    is = is.level.is;
+  };
+  value = value_more row.value is.value;
+}
+  where
+    value_more : (v : Option ℕ) → IsLeastOrNone img ps row.section v → IsLeastOrNone img (ps ++ p ∷ []) row.section v
+    value_more None none = λ q j e. none q j (before row.section q j e)
+    value_more (Some v) l = record {
+      all = λ q j e. l.all q j (before row.section q j e);
+      point = l.point;
+      instr = l.instr;
+      enterer = seen_before img ps p row.section l.point l.instr l.enterer;
+      outside = l.outside;
+      is = l.is;
+    }
+
+rows_more : (img : Image) (ps : List Point) (p : Point)
+    → ((y : Section) (q : Point) (j : Instr) → Enterer img (ps ++ p ∷ []) y q j → Enterer img ps y q j)
+    → (rows : List Entering) → AllByRecursion (λ row. IsEntering img ps row.section row) rows
+    → AllByRecursion (λ row. IsEntering img (ps ++ p ∷ []) row.section row) rows
+rows_more img ps p before [] all = tt
+rows_more img ps p before (row ∷ rows) all = (row_more img ps p before row all.0, rows_more img ps p before rows all.1)
+
+-- a point at which no section is entered
+pub takes_none : (img : Image) (ps : List Point) (p : Point) (s : Sections) (i : Instr) (told : Option Note)
+    → slice_get img.code p.address ≡ Some (i, told) → ((j : Instr) (y : Section) → ¬ EntersBy img p j y)
+    → TellsOfSections img ps s → TellsOfSections img (ps ++ p ∷ []) s
+takes_none img ps p s i told stands none tells =
+    let before : (y : Section) (q : Point) (j : Instr) → Enterer img (ps ++ p ∷ []) y q j → Enterer img ps y q j =
+    λ y q j e. ⊎_elim
+        (λ seen. record { seen = seen; enters = e.enters })
+        (λ same. absurd (none j y (subst (λ r. EntersBy img r j y) (sym same) e.enters)))
+        (Contains-push_cases ps p q e.seen) in
+    record {
+      free = (
+        λ yes. all_append (FreeAt img) ps (p ∷ []) (tells.free.0 yes) ((λ j y enters. absurd (none j y enters)), tt),
+        λ all. tells.free.1 (all_front (FreeAt img) ps p all),
+      );
+      rows = rows_more img ps p before s.rows.items tells.rows;
+      each = λ y q j e. tells.each y q j (before y q j e);
+    }

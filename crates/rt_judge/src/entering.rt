@@ -1,4 +1,4 @@
-ghost use Rattle.std.specs.Prelude.{◌≡◌, ◌++◌, ◌∷◌, [], max, map, ◌&&◌, ◌↔◌, ℕ, IsTrue, OnOk, List, Some, slice_get};
+ghost use Rattle.std.specs.Prelude.{◌≡◌, ◌++◌, ◌∷◌, [], map, ◌&&◌, ◌↔◌, ℕ, IsTrue, OnOk, MatchOption, List, Some, slice_get};
 ghost use Rattle.std.specs.List.{list_any, list_all};
 ghost use Rattle.rt_ids.specs.Holder.{is_same_section};
 ghost use Rattle.rt_points.specs.Point.{Point};
@@ -38,6 +38,26 @@ fn least(one: Option<u32>, other: Option<u32>) -> Option<u32>
         (Some(a), Some(b)) => Some(a.min(b)),
         (Some(a), None) => Some(a),
         (None, other) => other,
+    }
+}
+
+/// The section that a note enters.
+fn entered(note: &Option<Note>) -> Option<Section>
+    ensures { MatchOption result (spec.EntersNone note.now) (λ x. note.now ≡ Some (Note.Enter x)) }
+{
+    match *note {
+        Some(Note::Enter(section)) => Some(section),
+        _ => None,
+    }
+}
+
+/// The priority value of an owner, `init` aside.
+fn outside_value(image: &Image, owner: Owner) -> Option<u32>
+    ensures { result ≡ spec.outside_value image.now owner }
+{
+    match owner {
+        Owner::Starting => None,
+        Owner::Thread | Owner::Handling(_) => Some(owner_value(image, owner)),
     }
 }
 
@@ -124,28 +144,25 @@ impl Sections {
         alloc: Global,
         image: &Image,
         owner: Owner,
-        line: Line,
+        line: &Line,
         nesting: &Nesting,
         section: Section,
     ) -> Result<(), NoMemory>
-        requires { line.1 ≡ Some (Note.Enter section) }
+        requires { line.now.1 ≡ Some (Note.Enter section) }
         ensures { OnOk result ((address : ℕ) (ps : List Point)
-            → slice_get image.now.code address ≡ Some line
+            → slice_get image.now.code address ≡ Some line.now
             → spec.TellsOfSections image.now ps self.old
             → spec.TellsOfSections image.now (ps ++ point address owner nesting.now ∷ []) self.new) }
     {
-        self.free = self.free && !is_inside(nesting.opened(), section);
-        let inside = nesting.behind(alloc, line.0, line.1)?;
-        let level = level_value(image, owner, inside.opened());
-        let value = match owner {
-            Owner::Starting => None,
-            owner => Some(owner_value(image, owner)),
-        };
-        self.enter(&Entering {
+        let is_inside = is_inside(nesting.opened(), &section);
+        let behind = nesting.behind(alloc, line.0, line.1)?;
+        let entering = Entering {
             section,
-            level,
-            value,
-        })
+            level: level_value(image, owner, behind.opened()),
+            value: outside_value(image, owner),
+        };
+        self.free = self.free && !is_inside;
+        self.enter(&entering)
     }
 
     /// One more point, at which a line stands.
@@ -154,19 +171,17 @@ impl Sections {
         alloc: Global,
         image: &Image,
         owner: Owner,
-        line: Line,
+        line: &Line,
         nesting: &Nesting,
     ) -> Result<(), NoMemory>
         ensures { OnOk result ((address : ℕ) (ps : List Point)
-            → slice_get image.now.code address ≡ Some line
+            → slice_get image.now.code address ≡ Some line.now
             → spec.TellsOfSections image.now ps self.old
             → spec.TellsOfSections image.now (ps ++ point address owner nesting.now ∷ []) self.new) }
     {
-        match line.1 {
-            Some(Note::Enter(section)) => {
-                self.take_enter(alloc, image, owner, line, nesting, section)
-            }
-            _ => Ok(()),
+        match entered(&line.1) {
+            Some(section) => self.take_enter(alloc, image, owner, line, nesting, section),
+            None => Ok(()),
         }
     }
 }

@@ -46,7 +46,7 @@ impl Findings {
         let opened = nesting.opened();
         self.operands = self.operands && is_operable(image, owner, opened, &line.0);
         self.notes = self.notes && is_noted_well(image, owner, opened, &line.0, &line.1);
-        self.sections.take(alloc, image, owner, line, nesting)?;
+        self.sections.take(alloc, image, owner, &line, nesting)?;
         self.cells.take(alloc, image, owner, line, nesting)
     }
 

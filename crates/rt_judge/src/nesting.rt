@@ -141,8 +141,8 @@ pub fn is_same_section(one: Section, other: Section) -> bool
 }
 
 /// Whether one of these is open on a section.
-pub fn is_inside(opened: &[Opened], section: Section) -> bool
-    ensures { result ≡ list_any (λ o. is_same_section o.section section) opened.now }
+pub fn is_inside(opened: &[Opened], section: &Section) -> bool
+    ensures { result ≡ list_any (λ o. is_same_section o.section section.now) opened.now }
 {
-    opened.iter().any(|o| is_same_section(o.section, section))
+    opened.iter().any(|o| is_same_section(o.section, *section))
 }

@@ -53,7 +53,7 @@ impl Touching {
     /// With one more touch.
     fn with(self, touch: Touch, opened: &[Opened]) -> Touching {
         let mut sections = self.sections;
-        sections.retain(|section| is_inside(opened, *section));
+        sections.retain(|section| is_inside(opened, section));
         Touching {
             stored: self.stored || touch.stored,
             value: self.value,
