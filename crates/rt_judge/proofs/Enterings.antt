@@ -19,36 +19,13 @@ use Rattle.rt_points.specs.declared.point.Owner.TheVariants.{Starting, Thread, H
 use Rattle.rt_points.specs.Level.{owner_value}
 use Rattle.rt_judge.specs.Inside.Kept.{EntersBy, FreeAt}
 use Rattle.rt_judge.specs.Inside.Entering.{Enterer, level_behind, IsGreatestLevel, IsLeastValue, IsLeastOrNone, IsEntering}
-use Rattle.rt_judge.specs.Inside.Entering.{TellsOfSections, least, with_entering, added, entered, outside_value, EntersNone}
+use Rattle.rt_judge.specs.Inside.Entering.{TellsOfSections, least, with_entering, added, entered, EntersNone}
+use Rattle.rt_judge.specs.Inside.Values.{outside_value}
 use Rattle.rt_judge.specs.declared.entering.Entering.{Entering}
 use Rattle.rt_judge.specs.declared.entering.Sections.{Sections}
 use Rattle.rt_judge.proofs.SameSections.{same_is, is_same}
+use Rattle.rt_judge.proofs.Lines.{Line, instr_in, section_in, told_line, note_in, line_of}
 use Rattle.rt_judge.proofs.Seen.{tells_more, any_inside, inside_any, all_map, all_front, all_last}
-
-abbrev Line : Type 0
-Line = Instr × Option Note
-
-abbrev instr_in : Instr → Option Line → Instr
-instr_in d None = d
-instr_in d (Some line) = line.0
-
-abbrev note_section : Section → Option Note → Section
-note_section d (Some (note.Enter x)) = x
-note_section d told = d
-
-abbrev section_in : Section → Option Line → Section
-section_in d None = d
-section_in d (Some line) = note_section d line.1
-
-abbrev told_line : Instr → Option Note → Option Line
-told_line i told = Some (i, told)
-
-abbrev note_in : Option Note → Option Line → Option Note
-note_in d None = d
-note_in d (Some line) = line.1
-
-abbrev line_of : Instr → Section → Option Line
-line_of i x = Some (i, Some (note.Enter x))
 
 is_not : (b : Bool) → ¬ (b ≡ true) → not b ≡ true
 is_not true h = absurd (h refl)

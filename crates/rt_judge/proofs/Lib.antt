@@ -6,3 +6,5 @@ pub mod Bounds
 pub mod Walking
 pub mod Seen
 pub mod Enterings
+pub mod Lines
+pub mod Touchings

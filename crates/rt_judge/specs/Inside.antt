@@ -3,6 +3,7 @@ pub mod Exits
 pub mod Points
 pub mod Places
 pub mod Walks
+pub mod Values
 pub mod Kept
 pub mod Entering
 pub mod Touching

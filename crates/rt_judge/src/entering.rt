@@ -5,7 +5,7 @@ ghost use Rattle.rt_points.specs.Point.{Point};
 ghost use Rattle.rt_judge.specs.Inside.Points.{point};
 ghost use Rattle.rt_judge.specs.Inside.Entering as spec;
 
-use crate::level::{level_value, owner_value};
+use crate::level::{level_value, outside_value};
 use crate::nesting::{Nesting, is_inside, is_same_section};
 use rt_code::{Image, Line, Note};
 use rt_ids::{NoMemory, Section};
@@ -48,16 +48,6 @@ fn entered(note: &Option<Note>) -> Option<Section>
     match *note {
         Some(Note::Enter(section)) => Some(section),
         _ => None,
-    }
-}
-
-/// The priority value of an owner, `init` aside.
-fn outside_value(image: &Image, owner: Owner) -> Option<u32>
-    ensures { result ≡ spec.outside_value image.now owner }
-{
-    match owner {
-        Owner::Starting => None,
-        Owner::Thread | Owner::Handling(_) => Some(owner_value(image, owner)),
     }
 }
 

@@ -1,4 +1,10 @@
+ghost use Rattle.std.specs.Prelude.{◌≡◌, ◌++◌, ◌∷◌, [], IfOk, OnOk, ℕ, List, Some, slice_get};
+ghost use Rattle.rt_points.specs.Point.{Point};
+ghost use Rattle.rt_judge.specs.Inside.Points.{point};
+ghost use Rattle.rt_judge.specs.Inside.Finds as spec;
+
 use crate::entering::Sections;
+use crate::exits::line_at;
 use crate::nesting::Nesting;
 use crate::notes::is_noted_well;
 use crate::operands::is_operable;
@@ -24,13 +30,16 @@ pub struct Findings {
 
 impl Findings {
     /// Of no points.
-    pub fn new(alloc: Global, image: &Image) -> Result<Findings, NoMemory> {
+    pub fn new(alloc: Global, image: &Image) -> Result<Findings, NoMemory>
+        ensures { IfOk result (spec.Finds image.now []) }
+    {
+        let cells = Cells::new(alloc, image.cells.len())?;
         Ok(Findings {
             addresses: true,
             operands: true,
             notes: true,
             sections: Sections::new(alloc),
-            cells: Cells::new(alloc, image.cells.len())?,
+            cells,
         })
     }
 
@@ -40,13 +49,19 @@ impl Findings {
         alloc: Global,
         image: &Image,
         owner: Owner,
-        line: Line,
+        line: &Line,
         nesting: &Nesting,
-    ) -> Result<(), NoMemory> {
-        let opened = nesting.opened();
-        self.operands = self.operands && is_operable(image, owner, opened, &line.0);
-        self.notes = self.notes && is_noted_well(image, owner, opened, &line.0, &line.1);
-        self.sections.take(alloc, image, owner, &line, nesting)?;
+    ) -> Result<(), NoMemory>
+        ensures { OnOk result ((address : ℕ) (ps : List Point)
+            → slice_get image.now.code address ≡ Some line.now
+            → spec.Finds image.now ps self.old
+            → spec.Finds image.now (ps ++ point address owner nesting.now ∷ []) self.new) }
+    {
+        let is_operable = is_operable(image, owner, nesting.opened(), &line.0);
+        let is_noted_well = is_noted_well(image, owner, nesting.opened(), &line.0, &line.1);
+        self.operands = self.operands && is_operable;
+        self.notes = self.notes && is_noted_well;
+        self.sections.take(alloc, image, owner, line, nesting)?;
         self.cells.take(alloc, image, owner, line, nesting)
     }
 
@@ -58,9 +73,13 @@ impl Findings {
         owner: Owner,
         address: u32,
         nesting: &Nesting,
-    ) -> Result<(), NoMemory> {
-        match image.code.get(address as usize) {
-            Some(line) => self.take_line(alloc, image, owner, *line, nesting),
+    ) -> Result<(), NoMemory>
+        ensures { OnOk result ((ps : List Point)
+            → spec.Finds image.now ps self.old
+            → spec.Finds image.now (ps ++ point address owner nesting.now ∷ []) self.new) }
+    {
+        match line_at(image, address) {
+            Some(line) => self.take_line(alloc, image, owner, &line, nesting),
             None => {
                 self.addresses = false;
                 Ok(())
@@ -75,7 +94,11 @@ impl Findings {
         image: &Image,
         owner: Owner,
         table: &BTreeMap<u32, Nesting>,
-    ) -> Result<(), NoMemory> {
+    ) -> Result<(), NoMemory>
+        ensures { OnOk result ((ps : List Point)
+            → spec.Finds image.now ps self.old
+            → spec.Finds image.now (ps ++ spec.points_of owner table.now.entries) self.new) }
+    {
         for (address, nesting) in table {
             self.take_point(alloc, image, owner, *address, nesting)?;
         }

@@ -2,6 +2,7 @@ ghost use Rattle.std.specs.Prelude.{◌≡◌, ◌≤◌};
 ghost use Rattle.rt_ids.specs.declared.limits.TheConstants.{THREAD_VALUE};
 ghost use Rattle.rt_points.specs.Leading.{handler_at};
 ghost use Rattle.rt_points.specs.Level.{owner_value, frame_of, lowered, level_value};
+ghost use Rattle.rt_judge.specs.Inside.Values.{outside_value};
 
 use rt_code::{Handler, Image};
 use rt_ids::limits::THREAD_VALUE;
@@ -28,6 +29,16 @@ pub fn owner_value(image: &Image, owner: Owner) -> u32
             Some(handler) => u32::from(handler.value),
             None => u32::from(THREAD_VALUE),
         },
+    }
+}
+
+/// The priority value of an owner, `init` aside.
+pub fn outside_value(image: &Image, owner: Owner) -> Option<u32>
+    ensures { result ≡ outside_value image.now owner }
+{
+    match owner {
+        Owner::Starting => None,
+        Owner::Thread | Owner::Handling(_) => Some(owner_value(image, owner)),
     }
 }
 

@@ -1,12 +1,14 @@
-ghost use Rattle.std.specs.Prelude.{◌≡◌, ◌++◌, ◌∷◌, [], ℕ, ◌↔◌, IsTrue, IfOk, OnOk, List, Some, None, replicate, slice_get};
+ghost use Rattle.std.specs.Prelude.{◌≡◌, ◌++◌, ◌∷◌, [], ◌<◌, ℕ, IfOk, OnOk, List, Some, None, replicate, slice_get};
+ghost use Rattle.std.specs.Prelude.{filter, map, length};
+ghost use Rattle.std.specs.List.{list_all};
 ghost use Rattle.rt_points.specs.Point.{Point};
 ghost use Rattle.rt_judge.specs.Inside.Points.{point};
 ghost use Rattle.rt_judge.specs.Inside.Touching as spec;
 
-use crate::level::owner_value;
+use crate::level::outside_value;
 use crate::nesting::{Nesting, is_inside};
 use crate::operands::{is_store, touched};
-use rt_code::{Image, Instr, Line};
+use rt_code::{Image, Line};
 use rt_ids::{NoMemory, Section};
 use rt_points::{Opened, Owner};
 use std::alloc::Global;
@@ -26,10 +28,11 @@ pub struct Touching {
 
 /// A touch of a cell.
 #[derive(Clone, Copy)]
-struct Touch {
-    stored: bool,
+pub struct Touch {
+    pub cell: usize,
+    pub stored: bool,
     /// The priority value of who touches it.
-    value: u32,
+    pub value: u32,
 }
 
 /// Who touches which cell, at the points that were looked at.
@@ -38,46 +41,103 @@ pub struct Cells {
     rows: Vec<Option<Touching>>,
 }
 
+/// What is open.
+fn sections_of(alloc: Global, opened: &[Opened]) -> Result<Vec<Section>, NoMemory>
+    ensures { IfOk result (λ all. all.items ≡ map (λ o. o.section) opened.now) }
+{
+    Ok(opened.iter().map(|o| o.section).collect(alloc)?)
+}
+
+/// Those sections that are open.
+fn common(alloc: Global, sections: &[Section], opened: &[Opened]) -> Result<Vec<Section>, NoMemory>
+    ensures { IfOk result (λ all. all.items ≡ filter (spec.is_open opened.now) sections.now) }
+{
+    Ok(sections
+        .iter()
+        .copied()
+        .filter(|section| is_inside(opened, section))
+        .collect(alloc)?)
+}
+
 impl Touching {
     /// A first touch.
-    fn new(alloc: Global, touch: Touch, opened: &[Opened]) -> Result<Touching, NoMemory> {
-        let sections = opened.iter().map(|o| o.section).collect(alloc)?;
+    fn new(alloc: Global, touch: &Touch, opened: &[Opened]) -> Result<Touching, NoMemory>
+        ensures { IfOk result (spec.IsFirst touch.now opened.now) }
+    {
         Ok(Touching {
             stored: touch.stored,
             value: touch.value,
             differ: false,
-            sections,
+            sections: sections_of(alloc, opened)?,
         })
     }
 
     /// With one more touch.
-    fn with(self, touch: Touch, opened: &[Opened]) -> Touching {
-        let mut sections = self.sections;
-        sections.retain(|section| is_inside(opened, section));
-        Touching {
+    fn with(&self, alloc: Global, touch: &Touch, opened: &[Opened]) -> Result<Touching, NoMemory>
+        ensures { IfOk result (spec.IsWith self.now touch.now opened.now) }
+    {
+        Ok(Touching {
             stored: self.stored || touch.stored,
             value: self.value,
             differ: self.differ || touch.value != self.value,
-            sections,
-        }
+            sections: common(alloc, self.sections.as_slice(), opened)?,
+        })
     }
 
     /// Whether it is touched inside one section alone, where owners contend for it.
-    fn is_guarded(&self) -> bool {
-        !self.stored || !self.differ || !self.sections.is_empty()
+    fn is_guarded(&self) -> bool
+        ensures { result ≡ spec.is_guarded self.now }
+    {
+        !self.stored || !self.differ || !self.sections.as_slice().is_empty()
     }
 }
 
-fn is_row_guarded(row: &Option<Touching>) -> bool {
+/// What is known of a cell, with one more touch.
+fn touched_again(
+    alloc: Global,
+    row: &Option<Touching>,
+    touch: &Touch,
+    opened: &[Opened],
+) -> Result<Touching, NoMemory>
+    ensures { IfOk result (spec.IsNext row.now touch.now opened.now) }
+{
+    match row {
+        Some(touching) => touching.with(alloc, touch, opened),
+        None => Touching::new(alloc, touch, opened),
+    }
+}
+
+fn is_row_guarded(row: &Option<Touching>) -> bool
+    ensures { result ≡ spec.is_row_guarded row.now }
+{
     match row {
         Some(touching) => touching.is_guarded(),
         None => true,
     }
 }
 
+/// The touch of a line, `init` aside.
+fn touch_of(image: &Image, owner: Owner, line: &Line) -> Option<Touch>
+    ensures { spec.IsTouchOf image.now owner line.now.0 result }
+{
+    match outside_value(image, owner) {
+        Some(value) => match touched(&line.0) {
+            Some(cell) => Some(Touch {
+                cell: cell as usize,
+                stored: is_store(&line.0),
+                value,
+            }),
+            None => None,
+        },
+        None => None,
+    }
+}
+
 impl Cells {
     /// Of no points.
-    pub fn new(alloc: Global, count: usize) -> Result<Cells, NoMemory> {
+    pub fn new(alloc: Global, count: usize) -> Result<Cells, NoMemory>
+        ensures { IfOk result (λ cells. cells.rows.items ≡ replicate count None) }
+    {
         let mut rows = Vec::with_capacity(alloc, count)?;
         for _ in 0..count {
             rows.push(None)?;
@@ -86,23 +146,19 @@ impl Cells {
     }
 
     /// Whether each cell for which owners contend is touched inside one section alone.
-    pub fn are_guarded(&self) -> bool {
+    pub fn are_guarded(&self) -> bool
+        ensures { result ≡ list_all spec.is_row_guarded self.now.rows.items }
+    {
         self.rows.iter().all(|row| is_row_guarded(row))
     }
 
     /// One more touch of a cell.
-    fn touch(
-        &mut self,
-        alloc: Global,
-        cell: usize,
-        touch: Touch,
-        opened: &[Opened],
-    ) -> Result<(), NoMemory> {
-        let touching = match self.rows[cell].take() {
-            Some(touching) => touching.with(touch, opened),
-            None => Touching::new(alloc, touch, opened)?,
-        };
-        self.rows[cell] = Some(touching);
+    fn touch(&mut self, alloc: Global, touch: &Touch, opened: &[Opened]) -> Result<(), NoMemory>
+        requires { touch.now.cell < length self.old.rows.items }
+        ensures { OnOk result (spec.IsTouched self.old.rows.items self.new.rows.items touch.now opened.now) }
+    {
+        let touching = touched_again(alloc, &self.rows[touch.cell], touch, opened)?;
+        self.rows[touch.cell] = Some(touching);
         Ok(())
     }
 
@@ -112,22 +168,23 @@ impl Cells {
         alloc: Global,
         image: &Image,
         owner: Owner,
-        line: Line,
+        line: &Line,
         nesting: &Nesting,
-    ) -> Result<(), NoMemory> {
-        match (owner, touched(&line.0)) {
-            (Owner::Starting, _) | (_, None) => Ok(()),
-            (owner, Some(cell)) => {
-                let cell = cell as usize;
-                if cell >= self.rows.len() {
-                    return Ok(());
+    ) -> Result<(), NoMemory>
+        ensures { OnOk result ((address : ℕ) (ps : List Point)
+            → slice_get image.now.code address ≡ Some line.now
+            → spec.TellsOfCells image.now ps self.old.rows.items
+            → spec.TellsOfCells image.now (ps ++ point address owner nesting.now ∷ []) self.new.rows.items) }
+    {
+        match touch_of(image, owner, line) {
+            Some(touch) => {
+                if touch.cell < self.rows.len() {
+                    self.touch(alloc, &touch, nesting.opened())
+                } else {
+                    Ok(())
                 }
-                let touch = Touch {
-                    stored: is_store(&line.0),
-                    value: owner_value(image, owner),
-                };
-                self.touch(alloc, cell, touch, nesting.opened())
             }
+            None => Ok(()),
         }
     }
 }

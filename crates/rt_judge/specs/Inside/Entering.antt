@@ -9,8 +9,7 @@ use Rattle.rt_code.specs.declared.instr.Instr.{Instr}
 use Rattle.rt_code.specs.declared.instr.Note.{Note}
 use Rattle.rt_code.specs.declared.instr.Note.TheVariants as note
 use Rattle.rt_points.specs.Point.{Point}
-use Rattle.rt_points.specs.declared.point.Owner.{Owner}
-use Rattle.rt_points.specs.declared.point.Owner.TheVariants.{Starting, Thread, Handling}
+use Rattle.rt_points.specs.declared.point.Owner.TheVariants.{Starting}
 use Rattle.rt_points.specs.Leading.{inside_after}
 use Rattle.rt_points.specs.Level.{owner_value, level_value}
 use Rattle.rt_judge.specs.Inside.Kept.{EntersBy, FreeAt}
@@ -21,12 +20,6 @@ use Rattle.rt_judge.specs.declared.entering.Sections.{Sections}
 abbrev pub EntersNone : Option Note → Type 0
 EntersNone (Some (note.Enter x)) = ⊥
 EntersNone told = Unit {0}
-
--- the priority value of an owner, `init` aside
-abbrev pub outside_value : Image → Owner → Option ℕ
-outside_value img Starting = None
-outside_value img Thread = Some (owner_value img Thread)
-outside_value img (Handling place) = Some (owner_value img (Handling place))
 
 -- what may not be there passes
 abbrev pub none_or : (ℕ → Bool) → Option ℕ → Bool

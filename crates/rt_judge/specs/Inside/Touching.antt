@@ -1,6 +1,8 @@
 -- What is kept of those who touch a cell, by the points that were looked at.
-use Rattle.std.specs.Prelude.{◌≡◌, ◌≢◌, ◌↔◌, ℕ, Bool, true, false, IsTrue, List, Some, Option, None, slice_get}
-use Rattle.std.specs.List.{Contains}
+use Rattle.std.specs.Prelude.{◌≡◌, ◌≢◌, ◌⊎◌, ◌||◌, ◌==◌, not, ℕ, Bool, true, false, List, Some, Option, None, slice_get}
+use Rattle.std.specs.Prelude.{slice_set, option_map, map, filter, length}
+use Rattle.std.specs.List.{Contains, list_any}
+use Rattle.rt_ids.specs.Holder.{is_same_section}
 use Rattle.rt_ids.specs.Choice.{IsIn}
 use Rattle.rt_ids.specs.declared.ids.Section.{Section}
 use Rattle.rt_code.specs.Access.{Access, Loads, Stores, cell_of}
@@ -9,9 +11,12 @@ use Rattle.rt_code.specs.declared.instr.Instr.{Instr}
 use Rattle.rt_code.specs.declared.instr.Note.{Note}
 use Rattle.rt_points.specs.Point.{Point, sections}
 use Rattle.rt_points.specs.declared.point.Owner.TheVariants.{Starting}
+use Rattle.rt_points.specs.declared.point.Owner.{Owner}
+use Rattle.rt_points.specs.declared.point.Opened.{Opened}
 use Rattle.rt_points.specs.Level.{owner_value}
 use Rattle.rt_points.specs.Rules.{touched, IsStore}
 use Rattle.rt_judge.specs.declared.touching.Touching.{Touching}
+use Rattle.rt_judge.specs.declared.touching.Touch.{Touch}
 
 -- whether it is an access that stores
 abbrev pub is_stored : Option Access → Bool
@@ -44,7 +49,55 @@ pub record IsTouching (img : Image) (ps : List Point) (cell : ℕ) (t : Touching
   pub guards : (x : Section) → IsIn t.sections.items x → (p : Point) (a : Access) → Toucher img ps cell p a → IsIn (sections p.inside) x
   pub guarding : (x : Section) → ((p : Point) (a : Access) → Toucher img ps cell p a → IsIn (sections p.inside) x) → IsIn t.sections.items x
 
--- what a table has of a cell
+-- what a row has of a cell
 abbrev pub TellsOfTouching : Image → List Point → ℕ → Option Touching → Type 0
 TellsOfTouching img ps cell None = (p : Point) (a : Access) → ¬ Toucher img ps cell p a
 TellsOfTouching img ps cell (Some t) = IsTouching img ps cell t
+
+-- what the rows have of the cells by number
+abbrev pub TellsOfCells : Image → List Point → List (Option Touching) → Type 0
+TellsOfCells img ps rows =
+    (cell : ℕ) (row : Option Touching) → slice_get rows cell ≡ Some row → TellsOfTouching img ps cell row
+
+abbrev pub is_open : List Opened → Section → Bool
+is_open opened x = list_any (λ o. is_same_section o.section x) opened
+
+-- a first touch; one with one more touch
+pub record IsFirst (touch : Touch) (opened : List Opened) (t : Touching) : Type 0 where
+  pub stored : t.stored ≡ touch.stored
+  pub value : t.value ≡ touch.value
+  pub differ : t.differ ≡ false
+  pub sections : t.sections.items ≡ map (λ o. o.section) opened
+
+pub record IsWith (old : Touching) (touch : Touch) (opened : List Opened) (t : Touching) : Type 0 where
+  pub stored : t.stored ≡ (old.stored || touch.stored)
+  pub value : t.value ≡ old.value
+  pub differ : t.differ ≡ (old.differ || not (touch.value == old.value))
+  pub sections : t.sections.items ≡ filter (is_open opened) old.sections.items
+
+abbrev pub IsNext : Option Touching → Touch → List Opened → Touching → Type 0
+IsNext None touch opened t = IsFirst touch opened t
+IsNext (Some old) touch opened t = IsWith old touch opened t
+
+-- the rows with one more touch
+pub record IsTouched (old new : List (Option Touching)) (touch : Touch) (opened : List Opened) : Type 0 where
+  pub row : Option Touching
+  pub was : slice_get old touch.cell ≡ Some row
+  pub next : Touching
+  pub is_next : IsNext row touch opened next
+  pub is : new ≡ slice_set old touch.cell (Some next)
+
+-- the touch of an instruction, `init` aside
+abbrev pub IsTouchOf : Image → Owner → Instr → Option Touch → Type 0
+IsTouchOf img owner i None = (owner ≡ Starting) ⊎ (touched i ≡ None)
+IsTouchOf img owner i (Some touch) =
+    (owner ≢ Starting) × (owner_value img owner ≡ touch.value) × (option_map cell_of (touched i) ≡ Some touch.cell)
+    × (is_stored (touched i) ≡ touch.stored)
+
+-- where owners contend there is a section that is open at each touch
+abbrev pub is_guarded : Touching → Bool
+is_guarded t = not t.stored || (not t.differ || not (length t.sections.items == 0))
+
+abbrev pub is_row_guarded : Option Touching → Bool
+is_row_guarded None = true
+is_row_guarded (Some t) = is_guarded t

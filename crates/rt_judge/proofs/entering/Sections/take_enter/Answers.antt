@@ -6,7 +6,7 @@ use Rattle.rt_points.specs.Point.{Point}
 use Rattle.rt_points.specs.Leading.{inside_after}
 use Rattle.rt_points.specs.Level.{level_value}
 use Rattle.rt_judge.specs.Inside.Points.{point}
-use Rattle.rt_judge.specs.Inside.Entering.{outside_value}
+use Rattle.rt_judge.specs.Inside.Values.{outside_value}
 use Rattle.rt_judge.specs.declared.entering.Entering.{Entering}
 use Rattle.rt_judge.proofs.Enterings.{takes_enter, value_of_next, IsValueOf}
 use Rattle.rt_lemmas.proofs.Results.{on_ok_weaker}
