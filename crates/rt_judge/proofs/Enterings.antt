@@ -350,10 +350,9 @@ rows_more img ps p before [] all = tt
 rows_more img ps p before (row ∷ rows) all = (row_more img ps p before row all.0, rows_more img ps p before rows all.1)
 
 -- a point at which no section is entered
-pub takes_none : (img : Image) (ps : List Point) (p : Point) (s : Sections) (i : Instr) (told : Option Note)
-    → slice_get img.code p.address ≡ Some (i, told) → ((j : Instr) (y : Section) → ¬ EntersBy img p j y)
+pub takes_none : (img : Image) (ps : List Point) (p : Point) (s : Sections) → ((j : Instr) (y : Section) → ¬ EntersBy img p j y)
     → TellsOfSections img ps s → TellsOfSections img (ps ++ p ∷ []) s
-takes_none img ps p s i told stands none tells =
+takes_none img ps p s none tells =
     let before : (y : Section) (q : Point) (j : Instr) → Enterer img (ps ++ p ∷ []) y q j → Enterer img ps y q j =
     λ y q j e. ⊎_elim
         (λ seen. record { seen = seen; enters = e.enters })

@@ -8,3 +8,6 @@ pub mod Seen
 pub mod Enterings
 pub mod Lines
 pub mod Touchings
+pub mod FindingsSoFar
+pub mod GreatestFrames
+pub mod Looking

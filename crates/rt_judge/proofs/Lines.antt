@@ -30,3 +30,5 @@ note_in d (Some line) = line.1
 abbrev pub line_of : Instr → Section → Option Line
 line_of i x = Some (i, Some (note.Enter x))
 
+abbrev pub no_line : Option Line
+no_line = None

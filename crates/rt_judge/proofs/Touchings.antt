@@ -23,7 +23,7 @@ use Rattle.rt_judge.specs.Inside.Touching.{IsFirst, IsWith, IsNext, IsTouched, I
 use Rattle.rt_judge.specs.declared.touching.Touching.{Touching}
 use Rattle.rt_judge.specs.declared.touching.Touch.{Touch}
 use Rattle.rt_judge.proofs.Seen.{any_inside, inside_any}
-use Rattle.rt_judge.proofs.Lines.{instr_in, told_line}
+use Rattle.rt_judge.proofs.Lines.{instr_in, told_line, no_line}
 
 -- an access that passes, where others pass
 some_like : (b : Bool) (P Q : Point → Access → Type 0) → ((q : Point) (a : Access) → P q a → Q q a)
@@ -81,8 +81,7 @@ get_set (x ∷ xs) (suc n) (suc k) v row at = ⊎_elim
     (λ there. inr ((λ e. there.0 (omega (arith, e))), there.1))
     (get_set xs n k v row at)
 
-module _ (img : Image) (ps : List Point) (p : Point) (i : Instr) (told : Option Note)
-    (stands : slice_get img.code p.address ≡ Some (i, told)) where
+module _ (img : Image) (ps : List Point) (p : Point) where
   seen_before : (k : ℕ) (q : Point) (b : Access) → Toucher img ps k q b → Toucher img (ps ++ p ∷ []) k q b
   seen_before k q b t = record {
     seen = Contains-append_left ps (p ∷ []) q t.seen;
@@ -93,21 +92,6 @@ module _ (img : Image) (ps : List Point) (p : Point) (i : Instr) (told : Option 
     by = t.by;
     touches = t.touches;
   }
-
-  -- who touches a cell is one of before, or the next
-  by_cases : {G : Type 0} (k : ℕ) (q : Point) (b : Access) → Toucher img (ps ++ p ∷ []) k q b
-      → (Toucher img ps k q b → G) → (p ≡ q → p.owner ≢ Starting → touched i ≡ Some b → cell_of b ≡ k → G) → G
-  by_cases k q b t before now = ⊎_elim
-      (λ seen. before (record {
-        seen = seen; outside = t.outside; instr = t.instr; told = t.told; stands = t.stands; by = t.by; touches = t.touches;
-      }))
-      (λ same.
-          let was : slice_get img.code p.address ≡ told_line i told = stands in
-          let is : slice_get img.code p.address ≡ told_line t.instr t.told =
-          ap (λ (r : Point). slice_get img.code r.address) same ∙ t.stands in
-          let one : i ≡ t.instr = ap (instr_in i) (sym was ∙ is) in
-          now same (subst (λ (r : Point). r.owner ≢ Starting) (sym same) t.outside) (ap touched one ∙ t.by) t.touches)
-      (Contains-push_cases ps p q t.seen)
 
   -- a cell that the next point does not touch
   row_more : (k : ℕ) → ((q : Point) (b : Access) → Toucher img (ps ++ p ∷ []) k q b → Toucher img ps k q b)
@@ -127,9 +111,41 @@ module _ (img : Image) (ps : List Point) (p : Point) (i : Instr) (told : Option 
     guarding = λ x all. is.guarding x (λ q b h. all q b (seen_before k q b h));
   }
 
+  pub takes_nowhere : (rows : List (Option Touching)) → slice_get img.code p.address ≡ None
+      → TellsOfCells img ps rows → TellsOfCells img (ps ++ p ∷ []) rows
+  takes_nowhere rows absent tells k line at = row_more k
+      (λ q b t. ⊎_elim
+          (λ seen. record {
+            seen = seen; outside = t.outside; instr = t.instr; told = t.told; stands = t.stands; by = t.by; touches = t.touches;
+          })
+          (λ same. absurd (
+              let none : slice_get img.code p.address ≡ no_line = absent in
+              let some : slice_get img.code p.address ≡ told_line t.instr t.told =
+              ap (λ (r : Point). slice_get img.code r.address) same ∙ t.stands in
+              let both : no_line ≡ told_line t.instr t.told = sym none ∙ some in cc))
+          (Contains-push_cases ps p q t.seen))
+      line (tells k line at)
+
+module _ (img : Image) (ps : List Point) (p : Point) (i : Instr) (told : Option Note)
+    (stands : slice_get img.code p.address ≡ Some (i, told)) where
+  -- who touches a cell is one of before, or the next
+  by_cases : {G : Type 0} (k : ℕ) (q : Point) (b : Access) → Toucher img (ps ++ p ∷ []) k q b
+      → (Toucher img ps k q b → G) → (p ≡ q → p.owner ≢ Starting → touched i ≡ Some b → cell_of b ≡ k → G) → G
+  by_cases k q b t before now = ⊎_elim
+      (λ seen. before (record {
+        seen = seen; outside = t.outside; instr = t.instr; told = t.told; stands = t.stands; by = t.by; touches = t.touches;
+      }))
+      (λ same.
+          let was : slice_get img.code p.address ≡ told_line i told = stands in
+          let is : slice_get img.code p.address ≡ told_line t.instr t.told =
+          ap (λ (r : Point). slice_get img.code r.address) same ∙ t.stands in
+          let one : i ≡ t.instr = ap (instr_in i) (sym was ∙ is) in
+          now same (subst (λ (r : Point). r.owner ≢ Starting) (sym same) t.outside) (ap touched one ∙ t.by) t.touches)
+      (Contains-push_cases ps p q t.seen)
+
   pub takes_no_touch : (rows : List (Option Touching)) → (p.owner ≡ Starting) ⊎ (touched i ≡ None)
       → TellsOfCells img ps rows → TellsOfCells img (ps ++ p ∷ []) rows
-  takes_no_touch rows none tells k row at = row_more k
+  takes_no_touch rows none tells k row at = row_more img ps p k
       (λ q b t. by_cases k q b t (λ h. h) (λ same outside by is. absurd (⊎_elim
           (λ starting. outside starting)
           (λ nothing. let both : Some b ≡ None = sym by ∙ nothing in cc) none)))
@@ -148,7 +164,7 @@ module _ (img : Image) (ps : List Point) (p : Point) (i : Instr) (told : Option 
     pub takes_outer_touch : (rows : List (Option Touching)) → length rows ≤ touch.cell
         → TellsOfCells img ps rows → TellsOfCells img (ps ++ p ∷ []) rows
     takes_outer_touch rows past tells k row is =
-        row_more k (apart k (λ e. absurd (let within = slice_get_within rows k row is in omega (arith, within, e, past)))) row (tells k row is)
+        row_more img ps p k (apart k (λ e. absurd (let within = slice_get_within rows k row is in omega (arith, within, e, past)))) row (tells k row is)
 
     here : Toucher img (ps ++ p ∷ []) touch.cell p a
     here = record {
@@ -187,7 +203,7 @@ module _ (img : Image) (ps : List Point) (p : Point) (i : Instr) (told : Option 
       stored = subst (λ c. SomeIfTrue c (λ q b. Toucher img (ps ++ p ∷ []) touch.cell q b × IsStore b)) (sym is.stored)
           (some_or old.stored touch.stored (λ q b. Toucher img ps touch.cell q b × IsStore b)
           (λ q b. Toucher img (ps ++ p ∷ []) touch.cell q b × IsStore b)
-          (λ q b h. (seen_before touch.cell q b h.0, h.1))
+          (λ q b h. (seen_before img ps p touch.cell q b h.0, h.1))
           (λ yes. (p, a, (here, store_test a (stores ∙ yes))))
           (λ no q b h. by_cases touch.cell q b h.0 (λ before. (before, h.1))
               (λ _ _ other _. absurd (let yes = test_store a (subst IsStore (sym (same_access b other)) h.1) in
@@ -195,14 +211,14 @@ module _ (img : Image) (ps : List Point) (p : Point) (i : Instr) (told : Option 
           was.stored);
       first = was.first;
       access = was.access;
-      touches = seen_before touch.cell was.first was.access was.touches;
+      touches = seen_before img ps p touch.cell was.first was.access was.touches;
       value = was.value ∙ sym is.value;
       differ = subst (λ v. SomeIfTrue t.differ (λ q b. Toucher img (ps ++ p ∷ []) touch.cell q b × (owner_value img q.owner ≢ v))) (sym is.value)
           (subst (λ c. SomeIfTrue c (λ q b. Toucher img (ps ++ p ∷ []) touch.cell q b × (owner_value img q.owner ≢ old.value))) (sym is.differ)
           (some_or old.differ (not (touch.value == old.value))
           (λ q b. Toucher img ps touch.cell q b × (owner_value img q.owner ≢ old.value))
           (λ q b. Toucher img (ps ++ p ∷ []) touch.cell q b × (owner_value img q.owner ≢ old.value))
-          (λ q b h. (seen_before touch.cell q b h.0, h.1))
+          (λ q b h. (seen_before img ps p touch.cell q b h.0, h.1))
           (λ yes. (p, a, (here, λ same. absurd (let no = not_true (touch.value == old.value) yes in
               let eq = eq-eqb touch.value old.value (sym value ∙ same) in cc))))
           (λ no q b h. by_cases touch.cell q b h.0 (λ before. (before, h.1))
@@ -214,7 +230,7 @@ module _ (img : Image) (ps : List Point) (p : Point) (i : Instr) (told : Option 
           (λ same _ _ _. subst (λ (r : Point). IsIn (sections r.inside) x) same (any_inside x p.inside both.1));
       guarding = λ x all. subst (λ xs. IsIn xs x) (sym is.sections)
           (filter_in (is_open p.inside) old.sections.items x
-          (was.guarding x (λ q b h. all q b (seen_before touch.cell q b h)))
+          (was.guarding x (λ q b h. all q b (seen_before img ps p touch.cell q b h)))
           (inside_any x p.inside (all p a here)));
     }
 
@@ -229,7 +245,7 @@ module _ (img : Image) (ps : List Point) (p : Point) (i : Instr) (told : Option 
         (λ same. subst (λ n. TellsOfTouching img (ps ++ p ∷ []) n row) (sym same.0)
             (subst (TellsOfTouching img (ps ++ p ∷ []) touch.cell) same.1
             (next_row done.row done.next done.is_next (tells touch.cell done.row done.was))))
-        (λ there. row_more k (apart k there.0) row (tells k row there.1))
+        (λ there. row_more img ps p k (apart k there.0) row (tells k row there.1))
         (get_set old touch.cell k (Some done.next) row (subst (λ rows. slice_get rows k ≡ Some row) done.is is))
 
 -- the access of a touch

@@ -25,7 +25,6 @@ use Rattle.rt_judge.specs.Inside.Places.{point_of, place_of}
 use Rattle.rt_judge.specs.Inside.Walks.{Table, Has, IsTable, ArePoints, IsAdded, IsKnown, IsWalking, IsWalked, next}
 use Rattle.rt_judge.specs.Inside.Walks.{next_places, waits_by, behind_by, waits, goes_behind, if_so}
 use Rattle.rt_judge.specs.declared.walk.Place.{Place}
-use Rattle.rt_judge.specs.declared.walk.Walk.{Walk}
 use Rattle.rt_judge.proofs.ExitLists.{leads_listed, listed_leads, ends, goes_on, stays, leaves}
 use Rattle.rt_judge.proofs.Bounds.{few_keys}
 
@@ -163,6 +162,7 @@ module _ (img : Image) (owner : Owner) (starts : List Place) (old new : Table) (
         left = before.left;
         short = before.short;
         few = before.few;
+        ordered = before.ordered;
       }
 
   -- a new place
@@ -213,12 +213,13 @@ module _ (img : Image) (owner : Owner) (starts : List Place) (old new : Table) (
           s has to;
       short = short_now;
       few = few_now;
+      ordered = added.ordered;
     }
 
-pub walked : (img : Image) (owner : Owner) (starts : List Place) (walk : Walk)
-    → IsWalking img owner starts walk.table [] walk.behind.items → IsWalked img owner starts walk
-walked img owner starts walk walking =
-    let known : (s : Place) → IsKnown walk.table [] s → Has walk.table s =
+pub walked : (img : Image) (owner : Owner) (starts : List Place) (t : Table) (bs : List Place)
+    → IsWalking img owner starts t [] bs → IsWalked img owner starts t bs
+walked img owner starts t bs walking =
+    let known : (s : Place) → IsKnown t [] s → Has t s =
     λ s is. ⊎_elim (λ has. has) (λ waits. absurd (contains_none s waits)) is in
     record {
       table = walking.table;
@@ -226,6 +227,7 @@ walked img owner starts walk walking =
       began = λ s is. known s (walking.began s is);
       closed = λ s q has to mine. known (place_of q) (walking.closed s q has to mine);
       left = walking.left;
+      ordered = walking.ordered;
     }
 
 -- one step is nearer to the end: a new place leads to two others at most

@@ -8,3 +8,5 @@ pub mod Kept
 pub mod Entering
 pub mod Touching
 pub mod Finds
+pub mod Looks
+pub mod Greatest

@@ -59,8 +59,8 @@ impl Findings {
     {
         let is_operable = is_operable(image, owner, nesting.opened(), &line.0);
         let is_noted_well = is_noted_well(image, owner, nesting.opened(), &line.0, &line.1);
-        self.operands = self.operands && is_operable;
-        self.notes = self.notes && is_noted_well;
+        self.operands &= is_operable;
+        self.notes &= is_noted_well;
         self.sections.take(alloc, image, owner, line, nesting)?;
         self.cells.take(alloc, image, owner, line, nesting)
     }

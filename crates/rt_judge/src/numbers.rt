@@ -1,15 +1,27 @@
+ghost use Rattle.std.specs.Prelude.{◌≡◌, ◌==◌, ◌-◌, ◌≤◌, ◌<◌, ◌%◌, ◌^◌, ◌↔◌, IsTrue, Some, position};
+ghost use Rattle.rt_code.specs.Image.{entry_words};
+ghost use Rattle.rt_code.specs.Runnable.{HaveImplementedValues, HaveNumbersApart};
+ghost use Rattle.rt_code.specs.declared.image.Handler.{Handler as Entry};
+ghost use Rattle.rt_points.specs.Limits.{IsWithinLimits};
+ghost use Rattle.rt_points.specs.Rules.{HasRightNumbers};
+ghost use Rattle.rt_points.specs.Stack as stack;
+ghost use Rattle.rt_judge.specs.Inside.Greatest as spec;
+
 use rt_code::{Image, IrqRow};
 use rt_ids::Irq;
+use rt_ids::limits::THREAD_VALUE;
 use rt_points::STACK_BYTES;
 
 /// The place of the first row of an interrupt.
 fn first_place(irqs: &[IrqRow], irq: Irq) -> Option<usize>
+    ensures { result ≡ position (λ row. row.number == irq) irqs.now }
 {
     irqs.iter().position(|row| row.number == irq)
 }
 
 /// Whether no two rows have one number.
 fn numbers_differ(irqs: &[IrqRow]) -> bool
+    ensures { IsTrue result ↔ HaveNumbersApart irqs.now }
 {
     for (place, row) in irqs.iter().enumerate() {
         if first_place(irqs, row.number) != Some(place) {
@@ -21,6 +33,9 @@ fn numbers_differ(irqs: &[IrqRow]) -> bool
 
 /// Whether a row's priority value has only implemented bits.
 fn value_is_implemented(bits: u8, row: &IrqRow) -> bool
+    requires few { 3 ≤ bits }
+    requires many { bits ≤ 7 }
+    ensures { IsTrue result ↔ ((h : Entry) → row.now.handler ≡ Some h → h.value % 2 ^ (8 - bits) ≡ 0) }
 {
     match row.handler {
         Some(handler) => handler.value % (1 << (8 - bits)) == 0,
@@ -30,6 +45,9 @@ fn value_is_implemented(bits: u8, row: &IrqRow) -> bool
 
 /// Whether each priority value has only implemented bits.
 fn values_are_implemented(bits: u8, irqs: &[IrqRow]) -> bool
+    requires few { 3 ≤ bits }
+    requires many { bits ≤ 7 }
+    ensures { IsTrue result ↔ HaveImplementedValues bits irqs.now }
 {
     for row in irqs {
         if !value_is_implemented(bits, row) {
@@ -39,42 +57,81 @@ fn values_are_implemented(bits: u8, irqs: &[IrqRow]) -> bool
     true
 }
 
+/// The frame of the handler of a row, where it has this priority value.
+fn frame_at(row: &IrqRow, value: u16) -> Option<u32>
+    ensures { result ≡ spec.frame_at value row.now }
+{
+    match row.handler {
+        Some(handler) => {
+            if u16::from(handler.value) == value {
+                Some(handler.frame)
+            } else {
+                None
+            }
+        }
+        None => None,
+    }
+}
+
+/// The greater of two numbers that may not be there.
+fn greater(one: Option<u32>, other: Option<u32>) -> Option<u32>
+    ensures { result ≡ spec.greater one other }
+{
+    match (one, other) {
+        (Some(a), Some(b)) => Some(a.max(b)),
+        (Some(a), None) => Some(a),
+        (None, other) => other,
+    }
+}
+
 /// The greatest frame of the handlers of a priority value, in words, or None where no handler has it.
 fn greatest_frame(irqs: &[IrqRow], value: u16) -> Option<u32>
+    ensures { result ≡ spec.greatest_frame value irqs.now }
 {
     let mut greatest = None;
     for row in irqs {
-        if let Some(handler) = row.handler {
-            if u16::from(handler.value) == value {
-                greatest = Some(match greatest {
-                    Some(frame) => handler.frame.max(frame),
-                    None => handler.frame,
-                });
-            }
-        }
+        greatest = greater(greatest, frame_at(row, value));
     }
     greatest
 }
 
+/// The bytes of the stack that a priority value takes.
+fn bytes_at(image: &Image, value: u16) -> u64
+    ensures bytes { result ≡ stack.bytes_of (entry_words image.now) (stack.frames_at image.now value) }
+    ensures small { result < 2 ^ 35 }
+{
+    match greatest_frame(&image.irqs, value) {
+        Some(frame) => 4 * (u64::from(image.entry_words()) + u64::from(frame)),
+        None => 0,
+    }
+}
+
 /// The bytes that a stack needs.
 fn stack_need(image: &Image) -> u64
+    ensures { result ≡ stack.stack_need image.now }
 {
-    let entry = u64::from(image.entry_words());
     let mut bytes = 4 * u64::from(image.thread_words);
-    for value in 0..256 {
-        if let Some(frame) = greatest_frame(&image.irqs, value) {
-            bytes += 4 * (entry + u64::from(frame));
-        }
+    for value in 0..THREAD_VALUE {
+        bytes += bytes_at(image, value);
     }
     bytes
 }
 
+/// Whether the size of the stack is right.
+fn stack_is_right(image: &Image) -> bool
+    ensures { IsTrue result ↔ spec.HasRightStack image.now }
+{
+    image.stack_bytes % 8 == 0
+        && image.stack_bytes <= STACK_BYTES
+        && stack_need(image) <= u64::from(image.stack_bytes)
+}
+
 /// Whether interrupts have numbers of their own, priority values have implemented bits alone, and the stack is enough.
 pub fn has_right_numbers(image: &Image) -> bool
+    requires { IsWithinLimits image.now }
+    ensures { IsTrue result ↔ HasRightNumbers image.now }
 {
     numbers_differ(&image.irqs)
         && values_are_implemented(image.bits, &image.irqs)
-        && image.stack_bytes % 8 == 0
-        && image.stack_bytes <= STACK_BYTES
-        && stack_need(image) <= u64::from(image.stack_bytes)
+        && stack_is_right(image)
 }

@@ -155,7 +155,9 @@ impl Cells {
     /// One more touch of a cell.
     fn touch(&mut self, alloc: Global, touch: &Touch, opened: &[Opened]) -> Result<(), NoMemory>
         requires { touch.now.cell < length self.old.rows.items }
-        ensures { OnOk result (spec.IsTouched self.old.rows.items self.new.rows.items touch.now opened.now) }
+        ensures touched { OnOk result
+            (spec.IsTouched self.old.rows.items self.new.rows.items touch.now opened.now) }
+        ensures rows { length self.new.rows.items ≡ length self.old.rows.items }
     {
         let touching = touched_again(alloc, &self.rows[touch.cell], touch, opened)?;
         self.rows[touch.cell] = Some(touching);
@@ -171,7 +173,8 @@ impl Cells {
         line: &Line,
         nesting: &Nesting,
     ) -> Result<(), NoMemory>
-        ensures { OnOk result ((address : ℕ) (ps : List Point)
+        ensures rows { length self.new.rows.items ≡ length self.old.rows.items }
+        ensures told { OnOk result ((address : ℕ) (ps : List Point)
             → slice_get image.now.code address ≡ Some line.now
             → spec.TellsOfCells image.now ps self.old.rows.items
             → spec.TellsOfCells image.now (ps ++ point address owner nesting.now ∷ []) self.new.rows.items) }

@@ -1,3 +1,10 @@
+ghost use Rattle.std.specs.Prelude.{◌≡◌, ℕ, [], ◌∷◌, IfOk, MatchBool, MatchOption, Ok};
+ghost use Rattle.rt_points.specs.Checked.{IsChecked, IsLeastBroken};
+ghost use Rattle.rt_points.specs.Limits.{IsWithinLimits};
+ghost use Rattle.rt_points.specs.Rules.{NestsInOneWay};
+ghost use Rattle.rt_judge.specs.Inside.Looks as spec;
+ghost use Rattle.rt_judge.specs.Inside.Walks.{ArePoints};
+
 use crate::findings::Findings;
 use crate::level::handler_at;
 use crate::nesting::Nesting;
@@ -18,7 +25,9 @@ pub enum Verified {
 }
 
 /// The place at which an owner begins, with nothing open.
-fn start(alloc: Global, address: u32) -> Result<Vec<Place>, NoMemory> {
+fn start(alloc: Global, address: u32) -> Result<Vec<Place>, NoMemory>
+    ensures { IfOk result (λ starts. starts.items ≡ record { address = address; nesting = [] } ∷ []) }
+{
     let mut starts = Vec::new(alloc);
     starts.push(Place {
         address,
@@ -29,13 +38,18 @@ fn start(alloc: Global, address: u32) -> Result<Vec<Place>, NoMemory> {
 
 /// Finds what there is at the points of an owner, from where it begins. The answer is where another owner goes on, or
 /// None where the first rule is broken.
-fn look_at(
+fn look_from(
     alloc: Global,
     image: &Image,
     findings: &mut Findings,
     owner: Owner,
     starts: Vec<Place>,
-) -> Result<Option<Vec<Place>>, NoMemory> {
+) -> Result<Option<Vec<Place>>, NoMemory>
+    requires limits { IsWithinLimits image.now }
+    requires points { ArePoints image.now owner starts.items }
+    ensures { IfOk result (λ behind. MatchOption behind (¬ NestsInOneWay image.now)
+        (λ bs. spec.LooksFrom image.now owner starts.items findings.old findings.new bs.items)) }
+{
     match walk_from(alloc, image, owner, starts)? {
         Some(walk) => {
             findings.take_points(alloc, image, owner, &walk.table)?;
@@ -45,15 +59,37 @@ fn look_at(
     }
 }
 
+/// Finds what there is at the points of the thread, from where `init` ends. It answers whether the first rule is kept.
+fn look_behind(
+    alloc: Global,
+    image: &Image,
+    findings: &mut Findings,
+    behind: Vec<Place>,
+) -> Result<bool, NoMemory>
+    requires limits { IsWithinLimits image.now }
+    requires points { ArePoints image.now Owner.Thread behind.items }
+    ensures { IfOk result (λ kept. MatchBool kept
+        (spec.LooksBehind image.now behind.items findings.old findings.new) (¬ NestsInOneWay image.now)) }
+{
+    match look_from(alloc, image, findings, Owner::Thread, behind)? {
+        Some(_) => Ok(true),
+        None => Ok(false),
+    }
+}
+
 /// Finds what there is at the points of `init` and the thread. It answers whether the first rule is kept there.
 fn look_at_thread(
     alloc: Global,
     image: &Image,
     findings: &mut Findings,
-) -> Result<bool, NoMemory> {
+) -> Result<bool, NoMemory>
+    requires { IsWithinLimits image.now }
+    ensures { IfOk result (λ kept. MatchBool kept
+        (spec.Looks image.now spec.IsThread findings.old findings.new) (¬ NestsInOneWay image.now)) }
+{
     let starts = start(alloc, 0)?;
-    match look_at(alloc, image, findings, Owner::Starting, starts)? {
-        Some(behind) => Ok(look_at(alloc, image, findings, Owner::Thread, behind)?.is_some()),
+    match look_from(alloc, image, findings, Owner::Starting, starts)? {
+        Some(behind) => look_behind(alloc, image, findings, behind),
         None => Ok(false),
     }
 }
@@ -64,18 +100,28 @@ fn look_at_handler(
     image: &Image,
     findings: &mut Findings,
     place: usize,
-) -> Result<bool, NoMemory> {
+) -> Result<bool, NoMemory>
+    requires { IsWithinLimits image.now }
+    ensures { IfOk result (λ kept. MatchBool kept
+        (spec.Looks image.now (spec.IsOf place) findings.old findings.new) (¬ NestsInOneWay image.now)) }
+{
     match handler_at(image, place) {
         Some(handler) => {
             let starts = start(alloc, handler.entry)?;
-            Ok(look_at(alloc, image, findings, Owner::Handling(place), starts)?.is_some())
+            match look_from(alloc, image, findings, Owner::Handling(place), starts)? {
+                Some(_) => Ok(true),
+                None => Ok(false),
+            }
         }
         None => Ok(true),
     }
 }
 
 /// What there is at all points of an image, or None where the first rule is broken.
-fn look(alloc: Global, image: &Image) -> Result<Option<Findings>, NoMemory> {
+fn look(alloc: Global, image: &Image) -> Result<Option<Findings>, NoMemory>
+    requires { IsWithinLimits image.now }
+    ensures { IfOk result (λ found. MatchOption found (¬ NestsInOneWay image.now) (spec.Looked image.now)) }
+{
     let mut findings = Findings::new(alloc, image)?;
     if !look_at_thread(alloc, image, &mut findings)? {
         return Ok(None);
@@ -88,8 +134,12 @@ fn look(alloc: Global, image: &Image) -> Result<Option<Findings>, NoMemory> {
     Ok(Some(findings))
 }
 
-/// The first rule behind the first that is broken.
-fn first_broken(image: &Image, findings: &Findings) -> Option<Rule> {
+/// The first rule that is broken, of those behind the first.
+fn first_broken(image: &Image, findings: &Findings) -> Option<Rule>
+    requires limits { IsWithinLimits image.now }
+    requires looked { spec.Looked image.now findings.now }
+    ensures { spec.IsFirstBroken image.now result }
+{
     if !has_right_numbers(image) {
         Some(Rule::Numbers)
     } else if !findings.addresses {
@@ -107,15 +157,26 @@ fn first_broken(image: &Image, findings: &Findings) -> Option<Rule> {
     }
 }
 
+/// The least rule that is broken.
+fn least_broken(alloc: Global, image: &Image) -> Result<Option<Rule>, NoMemory>
+    requires { IsWithinLimits image.now }
+    ensures { IfOk result (spec.IsFirstBroken image.now) }
+{
+    match look(alloc, image)? {
+        Some(findings) => Ok(first_broken(image, &findings)),
+        None => Ok(Some(Rule::Nesting)),
+    }
+}
+
 /// Judges an image by the seven rules: Yes where it keeps them all, else the least that it breaks. It keeps the points
-/// of one owner at a time; its time grows with the code that each owner comes to.
-pub fn judge(alloc: Global, image: &Image) -> Result<Verified, NoMemory> {
-    let broken = match look(alloc, image)? {
-        Some(findings) => first_broken(image, &findings),
-        None => Some(Rule::Nesting),
-    };
-    Ok(match broken {
-        Some(rule) => Verified::No(rule.number()),
-        None => Verified::Yes,
-    })
+/// of one owner at a time; its time grows with the code that each owner comes to. It fails for want of memory alone.
+pub fn judge(alloc: Global, image: &Image) -> Result<Verified, NoMemory>
+    requires { IsWithinLimits image.now }
+    ensures yes { result ≡ Ok Verified.Yes → IsChecked image.now }
+    ensures no { (number : ℕ) → result ≡ Ok (Verified.No number) → IsLeastBroken image.now number }
+{
+    match least_broken(alloc, image)? {
+        Some(rule) => Ok(Verified::No(rule.number())),
+        None => Ok(Verified::Yes),
+    }
 }

@@ -177,7 +177,7 @@ pub fn walk_from(
     requires limits { IsWithinLimits image.now }
     requires points { spec.ArePoints image.now owner starts.items }
     ensures { IfOk result (λ found. MatchOption found (¬ NestsInOneWay image.now)
-        (spec.IsWalked image.now owner starts.items)) }
+        (spec.HasWalked image.now owner starts.items)) }
 {
     let mut walk = Walk {
         table: BTreeMap::new(alloc),

@@ -95,13 +95,18 @@ pub record IsWalking (img : Image) (owner : Owner) (starts : List Place) (t : Ta
       → Contains bs (place_of q)
   pub short : (place : Place) → Has t place → place.address < 2 ^ 32
   pub few : btree_map_len t ≤ 2 ^ 32
+  pub ordered : IsOrdered nat_cmp t
 
 -- At its end: the table has where it began and what it leads to, and is of points alone.
-pub record IsWalked (img : Image) (owner : Owner) (starts : List Place) (walk : Walk) : Type 0 where
-  pub table : IsTable img owner walk.table
-  pub behind : ArePoints img Thread walk.behind.items
-  pub began : (place : Place) → Contains starts place → Has walk.table place
-  pub closed : (place : Place) (q : Point) → Has walk.table place → LeadsTo img (point_of owner place) q
-      → q.owner ≡ owner → Has walk.table (place_of q)
-  pub left : (place : Place) (q : Point) → Has walk.table place → LeadsTo img (point_of owner place) q
-      → q.owner ≢ owner → Contains walk.behind.items (place_of q)
+pub record IsWalked (img : Image) (owner : Owner) (starts : List Place) (t : Table) (bs : List Place) : Type 0 where
+  pub table : IsTable img owner t
+  pub behind : ArePoints img Thread bs
+  pub began : (place : Place) → Contains starts place → Has t place
+  pub closed : (place : Place) (q : Point) → Has t place → LeadsTo img (point_of owner place) q → q.owner ≡ owner
+      → Has t (place_of q)
+  pub left : (place : Place) (q : Point) → Has t place → LeadsTo img (point_of owner place) q → q.owner ≢ owner
+      → Contains bs (place_of q)
+  pub ordered : IsOrdered nat_cmp t
+
+abbrev pub HasWalked : Image → Owner → List Place → Walk → Type 0
+HasWalked img owner starts walk = IsWalked img owner starts walk.table walk.behind.items

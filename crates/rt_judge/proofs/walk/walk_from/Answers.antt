@@ -68,6 +68,6 @@ returns c =
     let table = c.loop-place.walk.table in
     let bs = c.loop-place.walk.behind.items in
     let ended : length c.loop-place.walk.waiting.items ≡ 0 = search (rules, c.in_default.ensures.cases) in
-    walked img owner starts (record { table = table; waiting = c.pop.new.self; behind = c.loop-place.walk.behind })
+    walked img owner starts table bs
     (subst (λ (ws : List Place). IsWalking img owner starts table ws bs)
     (none_of_none c.loop-place.walk.waiting.items ended) c.loop-place.invariant)

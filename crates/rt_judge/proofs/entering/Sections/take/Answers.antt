@@ -8,4 +8,4 @@ returns-in-None c address ps at tells =
     let img = c.args.image.now in
     let line = c.args.line.now in
     let p = point address c.args.owner c.args.nesting.now in
-    takes_none img ps p c.args.self.now line.0 line.1 at (no_enter img p line.0 line.1 at c.in-None.ensures) tells
+    takes_none img ps p c.args.self.now (no_enter img p line.0 line.1 at c.in-None.ensures) tells

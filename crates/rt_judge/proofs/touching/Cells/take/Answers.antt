@@ -6,13 +6,13 @@ use Rattle.rt_judge.specs.Inside.Touching.{IsTouched}
 use Rattle.rt_judge.proofs.Touchings.{takes_no_touch, takes_outer_touch, takes_inner_touch, access_of_touch}
 use Rattle.rt_judge.proofs.touching.Cells.take.Goals as goal
 
-pub returns-in-None : goal.returns-in-None
-returns-in-None c address ps at tells =
+pub returns-in-None-clause-told : goal.returns-in-None-clause-told
+returns-in-None-clause-told c address ps at tells =
     takes_no_touch c.args.image.now ps (point address c.args.owner c.args.nesting.now) c.args.line.now.0 c.args.line.now.1 at
     c.args.self.now.rows.items c.in-None.ensures tells
 
-pub returns-else-touch-len : goal.returns-else-touch-len
-returns-else-touch-len c address ps at tells =
+pub returns-else-touch-len-clause-told : goal.returns-else-touch-len-clause-told
+returns-else-touch-len-clause-told c address ps at tells =
     let line = c.args.line.now in
     let touch = c.in-Some.touch in
     let is = c.in-Some.ensures in
@@ -21,8 +21,8 @@ returns-else-touch-len c address ps at tells =
     takes_outer_touch c.args.image.now ps (point address c.args.owner c.args.nesting.now) line.0 line.1 at touch made.access
     is.0 is.1 made.by made.at made.stores c.args.self.now.rows.items past tells
 
-pub returns-then-touch-len : goal.returns-then-touch-len
-returns-then-touch-len c = on_ok_weaker c.touch.result _ _ (λ done address ps at tells.
+pub returns-then-touch-len-clause-told : goal.returns-then-touch-len-clause-told
+returns-then-touch-len-clause-told c = on_ok_weaker c.touch.result _ _ (λ done address ps at tells.
     let line = c.args.line.now in
     let touch = c.in-Some.touch in
     let is = c.in-Some.ensures in
@@ -31,4 +31,4 @@ returns-then-touch-len c = on_ok_weaker c.touch.result _ _ (λ done address ps a
     let new = c.touch.new.self.rows.items in
     takes_inner_touch c.args.image.now ps (point address c.args.owner c.args.nesting.now) line.0 line.1 at touch made.access
     is.0 is.1 made.by made.at made.stores old new
-    (subst (λ (opened : List Opened). IsTouched old new touch opened) c.opened.ensures done) tells) c.touch.ensures
+    (subst (λ (opened : List Opened). IsTouched old new touch opened) c.opened.ensures done) tells) c.touch.ensures.touched

@@ -1,0 +1,181 @@
+-- The points of an owner, from a walk through its code; and those of all owners.
+use Rattle.std.proofs.Common.{◌≡◌, ◌≢◌, ◌⊎◌, ◌≤◌, ◌<◌, ℕ, suc, List, [], ◌∷◌, ◌++◌, map, length, slice_get, Option, Some, None, true}
+use Rattle.std.proofs.Common.{refl, sym, ap, subst, ◌∙◌, inl, inr, ⊎_elim, arith, append_assoc}
+use Rattle.std.specs.List.{AllByRecursion, Contains}
+use Rattle.std.specs.BTreeMap.{get, IsOrdered}
+use Rattle.std.specs.Ordering.{nat_cmp, eq_by_cmp, is_eq}
+use Rattle.std.specs.Cmp.{nat_cmp_total}
+use Rattle.std.proofs.lemmas.Cmp.{eq_by_cmp_equiv}
+use Rattle.std.proofs.lemmas.List.Elements.{Contains-append_left, Contains-append_right}
+use Rattle.std.proofs.lemmas.Map.Keys.{IsDistinct-from_sorted}
+use Rattle.std.proofs.lemmas.Map.Lookups.{exact_unsigned}
+use Rattle.std.proofs.lemmas.Map.Views.{Contains-from_lookup, lookup-from_Contains}
+use Rattle.std.proofs.lemmas.Option.{none-some, slice_get_within}
+use Rattle.rt_lemmas.proofs.Membership.{contains_here, contains_there, contains_cases, contains_none, all_append, all_has, all_from_members}
+use Rattle.rt_ids.specs.Lists.{then_from}
+use Rattle.rt_code.specs.Image.{Image}
+use Rattle.rt_code.specs.declared.image.Handler.{Handler}
+use Rattle.rt_code.specs.declared.instr.Instr.{Instr}
+use Rattle.rt_code.specs.declared.instr.Instr.TheVariants as instr
+use Rattle.rt_points.specs.Point.{Point}
+use Rattle.rt_points.specs.declared.point.Owner.{Owner}
+use Rattle.rt_points.specs.declared.point.Owner.TheVariants.{Starting, Thread, Handling}
+use Rattle.rt_points.specs.declared.point.Opened.{Opened}
+use Rattle.rt_points.specs.declared.rule.TheConstants.{MOST_OPEN}
+use Rattle.rt_points.specs.Leading.{IsPoint, Begins, Enters, Leads, LeadsTo, owner_after, handler_at, starts_at}
+use Rattle.rt_judge.specs.Inside.Points.{point}
+use Rattle.rt_judge.specs.Inside.Places.{point_of, place_of}
+use Rattle.rt_judge.specs.Inside.Walks.{Table, Has, IsWalked}
+use Rattle.rt_judge.specs.Inside.Finds.{Finds, points_of}
+use Rattle.rt_judge.specs.Inside.Looks.{LooksFrom, LooksBehind, Looks, IsThread, IsOf, IsBelow}
+use Rattle.rt_judge.specs.declared.findings.Findings.{Findings}
+use Rattle.rt_judge.specs.declared.walk.Place.{Place}
+
+is_eq_same : (x y : ℕ) → eq_by_cmp nat_cmp x y ≡ true → x ≡ y
+is_eq_same x y is = grind (arith, is)
+
+-- what a table has stands among its points, and the other way round
+entries_points : (owner : Owner) (entries : List (ℕ × List Opened)) (e : ℕ × List Opened) → Contains entries e
+    → Contains (points_of owner entries) (point e.0 owner e.1)
+entries_points owner [] e is = absurd (contains_none e is)
+entries_points owner (d ∷ entries) e is = elim (contains_cases d entries e is) [
+  | inl same ↦ subst (λ (f : ℕ × List Opened). Contains (points_of owner (d ∷ entries)) (point f.0 owner f.1)) same
+      (contains_here (point d.0 owner d.1) (points_of owner entries))
+  | inr behind ↦ contains_there (point d.0 owner d.1) (points_of owner entries) (point e.0 owner e.1) (entries_points owner entries e behind)
+]
+
+has_points : (owner : Owner) (t : Table) (place : Place) → Has t place → Contains (points_of owner t.entries) (point_of owner place)
+has_points owner t place has =
+    entries_points owner t.entries (place.address, place.nesting)
+    (Contains-from_lookup is_eq_same place.address place.nesting t.entries has)
+
+points_have : (img : Image) (owner : Owner) (t : Table) → IsOrdered nat_cmp t
+    → ((place : Place) → Has t place → IsPoint img (point_of owner place)) → (entries : List (ℕ × List Opened))
+    → ((e : ℕ × List Opened) → Contains entries e → Contains t.entries e) → AllByRecursion (IsPoint img) (points_of owner entries)
+points_have img owner t ordered sound [] inside = tt
+points_have img owner t ordered sound (e ∷ entries) inside = (
+  sound (record { address = e.0; nesting = e.1 })
+      (lookup-from_Contains (eq_by_cmp_equiv nat_cmp_total) e.0 e.1 t.entries (IsDistinct-from_sorted nat_cmp _ ordered)
+      (inside e (contains_here e entries))),
+  points_have img owner t ordered sound entries (λ d is. inside d (contains_there e entries d is)),
+)
+
+-- a walk from where an owner begins has all its points
+module _ (img : Image) (owner : Owner) (starts : List Place) (old new : Findings) (bs : List Place)
+    (looked : LooksFrom img owner starts old new bs) (complete : (p : Point) → IsPoint img p → p.owner ≡ owner → Has looked.table (place_of p)) where
+  of_owner : (p : Point) → p.owner ≡ owner → point_of owner (place_of p) ≡ p
+  of_owner p same = λ i. record { address = p.address; owner = sym same i; inside = p.inside }
+
+  pub looks_of : Looks img (λ o. o ≡ owner) old new
+  looks_of = record {
+    points = points_of owner looked.table.entries;
+    sound = points_have img owner looked.table looked.walked.ordered looked.walked.table.points looked.table.entries (λ e is. is);
+    all = λ p is mine. subst (Contains (points_of owner looked.table.entries)) (of_owner p mine)
+        (has_points owner looked.table (place_of p) (complete p is mine));
+    one = λ p q is_p is_q mine same at.
+        let first : get nat_cmp looked.table p.address ≡ Some p.inside = complete p is_p mine in
+        let second : get nat_cmp looked.table q.address ≡ Some q.inside = complete q is_q (sym same ∙ mine) in
+        let both : Some p.inside ≡ Some q.inside = sym first ∙ ap (get nat_cmp looked.table) at ∙ second in
+        some_of p.inside q.inside both;
+    few = λ p is mine. looked.walked.table.few (place_of p) (complete p is mine);
+    finds = looked.finds;
+  }
+    where
+      some_of : (x y : List Opened) → Some x ≡ Some y → x ≡ y
+      some_of x y e = cc
+
+-- who runs behind an instruction is who ran, or the thread behind `init`
+serves : (i : Instr) (owner : Owner) → (owner_after i owner ≡ owner) ⊎ ((owner ≡ Starting) × (owner_after i owner ≡ Thread))
+serves instr.Serve Starting = inr (refl, refl)
+serves i owner = inl refl
+
+not_starting : (i : Instr) (owner : Owner) → owner_after i owner ≡ Starting → owner ≡ Starting
+not_starting i owner e = ⊎_elim (λ same. sym same ∙ e) (λ both. both.0) (serves i owner)
+
+-- all points of `init`
+module _ (img : Image) (t : Table) (bs : List Place) (start : Place) (begins : start ≡ record { address = 0; nesting = [] })
+    (walked : IsWalked img Starting (start ∷ []) t bs) where
+  pub starting_has : (p : Point) → IsPoint img p → p.owner ≡ Starting → Has t (place_of p)
+  starting_has p Begins mine = subst (Has t) begins (walked.began start (contains_here start []))
+  starting_has p (Enters place h is) mine = absurd (let e : Handling place ≡ Starting = mine in cc)
+  starting_has q (Leads p q is to) mine =
+      let was : p.owner ≡ Starting = not_starting to.line.0 p.owner (sym to.owner ∙ mine) in
+      walked.closed (place_of p) q (starting_has p is was)
+      (subst (λ o. LeadsTo img (point p.address o p.inside) q) was to) mine
+
+  -- and those behind it are where the thread begins
+  pub thread_starts : (p q : Point) → IsPoint img p → LeadsTo img p q → p.owner ≡ Starting → q.owner ≡ Thread
+      → Contains bs (place_of q)
+  thread_starts p q is to was now =
+      walked.left (place_of p) q (starting_has p is was) (subst (λ o. LeadsTo img (point p.address o p.inside) q) was to)
+      (λ e. absurd (let both : Thread ≡ Starting = sym now ∙ e in cc))
+
+  module _ (u : Table) (cs : List Place) (behind : IsWalked img Thread bs u cs) where
+    pub thread_has : (p : Point) → IsPoint img p → p.owner ≡ Thread → Has u (place_of p)
+    thread_has p Begins mine = absurd (let e : Starting ≡ Thread = mine in cc)
+    thread_has p (Enters place h is) mine = absurd (let e : Handling place ≡ Thread = mine in cc)
+    thread_has q (Leads p q is to) mine = ⊎_elim
+        (λ same.
+            let was : p.owner ≡ Thread = sym same ∙ sym to.owner ∙ mine in
+            behind.closed (place_of p) q (thread_has p is was)
+            (subst (λ o. LeadsTo img (point p.address o p.inside) q) was to) mine)
+        (λ served. behind.began (place_of q) (thread_starts p q is to served.0 mine))
+        (serves to.line.0 p.owner)
+
+-- all points of a handler
+module _ (img : Image) (place : ℕ) (h : Handler) (is : handler_at img place ≡ Some h) (t : Table) (bs : List Place) (start : Place)
+    (begins : start ≡ record { address = h.entry; nesting = [] }) (walked : IsWalked img (Handling place) (start ∷ []) t bs) where
+  pub handler_has : (p : Point) → IsPoint img p → p.owner ≡ Handling place → Has t (place_of p)
+  handler_has p Begins mine = absurd (let e : Starting ≡ Handling place = mine in cc)
+  handler_has p (Enters other g there) mine =
+      let same : other ≡ place = let e : Handling other ≡ Handling place = mine in cc in
+      let one : h ≡ g = let e : Some h ≡ Some g = sym is ∙ ap (handler_at img) (sym same) ∙ there in cc in
+      subst (λ (k : Handler). Has t (record { address = k.entry; nesting = [] })) one
+      (subst (Has t) begins (walked.began start (contains_here start [])))
+  handler_has q (Leads p q from to) mine = ⊎_elim
+      (λ same.
+          let was : p.owner ≡ Handling place = sym same ∙ sym to.owner ∙ mine in
+          walked.closed (place_of p) q (handler_has p from was)
+          (subst (λ o. LeadsTo img (point p.address o p.inside) q) was to) mine)
+      (λ served. absurd (let both : Thread ≡ Handling place = sym served.1 ∙ sym to.owner ∙ mine in cc))
+      (serves to.line.0 p.owner)
+
+-- one after another
+pub looks_then : (img : Image) (M N O : Owner → Type 0) (a b c : Findings) → ((o : Owner) → O o → M o ⊎ N o) → Looks img M a b
+    → Looks img N b c → Looks img O a c
+looks_then img M N O a b c split first second = record {
+  points = first.points ++ second.points;
+  sound = all_append (IsPoint img) first.points second.points first.sound second.sound;
+  all = λ p is mine. ⊎_elim
+      (λ m. Contains-append_left first.points second.points p (first.all p is m))
+      (λ n. Contains-append_right first.points second.points p (second.all p is n)) (split p.owner mine);
+  one = λ p q is_p is_q mine same at. ⊎_elim
+      (λ m. first.one p q is_p is_q m same at) (λ n. second.one p q is_p is_q n same at) (split p.owner mine);
+  few = λ p is mine. ⊎_elim (λ m. first.few p is m) (λ n. second.few p is n) (split p.owner mine);
+  finds = λ ps found. subst (λ (qs : List Point). Finds img qs c) (append_assoc ps first.points second.points)
+      (second.finds (ps ++ first.points) (first.finds ps found));
+}
+
+-- a handler that is not enabled has no points
+pub none_of : (img : Image) (place : ℕ) (f : Findings) → handler_at img place ≡ None → (p : Point) → IsPoint img p
+    → p.owner ≡ Handling place → ⊥
+none_of img place f none p Begins mine = absurd (let e : Starting ≡ Handling place = mine in cc)
+none_of img place f none p (Enters other g there) mine =
+    let same : other ≡ place = let e : Handling other ≡ Handling place = mine in cc in
+    let e : None ≡ Some g = sym none ∙ ap (handler_at img) (sym same) ∙ there in absurd (none-some g e)
+none_of img place f none q (Leads p q from to) mine = ⊎_elim
+    (λ same. none_of img place f none p from (sym same ∙ sym to.owner ∙ mine))
+    (λ served. absurd (let both : Thread ≡ Handling place = sym served.1 ∙ sym to.owner ∙ mine in cc))
+    (serves to.line.0 p.owner)
+
+pub owner_below : (img : Image) (p : Point) → IsPoint img p → IsBelow (length img.irqs) p.owner
+owner_below img p Begins = tt
+owner_below img p (Enters place h is) = elim (slice_get img.irqs place) as
+    (λ row. slice_get img.irqs place ≡ row → then_from row (λ r. r.handler) ≡ Some h → place < length img.irqs) [
+    | None ↦ λ e bad. absurd (none-some h bad)
+    | Some row ↦ λ e good. slice_get_within img.irqs place row e
+  ] refl is
+owner_below img q (Leads p q from to) = ⊎_elim
+    (λ same. subst (IsBelow (length img.irqs)) (sym same ∙ sym to.owner) (owner_below img p from))
+    (λ served. subst (IsBelow (length img.irqs)) (sym (to.owner ∙ served.1)) tt)
+    (serves to.line.0 p.owner)

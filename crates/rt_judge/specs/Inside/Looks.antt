@@ -1,0 +1,62 @@
+-- What was looked at: the points of some owners.
+use Rattle.std.specs.Prelude.{◌≡◌, ◌⊎◌, ℕ, ◌≤◌, ◌<◌, ◌++◌, List, length}
+use Rattle.std.specs.Prelude.{Option, Some, None}
+use Rattle.std.specs.List.{AllByRecursion, Contains}
+use Rattle.rt_code.specs.Image.{Image}
+use Rattle.rt_points.specs.Checked.{IsChecked, IsLeastBroken, rule_number}
+use Rattle.rt_points.specs.Leading.{IsPoint}
+use Rattle.rt_points.specs.Point.{Point}
+use Rattle.rt_points.specs.Rules.{NestsInOneWay}
+use Rattle.rt_points.specs.declared.point.Owner.{Owner}
+use Rattle.rt_points.specs.declared.point.Owner.TheVariants.{Starting, Thread, Handling}
+use Rattle.rt_points.specs.declared.rule.Rule.{Rule}
+use Rattle.rt_points.specs.declared.rule.TheConstants.{MOST_OPEN}
+use Rattle.rt_judge.specs.Inside.Finds.{Finds, points_of}
+use Rattle.rt_judge.specs.Inside.Walks.{Table, IsWalked}
+use Rattle.rt_judge.specs.declared.findings.Findings.{Findings}
+use Rattle.rt_judge.specs.declared.walk.Place.{Place}
+
+-- a walk from some places, and what was found on it
+pub record LooksFrom (img : Image) (owner : Owner) (starts : List Place) (old new : Findings) (bs : List Place) : Type 0 where
+  pub table : Table
+  pub walked : IsWalked img owner starts table bs
+  pub finds : (ps : List Point) → Finds img ps old → Finds img (ps ++ points_of owner table.entries) new
+
+-- all points of these owners, and what was found at them
+pub record Looks (img : Image) (Mine : Owner → Type 0) (old new : Findings) : Type 0 where
+  pub points : List Point
+  pub sound : AllByRecursion (IsPoint img) points
+  pub all : (p : Point) → IsPoint img p → Mine p.owner → Contains points p
+  pub one : (p q : Point) → IsPoint img p → IsPoint img q → Mine p.owner → p.owner ≡ q.owner → p.address ≡ q.address
+      → p.inside ≡ q.inside
+  pub few : (p : Point) → IsPoint img p → Mine p.owner → length p.inside ≤ MOST_OPEN
+  pub finds : (ps : List Point) → Finds img ps old → Finds img (ps ++ points) new
+
+-- the thread's points, from these places on
+abbrev pub LooksBehind : Image → List Place → Findings → Findings → Type 0
+LooksBehind img starts old new = (bs : List Place) × LooksFrom img Thread starts old new bs
+
+-- the handler at a place
+abbrev pub IsOf : ℕ → Owner → Type 0
+IsOf place owner = owner ≡ Handling place
+
+abbrev pub IsThread : Owner → Type 0
+IsThread owner = (owner ≡ Starting) ⊎ (owner ≡ Thread)
+
+-- the thread's, and those of the handlers at the places below this one
+abbrev pub IsBelow : ℕ → Owner → Type 0
+IsBelow n Starting = Unit {0}
+IsBelow n Thread = Unit {0}
+IsBelow n (Handling place) = place < n
+
+-- all points of an image, and what was found at them
+pub record Looked (img : Image) (f : Findings) : Type 0 where
+  pub points : List Point
+  pub sound : AllByRecursion (IsPoint img) points
+  pub all : (p : Point) → IsPoint img p → Contains points p
+  pub nests : NestsInOneWay img
+  pub finds : Finds img points f
+
+abbrev pub IsFirstBroken : Image → Option Rule → Type 0
+IsFirstBroken img None = IsChecked img
+IsFirstBroken img (Some r) = IsLeastBroken img (rule_number r)
