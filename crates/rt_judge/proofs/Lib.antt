@@ -11,3 +11,4 @@ pub mod Touchings
 pub mod FindingsSoFar
 pub mod GreatestFrames
 pub mod Looking
+pub mod Verdicts

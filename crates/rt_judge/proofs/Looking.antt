@@ -1,10 +1,11 @@
 -- The points of an owner, from a walk through its code; and those of all owners.
-use Rattle.std.proofs.Common.{◌≡◌, ◌≢◌, ◌⊎◌, ◌≤◌, ◌<◌, ℕ, suc, List, [], ◌∷◌, ◌++◌, map, length, slice_get, Option, Some, None, true}
-use Rattle.std.proofs.Common.{refl, sym, ap, subst, ◌∙◌, inl, inr, ⊎_elim, arith, append_assoc}
+use Rattle.std.proofs.Common.{◌≡◌, ◌≢◌, ◌⊎◌, ◌≤◌, ◌<◌, ◌+◌, ℕ, suc, List, [], ◌∷◌, ◌++◌, map, length, slice_get, Option, Some, None}
+use Rattle.std.proofs.Common.{refl, sym, ap, subst, ◌∙◌, inl, inr, ⊎_elim, arith, append_assoc, append-nil, Result, Ok, Err, IfOk, Bool, true, false, MatchBool, MatchOption}
 use Rattle.std.specs.List.{AllByRecursion, Contains}
 use Rattle.std.specs.BTreeMap.{get, IsOrdered}
 use Rattle.std.specs.Ordering.{nat_cmp, eq_by_cmp, is_eq}
 use Rattle.std.specs.Cmp.{nat_cmp_total}
+use Rattle.std.proofs.lemmas.Bool.{cases_eq}
 use Rattle.std.proofs.lemmas.Cmp.{eq_by_cmp_equiv}
 use Rattle.std.proofs.lemmas.List.Elements.{Contains-append_left, Contains-append_right}
 use Rattle.std.proofs.lemmas.Map.Keys.{IsDistinct-from_sorted}
@@ -27,7 +28,7 @@ use Rattle.rt_judge.specs.Inside.Points.{point}
 use Rattle.rt_judge.specs.Inside.Places.{point_of, place_of}
 use Rattle.rt_judge.specs.Inside.Walks.{Table, Has, IsWalked}
 use Rattle.rt_judge.specs.Inside.Finds.{Finds, points_of}
-use Rattle.rt_judge.specs.Inside.Looks.{LooksFrom, LooksBehind, Looks, IsThread, IsOf, IsBelow}
+use Rattle.rt_judge.specs.Inside.Looks.{LooksFrom, LooksBehind, LooksFromEntry, Looks, Looked, LookedBelow, IsThread, IsOf, IsBelow}
 use Rattle.rt_judge.specs.declared.findings.Findings.{Findings}
 use Rattle.rt_judge.specs.declared.walk.Place.{Place}
 
@@ -98,7 +99,7 @@ module _ (img : Image) (t : Table) (bs : List Place) (start : Place) (begins : s
   pub starting_has : (p : Point) → IsPoint img p → p.owner ≡ Starting → Has t (place_of p)
   starting_has p Begins mine = subst (Has t) begins (walked.began start (contains_here start []))
   starting_has p (Enters place h is) mine = absurd (let e : Handling place ≡ Starting = mine in cc)
-  starting_has q (Leads p q is to) mine =
+  starting_has s (Leads p q is to) mine =
       let was : p.owner ≡ Starting = not_starting to.line.0 p.owner (sym to.owner ∙ mine) in
       walked.closed (place_of p) q (starting_has p is was)
       (subst (λ o. LeadsTo img (point p.address o p.inside) q) was to) mine
@@ -114,7 +115,7 @@ module _ (img : Image) (t : Table) (bs : List Place) (start : Place) (begins : s
     pub thread_has : (p : Point) → IsPoint img p → p.owner ≡ Thread → Has u (place_of p)
     thread_has p Begins mine = absurd (let e : Starting ≡ Thread = mine in cc)
     thread_has p (Enters place h is) mine = absurd (let e : Handling place ≡ Thread = mine in cc)
-    thread_has q (Leads p q is to) mine = ⊎_elim
+    thread_has s (Leads p q is to) mine = ⊎_elim
         (λ same.
             let was : p.owner ≡ Thread = sym same ∙ sym to.owner ∙ mine in
             behind.closed (place_of p) q (thread_has p is was)
@@ -132,7 +133,7 @@ module _ (img : Image) (place : ℕ) (h : Handler) (is : handler_at img place �
       let one : h ≡ g = let e : Some h ≡ Some g = sym is ∙ ap (handler_at img) (sym same) ∙ there in cc in
       subst (λ (k : Handler). Has t (record { address = k.entry; nesting = [] })) one
       (subst (Has t) begins (walked.began start (contains_here start [])))
-  handler_has q (Leads p q from to) mine = ⊎_elim
+  handler_has s (Leads p q from to) mine = ⊎_elim
       (λ same.
           let was : p.owner ≡ Handling place = sym same ∙ sym to.owner ∙ mine in
           walked.closed (place_of p) q (handler_has p from was)
@@ -163,7 +164,7 @@ none_of img place f none p Begins mine = absurd (let e : Starting ≡ Handling p
 none_of img place f none p (Enters other g there) mine =
     let same : other ≡ place = let e : Handling other ≡ Handling place = mine in cc in
     let e : None ≡ Some g = sym none ∙ ap (handler_at img) (sym same) ∙ there in absurd (none-some g e)
-none_of img place f none q (Leads p q from to) mine = ⊎_elim
+none_of img place f none s (Leads p q from to) mine = ⊎_elim
     (λ same. none_of img place f none p from (sym same ∙ sym to.owner ∙ mine))
     (λ served. absurd (let both : Thread ≡ Handling place = sym served.1 ∙ sym to.owner ∙ mine in cc))
     (serves to.line.0 p.owner)
@@ -175,7 +176,98 @@ owner_below img p (Enters place h is) = elim (slice_get img.irqs place) as
     | None ↦ λ e bad. absurd (none-some h bad)
     | Some row ↦ λ e good. slice_get_within img.irqs place row e
   ] refl is
-owner_below img q (Leads p q from to) = ⊎_elim
+owner_below img s (Leads p q from to) = ⊎_elim
     (λ same. subst (IsBelow (length img.irqs)) (sym same ∙ sym to.owner) (owner_below img p from))
     (λ served. subst (IsBelow (length img.irqs)) (sym (to.owner ∙ served.1)) tt)
     (serves to.line.0 p.owner)
+
+pub looks_weaker : (img : Image) (M O : Owner → Type 0) (a b : Findings) → ((o : Owner) → O o → M o) → Looks img M a b → Looks img O a b
+looks_weaker img M O a b wider looks = record {
+  points = looks.points;
+  sound = looks.sound;
+  all = λ p is mine. looks.all p is (wider p.owner mine);
+  one = λ p q is_p is_q mine same at. looks.one p q is_p is_q (wider p.owner mine) same at;
+  few = λ p is mine. looks.few p is (wider p.owner mine);
+  finds = looks.finds;
+}
+
+pub looks_thread : (img : Image) (a b c : Findings) (starts bs : List Place) → starts ≡ record { address = 0; nesting = [] } ∷ []
+    → LooksFrom img Starting starts a b bs → LooksBehind img bs b c → Looks img IsThread a c
+looks_thread img a b c starts bs begins first behind =
+    let start : Place = record { address = 0; nesting = [] } in
+    let from : LooksFrom img Starting (start ∷ []) a b bs = subst (λ (s : List Place). LooksFrom img Starting s a b bs) begins first in
+    looks_then img (λ o. o ≡ Starting) (λ o. o ≡ Thread) IsThread a b c (λ o is. is)
+    (looks_of img Starting (start ∷ []) a b bs from (starting_has img from.table bs start refl from.walked))
+    (looks_of img Thread bs b c behind.0 behind.1
+    (thread_has img from.table bs start refl from.walked behind.1.table behind.0 behind.1.walked))
+
+pub looks_handler : (img : Image) (place : ℕ) (h : Handler) (a b : Findings) → handler_at img place ≡ Some h
+    → LooksFromEntry img place h.entry a b → Looks img (IsOf place) a b
+looks_handler img place h a b is looks =
+    let start : Place = record { address = h.entry; nesting = [] } in
+    looks_of img (Handling place) (start ∷ []) a b looks.0 looks.1
+    (handler_has img place h is looks.1.table looks.0 start refl looks.1.walked)
+
+pub looks_nowhere : (img : Image) (place : ℕ) (f : Findings) → handler_at img place ≡ None → Looks img (IsOf place) f f
+looks_nowhere img place f none = record {
+  points = [];
+  sound = tt;
+  all = λ p is mine. absurd (none_of img place f none p is mine);
+  one = λ p q is_p is_q mine same at. absurd (none_of img place f none p is_p mine);
+  few = λ p is mine. absurd (none_of img place f none p is mine);
+  finds = λ ps found. subst (λ (qs : List Point). Finds img qs f) (sym (append-nil ps)) found;
+}
+
+thread_only : (o : Owner) → IsBelow 0 o → IsThread o
+thread_only Starting is = inl refl
+thread_only Thread is = inr refl
+thread_only (Handling place) is = absurd (omega (arith, is))
+
+pub looked_none : (img : Image) (a b : Findings) → Finds img [] a → Looks img IsThread a b → LookedBelow img 0 b
+looked_none img a b found looks = (a, found, looks_weaker img IsThread (IsBelow 0) a b thread_only looks)
+
+one_more : (n : ℕ) (o : Owner) → IsBelow (n + 1) o → IsBelow n o ⊎ IsOf n o
+one_more n Starting is = inl tt
+one_more n Thread is = inl tt
+one_more n (Handling place) is = ⊎_elim (λ same. inr (ap Handling same)) (λ apart. inl (omega (arith, is, apart))) (cases_eq place n)
+
+pub looked_more : (img : Image) (n : ℕ) (a b : Findings) → LookedBelow img n a → Looks img (IsOf n) a b → LookedBelow img (n + 1) b
+looked_more img n a b looked looks =
+    (looked.0, looked.1, looks_then img (IsBelow n) (IsOf n) (IsBelow (n + 1)) looked.0 a b (one_more n) looked.2 looks)
+
+below_more : (n m : ℕ) (o : Owner) → n ≤ m → IsBelow n o → IsBelow m o
+below_more n m Starting le is = tt
+below_more n m Thread le is = tt
+below_more n m (Handling place) le is = omega (arith, le, is)
+
+pub looked_all : (img : Image) (n : ℕ) (f : Findings) → length img.irqs ≤ n → LookedBelow img n f → Looked img f
+looked_all img n f all looked =
+    let mine : (p : Point) → IsPoint img p → IsBelow n p.owner =
+    λ p is. below_more (length img.irqs) n p.owner all (owner_below img p is) in
+    let looks = looked.2 in
+    record {
+      points = looks.points;
+      sound = looks.sound;
+      all = λ p is. looks.all p is (mine p is);
+      nests = record {
+        one = λ p q is_p is_q same at. looks.one p q is_p is_q (mine p is_p) same at;
+        few = λ p is. looks.few p is (mine p is);
+      };
+      finds = looks.finds [] looked.1;
+    }
+
+-- what follows from an answer
+pub if_ok_weaker : {T E : Type 0} (r : Result T E) (P Q : T → Type 0) → ((x : T) → P x → Q x) → IfOk r P → IfOk r Q
+if_ok_weaker (Ok x) P Q f h = f x h
+if_ok_weaker (Err e) P Q f h = h
+
+pub kept_weaker : (b : Bool) (P Q N : Type 0) → (P → Q) → MatchBool b P N → MatchBool b Q N
+kept_weaker true P Q N f h = f h
+kept_weaker false P Q N f h = h
+
+pub some_case : {X : Type 0} (o : Option X) (x : X) (N : Type 0) (P : X → Type 0) → o ≡ Some x → MatchOption o N P → P x
+some_case o x N P is h = subst (λ v. MatchOption v N P) is h
+
+pub kept_case : (b : Bool) (P N : Type 0) → b ≡ true → MatchBool b P N → P
+kept_case true P N is h = h
+kept_case false P N is h = absurd cc

@@ -1,5 +1,6 @@
 ghost use Rattle.std.specs.Prelude.{◌≡◌, ℕ, [], ◌∷◌, IfOk, MatchBool, MatchOption, Ok};
 ghost use Rattle.rt_points.specs.Checked.{IsChecked, IsLeastBroken};
+ghost use Rattle.rt_points.specs.Leading.{IsPoint, starts_at};
 ghost use Rattle.rt_points.specs.Limits.{IsWithinLimits};
 ghost use Rattle.rt_points.specs.Rules.{NestsInOneWay};
 ghost use Rattle.rt_judge.specs.Inside.Looks as spec;
@@ -94,7 +95,27 @@ fn look_at_thread(
     }
 }
 
-/// Finds what there is at the points of a handler. It answers whether the first rule is kept there.
+/// Finds what there is at the points of a handler, from its entry. It answers whether the first rule is kept there.
+fn look_from_entry(
+    alloc: Global,
+    image: &Image,
+    findings: &mut Findings,
+    place: usize,
+    entry: u32,
+) -> Result<bool, NoMemory>
+    requires limits { IsWithinLimits image.now }
+    requires point { IsPoint image.now (starts_at entry (Owner.Handling place)) }
+    ensures { IfOk result (λ kept. MatchBool kept
+        (spec.LooksFromEntry image.now place entry findings.old findings.new) (¬ NestsInOneWay image.now)) }
+{
+    let starts = start(alloc, entry)?;
+    match look_from(alloc, image, findings, Owner::Handling(place), starts)? {
+        Some(_) => Ok(true),
+        None => Ok(false),
+    }
+}
+
+/// Finds what there is at the points of a handler, where it is enabled. It answers whether the first rule is kept there.
 fn look_at_handler(
     alloc: Global,
     image: &Image,
@@ -106,13 +127,7 @@ fn look_at_handler(
         (spec.Looks image.now (spec.IsOf place) findings.old findings.new) (¬ NestsInOneWay image.now)) }
 {
     match handler_at(image, place) {
-        Some(handler) => {
-            let starts = start(alloc, handler.entry)?;
-            match look_from(alloc, image, findings, Owner::Handling(place), starts)? {
-                Some(_) => Ok(true),
-                None => Ok(false),
-            }
-        }
+        Some(handler) => look_from_entry(alloc, image, findings, place, handler.entry),
         None => Ok(true),
     }
 }

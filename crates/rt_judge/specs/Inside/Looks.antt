@@ -1,5 +1,5 @@
 -- What was looked at: the points of some owners.
-use Rattle.std.specs.Prelude.{◌≡◌, ◌⊎◌, ℕ, ◌≤◌, ◌<◌, ◌++◌, List, length}
+use Rattle.std.specs.Prelude.{◌≡◌, ◌⊎◌, ℕ, ◌≤◌, ◌<◌, ◌++◌, [], ◌∷◌, List, length}
 use Rattle.std.specs.Prelude.{Option, Some, None}
 use Rattle.std.specs.List.{AllByRecursion, Contains}
 use Rattle.rt_code.specs.Image.{Image}
@@ -36,6 +36,11 @@ pub record Looks (img : Image) (Mine : Owner → Type 0) (old new : Findings) : 
 abbrev pub LooksBehind : Image → List Place → Findings → Findings → Type 0
 LooksBehind img starts old new = (bs : List Place) × LooksFrom img Thread starts old new bs
 
+-- a handler's points, from its entry on
+abbrev pub LooksFromEntry : Image → ℕ → ℕ → Findings → Findings → Type 0
+LooksFromEntry img place entry old new =
+    (bs : List Place) × LooksFrom img (Handling place) (record { address = entry; nesting = [] } ∷ []) old new bs
+
 -- the handler at a place
 abbrev pub IsOf : ℕ → Owner → Type 0
 IsOf place owner = owner ≡ Handling place
@@ -48,6 +53,10 @@ abbrev pub IsBelow : ℕ → Owner → Type 0
 IsBelow n Starting = Unit {0}
 IsBelow n Thread = Unit {0}
 IsBelow n (Handling place) = place < n
+
+-- all points of these, and what was found at them alone
+abbrev pub LookedBelow : Image → ℕ → Findings → Type 0
+LookedBelow img n f = (old : Findings) × Finds img [] old × Looks img (IsBelow n) old f
 
 -- all points of an image, and what was found at them
 pub record Looked (img : Image) (f : Findings) : Type 0 where

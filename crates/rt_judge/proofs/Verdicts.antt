@@ -1,0 +1,250 @@
+-- What the rules say of an image whose points were all looked at.
+use Rattle.std.proofs.Common.{◌≡◌, ◌≢◌, ◌↔◌, ◌≤◌, ◌<◌, ◌&&◌, ◌||◌, ◌==◌, Bool, true, false, not, IsTrue, ℕ, zero, suc, List, [], ◌∷◌}
+use Rattle.std.proofs.Common.{length, slice_get, Option, Some, None, refl, sym, ap, subst, ◌∙◌, inl, inr, ⊎_elim, arith, nat_le}
+use Rattle.std.specs.List.{AllByRecursion, Contains, list_any, list_all}
+use Rattle.std.proofs.lemmas.Bool.{eqb-true}
+use Rattle.std.proofs.lemmas.Option.{none-some, slice_get-get_or, slice_get_within}
+use Rattle.rt_lemmas.proofs.Bools.{and_parts, and_left, and_right, both_of_none, not_true, not_false}
+use Rattle.rt_lemmas.proofs.Membership.{all_has, all_at, all_weaker, any_one}
+use Rattle.rt_ids.specs.Choice.{IsIn}
+use Rattle.rt_ids.specs.Holder.{is_same_section}
+use Rattle.rt_ids.specs.declared.ids.Section.{Section}
+use Rattle.rt_code.specs.Access.{Access, cell_of}
+use Rattle.rt_code.specs.Image.{Image}
+use Rattle.rt_code.specs.declared.instr.Instr.{Instr}
+use Rattle.rt_code.specs.declared.instr.Note.{Note}
+use Rattle.rt_points.specs.Checked.{Keeps, IsChecked, IsLeastBroken, rule_number}
+use Rattle.rt_points.specs.Leading.{IsPoint}
+use Rattle.rt_points.specs.Level.{owner_value}
+use Rattle.rt_points.specs.Point.{Point, sections}
+use Rattle.rt_points.specs.Rules.{NestsInOneWay, HasRightNumbers, StaysInCode, OperatesWell, NotesWell, EntersWell, GuardsCells}
+use Rattle.rt_points.specs.Rules.{IsOperable, IsNotedWell, HoldsOff, EntersAt, Touches, IsContended, IsGuardedBy, IsStore, HasItsCell, touched}
+use Rattle.rt_points.specs.declared.point.Owner.TheVariants.{Starting}
+use Rattle.rt_points.specs.declared.rule.Rule.{Rule}
+use Rattle.rt_points.specs.declared.rule.Rule.TheVariants as rule
+use Rattle.rt_judge.specs.Inside.Kept.{TellsOfAll, HasLine, OperatesAt, NotesAt, FreeAt, EntersBy}
+use Rattle.rt_judge.specs.Inside.Entering.{Enterer, IsEntering, IsLeastOrNone, TellsOfSections, holds_off, level_behind, none_or}
+use Rattle.rt_judge.specs.Inside.Touching.{Toucher, IsTouching, TellsOfTouching, SomeIfTrue, is_guarded, is_row_guarded}
+use Rattle.rt_judge.specs.Inside.Looks.{Looked}
+use Rattle.rt_judge.specs.declared.entering.Entering.{Entering}
+use Rattle.rt_judge.specs.declared.touching.Touching.{Touching}
+use Rattle.rt_judge.specs.declared.findings.Findings.{Findings}
+use Rattle.rt_judge.proofs.SameSections.{same_is}
+
+-- rules by their numbers
+module _ (img : Image) (n : ℕ) (a : 1 < n → NestsInOneWay img) (b : 2 < n → HasRightNumbers img) (c : 3 < n → StaysInCode img)
+    (d : 4 < n → OperatesWell img) (e : 5 < n → NotesWell img) (f : 6 < n → EntersWell img) (g : 7 < n → GuardsCells img) where
+  pub keeps_below : (r : Rule) → rule_number r < n → Keeps img r
+  keeps_below rule.Nesting lt = a lt
+  keeps_below rule.Numbers lt = b lt
+  keeps_below rule.Addresses lt = c lt
+  keeps_below rule.Operands lt = d lt
+  keeps_below rule.Notes lt = e lt
+  keeps_below rule.Ceilings lt = f lt
+  keeps_below rule.Guards lt = g lt
+
+pub checked : (img : Image) → NestsInOneWay img → HasRightNumbers img → StaysInCode img → OperatesWell img → NotesWell img
+    → EntersWell img → GuardsCells img → IsChecked img
+checked img a b c d e f g rule.Nesting = a
+checked img a b c d e f g rule.Numbers = b
+checked img a b c d e f g rule.Addresses = c
+checked img a b c d e f g rule.Operands = d
+checked img a b c d e f g rule.Notes = e
+checked img a b c d e f g rule.Ceilings = f
+checked img a b c d e f g rule.Guards = g
+
+le_of : (m n : ℕ) → nat_le m n ≡ true → m ≤ n
+le_of m n yes = grind (arith, yes)
+
+lt_of : (m n : ℕ) → nat_le m n ≡ false → n < m
+lt_of m n no = grind (arith, no)
+
+pub is_false : (b : Bool) {P : Type 0} → b ≡ false → IsTrue b ↔ P → ¬ P
+is_false b no tells p = let yes = tells.1 p in cc
+
+-- a test that fails somewhere in a list
+record FailsAt {X : Type 0} (test : X → Bool) (xs : List X) : Type 0 where
+  place : ℕ
+  item : X
+  at : slice_get xs place ≡ Some item
+  fails : test item ≡ false
+
+fails_at : {X : Type 0} (test : X → Bool) (xs : List X) → list_all test xs ≡ false → FailsAt test xs
+fails_at test [] no = absurd cc
+fails_at {X} test (x ∷ xs) no = elim (test x) as (λ b. test x ≡ b → (b && list_all test xs) ≡ false → FailsAt test (x ∷ xs)) [
+  | true ↦ λ e rest. let later = fails_at test xs rest in
+      record { place = suc later.place; item = later.item; at = later.at; fails = later.fails }
+  | false ↦ λ e rest. record { place = 0; item = x; at = refl; fails = e }
+] refl no
+
+holds_at : {X : Type 0} (test : X → Bool) (xs : List X) (i : ℕ) (x : X) → list_all test xs ≡ true → slice_get xs i ≡ Some x → test x ≡ true
+holds_at test [] i x all at = absurd (none-some x at)
+holds_at test (y ∷ xs) zero x all at = let e : y ≡ x = cc in subst (λ z. test z ≡ true) e (and_left (test y) (list_all test xs) all)
+holds_at test (y ∷ xs) (suc i) x all at = holds_at test xs i x (and_right (test y) (list_all test xs) all) at
+
+module _ (img : Image) (f : Findings) (looked : Looked img f) where
+  pub stays : f.addresses ≡ true → StaysInCode img
+  stays yes p is = all_has (HasLine img) looked.points p (looked.finds.addresses.0 yes) (looked.all p is)
+
+  pub not_stays : f.addresses ≡ false → ¬ StaysInCode img
+  not_stays no all = is_false f.addresses no looked.finds.addresses (all_weaker (IsPoint img) (HasLine img) all looked.points looked.sound)
+
+  pub operates : f.operands ≡ true → OperatesWell img
+  operates yes p i told stands =
+      all_has (OperatesAt img) looked.points p (looked.finds.operands.0 yes) (looked.all p stands.0) i told stands.1
+
+  pub not_operates : f.operands ≡ false → ¬ OperatesWell img
+  not_operates no all = is_false f.operands no looked.finds.operands
+      (all_weaker (IsPoint img) (OperatesAt img) (λ p is i told at. all p i told (is, at)) looked.points looked.sound)
+
+  pub notes : f.notes ≡ true → NotesWell img
+  notes yes p i told stands =
+      all_has (NotesAt img) looked.points p (looked.finds.notes.0 yes) (looked.all p stands.0) i told stands.1
+
+  pub not_notes : f.notes ≡ false → ¬ NotesWell img
+  not_notes no all = is_false f.notes no looked.finds.notes
+      (all_weaker (IsPoint img) (NotesAt img) (λ p is i told at. all p i told (is, at)) looked.points looked.sound)
+
+  -- ceilings
+  enterer : (p : Point) (i : Instr) (x : Section) → EntersAt img p i x → Enterer img looked.points x p i
+  enterer p i x stands = record { seen = looked.all p stands.0; enters = stands.1 }
+
+  enters_at : (p : Point) (i : Instr) (x : Section) → Enterer img looked.points x p i → EntersAt img p i x
+  enters_at p i x e = (all_has (IsPoint img) looked.points p looked.sound e.seen, e.enters)
+
+  -- a row that holds off everyone who enters
+  row_high : (row : Entering) → IsEntering img looked.points row.section row → holds_off row ≡ true → (p q : Point) (i j : Instr)
+      → Enterer img looked.points row.section p i → Enterer img looked.points row.section q j → q.owner ≢ Starting
+      → level_behind img p i row.section ≤ owner_value img q.owner
+  row_high row is yes p q i j enters others outside = by_value row.value is.value yes
+    where
+      by_value : (v : Option ℕ) → IsLeastOrNone img looked.points row.section v → none_or (λ value. nat_le row.level value) v ≡ true
+          → level_behind img p i row.section ≤ owner_value img q.owner
+      by_value None none yes = absurd (outside (none q j others))
+      by_value (Some v) l yes =
+          let high = is.level.all p i enters in
+          let low = l.all q j others outside in
+          let holds : row.level ≤ v = le_of row.level v yes in
+          omega (arith, high, low, holds)
+
+  pub enters : (f.sections.free && list_all holds_off f.sections.rows.items) ≡ true → EntersWell img
+  enters yes p i x stands =
+      let free = and_left f.sections.free (list_all holds_off f.sections.rows.items) yes in
+      let all = and_right f.sections.free (list_all holds_off f.sections.rows.items) yes in
+      record {
+        free = all_has (FreeAt img) looked.points p (looked.finds.sections.free.0 free) (looked.all p stands.0) i x stands.1;
+        others = λ q j outside other.
+            let row = any_one (λ (r : Entering). is_same_section r.section x) f.sections.rows.items
+                (looked.finds.sections.each x p i (enterer p i x stands)) in
+            let same : row.1.section ≡ x = same_is row.1.section x row.3 in
+            let is = all_at (λ (r : Entering). IsEntering img looked.points r.section r) f.sections.rows.items row.0 row.1
+                looked.finds.sections.rows row.2 in
+            let high = holds_at holds_off f.sections.rows.items row.0 row.1 all row.2 in
+            subst (λ y. level_behind img p i y ≤ owner_value img q.owner) same
+            (row_high row.1 is high p q i j
+            (subst (λ y. Enterer img looked.points y p i) (sym same) (enterer p i x stands))
+            (subst (λ y. Enterer img looked.points y q j) (sym same) (enterer q j x other)) outside);
+      }
+
+  row_low : (row : Entering) → IsEntering img looked.points row.section row → holds_off row ≡ false → ¬ EntersWell img
+  row_low row is no all = by_value row.value is.value no
+    where
+      by_value : (v : Option ℕ) → IsLeastOrNone img looked.points row.section v → none_or (λ value. nat_le row.level value) v ≡ false → ⊥
+      by_value None none no = absurd cc
+      by_value (Some v) l no =
+          let p = is.level.point in
+          let q = l.point in
+          let holds = (all p is.level.instr row.section (enters_at p is.level.instr row.section is.level.enterer)).others q l.instr
+              l.outside (enters_at q l.instr row.section l.enterer) in
+          let level : level_behind img p is.level.instr row.section ≡ row.level = is.level.is in
+          let value : owner_value img q.owner ≡ v = l.is in
+          let above : v < row.level = lt_of row.level v no in
+          let low : level_behind img p is.level.instr row.section ≤ owner_value img q.owner = holds in
+          absurd (omega (arith, level, value, above, low))
+
+  pub not_enters : (f.sections.free && list_all holds_off f.sections.rows.items) ≡ false → ¬ EntersWell img
+  not_enters no all = elim f.sections.free as (λ b. f.sections.free ≡ b → (b && list_all holds_off f.sections.rows.items) ≡ false → ⊥) [
+    | true ↦ λ e rest.
+        let row = fails_at holds_off f.sections.rows.items rest in
+        row_low row.item (all_at (λ (r : Entering). IsEntering img looked.points r.section r) f.sections.rows.items row.place row.item
+            looked.finds.sections.rows row.at) row.fails all
+    | false ↦ λ e rest. is_false f.sections.free e looked.finds.sections.free
+        (all_weaker (IsPoint img) (FreeAt img) (λ p is i x at. (all p i x (is, at)).free) looked.points looked.sound)
+  ] refl no
+
+  -- cells
+  toucher : (cell : ℕ) (p : Point) (t : Touches img cell p) → Toucher img looked.points cell p t.access
+  toucher cell p t = record {
+    seen = looked.all p t.stands.0; outside = t.outside; instr = t.instr; told = t.told; stands = t.stands.1; by = t.by; touches = t.touches;
+  }
+
+  touches : (cell : ℕ) (p : Point) (a : Access) → Toucher img looked.points cell p a → Touches img cell p
+  touches cell p a t = record {
+    outside = t.outside; instr = t.instr; told = t.told;
+    stands = (all_has (IsPoint img) looked.points p looked.sound t.seen, t.stands); access = a; by = t.by; touches = t.touches;
+  }
+
+  in_memory : OperatesWell img → (cell : ℕ) (p : Point) → Touches img cell p → cell < length img.cells
+  in_memory operates cell p t =
+      let has = (operates p t.instr t.told t.stands).cell in
+      subst (λ n. n < length img.cells) t.touches (subst (HasItsCell (length img.cells)) t.by has)
+
+  -- a guarded row
+  row_guards : (cell : ℕ) (row : Option Touching) → TellsOfTouching img looked.points cell row → is_row_guarded row ≡ true
+      → IsContended img cell → (x : Section) × IsGuardedBy img cell x
+  row_guards cell None none yes c = absurd (none c.storer c.stored.access (toucher cell c.storer c.stored))
+  row_guards cell (Some t) is yes c = by_stored t.stored is.stored t.differ is.differ yes
+    where
+      guarded_by : (xs : List Section) → xs ≡ t.sections.items → not (length xs == 0) ≡ true → (x : Section) × IsGuardedBy img cell x
+      guarded_by [] e no = absurd cc
+      guarded_by (x ∷ xs) e some =
+          (x, λ p h. is.guards x (subst (λ ys. IsIn ys x) e (0, refl)) p h.access (toucher cell p h))
+
+      by_stored : (b : Bool) → SomeIfTrue b (λ p a. Toucher img looked.points cell p a × IsStore a) → (d : Bool)
+          → SomeIfTrue d (λ p a. Toucher img looked.points cell p a × (owner_value img p.owner ≢ t.value))
+          → (not b || (not d || not (length t.sections.items == 0))) ≡ true → (x : Section) × IsGuardedBy img cell x
+      by_stored false none d differ yes = absurd (none c.storer c.stored.access (toucher cell c.storer c.stored, c.is_store))
+      by_stored true some false same yes = absurd (same c.one c.one_touches.access (toucher cell c.one c.one_touches,
+          λ one. same c.other c.other_touches.access (toucher cell c.other c.other_touches, λ other. c.differ (one ∙ sym other))))
+      by_stored true some true differ yes = guarded_by t.sections.items refl yes
+
+  pub guards : OperatesWell img → list_all is_row_guarded f.cells.rows.items ≡ true → GuardsCells img
+  guards operates yes cell c =
+      let within : cell < length f.cells.rows.items =
+      let lt = in_memory operates cell c.storer c.stored in let long = looked.finds.rows in omega (arith, lt, long) in
+      let at = slice_get-get_or f.cells.rows.items cell None within in
+      row_guards cell _ (looked.finds.cells cell _ at) (holds_at is_row_guarded f.cells.rows.items cell _ yes at) c
+
+  row_unguarded : (cell : ℕ) (row : Option Touching) → TellsOfTouching img looked.points cell row → is_row_guarded row ≡ false
+      → ¬ GuardsCells img
+  row_unguarded cell None none no all = absurd cc
+  row_unguarded cell (Some t) is no all = by_stored t.stored is.stored t.differ is.differ no
+    where
+      none_open : (xs : List Section) → xs ≡ t.sections.items → not (length xs == 0) ≡ false → (x : Section) → IsIn t.sections.items x → ⊥
+      none_open [] e no x inside = let bad : IsIn [] x = subst (λ ys. IsIn ys x) (sym e) inside in none-some x bad.1
+      none_open (y ∷ xs) e no x inside =
+          absurd (let zero : suc (length xs) ≡ 0 = eqb-true (suc (length xs)) 0 (not_false (suc (length xs) == 0) no) in omega (arith, zero))
+
+      by_stored : (b : Bool) → SomeIfTrue b (λ p a. Toucher img looked.points cell p a × IsStore a) → (d : Bool)
+          → SomeIfTrue d (λ p a. Toucher img looked.points cell p a × (owner_value img p.owner ≢ t.value))
+          → (not b || (not d || not (length t.sections.items == 0))) ≡ false → ⊥
+      by_stored false none d differ no = absurd cc
+      by_stored true some false same no = absurd cc
+      by_stored true (p, a, stores) true (q, b, differs) no =
+          let contended : IsContended img cell = record {
+            storer = p;
+            stored = touches cell p a stores.0;
+            is_store = stores.1;
+            one = q;
+            other = is.first;
+            one_touches = touches cell q b differs.0;
+            other_touches = touches cell is.first is.access is.touches;
+            differ = λ same. differs.1 (same ∙ is.value);
+          } in
+          let guard = all cell contended in
+          none_open t.sections.items refl no guard.0 (is.guarding guard.0 (λ r d h. guard.1 r (touches cell r d h)))
+
+  pub not_guards : list_all is_row_guarded f.cells.rows.items ≡ false → ¬ GuardsCells img
+  not_guards no =
+      let row = fails_at is_row_guarded f.cells.rows.items no in
+      row_unguarded row.place row.item (looked.finds.cells row.place row.item row.at) row.fails
