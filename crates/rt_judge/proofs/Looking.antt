@@ -271,3 +271,6 @@ some_case o x N P is h = subst (λ v. MatchOption v N P) is h
 pub kept_case : (b : Bool) (P N : Type 0) → b ≡ true → MatchBool b P N → P
 kept_case true P N is h = h
 kept_case false P N is h = absurd cc
+
+pub none_case : {X : Type 0} (o : Option X) (N : Type 0) (P : X → Type 0) → o ≡ None → MatchOption o N P → N
+none_case o N P is h = subst (λ v. MatchOption v N P) is h

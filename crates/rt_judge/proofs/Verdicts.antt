@@ -54,13 +54,13 @@ checked img a b c d e f g rule.Ceilings = f
 checked img a b c d e f g rule.Guards = g
 
 le_of : (m n : ℕ) → nat_le m n ≡ true → m ≤ n
-le_of m n yes = grind (arith, yes)
+le_of m n pass = grind (arith, pass)
 
 lt_of : (m n : ℕ) → nat_le m n ≡ false → n < m
-lt_of m n no = grind (arith, no)
+lt_of m n fail = grind (arith, fail)
 
 pub is_false : (b : Bool) {P : Type 0} → b ≡ false → IsTrue b ↔ P → ¬ P
-is_false b no tells p = let yes = tells.1 p in cc
+is_false b fail tells p = let pass = tells.1 p in cc
 
 -- a test that fails somewhere in a list
 record FailsAt {X : Type 0} (test : X → Bool) (xs : List X) : Type 0 where
@@ -70,12 +70,12 @@ record FailsAt {X : Type 0} (test : X → Bool) (xs : List X) : Type 0 where
   fails : test item ≡ false
 
 fails_at : {X : Type 0} (test : X → Bool) (xs : List X) → list_all test xs ≡ false → FailsAt test xs
-fails_at test [] no = absurd cc
-fails_at {X} test (x ∷ xs) no = elim (test x) as (λ b. test x ≡ b → (b && list_all test xs) ≡ false → FailsAt test (x ∷ xs)) [
+fails_at test [] fail = absurd cc
+fails_at {X} test (x ∷ xs) fail = elim (test x) as (λ b. test x ≡ b → (b && list_all test xs) ≡ false → FailsAt test (x ∷ xs)) [
   | true ↦ λ e rest. let later = fails_at test xs rest in
       record { place = suc later.place; item = later.item; at = later.at; fails = later.fails }
   | false ↦ λ e rest. record { place = 0; item = x; at = refl; fails = e }
-] refl no
+] refl fail
 
 holds_at : {X : Type 0} (test : X → Bool) (xs : List X) (i : ℕ) (x : X) → list_all test xs ≡ true → slice_get xs i ≡ Some x → test x ≡ true
 holds_at test [] i x all at = absurd (none-some x at)
@@ -84,25 +84,25 @@ holds_at test (y ∷ xs) (suc i) x all at = holds_at test xs i x (and_right (tes
 
 module _ (img : Image) (f : Findings) (looked : Looked img f) where
   pub stays : f.addresses ≡ true → StaysInCode img
-  stays yes p is = all_has (HasLine img) looked.points p (looked.finds.addresses.0 yes) (looked.all p is)
+  stays pass p is = all_has (HasLine img) looked.points p (looked.finds.addresses.0 pass) (looked.all p is)
 
   pub not_stays : f.addresses ≡ false → ¬ StaysInCode img
-  not_stays no all = is_false f.addresses no looked.finds.addresses (all_weaker (IsPoint img) (HasLine img) all looked.points looked.sound)
+  not_stays fail all = is_false f.addresses fail looked.finds.addresses (all_weaker (IsPoint img) (HasLine img) all looked.points looked.sound)
 
   pub operates : f.operands ≡ true → OperatesWell img
-  operates yes p i told stands =
-      all_has (OperatesAt img) looked.points p (looked.finds.operands.0 yes) (looked.all p stands.0) i told stands.1
+  operates pass p i told stands =
+      all_has (OperatesAt img) looked.points p (looked.finds.operands.0 pass) (looked.all p stands.0) i told stands.1
 
   pub not_operates : f.operands ≡ false → ¬ OperatesWell img
-  not_operates no all = is_false f.operands no looked.finds.operands
+  not_operates fail all = is_false f.operands fail looked.finds.operands
       (all_weaker (IsPoint img) (OperatesAt img) (λ p is i told at. all p i told (is, at)) looked.points looked.sound)
 
   pub notes : f.notes ≡ true → NotesWell img
-  notes yes p i told stands =
-      all_has (NotesAt img) looked.points p (looked.finds.notes.0 yes) (looked.all p stands.0) i told stands.1
+  notes pass p i told stands =
+      all_has (NotesAt img) looked.points p (looked.finds.notes.0 pass) (looked.all p stands.0) i told stands.1
 
   pub not_notes : f.notes ≡ false → ¬ NotesWell img
-  not_notes no all = is_false f.notes no looked.finds.notes
+  not_notes fail all = is_false f.notes fail looked.finds.notes
       (all_weaker (IsPoint img) (NotesAt img) (λ p is i told at. all p i told (is, at)) looked.points looked.sound)
 
   -- ceilings
@@ -116,21 +116,21 @@ module _ (img : Image) (f : Findings) (looked : Looked img f) where
   row_high : (row : Entering) → IsEntering img looked.points row.section row → holds_off row ≡ true → (p q : Point) (i j : Instr)
       → Enterer img looked.points row.section p i → Enterer img looked.points row.section q j → q.owner ≢ Starting
       → level_behind img p i row.section ≤ owner_value img q.owner
-  row_high row is yes p q i j enters others outside = by_value row.value is.value yes
+  row_high row is pass p q i j enters others outside = by_value row.value is.value pass
     where
       by_value : (v : Option ℕ) → IsLeastOrNone img looked.points row.section v → none_or (λ value. nat_le row.level value) v ≡ true
           → level_behind img p i row.section ≤ owner_value img q.owner
-      by_value None none yes = absurd (outside (none q j others))
-      by_value (Some v) l yes =
+      by_value None none pass = absurd (outside (none q j others))
+      by_value (Some v) l pass =
           let high = is.level.all p i enters in
           let low = l.all q j others outside in
-          let holds : row.level ≤ v = le_of row.level v yes in
+          let holds : row.level ≤ v = le_of row.level v pass in
           omega (arith, high, low, holds)
 
   pub enters : (f.sections.free && list_all holds_off f.sections.rows.items) ≡ true → EntersWell img
-  enters yes p i x stands =
-      let free = and_left f.sections.free (list_all holds_off f.sections.rows.items) yes in
-      let all = and_right f.sections.free (list_all holds_off f.sections.rows.items) yes in
+  enters pass p i x stands =
+      let free = and_left f.sections.free (list_all holds_off f.sections.rows.items) pass in
+      let all = and_right f.sections.free (list_all holds_off f.sections.rows.items) pass in
       record {
         free = all_has (FreeAt img) looked.points p (looked.finds.sections.free.0 free) (looked.all p stands.0) i x stands.1;
         others = λ q j outside other.
@@ -147,30 +147,30 @@ module _ (img : Image) (f : Findings) (looked : Looked img f) where
       }
 
   row_low : (row : Entering) → IsEntering img looked.points row.section row → holds_off row ≡ false → ¬ EntersWell img
-  row_low row is no all = by_value row.value is.value no
+  row_low row is fail all = by_value row.value is.value fail
     where
       by_value : (v : Option ℕ) → IsLeastOrNone img looked.points row.section v → none_or (λ value. nat_le row.level value) v ≡ false → ⊥
-      by_value None none no = absurd cc
-      by_value (Some v) l no =
+      by_value None none fail = absurd cc
+      by_value (Some v) l fail =
           let p = is.level.point in
           let q = l.point in
           let holds = (all p is.level.instr row.section (enters_at p is.level.instr row.section is.level.enterer)).others q l.instr
               l.outside (enters_at q l.instr row.section l.enterer) in
           let level : level_behind img p is.level.instr row.section ≡ row.level = is.level.is in
           let value : owner_value img q.owner ≡ v = l.is in
-          let above : v < row.level = lt_of row.level v no in
+          let above : v < row.level = lt_of row.level v fail in
           let low : level_behind img p is.level.instr row.section ≤ owner_value img q.owner = holds in
           absurd (omega (arith, level, value, above, low))
 
   pub not_enters : (f.sections.free && list_all holds_off f.sections.rows.items) ≡ false → ¬ EntersWell img
-  not_enters no all = elim f.sections.free as (λ b. f.sections.free ≡ b → (b && list_all holds_off f.sections.rows.items) ≡ false → ⊥) [
+  not_enters fail all = elim f.sections.free as (λ b. f.sections.free ≡ b → (b && list_all holds_off f.sections.rows.items) ≡ false → ⊥) [
     | true ↦ λ e rest.
         let row = fails_at holds_off f.sections.rows.items rest in
         row_low row.item (all_at (λ (r : Entering). IsEntering img looked.points r.section r) f.sections.rows.items row.place row.item
             looked.finds.sections.rows row.at) row.fails all
     | false ↦ λ e rest. is_false f.sections.free e looked.finds.sections.free
         (all_weaker (IsPoint img) (FreeAt img) (λ p is i x at. (all p i x (is, at)).free) looked.points looked.sound)
-  ] refl no
+  ] refl fail
 
   -- cells
   toucher : (cell : ℕ) (p : Point) (t : Touches img cell p) → Toucher img looked.points cell p t.access
@@ -178,59 +178,59 @@ module _ (img : Image) (f : Findings) (looked : Looked img f) where
     seen = looked.all p t.stands.0; outside = t.outside; instr = t.instr; told = t.told; stands = t.stands.1; by = t.by; touches = t.touches;
   }
 
-  touches : (cell : ℕ) (p : Point) (a : Access) → Toucher img looked.points cell p a → Touches img cell p
+  abbrev touches : (cell : ℕ) (p : Point) (a : Access) → Toucher img looked.points cell p a → Touches img cell p
   touches cell p a t = record {
     outside = t.outside; instr = t.instr; told = t.told;
     stands = (all_has (IsPoint img) looked.points p looked.sound t.seen, t.stands); access = a; by = t.by; touches = t.touches;
   }
 
   in_memory : OperatesWell img → (cell : ℕ) (p : Point) → Touches img cell p → cell < length img.cells
-  in_memory operates cell p t =
-      let has = (operates p t.instr t.told t.stands).cell in
+  in_memory operating cell p t =
+      let has = (operating p t.instr t.told t.stands).cell in
       subst (λ n. n < length img.cells) t.touches (subst (HasItsCell (length img.cells)) t.by has)
 
   -- a guarded row
   row_guards : (cell : ℕ) (row : Option Touching) → TellsOfTouching img looked.points cell row → is_row_guarded row ≡ true
       → IsContended img cell → (x : Section) × IsGuardedBy img cell x
-  row_guards cell None none yes c = absurd (none c.storer c.stored.access (toucher cell c.storer c.stored))
-  row_guards cell (Some t) is yes c = by_stored t.stored is.stored t.differ is.differ yes
+  row_guards cell None none pass c = absurd (none c.storer c.stored.access (toucher cell c.storer c.stored))
+  row_guards cell (Some t) is pass c = by_stored t.stored is.stored t.differ is.differ pass
     where
       guarded_by : (xs : List Section) → xs ≡ t.sections.items → not (length xs == 0) ≡ true → (x : Section) × IsGuardedBy img cell x
-      guarded_by [] e no = absurd cc
+      guarded_by [] e fail = absurd cc
       guarded_by (x ∷ xs) e some =
           (x, λ p h. is.guards x (subst (λ ys. IsIn ys x) e (0, refl)) p h.access (toucher cell p h))
 
       by_stored : (b : Bool) → SomeIfTrue b (λ p a. Toucher img looked.points cell p a × IsStore a) → (d : Bool)
           → SomeIfTrue d (λ p a. Toucher img looked.points cell p a × (owner_value img p.owner ≢ t.value))
           → (not b || (not d || not (length t.sections.items == 0))) ≡ true → (x : Section) × IsGuardedBy img cell x
-      by_stored false none d differ yes = absurd (none c.storer c.stored.access (toucher cell c.storer c.stored, c.is_store))
-      by_stored true some false same yes = absurd (same c.one c.one_touches.access (toucher cell c.one c.one_touches,
+      by_stored false none d differ pass = absurd (none c.storer c.stored.access (toucher cell c.storer c.stored, c.is_store))
+      by_stored true some false same pass = absurd (same c.one c.one_touches.access (toucher cell c.one c.one_touches,
           λ one. same c.other c.other_touches.access (toucher cell c.other c.other_touches, λ other. c.differ (one ∙ sym other))))
-      by_stored true some true differ yes = guarded_by t.sections.items refl yes
+      by_stored true some true differ pass = guarded_by t.sections.items refl pass
 
   pub guards : OperatesWell img → list_all is_row_guarded f.cells.rows.items ≡ true → GuardsCells img
-  guards operates yes cell c =
+  guards operating pass cell c =
       let within : cell < length f.cells.rows.items =
-      let lt = in_memory operates cell c.storer c.stored in let long = looked.finds.rows in omega (arith, lt, long) in
+      let lt = in_memory operating cell c.storer c.stored in let long = looked.finds.rows in omega (arith, lt, long) in
       let at = slice_get-get_or f.cells.rows.items cell None within in
-      row_guards cell _ (looked.finds.cells cell _ at) (holds_at is_row_guarded f.cells.rows.items cell _ yes at) c
+      row_guards cell _ (looked.finds.cells cell _ at) (holds_at is_row_guarded f.cells.rows.items cell _ pass at) c
 
   row_unguarded : (cell : ℕ) (row : Option Touching) → TellsOfTouching img looked.points cell row → is_row_guarded row ≡ false
       → ¬ GuardsCells img
-  row_unguarded cell None none no all = absurd cc
-  row_unguarded cell (Some t) is no all = by_stored t.stored is.stored t.differ is.differ no
+  row_unguarded cell None none fail all = absurd cc
+  row_unguarded cell (Some t) is fail all = by_stored t.stored is.stored t.differ is.differ fail
     where
       none_open : (xs : List Section) → xs ≡ t.sections.items → not (length xs == 0) ≡ false → (x : Section) → IsIn t.sections.items x → ⊥
-      none_open [] e no x inside = let bad : IsIn [] x = subst (λ ys. IsIn ys x) (sym e) inside in none-some x bad.1
-      none_open (y ∷ xs) e no x inside =
-          absurd (let zero : suc (length xs) ≡ 0 = eqb-true (suc (length xs)) 0 (not_false (suc (length xs) == 0) no) in omega (arith, zero))
+      none_open [] e fail x inside = let bad : IsIn [] x = subst (λ ys. IsIn ys x) (sym e) inside in none-some x bad.1
+      none_open (y ∷ xs) e fail x inside =
+          absurd (let zero : suc (length xs) ≡ 0 = eqb-true (suc (length xs)) 0 (not_false (suc (length xs) == 0) fail) in omega (arith, zero))
 
       by_stored : (b : Bool) → SomeIfTrue b (λ p a. Toucher img looked.points cell p a × IsStore a) → (d : Bool)
           → SomeIfTrue d (λ p a. Toucher img looked.points cell p a × (owner_value img p.owner ≢ t.value))
           → (not b || (not d || not (length t.sections.items == 0))) ≡ false → ⊥
-      by_stored false none d differ no = absurd cc
-      by_stored true some false same no = absurd cc
-      by_stored true (p, a, stores) true (q, b, differs) no =
+      by_stored false none d differ fail = absurd cc
+      by_stored true some false same fail = absurd cc
+      by_stored true (p, a, stores) true (q, b, differs) fail =
           let contended : IsContended img cell = record {
             storer = p;
             stored = touches cell p a stores.0;
@@ -242,9 +242,9 @@ module _ (img : Image) (f : Findings) (looked : Looked img f) where
             differ = λ same. differs.1 (same ∙ is.value);
           } in
           let guard = all cell contended in
-          none_open t.sections.items refl no guard.0 (is.guarding guard.0 (λ r d h. guard.1 r (touches cell r d h)))
+          none_open t.sections.items refl fail guard.0 (is.guarding guard.0 (λ r d h. guard.1 r (touches cell r d h)))
 
   pub not_guards : list_all is_row_guarded f.cells.rows.items ≡ false → ¬ GuardsCells img
-  not_guards no =
-      let row = fails_at is_row_guarded f.cells.rows.items no in
+  not_guards fail =
+      let row = fails_at is_row_guarded f.cells.rows.items fail in
       row_unguarded row.place row.item (looked.finds.cells row.place row.item row.at) row.fails
