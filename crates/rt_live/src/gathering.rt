@@ -10,7 +10,7 @@ use rt_devices::Device;
 use rt_words::{CoreLine, Tally, Words};
 
 /// Adds the counts of a line to those of the rows.
-fn add_counts(rows: &mut [AccountRow], tally: &Tally)
+pub fn add_counts(rows: &mut [AccountRow], tally: &Tally)
     requires room { AllByRecursion (λ row. (row.raised + 2 ^ 32 ≤ 2 ^ 64) × (row.merged + 2 ^ 32 ≤ 2 ^ 64)) rows.old }
     ensures { rows.new ≡ map (with_counts tally.now) rows.old }
 {

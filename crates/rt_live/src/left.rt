@@ -6,7 +6,7 @@ use crate::account::AccountRow;
 use rt_words::Left;
 
 /// Enters into the rows how often each interrupt was latched, and whether it was left pending.
-pub(crate) fn settle(rows: &mut [AccountRow], left: &Left)
+pub fn settle(rows: &mut [AccountRow], left: &Left)
     ensures { rows.new ≡ map (settled left.now.latched left.now.bits) rows.old }
 {
     for row in rows.iter_mut() {

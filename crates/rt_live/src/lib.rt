@@ -4,9 +4,9 @@
 pub mod account;
 mod beside;
 mod ending;
-mod gathering;
-mod left;
-mod making;
+pub mod gathering;
+pub mod left;
+pub mod making;
 pub mod ready;
 pub mod running;
 pub mod turns;

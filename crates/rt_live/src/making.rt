@@ -19,7 +19,7 @@ use rt_words::{CoreLine, Words};
 use std::alloc::Global;
 
 /// A row for each declared interrupt, in order, with nothing counted.
-pub(crate) fn rows_of(alloc: Global, names: &Names) -> Result<Vec<AccountRow>, NoMemory>
+pub fn rows_of(alloc: Global, names: &Names) -> Result<Vec<AccountRow>, NoMemory>
     ensures { IfOk result (λ rows. rows.items ≡ map empty_row (declared_irqs names.now)) }
 {
     let count = names.irq_count();
@@ -40,7 +40,7 @@ pub(crate) fn rows_of(alloc: Global, names: &Names) -> Result<Vec<AccountRow>, N
 }
 
 /// The words with the bits of the rows' interrupts.
-pub(crate) fn bits_of(rows: &[AccountRow]) -> [u32; 16]
+pub fn bits_of(rows: &[AccountRow]) -> [u32; 16]
     ensures may { (irq : ℕ) → IsPending result irq ↔ Contains (irqs_of rows.now) irq }
     ensures in_range { (irq : ℕ) → IsPending result irq → irq < IRQ_NUMBERS }
 {

@@ -89,7 +89,7 @@ fn arrive_word<K: Sink>(
 }
 
 /// One look: latches every word from word 0 up, and what each holds arrives.
-fn look<K: Sink>(
+pub fn look<K: Sink>(
     core: &mut Core,
     line: &mut CoreLine,
     words: &Words,

@@ -1,0 +1,29 @@
+-- Which posts of a core are interrupts of the other core of a pair. As between the cores of a multicore microcontroller,
+-- a core may ring the other's doorbell: it posts an interrupt that it does not take itself, and where the other
+-- application declares an interrupt of that name, it is pended there. That names tie the two is this project's own. The
+-- definitions go over the items of a trace; the code looks each post up in a table of numbers.
+use Rattle.std.specs.Prelude.{ℕ, ◌==◌, ◌&&◌, Bool, if◌then◌else◌, List, filter_map, is_some, Option, None}
+use Rattle.std.specs.List.{list_any}
+use Rattle.rt_ids.specs.Names.{Names, irq_of}
+use Rattle.rt_ids.specs.Naming.{irq_name}
+use Rattle.rt_code.specs.Image.{Image}
+use Rattle.rt_trace.specs.declared.item.Item.{Item}
+use Rattle.rt_trace.specs.declared.item.What.{What}
+use Rattle.rt_trace.specs.declared.item.What.TheVariants as what
+
+-- the image enables the interrupt of this number, so that its core takes it
+abbrev pub enables : Image → ℕ → Bool
+enables img irq = list_any (λ row. (row.number == irq) && is_some row.handler) img.irqs
+
+-- the interrupt that a post of this one pends on the other core, whose application has these names
+abbrev pub forward : Image → Names → ℕ → Option ℕ
+forward img other irq = if enables img irq then None else irq_of other (irq_name img.names irq)
+
+-- the one that an item shows, where it is such a post
+abbrev pub forward_of : Image → Names → What → Option ℕ
+forward_of img other (what.Post irq) = forward img other irq
+forward_of img other shown = None
+
+-- the interrupts that the items of a core pend on the other one, in order
+abbrev pub forwarded : Image → Names → List Item → List ℕ
+forwarded img other items = filter_map (λ item. forward_of img other item.what) items

@@ -1,0 +1,4 @@
+pub mod Forwarded
+pub mod Course
+pub mod Output
+pub mod Inside

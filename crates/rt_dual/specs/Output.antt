@@ -1,0 +1,52 @@
+-- What `pair` may write of two images under a script. The form of the text is this project's own.
+use Rattle.std.specs.Prelude.{◌≡◌, ℕ, List, ◌∷◌, ◌++◌, Some, Option, codes, decimal}
+use Rattle.rt_ids.specs.Event.{Event, steps}
+use Rattle.rt_code.specs.Image.{Image}
+use Rattle.rt_core.specs.Machine.{Machine}
+use Rattle.rt_listing.specs.Listing.{listing}
+use Rattle.rt_outside.specs.Bytes.{TookPrefix}
+use Rattle.rt_run.specs.Done.{HasDone}
+use Rattle.rt_script.specs.declared.line.Line.{Line}
+use Rattle.rt_trace.specs.Text.{trace_text}
+use Rattle.rt_words.specs.Ending.{calls_in}
+use Rattle.rt_live.specs.Account.{account_of, account_text, declared_irqs}
+use Rattle.rt_live.specs.Weave.{Turn, weave}
+use Rattle.rt_dual.specs.Course.{Course, IsCourse, first_events, second_events, woven, shown}
+use Rattle.rt_dual.specs.Forwarded.{forwarded}
+
+-- the trace of a core, with its total of core steps
+abbrev pub course_text : Image → List Event → Course → List ℕ
+course_text img events course =
+    trace_text img.names (record { items = shown img events course; total = Some (steps (woven events course)) })
+
+-- what was pended on the core by the other one
+abbrev pub account : Image → Course → List ℕ
+account img course =
+    account_text img.names (account_of (declared_irqs img.names) (calls_in course.history) course.left)
+
+-- The text of a core, which has this number: its line, the listing of its image, its trace, and the account of the
+-- other core's pends.
+abbrev pub core_text : ℕ → Image → List Event → Course → List ℕ
+core_text number img events course =
+    codes "core " ++ decimal number ++ 10 ∷ listing img ++ codes "trace\n" ++ course_text img events course
+    ++ account img course
+
+-- The texts of both cores, for courses of which each has the pends that the other core forwards by its trace.
+pub record IsPairText (first second : Image) (script : List Line) (bytes : List ℕ) : Type 0 where
+  pub one : Course
+  pub two : Course
+  pub is_one : IsCourse (first_events script) 2
+      (forwarded second first.names (shown second (second_events script) two)) one
+  pub is_two : IsCourse (second_events script) 1
+      (forwarded first second.names (shown first (first_events script) one)) two
+  pub written : bytes ≡ core_text 1 first (first_events script) one ++ core_text 2 second (second_events script) two
+
+-- a beginning of such a text was taken
+pub record TookPart (first second : Image) (script : List Line) (before after : Option (List ℕ)) : Type 0 where
+  pub bytes : List ℕ
+  pub is : IsPairText first second script bytes
+  pub took : TookPrefix before after bytes
+
+-- the core has done the first of the events of these turns, for words that looks may find
+abbrev pub HasBegun : List Turn → Machine → Machine → Type 0
+HasBegun ts old new = (found : List (List ℕ)) × HasDone (weave ts found) old new

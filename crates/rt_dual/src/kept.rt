@@ -1,0 +1,50 @@
+ghost use Rattle.std.specs.Prelude.{◌≡◌, ◌++◌, ℕ, ◌<◌, ◌≤◌, [], Some, length, take, IfOk, OnOk, OnErr};
+ghost use Rattle.rt_outside.specs.Bytes.{Took};
+ghost use Rattle.rt_outside.specs.Faults.{HasCause};
+
+use rt_outside::{Failed, Sink};
+use std::alloc::Global;
+
+/// The bytes of a trace, which is kept in memory until both cores have ended. As a sink it fails where memory is wanted
+/// and not there.
+#[derive(Drop)]
+pub struct Kept {
+    pub bytes: Vec<u8>,
+    /// How often memory was not there.
+    pub failed: u64,
+}
+
+impl Kept {
+    /// No bytes.
+    pub fn new(alloc: Global) -> Kept
+        ensures { result.bytes.items ≡ [] }
+    {
+        Kept {
+            bytes: Vec::new(alloc),
+            failed: 0,
+        }
+    }
+}
+
+impl Sink for Kept {
+    ghost taken = { λ kept. Some kept.bytes.items };
+
+    ghost faults = { λ kept. kept.failed };
+
+    fn write(&mut self, piece: &[u8]) -> Result<usize, Failed>
+        ensures within { IfOk result (λ n. n ≤ length piece.now) }
+        ensures some { IfOk result (λ n. 0 < length piece.now → 0 < n) }
+        ensures took { IfOk result (λ n. Took (Some self.old.bytes.items) (Some self.new.bytes.items) (take n piece.now)) }
+        ensures err { OnErr result (Some self.new.bytes.items ≡ Some self.old.bytes.items) }
+        ensures cause { HasCause self.old.failed self.new.failed result }
+        ensures quiet { OnOk result (self.new.failed ≡ self.old.failed) }
+    {
+        match self.bytes.extend_from_slice(piece) {
+            Ok(()) => Ok(piece.len()),
+            Err(_) => {
+                self.failed = self.failed.saturating_add(1);
+                Err(Failed)
+            }
+        }
+    }
+}

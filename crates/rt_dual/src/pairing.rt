@@ -1,0 +1,240 @@
+ghost use Rattle.std.specs.Prelude.{◌≡◌, ◌+◌, [], ℕ, List, IfOk, OnOk, OnErr, IsErrOf};
+ghost use Rattle.std.specs.Thread.{IsSync};
+ghost use Rattle.rt_code.specs.Lines.{HasLines};
+ghost use Rattle.rt_core.specs.Machine.{IsFresh};
+ghost use Rattle.rt_outside.specs.Bytes.{Took, TookPrefix};
+ghost use Rattle.rt_outside.specs.Faults.{Rose, HasCause};
+ghost use Rattle.rt_script.specs.Script.{IsScript, HasNames, count};
+ghost use Rattle.rt_dual.specs.Course.{first_events, second_events, turns};
+ghost use Rattle.rt_dual.specs.Output.{IsPairText, TookPart, HasBegun};
+ghost use Rattle.rt_dual.specs.Inside.Both.{AreBefore, HaveEnded, CanWrite, IsWritten};
+ghost use Rattle.rt_dual.specs.Inside.Own.{events_at, HasNamesAt};
+ghost use Rattle.rt_dual.specs.Inside.Running.{CanRun, Ends, Begins};
+
+use crate::half::{Half, account_of, half_of};
+use crate::kept::Kept;
+use crate::place::Place;
+use crate::routes::routes_of;
+use crate::side::Side;
+use crate::turns::run_side;
+use crate::writing::put_core;
+use rt_code::Image;
+use rt_core::Core;
+use rt_devices::Gate;
+use rt_ids::NoMemory;
+use rt_live::LiveFail;
+use rt_outside::{Failed, Sink};
+use rt_script::{Line, Script};
+use rt_words::Words;
+use std::alloc::Global;
+use std::marker::Sync;
+use std::thread::{Threads, join_mut};
+
+/// Runs two cores to which no event has come beside each other, each in a thread of its own where one can be made. A
+/// post of a core that its image does not enable pends the other application's interrupt of that name, by one fetch_or
+/// of the other core's words behind the step. The first core gets the events of the script, devices' requests at their
+/// places, the second its steps and ticks alone. Each latches all its words before each of its steps and once behind its
+/// last event. When both have ended, the text of each is written: its line, the listing of its image, its trace with the
+/// total of core steps, and the account of the other core's pends. The traces are kept in memory until then, so nothing
+/// has been written where memory is not there.
+pub fn pair<R: Threads + Sync, K: Sink, G: Gate + Sync>(
+    rt: &R,
+    alloc: Global,
+    first: &mut Core,
+    second: &mut Core,
+    script: &Script,
+    out: &mut K,
+    gate: &G,
+) -> Result<(), LiveFail>
+    requires first_fresh { IsFresh first.old }
+    requires second_fresh { IsFresh second.old }
+    requires first_lines { HasLines first.old.image }
+    requires second_lines { HasLines second.old.image }
+    requires declared { HasNames first.old.image.names script.now }
+    ensures ok { OnOk result ((bytes : List ℕ) × IsPairText first.old.image second.old.image script.now bytes
+        × Took (K.taken out.old) (K.taken out.new) bytes) }
+
+    // At a fault a beginning was taken of a text that could have been written.
+    ensures part { IsErrOf result LiveFail.Fault →
+        TookPart first.old.image second.old.image script.now (K.taken out.old) (K.taken out.new) }
+    ensures none { IsErrOf result LiveFail.NoMemory → Took (K.taken out.old) (K.taken out.new) [] }
+    ensures fault { IsErrOf result LiveFail.Fault → Rose (K.faults out.old) (K.faults out.new) }
+    ensures quiet { ¬ IsErrOf result LiveFail.Fault → K.faults out.new ≡ K.faults out.old }
+
+    // After either refusal, as behind a whole run, each core has done the first of its events and no others.
+    ensures first_begun { HasBegun (turns (first_events script.now)) first.old first.new }
+    ensures second_begun { HasBegun (turns (second_events script.now)) second.old second.new }
+{
+    let lines = script.lines();
+    let Ok(mut both) = both_of(alloc, first.image(), second.image()) else {
+        return Err(LiveFail::NoMemory);
+    };
+    if run_both(rt, first, second, lines, &mut both, gate).is_err() {
+        return Err(LiveFail::NoMemory);
+    }
+    match put_both(both, first.image(), second.image(), out) {
+        Ok(()) => Ok(()),
+        Err(_) => Err(LiveFail::Fault),
+    }
+}
+
+/// All that is made for two cores before they run.
+#[derive(Drop)]
+pub struct Both {
+    /// What belongs to each of them.
+    pub one: Half,
+    pub two: Half,
+    /// What the thread of each of them has.
+    pub left: Side,
+    pub right: Side,
+}
+
+/// Makes what the cores of two images want of memory before they run.
+fn both_of(alloc: Global, first: &Image, second: &Image) -> Result<Both, NoMemory>
+    ensures { IfOk result (AreBefore first.now second.now) }
+{
+    let (one, lines_one) = half_of(alloc, Place::First, first)?;
+    let (two, lines_two) = half_of(alloc, Place::Second, second)?;
+    let left = Side {
+        place: Place::First,
+        line: lines_one.own,
+        bell: lines_two.bell,
+        rung: 0,
+        routes: routes_of(first, &second.names),
+        trace: Kept::new(alloc),
+    };
+    let right = Side {
+        place: Place::Second,
+        line: lines_two.own,
+        bell: lines_one.bell,
+        rung: 0,
+        routes: routes_of(second, &first.names),
+        trace: Kept::new(alloc),
+    };
+    Ok(Both {
+        one,
+        two,
+        left,
+        right,
+    })
+}
+
+/// Each core runs on its side while the other does, and both have ended when it answers.
+fn beside<R: Threads + Sync, G: Gate + Sync>(
+    rt: &R,
+    first: &mut Core,
+    left: &mut Side,
+    here: &Words,
+    second: &mut Core,
+    right: &mut Side,
+    there: &Words,
+    script: &[Line],
+    gate: &G,
+) -> (Result<(), Failed>, Result<(), Failed>)
+    requires first_can { CanRun (count script.now + 1) first.old left.old here.now there.now }
+    requires second_can { CanRun (count script.now + 1) second.old right.old there.now here.now }
+    requires first_declared { HasNamesAt left.old.place first.old.image.names script.now }
+    requires second_declared { HasNamesAt right.old.place second.old.image.names script.now }
+    ensures first_ok { OnOk result.0 (Ends (turns (events_at left.old.place script.now)) first.old first.new left.old left.new) }
+    ensures first_err { OnErr result.0 (Begins (turns (events_at left.old.place script.now)) first.old first.new) }
+    ensures second_ok { OnOk result.1
+        (Ends (turns (events_at right.old.place script.now)) second.old second.new right.old right.new) }
+    ensures second_err { OnErr result.1 (Begins (turns (events_at right.old.place script.now)) second.old second.new) }
+{
+    join_mut(
+        rt,
+        &mut || -> Result<(), Failed>
+            requires sync { IsSync G.row }
+            requires can { CanRun (count script.now + 1) first.now left.now here.now there.now }
+            requires declared { HasNamesAt left.now.place first.now.image.names script.now }
+            ensures ok { OnOk result (Ends (turns (events_at left.entry.now.place script.entry.now))
+                first.entry.now first.exit.now left.entry.now left.exit.now) }
+            ensures err { OnErr result (Begins (turns (events_at left.entry.now.place script.entry.now))
+                first.entry.now first.exit.now) }
+        { run_side(first, left, here, there, script, gate) },
+        &mut || -> Result<(), Failed>
+            requires can { CanRun (count script.now + 1) second.now right.now there.now here.now }
+            requires declared { HasNamesAt right.now.place second.now.image.names script.now }
+            ensures ok { OnOk result (Ends (turns (events_at right.entry.now.place script.entry.now))
+                second.entry.now second.exit.now right.entry.now right.exit.now) }
+            ensures err { OnErr result (Begins (turns (events_at right.entry.now.place script.entry.now))
+                second.entry.now second.exit.now) }
+        { run_side(second, right, there, here, script, gate) },
+    )
+}
+
+/// Both cores run to their ends.
+fn run_both<R: Threads + Sync, G: Gate + Sync>(
+    rt: &R,
+    first: &mut Core,
+    second: &mut Core,
+    script: &[Line],
+    both: &mut Both,
+    gate: &G,
+) -> Result<(), NoMemory>
+    requires first_fresh { IsFresh first.old }
+    requires second_fresh { IsFresh second.old }
+    requires first_lines { HasLines first.old.image }
+    requires second_lines { HasLines second.old.image }
+    requires before { AreBefore first.old.image second.old.image both.old }
+    requires script { IsScript script.now }
+    requires declared { HasNames first.old.image.names script.now }
+    ensures ok { OnOk result (HaveEnded script.now first.old first.new second.old second.new both.old both.new) }
+    ensures first_begun { HasBegun (turns (first_events script.now)) first.old first.new }
+    ensures second_begun { HasBegun (turns (second_events script.now)) second.old second.new }
+{
+    let ends = beside(
+        rt,
+        first,
+        &mut both.left,
+        &both.one.words,
+        second,
+        &mut both.right,
+        &both.two.words,
+        script,
+        gate,
+    );
+    match ends {
+        (Ok(()), Ok(())) => Ok(()),
+        _ => Err(NoMemory),
+    }
+}
+
+/// Closes the words of both cores, and writes their texts. It takes no memory.
+fn put_both<K: Sink>(
+    both: Both,
+    first: &Image,
+    second: &Image,
+    out: &mut K,
+) -> Result<(), Failed>
+    requires { CanWrite both }
+    ensures ok { OnOk result ((bytes : List ℕ) × IsWritten first.now second.now both bytes
+        × Took (K.taken out.old) (K.taken out.new) bytes) }
+    ensures err { OnErr result ((bytes : List ℕ) × IsWritten first.now second.now both bytes
+        × TookPrefix (K.taken out.old) (K.taken out.new) bytes) }
+    ensures cause { HasCause (K.faults out.old) (K.faults out.new) result }
+    ensures quiet { OnOk result (K.faults out.new ≡ K.faults out.old) }
+{
+    let Both {
+        one,
+        two,
+        left,
+        right,
+    } = both;
+    let account_one = account_of(one.words, left.line, right.bell, one.rows);
+    let account_two = account_of(two.words, right.line, left.bell, two.rows);
+    put_core(
+        out,
+        &one.front,
+        &left.trace.bytes,
+        &account_one,
+        &first.names,
+    )?;
+    put_core(
+        out,
+        &two.front,
+        &right.trace.bytes,
+        &account_two,
+        &second.names,
+    )
+}

@@ -1,0 +1,44 @@
+ghost use Rattle.std.specs.Prelude.{◌≡◌, ℕ, ◌<◌, None, slice_index_or};
+ghost use Rattle.rt_ids.specs.declared.limits.TheConstants.{IRQ_NUMBERS};
+ghost use Rattle.rt_dual.specs.Forwarded.{enables, forward};
+
+use rt_code::Image;
+use rt_ids::limits::IRQ_NUMBERS;
+use rt_ids::{Irq, Names};
+
+/// For each interrupt number of a core the one that a post of it pends on the other core.
+pub type Routes = [Option<Irq>; 496];
+
+/// Whether an image enables an interrupt.
+fn is_enabled(image: &Image, irq: Irq) -> bool
+    ensures { result ≡ enables image.now irq }
+{
+    image
+        .irqs
+        .iter()
+        .any(|row| row.number == irq && row.handler.is_some())
+}
+
+/// The interrupt that a post of this one pends on the other core, whose names are given.
+fn route(image: &Image, other: &Names, irq: Irq) -> Option<Irq>
+    ensures { result ≡ forward image.now other.now irq }
+{
+    if is_enabled(image, irq) {
+        return None;
+    }
+    let name = image.names.irq_name(irq)?;
+    other.irq_named(name)
+}
+
+/// Where the posts of a core with this image go on the other core, whose names are given.
+pub fn routes_of(image: &Image, other: &Names) -> Routes
+    ensures { (irq : ℕ) → irq < IRQ_NUMBERS → slice_index_or result irq None ≡ forward image.now other.now irq }
+{
+    let mut routes = [None; 496];
+    for number in 0..IRQ_NUMBERS {
+        if let Some(irq) = Irq::new(number) {
+            routes[usize::from(number)] = route(image, other, irq);
+        }
+    }
+    routes
+}

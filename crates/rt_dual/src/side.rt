@@ -1,0 +1,49 @@
+ghost use Rattle.std.specs.Prelude.{◌≡◌, ◌+◌, ◌-◌, ◌^◌, ◌<◌, length, option_to_list};
+ghost use Rattle.rt_dual.specs.Inside.Ringing.{Rings, MayRing, rung_of_shown, IsSameBut};
+
+use crate::kept::Kept;
+use crate::place::Place;
+use crate::routes::Routes;
+use rt_devices::Gate;
+use rt_trace::What;
+use rt_words::{CoreLine, DeviceLine, Words};
+
+/// What the thread of a core has for itself.
+#[derive(Drop)]
+pub struct Side {
+    /// Which core it is.
+    pub place: Place,
+    /// The core's line of its own words.
+    pub line: CoreLine,
+    /// Its line of the other core's words, by which it rings there.
+    pub bell: DeviceLine,
+    /// How often it rang; stands still at its type's end.
+    pub rung: u64,
+    /// Where its posts go on the other core.
+    pub routes: Routes,
+    /// Its trace so far.
+    pub trace: Kept,
+}
+
+impl Side {
+    /// Pends on the other core what an item of this core is forwarded to there, by one fetch_or. The gate is told of each
+    /// such pend of a core by its number, from 0, before it is made; no clause says so, since a gate's calls leave nothing
+    /// that a clause could name.
+    pub(crate) fn ring<G: Gate>(&mut self, there: &Words, shown: Option<What>, gate: &G)
+        requires words { self.old.bell.words ≡ there.now }
+        requires may { MayRing self.old.routes there.now }
+        requires room { length self.old.bell.calls < 2 ^ 32 - 1 }
+        ensures rings { Rings (option_to_list (rung_of_shown self.old.routes shown)) self.old.bell self.new.bell }
+        ensures rest { IsSameBut self.old self.new }
+    {
+        let Some(What::Post(posted)) = shown else {
+            return;
+        };
+        let Some(irq) = self.routes[usize::from(posted.get())] else {
+            return;
+        };
+        gate.before_pend(self.place.number(), self.rung);
+        self.bell.pend(there, irq);
+        self.rung = self.rung.saturating_add(1);
+    }
+}
