@@ -2,10 +2,11 @@
 -- a core may ring the other's doorbell: it posts an interrupt that it does not take itself, and where the other
 -- application declares an interrupt of that name, it is pended there. That names tie the two is this project's own. The
 -- definitions go over the items of a trace; the code looks each post up in a table of numbers.
-use Rattle.std.specs.Prelude.{ℕ, ◌==◌, ◌&&◌, Bool, if◌then◌else◌, List, filter_map, is_some, Option, None}
+use Rattle.std.specs.Prelude.{ℕ, ◌==◌, ◌&&◌, Bool, if◌then◌else◌, List, filter_map, is_some}
+use Rattle.std.specs.Prelude.{option_and_then, Option, None}
 use Rattle.std.specs.List.{list_any}
 use Rattle.rt_ids.specs.Names.{Names, irq_of}
-use Rattle.rt_ids.specs.Naming.{irq_name}
+use Rattle.rt_ids.specs.Naming.{irq_named}
 use Rattle.rt_code.specs.Image.{Image}
 use Rattle.rt_trace.specs.declared.item.Item.{Item}
 use Rattle.rt_trace.specs.declared.item.What.{What}
@@ -15,9 +16,13 @@ use Rattle.rt_trace.specs.declared.item.What.TheVariants as what
 abbrev pub enables : Image → ℕ → Bool
 enables img irq = list_any (λ row. (row.number == irq) && is_some row.handler) img.irqs
 
+-- the interrupt of another application that has the name of this one
+abbrev pub namesake : Names → Names → ℕ → Option ℕ
+namesake names other irq = option_and_then (λ declared. irq_of other declared.0) (irq_named names irq)
+
 -- the interrupt that a post of this one pends on the other core, whose application has these names
 abbrev pub forward : Image → Names → ℕ → Option ℕ
-forward img other irq = if enables img irq then None else irq_of other (irq_name img.names irq)
+forward img other irq = if enables img irq then None else namesake img.names other irq
 
 -- the one that an item shows, where it is such a post
 abbrev pub forward_of : Image → Names → What → Option ℕ

@@ -1,5 +1,5 @@
 -- What `pair` may write of two images under a script. The form of the text is this project's own.
-use Rattle.std.specs.Prelude.{◌≡◌, ℕ, List, ◌∷◌, ◌++◌, Some, Option, codes, decimal}
+use Rattle.std.specs.Prelude.{◌≡◌, ℕ, List, ◌++◌, Some, Option, codes}
 use Rattle.rt_ids.specs.Event.{Event, steps}
 use Rattle.rt_code.specs.Image.{Image}
 use Rattle.rt_core.specs.Machine.{Machine}
@@ -24,12 +24,10 @@ abbrev pub account : Image → Course → List ℕ
 account img course =
     account_text img.names (account_of (declared_irqs img.names) (calls_in course.history) course.left)
 
--- The text of a core, which has this number: its line, the listing of its image, its trace, and the account of the
--- other core's pends.
-abbrev pub core_text : ℕ → Image → List Event → Course → List ℕ
-core_text number img events course =
-    codes "core " ++ decimal number ++ 10 ∷ listing img ++ codes "trace\n" ++ course_text img events course
-    ++ account img course
+-- The text of a core: its own line, the listing of its image, its trace, and the account of the other core's pends.
+abbrev pub core_text : List ℕ → Image → List Event → Course → List ℕ
+core_text head img events course =
+    head ++ listing img ++ codes "trace\n" ++ course_text img events course ++ account img course
 
 -- The texts of both cores, for courses of which each has the pends that the other core forwards by its trace.
 pub record IsPairText (first second : Image) (script : List Line) (bytes : List ℕ) : Type 0 where
@@ -39,7 +37,9 @@ pub record IsPairText (first second : Image) (script : List Line) (bytes : List 
       (forwarded second first.names (shown second (second_events script) two)) one
   pub is_two : IsCourse (second_events script) 1
       (forwarded first second.names (shown first (first_events script) one)) two
-  pub written : bytes ≡ core_text 1 first (first_events script) one ++ core_text 2 second (second_events script) two
+  pub written : bytes
+      ≡ core_text (codes "core 1\n") first (first_events script) one
+      ++ core_text (codes "core 2\n") second (second_events script) two
 
 -- a beginning of such a text was taken
 pub record TookPart (first second : Image) (script : List Line) (before after : Option (List ℕ)) : Type 0 where

@@ -1,10 +1,12 @@
 ghost use Rattle.std.specs.Prelude.{◌≡◌, ℕ, ◌<◌, None, slice_index_or};
 ghost use Rattle.rt_ids.specs.declared.limits.TheConstants.{IRQ_NUMBERS};
 ghost use Rattle.rt_dual.specs.Forwarded.{enables, forward};
+ghost use Rattle.rt_dual.specs.Inside.Ringing.{rung_of_shown};
 
 use rt_code::Image;
 use rt_ids::limits::IRQ_NUMBERS;
 use rt_ids::{Irq, Names};
+use rt_trace::What;
 
 /// For each interrupt number of a core the one that a post of it pends on the other core.
 pub type Routes = [Option<Irq>; 496];
@@ -41,4 +43,14 @@ pub fn routes_of(image: &Image, other: &Names) -> Routes
         }
     }
     routes
+}
+
+/// The interrupt that a core pends on the other one behind a step that shows this.
+pub(crate) fn rung(routes: &Routes, shown: &Option<What>) -> Option<Irq>
+    ensures { result ≡ rung_of_shown routes.now shown.now }
+{
+    match shown {
+        Some(What::Post(posted)) => routes[usize::from(posted.get())],
+        _ => None,
+    }
 }

@@ -3,7 +3,7 @@ ghost use Rattle.rt_dual.specs.Inside.Ringing.{Rings, MayRing, rung_of_shown, Is
 
 use crate::kept::Kept;
 use crate::place::Place;
-use crate::routes::Routes;
+use crate::routes::{Routes, rung};
 use rt_devices::Gate;
 use rt_trace::What;
 use rt_words::{CoreLine, DeviceLine, Words};
@@ -29,17 +29,14 @@ impl Side {
     /// Pends on the other core what an item of this core is forwarded to there, by one fetch_or. The gate is told of each
     /// such pend of a core by its number, from 0, before it is made; no clause says so, since a gate's calls leave nothing
     /// that a clause could name.
-    pub(crate) fn ring<G: Gate>(&mut self, there: &Words, shown: Option<What>, gate: &G)
+    pub(crate) fn ring<G: Gate>(&mut self, there: &Words, shown: &Option<What>, gate: &G)
         requires words { self.old.bell.words ≡ there.now }
         requires may { MayRing self.old.routes there.now }
         requires room { length self.old.bell.calls < 2 ^ 32 - 1 }
-        ensures rings { Rings (option_to_list (rung_of_shown self.old.routes shown)) self.old.bell self.new.bell }
+        ensures rings { Rings (option_to_list (rung_of_shown self.old.routes shown.now)) self.old.bell self.new.bell }
         ensures rest { IsSameBut self.old self.new }
     {
-        let Some(What::Post(posted)) = shown else {
-            return;
-        };
-        let Some(irq) = self.routes[usize::from(posted.get())] else {
+        let Some(irq) = rung(&self.routes, shown) else {
             return;
         };
         gate.before_pend(self.place.number(), self.rung);

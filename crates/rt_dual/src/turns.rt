@@ -48,7 +48,7 @@ fn step<G: Gate>(
     tell(side.place, core.steps(), gate);
     look(core, &mut side.line, words, &mut side.trace, held)?;
     let shown = show_step(core, &mut side.trace)?;
-    side.ring(there, shown, gate);
+    side.ring(there, &shown, gate);
     Ok(())
 }
 

@@ -1,0 +1,245 @@
+-- Turns of a core of a pair that go on where others ended.
+use Rattle.std.proofs.Common.{◌≡◌, ℕ, suc, ◌+◌, ◌*◌, ◌^◌, ◌<◌, ◌≤◌, List, [], ◌∷◌, ◌++◌, flat_map, length, Option, Some}
+use Rattle.std.proofs.Common.{option_to_list, refl, ap, sym, subst, ◌∙◌, append_assoc, arith}
+use Rattle.std.specs.List.{AllByRecursion}
+use Rattle.std.proofs.lemmas.List.{append-nil, length-append}
+use Rattle.rt_lemmas.proofs.Membership.{all_append}
+use Rattle.rt_ids.specs.Event.{Event, Step, steps}
+use Rattle.rt_core.specs.Machine.{Machine}
+use Rattle.rt_core.specs.Stepping.{step}
+use Rattle.rt_core.specs.Trace.{labels}
+use Rattle.rt_run.specs.Done.{HasDone}
+use Rattle.rt_run.specs.Sending.{Sends, shown_items, lines_of}
+use Rattle.rt_run.proofs.Known.{time_led}
+use Rattle.rt_run.proofs.Sent.{sends_none, sends_on}
+use Rattle.rt_outside.specs.Bytes.{Took}
+use Rattle.rt_trace.specs.Text.{total_text}
+use Rattle.rt_trace.specs.declared.item.What.{What}
+use Rattle.rt_words.specs.Lines.{Row, Core, Line}
+use Rattle.rt_live.specs.Weave.{Turn, Happens, Looks, looks, arrived, arrivals_from, latches, weave}
+use Rattle.rt_live.specs.Going.{IsWholeLook, Goes, IsSameLine}
+use Rattle.rt_live.proofs.Owning.{still_able, same_line, same_line_on}
+use Rattle.rt_live.proofs.Turning.{calls_on}
+use Rattle.rt_live.proofs.Woven.{looks-append, weave_on, steps_woven, ticks_woven, looks_below, all_latches, look_steps, no_steps}
+use Rattle.rt_dual.specs.Inside.Ringing.{Rings, MayRing, IsSameBut, rung_of, rung_of_shown}
+use Rattle.rt_dual.specs.Inside.Running.{CanRun, Runs, Begins, Ends}
+use Rattle.rt_dual.specs.declared.kept.Kept.{Kept}
+use Rattle.rt_dual.specs.declared.side.Side.{Side}
+use Rattle.rt_dual.proofs.Cutting.{all_done, done_behind}
+use Rattle.rt_dual.proofs.Ringing.{rings_none, rings_on, rung_split, silent, step_rings}
+
+-- no turn was done
+pub runs_none : (m : Machine) (s : Side) → Runs [] m m s s
+unfolding labels
+runs_none m s = record {
+  found = [];
+  many = refl;
+  whole = tt;
+  latched = sym (append-nil s.line.calls);
+  sends = sends_none m (Some s.trace.bytes.items);
+  rings = rings_none s.bell;
+  few = omega arith;
+  line = same_line s.line;
+  place = refl;
+  routes = refl;
+}
+
+-- turns, and those behind them
+pub runs_on : (ts us : List Turn) (a b c : Machine) (s t u : Side) → Runs ts a b s t → Runs us b c t u
+    → Runs (ts ++ us) a c s u
+runs_on ts us a b c s t u first second = record {
+  found = first.found ++ second.found;
+  many = omega (
+    arith,
+    length-append first.found second.found,
+    looks-append ts us,
+    first.many,
+    second.many,
+  );
+  whole = all_append IsWholeLook first.found second.found first.whole second.whole;
+  latched =
+      calls_on s.line.calls t.line.calls u.line.calls first.found second.found first.latched second.latched;
+  sends =
+      subst (λ es. Sends es a c (Some s.trace.bytes.items) (Some u.trace.bytes.items)) (sym woven)
+      (sends_on (weave ts first.found) (weave us second.found) a b c (Some s.trace.bytes.items)
+      (Some t.trace.bytes.items) (Some u.trace.bytes.items) first.sends second.sends);
+  rings =
+      subst (λ is. Rings is s.bell u.bell) (sym rung)
+      (rings_on (rung_of s.routes (shown_items a (weave ts first.found)))
+      (rung_of s.routes (shown_items b (weave us second.found))) s.bell t.bell u.bell first.rings
+      (subst (λ rs. Rings (rung_of rs (shown_items b (weave us second.found))) t.bell u.bell) first.routes second.rings));
+  few = omega (arith, first.few, second.few, length-append ts us);
+  line = same_line_on s.line t.line u.line first.line second.line;
+  place = second.place ∙ first.place;
+  routes = second.routes ∙ first.routes;
+}
+  where
+    woven : weave (ts ++ us) (first.found ++ second.found) ≡ weave ts first.found ++ weave us second.found
+    woven = weave_on ts us first.found second.found first.many
+
+    rung : rung_of s.routes (shown_items a (weave (ts ++ us) (first.found ++ second.found)))
+        ≡ rung_of s.routes (shown_items a (weave ts first.found)) ++ rung_of s.routes (shown_items b (weave us second.found))
+    rung =
+        ap (λ es. rung_of s.routes (shown_items a es)) woven
+        ∙ rung_split s.routes (weave ts first.found) (weave us second.found) a b first.sends.leads
+
+-- a look alone
+pub looked : (a b : Machine) (s : Side) (l : Core) (k : Kept)
+    → Goes (Looks ∷ []) s.line.calls l.calls a b (Some s.trace.bytes.items) (Some k.bytes.items)
+    → IsSameLine s.line l → Runs (Looks ∷ []) a b s (record s { line = l; trace = k })
+looked a b s l k run same = record {
+  found = run.found;
+  many = run.many;
+  whole = run.whole;
+  latched = run.latched;
+  sends = run.sends;
+  rings =
+      subst (λ is. Rings is s.bell s.bell)
+      (sym (silent s.routes a.image a.core a.steps (weave (Looks ∷ []) run.found) (look_steps run.found)))
+      (rings_none s.bell);
+  few = omega arith;
+  line = same;
+  place = refl;
+  routes = refl;
+}
+
+-- an event that is no step and comes without a look
+pub happened : (e : Event) (ts : List Turn) → looks ts ≡ 0 → weave ts [] ≡ e ∷ [] → steps (e ∷ []) ≡ 0
+    → (a b : Machine) (s : Side) (k : Kept) → Sends (e ∷ []) a b (Some s.trace.bytes.items) (Some k.bytes.items)
+    → Runs ts a b s (record s { trace = k })
+happened e ts no_look is no_step a b s k sends = record {
+  found = [];
+  many = sym no_look;
+  whole = tt;
+  latched = sym (append-nil s.line.calls);
+  sends = subst (λ es. Sends es a b (Some s.trace.bytes.items) (Some k.bytes.items)) (sym is) sends;
+  rings =
+      subst (λ is. Rings is s.bell s.bell)
+      (sym (ap (λ es. rung_of s.routes (shown_items a es)) is ∙ silent s.routes a.image a.core a.steps (e ∷ []) no_step))
+      (rings_none s.bell);
+  few = omega arith;
+  line = same_line s.line;
+  place = refl;
+  routes = refl;
+}
+
+-- a look, and then a step with what it pends
+module _ (a b : Machine) (s : Side) (l : Core) (k : Kept)
+    (run : Goes (Looks ∷ []) s.line.calls l.calls a b (Some s.trace.bytes.items) (Some k.bytes.items)) where
+  pub stepped : (c : Machine) (m : Kept) → IsSameLine s.line l
+      → Sends (Step ∷ []) b c (Some k.bytes.items) (Some m.bytes.items)
+      → (shown : Option What) → shown ≡ (step b.image b.core).1 → (u : Side)
+      → Rings (option_to_list (rung_of_shown s.routes shown)) s.bell u.bell
+      → length u.bell.calls ≤ length s.bell.calls + 1
+      → IsSameBut (record s { line = l; trace = m }) u → Runs (Happens Step ∷ []) a c s u
+  stepped c m same sends shown is u rings few rest =
+      at run.found run.many run.whole run.latched run.sends
+    where
+      at : (found : List (List ℕ)) → length found ≡ 1 → AllByRecursion IsWholeLook found
+          → l.calls ≡ s.line.calls ++ flat_map latches found
+          → Sends (weave (Looks ∷ []) found) a b (Some s.trace.bytes.items) (Some k.bytes.items)
+          → Runs (Happens Step ∷ []) a c s u
+      at [] many whole latched came = absurd (omega (arith, many))
+      at (ws ∷ []) many whole latched came = record {
+        found = ws ∷ [];
+        many = refl;
+        whole = whole;
+        latched = ap (λ (x : Core). x.calls) rest.line ∙ latched;
+        sends =
+            subst (λ (x : Kept). Sends (arrived ws ++ Step ∷ []) a c (Some s.trace.bytes.items) (Some x.bytes.items))
+            (sym rest.trace)
+            (sends_on (arrived ws) (Step ∷ []) a b c (Some s.trace.bytes.items) (Some k.bytes.items)
+            (Some m.bytes.items) alone sends);
+        rings = subst (λ is. Rings is s.bell u.bell) (sym rung) rings;
+        few = few;
+        line = subst (λ (x : Core). IsSameLine s.line x) (sym rest.line) same;
+        place = rest.place;
+        routes = rest.routes;
+      }
+        where
+          alone : Sends (arrived ws) a b (Some s.trace.bytes.items) (Some k.bytes.items)
+          alone =
+              subst (λ es. Sends es a b (Some s.trace.bytes.items) (Some k.bytes.items)) (append-nil (arrived ws)) came
+
+          rung : rung_of s.routes (shown_items a (arrived ws ++ Step ∷ []))
+              ≡ option_to_list (rung_of_shown s.routes shown)
+          rung =
+              rung_split s.routes (arrived ws) (Step ∷ []) a b alone.leads
+              ∙ ap (λ is. is ++ rung_of s.routes (shown_items b (Step ∷ [])))
+              (silent s.routes a.image a.core a.steps (arrived ws) (no_steps (arrivals_from 0 ws)))
+              ∙ step_rings s.routes b shown is
+      at (ws ∷ vs ∷ found) many whole latched came = absurd (omega (arith, many))
+
+  -- or the step was not shown
+  pub step_begun : (c : Machine) → HasDone (Step ∷ []) b c → Begins (Happens Step ∷ []) a c
+  step_begun c done = at run.found run.many run.sends
+    where
+      at : (found : List (List ℕ)) → length found ≡ 1
+          → Sends (weave (Looks ∷ []) found) a b (Some s.trace.bytes.items) (Some k.bytes.items)
+          → Begins (Happens Step ∷ []) a c
+      at [] many came = absurd (omega (arith, many))
+      at (ws ∷ []) many came = record {
+        found = ws ∷ [];
+        few = omega arith;
+        done =
+            done_behind (arrived ws) (Step ∷ []) a b c
+            (let alone : Sends (arrived ws) a b (Some s.trace.bytes.items) (Some k.bytes.items) =
+            subst (λ es. Sends es a b (Some s.trace.bytes.items) (Some k.bytes.items)) (append-nil (arrived ws)) came in
+            alone.leads) done;
+      }
+      at (ws ∷ vs ∷ found) many came = absurd (omega (arith, many))
+
+-- what turns leave to be done
+pub can_on : (ts : List Turn) (n k : ℕ) (a b : Machine) (s t : Side) (words there : Row) → Runs ts a b s t
+    → length ts + n ≤ k → CanRun k a s words there → CanRun n b t words there
+can_on ts n k a b s t words there run fits can = record {
+  able = still_able (weave ts run.found) a b s.line t.line words run.sends.leads run.line can.able;
+  bell = ap (λ (l : Line). l.words) run.rings.line ∙ can.bell;
+  may = subst (λ rs. MayRing rs there) (sym run.routes) can.may;
+  few = omega (arith, run.sends.leads.steps, steps_woven ts run.found, fits, can.few);
+  early = omega (arith, time_led (weave ts run.found) a b run.sends.leads, ticks_woven ts run.found, fits, can.early);
+  room =
+      omega (
+        arith,
+        ap length run.latched,
+        length-append s.line.calls (flat_map latches run.found),
+        all_latches run.found run.whole,
+        run.many,
+        looks_below ts,
+        fits,
+        can.room,
+      );
+  ring_room = omega (arith, run.few, fits, can.ring_room);
+}
+
+-- fewer turns can be done too
+pub can_fewer : (n k : ℕ) (m : Machine) (s : Side) (words there : Row) → n ≤ k → CanRun k m s words there
+    → CanRun n m s words there
+can_fewer n k m s words there fits can = can_on [] n k m m s s words there (runs_none m s) (omega (arith, fits)) can
+
+-- turns that were done have begun
+pub all_begun : (ts : List Turn) (a b : Machine) (s t : Side) → Runs ts a b s t → Begins ts a b
+all_begun ts a b s t run = record {
+  found = run.found;
+  few = omega (arith, run.many);
+  done = all_done (weave ts run.found) a b run.sends.leads;
+}
+
+-- behind all turns the line of the total was kept
+pub ended : (ts : List Turn) (a b : Machine) (s t : Side) (k : Kept) (held : List ℕ) (total : ℕ) → Runs ts a b s t
+    → held ≡ [] → total ≡ b.steps → Took (Some t.trace.bytes.items) (Some k.bytes.items) (held ++ total_text total)
+    → Ends ts a b s (record t { trace = k })
+ended ts a b s t k held total run empty counted took = record {
+  found = run.found;
+  many = run.many;
+  whole = run.whole;
+  latched = run.latched;
+  leads = run.sends.leads;
+  kept =
+      took ∙ ap (λ h. t.trace.bytes.items ++ (h ++ total_text total)) empty
+      ∙ ap (λ n. t.trace.bytes.items ++ total_text n) counted
+      ∙ ap (λ x. x ++ total_text b.steps) run.sends.took
+      ∙ append_assoc s.trace.bytes.items (lines_of a (weave ts run.found)) (total_text b.steps);
+  rings = run.rings;
+  line = run.line;
+}
