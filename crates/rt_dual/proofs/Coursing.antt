@@ -20,11 +20,12 @@ use Rattle.rt_trace.specs.declared.item.Item.{Item}
 use Rattle.rt_trace.specs.declared.item.What.{What}
 use Rattle.rt_trace.specs.declared.item.What.TheVariants as what
 use Rattle.rt_words.specs.Ending.{calls_in}
-use Rattle.rt_words.specs.Lines.{Core as CoreLine, Line as BellLine}
+use Rattle.rt_words.specs.History.{part}
+use Rattle.rt_words.specs.Lines.{Row, Core as CoreLine, Line as BellLine}
 use Rattle.rt_live.specs.Account.{account_of, account_text, declared_irqs}
 use Rattle.rt_live.specs.Inside.Working.{empty_row}
 use Rattle.rt_live.specs.Ready.{irqs_of}
-use Rattle.rt_live.specs.Weave.{weave}
+use Rattle.rt_live.specs.Weave.{latches, weave}
 use Rattle.rt_live.specs.declared.account.AccountRow.{AccountRow}
 use Rattle.rt_dual.specs.Course.{Course, IsCourse, turns, woven, shown, first_events, second_events}
 use Rattle.rt_dual.specs.Forwarded.{forward, forward_of, forwarded}
@@ -88,26 +89,103 @@ module _ (m : Machine) (fresh : IsFresh m) (es : List Event) where
       ∙ ap (λ (is : List Item). flat_map (text m.image.names) is ++ total_text (steps es)) fresh_items
       ∙ ap (λ t. flat_map (text m.image.names) (trace m.image es) ++ t) (sym (append-nil (total_text (steps es))))
 
+-- what the line of the other core's words pended, when this core has ended
+module _ (other : Image) (es : List Event) (m n : Machine) (fresh : IsFresh m) (side side' : Side) (words : Row) (k : ℕ)
+    (silent : side.bell ≡ record { words = words; number = k; calls = [] })
+    (are : AreRoutes m.image other.names side.routes) (run : Ends (turns es) m n side side') where
+  pub known : side'.bell.number ≡ k
+  known = ap (λ (l : BellLine). l.number) run.rings.line ∙ ap (λ (l : BellLine). l.number) silent
+
+  pub rang : map asked_by side'.bell.calls
+      ≡ map (λ irq. Some irq) (forwarded m.image other.names (trace m.image (weave (turns es) run.found)))
+  rang =
+      ap (λ (l : BellLine). map asked_by l.calls) run.rings.line
+      ∙ ap (λ (l : BellLine). map asked_by (l.calls ++ run.rings.calls)) silent
+      ∙ run.rings.asked
+      ∙ ap (map (λ irq. Some irq))
+      (all_forwarded m.image other.names side.routes are (shown_items m (weave (turns es) run.found))
+      ∙ ap (forwarded m.image other.names) (fresh_items m fresh (weave (turns es) run.found)))
+
 -- one of the cores, with its side before and behind its run; the other core's side is the far one
 module _ (place : Place) (other : Image) (es : List Event) (m n : Machine) (half half' : Half) (side side' far far' : Side)
     (fresh : IsFresh m) (before : IsBefore place m.image other half side far) (same : half' ≡ half)
-    (run : Ends (turns es) m n side side') (pends : List ℕ)
-    (rang : map asked_by far'.bell.calls ≡ map (λ irq. Some irq) pends)
-    (known : far'.bell.number ≡ number_of (other_of place)) (rows : List AccountRow)
+    (run : Ends (turns es) m n side side') (rows : List AccountRow)
     (closed : Settles side'.line.calls far'.bell (irqs_of half'.rows.items) rows) where
-  abbrev pub course : Course
+  abbrev course : Course
   course = record { found = run.found; history = closed.history; left = closed.left }
 
-  pub is_course : IsCourse es (number_of (other_of place)) pends course
-  is_course = record {
+  pub is_course : (pends : List ℕ) → map asked_by far'.bell.calls ≡ map (λ irq. Some irq) pends
+      → far'.bell.number ≡ number_of (other_of place) → IsCourse es (number_of (other_of place)) pends course
+  is_course pends rings number_is = record {
     many = run.many;
     whole = run.whole;
     legal = closed.legal;
     own =
         closed.core ∙ run.latched
-        ∙ ap (λ (l : CoreLine). l.calls ++ flat_map latches_of run.found) before.made.unused;
+        ∙ ap (λ (l : CoreLine). l.calls ++ flat_map latches run.found) before.made.unused;
     pended =
-        subst (λ k. map asked_by (part_of k) ≡ map (λ irq. Some irq) pends) known
-        (ap (map asked_by) closed.other ∙ rang);
-    others = λ number ne other_ne. closed.others number ne (λ e. other_ne (e ∙ known));
+        ap (λ k. map asked_by (part closed.history k)) (sym number_is) ∙ ap (map asked_by) closed.other ∙ rings;
+    others = λ number ne other_ne. closed.others number ne (λ e. other_ne (e ∙ number_is));
   }
+
+  -- and its text
+  pub core_written : half'.front.items ++ (side'.trace.bytes.items ++ account_text m.image.names rows)
+      ≡ core_text (line_of place) m.image es course
+  core_written =
+      let head : List ℕ = front place m.image in
+      let told : List ℕ = course_text m.image es course in
+      ap (λ f. f ++ (side'.trace.bytes.items ++ account_text m.image.names rows))
+      (ap (λ (h : Half). h.front.items) same ∙ before.front)
+      ∙ ap (λ t. head ++ (t ++ account_text m.image.names rows))
+      (run.kept ∙ ap (λ x. x ++ (lines_of m (weave (turns es) run.found) ++ total_text n.steps)) before.kept
+      ∙ fresh_text m fresh (weave (turns es) run.found) n run.leads)
+      ∙ ap (λ rs. head ++ (told ++ account_text m.image.names rs))
+      (closed.account
+      ∙ ap (λ irqs. account_of irqs (calls_in closed.history) closed.left)
+      (ap (λ (h : Half). irqs_of h.rows.items) same ∙ ap irqs_of before.made.empty
+      ∙ irqs_empty (declared_irqs m.image.names)))
+      ∙ sym (append_assoc head told (account m.image course))
+
+-- both of them
+pub pair_text : (script : List Line) (a a' b b' : Machine) (old new : Both) (bytes : List ℕ) → IsFresh a → IsFresh b
+    → AreBefore a.image b.image old → HaveEnded script a a' b b' old new → IsWritten a.image b.image new bytes
+    → IsPairText a.image b.image script bytes
+pair_text script a a' b b' old new bytes fresh_a fresh_b before ended written =
+    let one : Course = record {
+      found = ended.left.found;
+      history = written.one_settled.history;
+      left = written.one_settled.left;
+    } in
+    let two : Course = record {
+      found = ended.right.found;
+      history = written.two_settled.history;
+      left = written.two_settled.left;
+    } in
+    record {
+  one = one;
+  two = two;
+  is_one =
+      is_course First b.image (first_events script) a a' old.one new.one old.left new.left old.right new.right fresh_a
+      before.one ended.one ended.left written.one written.one_settled
+      (forwarded b.image a.image.names (shown b.image (second_events script) two))
+      (rang a.image (second_events script) b b' fresh_b old.right new.right old.one.words 2 before.one.made.silent
+      before.two.routes ended.right)
+      (known a.image (second_events script) b b' fresh_b old.right new.right old.one.words 2 before.one.made.silent
+      before.two.routes ended.right);
+  is_two =
+      is_course Second a.image (second_events script) b b' old.two new.two old.right new.right old.left new.left fresh_b
+      before.two ended.two ended.right written.two written.two_settled
+      (forwarded a.image b.image.names (shown a.image (first_events script) one))
+      (rang b.image (first_events script) a a' fresh_a old.left new.left old.two.words 1 before.two.made.silent
+      before.one.routes ended.left)
+      (known b.image (first_events script) a a' fresh_a old.left new.left old.two.words 1 before.two.made.silent
+      before.one.routes ended.left);
+  written =
+      written.written
+      ∙ ap (λ t. t ++ (new.two.front.items ++ (new.right.trace.bytes.items ++ account_text b.image.names written.two)))
+      (core_written First b.image (first_events script) a a' old.one new.one old.left new.left old.right new.right fresh_a
+      before.one ended.one ended.left written.one written.one_settled)
+      ∙ ap (λ t. core_text (codes "core 1\n") a.image (first_events script) one ++ t)
+      (core_written Second a.image (second_events script) b b' old.two new.two old.right new.right old.left new.left
+      fresh_b before.two ended.two ended.right written.two written.two_settled);
+}

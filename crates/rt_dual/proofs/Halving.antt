@@ -1,5 +1,5 @@
 -- What is made for a core before it runs, and what its words tell when they are closed.
-use Rattle.std.proofs.Common.{◌≡◌, ◌≢◌, ℕ, ◌+◌, ◌^◌, ◌<◌, ◌≤◌, List, [], ◌∷◌, ◌++◌, map, get_or, Contains, inl, inr}
+use Rattle.std.proofs.Common.{◌≡◌, ◌≢◌, ℕ, ◌+◌, ◌^◌, ◌<◌, ◌≤◌, List, [], ◌∷◌, ◌++◌, map, length, get_or, Contains}
 use Rattle.std.proofs.Common.{⊎_elim, refl, sym, ap, subst, ◌∙◌, arith}
 use Rattle.std.specs.Prelude.{◌↔◌}
 use Rattle.std.specs.List.{AllByRecursion}
@@ -58,7 +58,7 @@ is_made names other words bits line own bell rows table many same may in_range u
 module _ (own then : Core) (bell : Line) (made : own.made ≡ bell.number ∷ []) (gathered : own.gathered ≡ [])
     (is : then ≡ record own {
       gathered = record { line = bell.number; calls = bell.calls } ∷ own.gathered;
-      since = then.since;
+      since = length own.calls;
     }) where
   abbrev bell_part : Part
   bell_part = record { line = bell.number; calls = bell.calls }

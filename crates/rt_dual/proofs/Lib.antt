@@ -3,3 +3,6 @@ pub mod Cutting
 pub mod Running
 pub mod Owning
 pub mod Routing
+pub mod Halving
+pub mod Coursing
+pub mod Beforehand

@@ -241,5 +241,6 @@ ended ts a b s t k held total run empty counted took = record {
       ∙ ap (λ x. x ++ total_text b.steps) run.sends.took
       ∙ append_assoc s.trace.bytes.items (lines_of a (weave ts run.found)) (total_text b.steps);
   rings = run.rings;
+  few = run.few;
   line = run.line;
 }

@@ -1,4 +1,4 @@
-ghost use Rattle.std.specs.Prelude.{◌≡◌, ℕ, ◌<◌, None, slice_index_or};
+ghost use Rattle.std.specs.Prelude.{◌≡◌, ℕ, ◌<◌, ◌≤◌, None, slice_index_or};
 ghost use Rattle.rt_ids.specs.declared.limits.TheConstants.{IRQ_NUMBERS};
 ghost use Rattle.rt_dual.specs.Forwarded.{enables, forward};
 ghost use Rattle.rt_dual.specs.Inside.Ringing.{rung_of_shown};
@@ -34,7 +34,8 @@ fn route(image: &Image, other: &Names, irq: Irq) -> Option<Irq>
 
 /// Where the posts of a core with this image go on the other core, whose names are given.
 pub fn routes_of(image: &Image, other: &Names) -> Routes
-    ensures { (irq : ℕ) → irq < IRQ_NUMBERS → slice_index_or result irq None ≡ forward image.now other.now irq }
+    ensures there { (irq : ℕ) → irq < IRQ_NUMBERS → slice_index_or result irq None ≡ forward image.now other.now irq }
+    ensures above { (irq : ℕ) → IRQ_NUMBERS ≤ irq → slice_index_or result irq None ≡ None }
 {
     let mut routes = [None; 496];
     for number in 0..IRQ_NUMBERS {

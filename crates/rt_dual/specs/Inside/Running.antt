@@ -46,6 +46,7 @@ pub record Ends (ts : List Turn) (a b : Machine) (old new : Side) : Type 0 where
   pub kept : new.trace.bytes.items
       ≡ old.trace.bytes.items ++ (lines_of a (weave ts found) ++ total_text b.steps)
   pub rings : Rings (rung_of old.routes (shown_items a (weave ts found))) old.bell new.bell
+  pub few : length new.bell.calls ≤ length old.bell.calls + length ts
   pub line : IsSameLine old.line new.line
 
 -- the core did the first of the events of these turns, for words that looks may find
