@@ -189,3 +189,11 @@ pair_text script a a' b b' old new bytes fresh_a fresh_b before ended written =
       (core_written Second a.image (second_events script) b b' old.two new.two old.right new.right old.left new.left
       fresh_b before.two ended.two ended.right written.two written.two_settled);
 }
+
+-- the text of a core, part by part
+pub same_text : (f f' t t' : List ℕ) (n n' : Names) (rows : List AccountRow) → f ≡ f' → t ≡ t' → n ≡ n'
+    → f ++ (t ++ account_text n rows) ≡ f' ++ (t' ++ account_text n' rows)
+same_text f f' t t' n n' rows front_is trace_is names_are =
+    ap (λ x. x ++ (t ++ account_text n rows)) front_is
+    ∙ ap (λ x. f' ++ (x ++ account_text n rows)) trace_is
+    ∙ ap (λ (m : Names). f' ++ (t' ++ account_text m rows)) names_are

@@ -1,10 +1,98 @@
+use Rattle.std.proofs.Common.{◌≡◌, ◌++◌, ℕ, List, refl, ap, subst}
+use Rattle.std.proofs.lemmas.Result.{on_ok_weaker, on_err_weaker}
+use Rattle.rt_lemmas.proofs.Results.{on_err_from}
+use Rattle.rt_code.specs.Image.{Image}
+use Rattle.rt_outside.specs.Bytes.{Took, TookPrefix}
+use Rattle.rt_run.proofs.Taking.{took_on, part_on, part_more}
+use Rattle.rt_live.specs.Account.{account_text}
+use Rattle.rt_live.specs.declared.account.AccountRow.{AccountRow}
+use Rattle.rt_dual.proofs.Coursing.{same_text}
 use Rattle.rt_dual.proofs.pairing.put_both.Goals as goal
 
+pub returns-in_err-put_core-clause-err : goal.returns-in_err-put_core-clause-err
+returns-in_err-put_core-clause-err g c =
+    let both = c.args.both in
+    let x = g.K.Sink.taken c.args.out.now in
+    let y = g.K.Sink.taken c.put_core.new.out in
+    let one : List AccountRow = c.account_of-account_one.result.rows.items in
+    let two : List AccountRow = c.account_of-account_two.result.rows.items in
+    let text_one : List ℕ =
+    both.one.front.items ++ (both.left.trace.bytes.items ++ account_text c.args.first.now.names one) in
+    let text_two : List ℕ =
+    both.two.front.items ++ (both.right.trace.bytes.items ++ account_text c.args.second.now.names two) in
+    let same_one = same_text c.deref.result.now both.one.front.items c.deref-2.result.now both.left.trace.bytes.items
+    c.first.inside.names c.args.first.now.names one c.deref.ensures.value c.deref-2.ensures.value
+    (ap (λ (i : Image). i.names) c.first.view_is) in
+    on_err_from c.from_residual.result (
+      text_one ++ text_two,
+      record {
+        one = one;
+        two = two;
+        one_settled = c.account_of-account_one.ensures;
+        two_settled = c.account_of-account_two.ensures;
+        written = refl;
+      },
+      part_more x y text_one text_two (subst (TookPrefix x y) same_one c.in_err-put_core.ensures.err),
+    )
+
 pub returns-clause-ok : goal.returns-clause-ok
-returns-clause-ok g c = ?
+returns-clause-ok g c =
+    let both = c.args.both in
+    let x = g.K.Sink.taken c.args.out.now in
+    let y = g.K.Sink.taken c.put_core.new.out in
+    let z = g.K.Sink.taken c.put_core-2.new.out in
+    let one : List AccountRow = c.account_of-account_one.result.rows.items in
+    let two : List AccountRow = c.account_of-account_two.result.rows.items in
+    let text_one : List ℕ =
+    both.one.front.items ++ (both.left.trace.bytes.items ++ account_text c.args.first.now.names one) in
+    let text_two : List ℕ =
+    both.two.front.items ++ (both.right.trace.bytes.items ++ account_text c.args.second.now.names two) in
+    let same_one = same_text c.deref.result.now both.one.front.items c.deref-2.result.now both.left.trace.bytes.items
+    c.first.inside.names c.args.first.now.names one c.deref.ensures.value c.deref-2.ensures.value
+    (ap (λ (i : Image). i.names) c.first.view_is) in
+    let same_two = same_text c.deref-3.result.now both.two.front.items c.deref-4.result.now both.right.trace.bytes.items
+    c.second.inside.names c.args.second.now.names two c.deref-3.ensures.value c.deref-4.ensures.value
+    (ap (λ (i : Image). i.names) c.second.view_is) in
+    on_ok_weaker c.put_core-2.result (λ took. (
+      text_one ++ text_two,
+      record {
+        one = one;
+        two = two;
+        one_settled = c.account_of-account_one.ensures;
+        two_settled = c.account_of-account_two.ensures;
+        written = refl;
+      },
+      took_on x y z text_one text_two (subst (Took x y) same_one c.in_ok-put_core.ensures.ok)
+          (subst (Took y z) same_two took),
+    )) c.put_core-2.ensures.ok
 
 pub returns-clause-err : goal.returns-clause-err
-returns-clause-err g c = ?
-
-pub returns-in_err-put_core-clause-err : goal.returns-in_err-put_core-clause-err
-returns-in_err-put_core-clause-err g c = ?
+returns-clause-err g c =
+    let both = c.args.both in
+    let x = g.K.Sink.taken c.args.out.now in
+    let y = g.K.Sink.taken c.put_core.new.out in
+    let z = g.K.Sink.taken c.put_core-2.new.out in
+    let one : List AccountRow = c.account_of-account_one.result.rows.items in
+    let two : List AccountRow = c.account_of-account_two.result.rows.items in
+    let text_one : List ℕ =
+    both.one.front.items ++ (both.left.trace.bytes.items ++ account_text c.args.first.now.names one) in
+    let text_two : List ℕ =
+    both.two.front.items ++ (both.right.trace.bytes.items ++ account_text c.args.second.now.names two) in
+    let same_one = same_text c.deref.result.now both.one.front.items c.deref-2.result.now both.left.trace.bytes.items
+    c.first.inside.names c.args.first.now.names one c.deref.ensures.value c.deref-2.ensures.value
+    (ap (λ (i : Image). i.names) c.first.view_is) in
+    let same_two = same_text c.deref-3.result.now both.two.front.items c.deref-4.result.now both.right.trace.bytes.items
+    c.second.inside.names c.args.second.now.names two c.deref-3.ensures.value c.deref-4.ensures.value
+    (ap (λ (i : Image). i.names) c.second.view_is) in
+    on_err_weaker c.put_core-2.result (λ part. (
+      text_one ++ text_two,
+      record {
+        one = one;
+        two = two;
+        one_settled = c.account_of-account_one.ensures;
+        two_settled = c.account_of-account_two.ensures;
+        written = refl;
+      },
+      part_on x y z text_one text_two (subst (Took x y) same_one c.in_ok-put_core.ensures.ok)
+          (subst (TookPrefix y z) same_two part),
+    )) c.put_core-2.ensures.err
