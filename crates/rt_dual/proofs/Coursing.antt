@@ -1,7 +1,9 @@
 -- What is written of two cores that have ended is a text that the definitions allow.
 use Rattle.std.proofs.Common.{◌≡◌, ◌≢◌, ℕ, ◌+◌, ◌<◌, List, [], ◌∷◌, ◌++◌, map, filter_map, flat_map, codes, length}
 use Rattle.std.proofs.Common.{slice_index_or, Option, Some, None, option_to_list, refl, sym, ap, subst, ◌∙◌, append_assoc, arith}
-use Rattle.std.specs.List.{AllByRecursion, cons_option}
+use Rattle.std.proofs.Common.{Result, Ok, Err, OnOk, is_err, false}
+use Rattle.std.proofs.lemmas.Bool.{false≢true}
+use Rattle.std.specs.List.{cons_option}
 use Rattle.std.proofs.lemmas.List.{append-nil}
 use Rattle.rt_ids.specs.Event.{Event, steps}
 use Rattle.rt_ids.specs.Names.{Names}
@@ -197,3 +199,8 @@ same_text f f' t t' n n' rows front_is trace_is names_are =
     ap (λ x. x ++ (t ++ account_text n rows)) front_is
     ∙ ap (λ x. f' ++ (x ++ account_text n rows)) trace_is
     ∙ ap (λ (m : Names). f' ++ (t' ++ account_text m rows)) names_are
+
+-- what is so where a result is no error
+pub where_ok : {T E : Type 0} (r : Result T E) (P : Type 0) → is_err r ≡ false → OnOk r P → P
+where_ok (Ok x) P fine h = h
+where_ok (Err e) P fine h = absurd (false≢true (sym fine))

@@ -7,7 +7,7 @@ use Rattle.rt_ids.specs.Event.{Event, Arrive, Tick, Step}
 use Rattle.rt_core.specs.Machine.{Machine}
 use Rattle.rt_run.specs.Done.{Leads, HasDone}
 use Rattle.rt_run.specs.Sending.{Breaks}
-use Rattle.rt_run.proofs.Advancing.{leads_on}
+use Rattle.rt_run.proofs.Advancing.{leads_on, stands_still}
 use Rattle.rt_words.specs.declared.call.Call.{Call}
 use Rattle.rt_live.specs.Weave.{Turn, Happens, Looks, looks, arrived, weave}
 use Rattle.rt_live.specs.Going.{Stops}
@@ -122,3 +122,7 @@ begins_behind ts us found a b c many run begun = record {
       subst (λ es. HasDone es a c) (sym (weave_on ts us found begun.found many))
       (done_behind (weave ts found) (weave us begun.found) a b c run begun.done);
 }
+
+-- nothing was done
+pub none_begun : (ts : List Turn) (m : Machine) → (found : List (List ℕ)) × HasDone (weave ts found) m m
+none_begun ts m = ([], record { done = []; rest = weave ts []; parts = refl; leads = stands_still m })
