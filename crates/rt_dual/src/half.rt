@@ -37,6 +37,7 @@ pub struct Lines {
 }
 
 /// What is written in front of the trace of a core: its line, the listing of its image and the trace's own line.
+#[inline(never)]
 fn front_of(alloc: Global, place: Place, image: &Image) -> Result<Vec<u8>, NoMemory>
     ensures { IfOk result (λ text. text.items ≡ front place image.now) }
 {
@@ -49,6 +50,7 @@ fn front_of(alloc: Global, place: Place, image: &Image) -> Result<Vec<u8>, NoMem
 }
 
 /// The words of a core with these names, and the two lines that call them.
+#[inline(never)]
 fn words_of(alloc: Global, place: Place, names: &Names) -> Result<(Words, Lines, Vec<AccountRow>), NoMemory>
     ensures { IfOk result (λ r.
         IsMade names.now (number_of (other_of place)) r.0 r.1.own r.1.bell r.2.items) }
@@ -60,6 +62,7 @@ fn words_of(alloc: Global, place: Place, names: &Names) -> Result<(Words, Lines,
 }
 
 /// What belongs to a core, and the lines that call its words.
+#[inline(never)]
 pub(crate) fn half_of(alloc: Global, place: Place, image: &Image) -> Result<(Half, Lines), NoMemory>
     ensures made { IfOk result (λ r. IsMade image.now.names (number_of (other_of place)) r.0.words r.1.own r.1.bell
         r.0.rows.items) }
@@ -71,6 +74,7 @@ pub(crate) fn half_of(alloc: Global, place: Place, image: &Image) -> Result<(Hal
 }
 
 /// Closes the words of a core when both cores have ended: the account of the calls of both lines.
+#[inline(never)]
 pub(crate) fn account_of(
     words: Words,
     mut own: CoreLine,

@@ -37,6 +37,7 @@ use std::thread::{Threads, join_mut};
 /// last event. When both have ended, the text of each is written: its line, the listing of its image, its trace with the
 /// total of core steps, and the account of the other core's pends. The traces are kept in memory until then, so nothing
 /// has been written where memory is not there.
+#[inline(never)]
 pub fn pair<R: Threads + Sync, K: Sink, G: Gate + Sync>(
     rt: &R,
     alloc: Global,
@@ -90,6 +91,7 @@ pub struct Both {
 }
 
 /// Makes what the cores of two images want of memory before they run.
+#[inline(never)]
 fn both_of(alloc: Global, first: &Image, second: &Image) -> Result<Both, NoMemory>
     ensures { IfOk result (AreBefore first.now second.now) }
 {
@@ -120,6 +122,7 @@ fn both_of(alloc: Global, first: &Image, second: &Image) -> Result<Both, NoMemor
 }
 
 /// Each core runs on its side while the other does, and both have ended when it answers.
+#[inline(never)]
 fn beside<R: Threads + Sync, G: Gate + Sync>(
     rt: &R,
     first: &mut Core,
@@ -164,6 +167,7 @@ fn beside<R: Threads + Sync, G: Gate + Sync>(
 }
 
 /// Both cores run to their ends.
+#[inline(never)]
 fn run_both<R: Threads + Sync, G: Gate + Sync>(
     rt: &R,
     first: &mut Core,
@@ -201,6 +205,7 @@ fn run_both<R: Threads + Sync, G: Gate + Sync>(
 }
 
 /// Closes the words of both cores, and writes their texts. It takes no memory.
+#[inline(never)]
 fn put_both<K: Sink>(
     both: Both,
     first: &Image,

@@ -165,6 +165,7 @@ fn last_look(
 
 /// The whole run of a core: the events of the script that are its own, a look behind the last of them, and the line of
 /// the total.
+#[inline(never)]
 pub(crate) fn run_side<G: Gate>(
     core: &mut Core,
     side: &mut Side,

@@ -9,6 +9,7 @@ use rt_live::account::{Account, put_account};
 use rt_outside::{Failed, Sink, put_all};
 
 /// Writes what stands in front of a trace, the trace, and the account behind it. It takes no memory.
+#[inline(never)]
 pub(crate) fn put_core<K: Sink>(
     out: &mut K,
     front: &[u8],
