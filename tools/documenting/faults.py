@@ -10,7 +10,7 @@ from documenting.page import QUOTED, Page
 SUFFIXES = "antt|rt|rtic|script|trace|limits|txt|md|py|rs|rows|png|edit|js|html"
 PATH = re.compile(rf"\.?/?[\w.*-]+(?:/[\w.*-]+)*\.(?:{SUFFIXES})|(?:[\w.*-]+/)+[\w.*-]*")
 NUMBERED = re.compile(r"`([\w.]+)`(,? \(?`?)([\w/]+\.(?:antt|rt)):(\d+)")
-PLACED = re.compile(r"`([A-Za-z_]\w*)`,? \(`((?:[\w.-]+/)*[\w]+\.(?:antt|rt))`")
+PLACED = re.compile(r"`([A-Za-z_]\w*)`(?:,| in)? \(?`((?:[\w.-]+/)*[\w]+\.(?:antt|rt))`")
 CRATE = re.compile(r"`(?:crates/)?(rt_\w+|rtic|\w+_cases|\w+_tests)\b")
 MADE = {"out/", "crates/rtic/out/rtic", "run.html", "run.json", "run.vcd", "three.rtic", "three.script"}
 ELSEWHERE = {"reschedule_at", "unsafe", "runtimepath", "IK"}
@@ -104,7 +104,8 @@ def names_amiss(page):
         for quoted in QUOTED.findall(part):
             if re.fullmatch(r"[A-Za-z_]\w+(?:(?:::|\.)[A-Za-z_]\w*)*", quoted):
                 gone = set(re.split(r"::|\.", quoted)) - tree.words() - ELSEWHERE
-                if gone and "NAME" not in quoted and not tree.matching(quoted):
+                is_commit = re.fullmatch(r"[0-9a-f]{7}", quoted)
+                if gone and not is_commit and "NAME" not in quoted and not tree.matching(quoted):
                     yield number, f"no source has `{quoted}`"
         for name, path in PLACED.findall(part):
             if tree.matching(path) and not CRATE.match(f"`{name}") and not place(path, name, contexts):

@@ -8,7 +8,7 @@ import re
 ROOT = pathlib.Path(__file__).resolve().parents[2]
 LEFT_OUT = {".git", "out", "__pycache__"}
 BEFORE_A_NAME = (
-    r"(?:pub|abbrev|opaque|record|ruleset|data|let|mod|module|fn|const|struct|enum|trait|type|def|class|macro_rules!)"
+    r"(?:pub|pub\(crate\)|abbrev|opaque|record|ruleset|data|let|mod|module|fn|const|struct|enum|trait|type|def|class|macro_rules!)"
 )
 WORD = re.compile(r"[A-Za-z_]\w*")
 

@@ -1,0 +1,91 @@
+"""Runs the commands that a document shows, and compares what they write with what stands below each."""
+import os
+import pathlib
+import re
+import shutil
+import subprocess
+import tempfile
+
+from documenting.page import Page
+from documenting.tree import ROOT
+
+LONG = ("./build", "rt ", ".ci/run", "bench/")
+STATUS = re.compile(r"\s+# status (\d+)$")
+SECONDS = 60
+
+
+class Shown:
+    """A command of a document: its line, its words, its status, and the lines below it, in which `..` is any lines."""
+
+    def __init__(self, number, line):
+        self.number, self.lines = number, []
+        status = STATUS.search(line)
+        self.status = int(status[1]) if status else 0
+        self.command = re.sub(r"\s{2,}# .*", "", STATUS.sub("", line))
+
+    def is_long(self):
+        """Whether it is one of those that are not run here, because they take minutes."""
+        return self.command.startswith(LONG)
+
+    def matches(self, text):
+        """Whether a text is the lines below."""
+        parts = [re.escape(part) for part in re.split(r"^\.\.\n", "".join(f"{line}\n" for line in self.lines), flags=re.M)]
+        return not self.lines or re.fullmatch("(?:.*\n)*".join(parts), text) is not None
+
+
+def commands(page):
+    """The commands of a document by blocks: lines that begin with `$ `, each with the lines below it."""
+    blocks, last = [[]], 0
+    for number, line in enumerate(page.lines, 1):
+        if not page.shown[number - 1] or not line.startswith("    "):
+            if line.strip():
+                blocks.append([])
+            continue
+        if line.startswith("    $ "):
+            blocks[-1].append(Shown(number, line[6:]))
+        elif blocks[-1]:
+            blocks[-1][-1].lines += [""] * (number - last - 1) + [line[4:]]
+        last = number
+    return [block for block in blocks if block]
+
+
+def folder_of(program):
+    """A folder in which the words of a reader at the root of a clone mean the same, with this program."""
+    folder = tempfile.mkdtemp(prefix="rtic-shown-")
+    for path in ROOT.iterdir():
+        if path.name not in ("rtic", ".git"):
+            os.symlink(path, os.path.join(folder, path.name))
+    os.symlink(program, os.path.join(folder, "rtic"))
+    return folder
+
+
+def ended(command, folder, program):
+    """The status of a command, and what it wrote on both outputs."""
+    environment = dict(os.environ, RTIC=str(program), COLUMNS="80", LC_ALL="C.UTF-8")
+    done = subprocess.run(["sh", "-c", command], cwd=folder, env=environment, stdin=subprocess.DEVNULL,
+                          stdout=subprocess.PIPE, stderr=subprocess.STDOUT, timeout=SECONDS, check=False)
+    return done.returncode, done.stdout.decode("utf-8", "replace")
+
+
+def faults_of(path, program, text=None):
+    """How many commands of a document were run, those that were left out, and the faults of the others."""
+    run, left_out, faults = 0, [], []
+    for block in commands(Page(path, text)):
+        folder = folder_of(pathlib.Path(program).resolve())
+        try:
+            for shown in block:
+                first = shown.command.split()[0]
+                if shown.is_long():
+                    left_out.append(shown.command)
+                    if first != "rt" and not os.access(ROOT / first, os.X_OK):
+                        faults.append(f"{path}:{shown.number}: no program {first}")
+                    continue
+                run += 1
+                status, written = ended(shown.command, folder, program)
+                if status != shown.status:
+                    faults.append(f"{path}:{shown.number}: status {status}, not {shown.status}: {written[:200]}")
+                elif not shown.matches(written):
+                    faults.append(f"{path}:{shown.number}: `{shown.command}` writes\n{written}")
+        finally:
+            shutil.rmtree(folder)
+    return run, left_out, faults
