@@ -100,7 +100,7 @@ def paths_amiss(page):
 
 def names_amiss(page):
     """Names that no source has, and names that are not declared in the file beside them."""
-    for number, part, contexts in in_context(page.parts()):
+    for number, part in page.parts():
         for quoted in QUOTED.findall(part):
             if re.fullmatch(r"[A-Za-z_]\w+(?:(?:::|\.)[A-Za-z_]\w*)*", quoted):
                 gone = set(re.split(r"::|\.", quoted)) - tree.words() - ELSEWHERE
@@ -108,7 +108,8 @@ def names_amiss(page):
                 if gone and not is_commit and "NAME" not in quoted and not tree.matching(quoted):
                     yield number, f"no source has `{quoted}`"
         for name, path in PLACED.findall(part):
-            if tree.matching(path) and not CRATE.match(f"`{name}") and not place(path, name, contexts):
+            files = tree.matching(path)
+            if files and not CRATE.match(f"`{name}") and not any(tree.lines_that_declare(file, name) for file in files):
                 yield number, f"`{path}` does not declare `{name}`"
 
 
