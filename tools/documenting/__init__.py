@@ -1,1 +1,1 @@
-"""Compares the documents with the tree: docs/../CONTRIBUTING.md says how it is used."""
+"""Compares the documents with the tree, and the commands that they show with the program: CONTRIBUTING.md."""

@@ -29,7 +29,8 @@ class Shown:
 
     def matches(self, text):
         """Whether a text is the lines below."""
-        parts = [re.escape(part) for part in re.split(r"^\.\.\n", "".join(f"{line}\n" for line in self.lines), flags=re.M)]
+        wanted = "".join(f"{line}\n" for line in self.lines)
+        parts = [re.escape(part) for part in re.split(r"^\.\.\n", wanted, flags=re.M)]
         return not self.lines or re.fullmatch("(?:.*\n)*".join(parts), text) is not None
 
 
@@ -89,3 +90,47 @@ def faults_of(path, program, text=None):
         finally:
             shutil.rmtree(folder)
     return run, left_out, faults
+
+
+# The documents that quote lines of what these commands write, and what such a line looks like.
+QUOTING = {
+    "docs/CODE.md": ("build pump", "check pump", "build serial", "build station"),
+    "docs/BOUNDS.md": ("check station", "check forms"),
+    "docs/MESSAGES.md": (
+        "check serial", "check timeout", "run serial serial", "run serial burst", "run timeout timeout",
+    ),
+}
+# what `check` writes of the station with `fpu = on`
+ELSEWHERE = {"stack 888"}
+OUTPUT = re.compile(
+    r"(?:code \d+|irq [A-Z]\w*|ceiling [\w.]+|frame \w+|cost \w+|wait \d|stack|\d+ (?:pend|take|ret|enter|leave|emit|ok"
+    r"|full|ready|free|fire|start|post|clock|arm|set|alarm|cancel|move|end)\b)(?: .*)?"
+)
+
+
+def quoted_lines(path):
+    """The lines of output that a document quotes, in blocks and between backquotes, with the numbers of its own lines."""
+    page = Page(path)
+    for number, line in enumerate(page.lines, 1):
+        parts = re.split(r" {2,}", line.strip()) if page.shown[number - 1] else re.findall(r"`([^`]+)`", line)
+        yield from ((number, part) for part in parts if OUTPUT.fullmatch(part) and " " in part)
+
+
+def written_lines(program, words):
+    """The lines that a command writes on the examples of these names."""
+    command, *names = words.split()
+    files = [f"examples/{name}{ending}" for name, ending in zip(names, (".rtic", ".script"))]
+    done = subprocess.run([program, command, *files], cwd=ROOT, stdout=subprocess.PIPE, timeout=SECONDS, check=False)
+    return set(done.stdout.decode("ascii").split("\n"))
+
+
+def quotes_amiss(program):
+    """How many lines of output the documents quote, and those that no command writes."""
+    count, faults = 0, []
+    for path, commands_of in QUOTING.items():
+        every = set().union(*(written_lines(program, words) for words in commands_of))
+        for number, line in quoted_lines(path):
+            count += 1
+            if line not in every | ELSEWHERE:
+                faults.append(f"{path}:{number}: no example writes `{line}`")
+    return count, faults

@@ -78,7 +78,8 @@ def in_context(parts):
 
 def place(path, name, contexts):
     """The file and the line at which a name is declared, of the files that end with a path; or None."""
-    found = [(file, line) for file in tree.matching(path) for line in tree.lines_that_declare(file, name.split(".")[-1])]
+    last = name.split(".")[-1]
+    found = [(file, line) for file in tree.matching(path) for line in tree.lines_that_declare(file, last)]
     for crates in contexts:
         near = [(file, line) for file, line in found if file.split("/")[1:2] and file.split("/")[1] in crates]
         if near:
@@ -92,7 +93,8 @@ def paths_amiss(page):
         for quoted in QUOTED.findall(part):
             for word in quoted.split():
                 path = re.sub(r":\d+$", "", word.strip(",;()"))
-                if not PATH.fullmatch(path) or path in MADE or path.startswith(("~", "<")) or re.search("://|NAME", path):
+                is_left_out = path in MADE or path.startswith(("~", "<")) or re.search("://|NAME", path)
+                if not PATH.fullmatch(path) or is_left_out:
                     continue
                 if not tree.matching(path.removeprefix("./")):
                     yield number, f"no file `{path}`"
@@ -118,8 +120,10 @@ def lines_amiss(page):
     for number, part, contexts in in_context(page.parts()):
         for name, _, path, line in NUMBERED.findall(part):
             found = place(path, name, contexts)
-            if not found or found[1] != int(line):
-                yield number, f"`{name}` is at {found[0]}:{found[1]}, not {line}" if found else f"{path} has no `{name}`"
+            if not found:
+                yield number, f"{path} has no `{name}`"
+            elif found[1] != int(line):
+                yield number, f"`{name}` is at {found[0]}:{found[1]}, not {line}"
 
 
 def rows_amiss(page):

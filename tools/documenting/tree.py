@@ -8,7 +8,8 @@ import re
 ROOT = pathlib.Path(__file__).resolve().parents[2]
 LEFT_OUT = {".git", "out", "__pycache__"}
 BEFORE_A_NAME = (
-    r"(?:pub|pub\(crate\)|abbrev|opaque|record|ruleset|data|let|mod|module|fn|const|struct|enum|trait|type|def|class|macro_rules!)"
+    r"(?:pub|pub\(crate\)|abbrev|opaque|record|ruleset|data|let|mod|module|fn|const|struct|enum|trait|type|def|class"
+    r"|macro_rules!)"
 )
 WORD = re.compile(r"[A-Za-z_]\w*")
 
@@ -35,7 +36,8 @@ def by_name():
 def matching(path):
     """The files and folders of the tree that end with this path, in which `*` is any letters."""
     parts = path.strip("/").split("/")
-    ends = by_name().get(parts[-1], []) if "*" not in parts[-1] else [end for found in by_name().values() for end in found]
+    every = by_name()
+    ends = every.get(parts[-1], []) if "*" not in parts[-1] else [end for found in every.values() for end in found]
     return [end for end in ends if fnmatch.fnmatchcase("/".join(end.split("/")[-len(parts) :]), "/".join(parts))]
 
 

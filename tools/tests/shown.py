@@ -1,5 +1,6 @@
 #!/usr/bin/env python3
-"""Runs every command that README shows behind a `$`, and compares what it writes with the lines below it.
+"""Runs every command that README shows after a `$`, and compares what it writes with the lines below it; and looks for
+the lines of output that three more documents quote in what the examples write.
 
 Further documents may be named. The program is the one that the other tests of the tools try: that of RTIC, or the
 proved one where ./build or the gate has made it; without one the commands are not run, and this says so."""
@@ -10,7 +11,7 @@ TOOLS = os.path.dirname(os.path.dirname(os.path.abspath(__file__)))
 sys.dont_write_bytecode = True
 sys.path.insert(0, TOOLS)
 
-from documenting.commands import commands, faults_of
+from documenting.commands import commands, faults_of, quotes_amiss
 from documenting.page import Page
 from explaining.program import asked_program
 
@@ -29,15 +30,18 @@ def main():
     program = asked_program()
     if program is None:
         count = sum(len(block) for path in DOCUMENTS for block in commands(Page(path)))
-        print(f"shown: skipped {count} commands: the proved program is not built (./build makes it), and RTIC names no other")
+        missing = "the proved program is not built (./build makes it), and RTIC names no other"
+        print(f"shown: skipped {count} commands: {missing}")
         return 0
     faults = [f"not seen: {text}" for text in PLANTED if not faults_of("README.md", program, text)[2]]
     run, left_out = 0, []
     for path in sys.argv[1:] or DOCUMENTS:
         ran, left, found = faults_of(path, program)
         run, left_out, faults = run + ran, left_out + left, faults + found
+    quoted, found = quotes_amiss(program)
+    faults += found
     print("\n".join(faults) + "\n" * bool(faults), end="")
-    print(f"shown: {run} commands run, {len(PLANTED)} planted faults tried; too long for a test: {', '.join(left_out)}")
+    print(f"shown: {run} commands run, {quoted} lines of output found, {len(PLANTED)} planted faults tried; too long for a test: {', '.join(left_out)}")
     return 1 if faults else 0
 
 
