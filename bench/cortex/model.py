@@ -4,8 +4,8 @@
 import struct
 
 OPS = (
-    "set copy add sub mul div rem and or xor shl shr eq ne lt le gt ge load store loadat storeat jump jumpz emit post clock"
-    " alarm noalarm raise restore mask unmask mark serve wait call back ret"
+    "set copy add sub mul div rem and or xor shl shr eq ne lt le gt ge load store loadat storeat jump jumpz emit post"
+    " clock alarm noalarm raise restore mask unmask mark serve wait call back ret"
 ).split()
 ENTERED, DONE = 1, 2
 STEP, TICK, PEND = range(3)

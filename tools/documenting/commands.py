@@ -109,7 +109,7 @@ OUTPUT = re.compile(
 
 
 def quoted_lines(path):
-    """The lines of output that a document quotes, in blocks and between backquotes, with the numbers of its own lines."""
+    """The lines of output that a document quotes, in blocks and between backquotes, each with its number there."""
     page = Page(path)
     for number, line in enumerate(page.lines, 1):
         parts = re.split(r" {2,}", line.strip()) if page.shown[number - 1] else re.findall(r"`([^`]+)`", line)

@@ -41,7 +41,8 @@ def main():
     quoted, found = quotes_amiss(program)
     faults += found
     print("\n".join(faults) + "\n" * bool(faults), end="")
-    print(f"shown: {run} commands run, {quoted} lines of output found, {len(PLANTED)} planted faults tried; too long for a test: {', '.join(left_out)}")
+    print(f"shown: {run} commands run, {quoted} lines of output found, {len(PLANTED)} planted faults tried;"
+          f" too long for a test: {', '.join(left_out)}")
     return 1 if faults else 0
 
 
