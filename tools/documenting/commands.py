@@ -54,7 +54,8 @@ def folder_of(program):
     """A folder in which the words of a reader at the root of a clone mean the same, with this program."""
     folder = tempfile.mkdtemp(prefix="rtic-shown-")
     for path in ROOT.iterdir():
-        if path.name not in ("rtic", ".git"):
+        # what the commands write stays in the folder, so no other file of the root is there
+        if path.is_dir() and path.name != ".git":
             os.symlink(path, os.path.join(folder, path.name))
     os.symlink(program, os.path.join(folder, "rtic"))
     return folder
