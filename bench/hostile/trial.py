@@ -9,8 +9,9 @@ import rows
 from reference import Reference
 
 TOKENS = """
-app interrupts shared local monotonic init idle task lock_free binds priority capacity dispatchers bits fpu on with let if else for in lock emit pend spawn spawn_after cancel reschedule_after now 0 1 2 3 7 8 16 17 255 4294967295
-4294967296 0x10 a b c x t s n A B D I0 T ( ) [ ] { } , ; = & .. + - * / % | ^ << >> == != < <= > >= // @ ! . 0x
+app interrupts shared local monotonic init idle task lock_free binds priority capacity dispatchers bits fpu on with let
+if else for in lock emit pend spawn spawn_after cancel reschedule_after now 0 1 2 3 7 8 16 17 255 4294967295 4294967296
+0x10 a b c x t s n A B D I0 T ( ) [ ] { } , ; = & .. + - * / % | ^ << >> == != < <= > >= // @ ! . 0x
 """.split()
 BLANKS = [b" ", b"\n", b"\t", b"\r\n", b" // words\n", b"  "]
 HEADS = [b"", b"app a(bits = 3);", b"app a(bits = 4); interrupts { A = 0, B = 1 }",
