@@ -1,0 +1,132 @@
+"""The table of public calls: what each needs, when it answers something else than success, and what it then leaves."""
+import re
+
+from calling.sources import ROOT, calls
+
+DOCUMENT = ROOT / "docs" / "CALLS.md"
+BEGIN, END = "<!-- written by tools/calls: begin -->\n", "<!-- written by tools/calls: end -->\n"
+HEAD = "| Call | Needs | Other answers, and their cause | Left |\n|---|---|---|---|\n"
+# Types of answers of which each value is a cause of its own.
+TELLING = ("Status", "Verdict", "Verified", "Pended", "Measure")
+FAILS = re.compile(r"\b(OnErr|IfErr|IsErr|IsErrOf|Err|Gives|HasCause|MatchResult)\b")
+SUCCEEDS = re.compile(r"^(OnOk|IfOk|OnSome|IfSome)\b")
+DECIDES = re.compile(r"\bresult\b.*(≡|↔)|(≡|↔).*\bresult\b|MatchOption|IsTrue result|IsFalse result|^YieldsFirst")
+# Calls of which no clause says what is left where memory is used up: each appends to what its caller then lets go.
+LEFT_UNSAID = {
+    "rt_ids push_bytes", "rt_ids push_number", "rt_outside LineSink::take", "rt_gen_queue Lines::push",
+    "rt_gen_queue Lines::append", "rt_gen_queue fill", "rt_work begin_body", "rt_work answer", "rt_work Store::effect",
+    "rt_work settle", "rt_work Work::begin",
+}
+
+
+def is_law(call):
+    """Whether a call is a statement alone: it takes nothing and answers nothing."""
+    return not call.parameters and not call.answer
+
+
+def needs(call):
+    return [clause.name or "its condition" for clause in call.clauses if clause.kind == "requires"]
+
+
+def promised(call):
+    return [clause for clause in call.clauses if clause.kind == "ensures"]
+
+
+def names(clauses):
+    return [clause.name.lstrip("*") or "its clause" for clause in clauses]
+
+
+def error_of(call):
+    """The type of a call's error, or an empty text."""
+    found = re.match(r"Result<(.*)>$", call.answer)
+    return found[1].rsplit(",", 1)[-1].strip() if found else ""
+
+
+def changes(call):
+    """The parameters that a call may change."""
+    return [each for each in call.parameters if re.match(r"&(?:'\w+ )?mut |\w+: &(?:'\w+ )?mut ", each)]
+
+
+def causes(call):
+    """What a call may answer besides success, and the clauses that say when; None where no clause does."""
+    error = error_of(call)
+    whole = [clause for clause in promised(call) if clause.text.startswith("result ≡")]
+    if error == "NoMemory":
+        return "`NoMemory`", []
+    if error:
+        found = names([clause for clause in promised(call) if FAILS.search(clause.text)] or whole)
+        return f"`{error}`", found or None
+    for word, other in (("Option<", "`None`"), ("bool", "`false`")):
+        if call.answer.startswith(word):
+            found = names([clause for clause in promised(call) if DECIDES.search(clause.text)] or whole)
+            return other, found or None
+    if call.answer in TELLING:
+        return f"`{call.answer}`", names(promised(call)) or None
+    return "", []
+
+
+def is_of_failure(clause):
+    """Whether a clause says something of what is left where the call does not succeed."""
+    return ".new" in clause.text and not SUCCEEDS.match(clause.text)
+
+
+def left(call):
+    """The clauses that say what is left where a call with an error changes what is lent to it; None where none does."""
+    if not error_of(call) or not changes(call):
+        return []
+    return names([clause for clause in promised(call) if is_of_failure(clause)]) or None
+
+
+def may_wait(call):
+    return bool(re.search(r"\b(Threads|Gate)\b", call.bounds))
+
+
+def listed(found):
+    return ", ".join(f"`{name}`" if " " not in name else name for name in dict.fromkeys(found))
+
+
+def key(call):
+    return f"{call.crate} {call.name}"
+
+
+def row(call):
+    """A call's row."""
+    answer, found = causes(call)
+    other = f"{answer}: {listed(found)}" if found else answer
+    stays = left(call)
+    kept = "not said" if stays is None else listed(stays)
+    return f"| `{call.name}` | {listed(needs(call))} | {other} | {kept} |\n"
+
+
+def wrong(call):
+    """What a call lacks, or an empty text."""
+    if causes(call)[1] is None:
+        return f"{key(call)}: no clause says when it answers {causes(call)[0]}"
+    if left(call) is None and key(call) not in LEFT_UNSAID:
+        return f"{key(call)}: no clause says what is left of {', '.join(changes(call))} where it fails"
+    return ""
+
+
+def table():
+    """The tables of all crates, and what is wrong with their calls."""
+    text, faults, crate, waiting = [], [], None, []
+    for call in calls():
+        if is_law(call):
+            continue
+        if call.crate != crate:
+            crate = call.crate
+            text.append(f"\n### {crate}\n\n{HEAD}")
+        text.append(row(call))
+        faults.append(wrong(call))
+        if may_wait(call):
+            waiting.append(f"`{call.name}` of `{call.crate}`")
+    front = f"These may wait for threads that they started, or in a test's gate: {', '.join(waiting)}.\n"
+    return BEGIN + front + "".join(text) + "\n" + END, [fault for fault in faults if fault]
+
+
+def written():
+    """The document, and its table as it stands there."""
+    text = DOCUMENT.read_text(encoding="utf8")
+    front, rest = text.split(BEGIN)
+    old, behind = rest.split(END)
+    return front, BEGIN + old + END, behind
