@@ -60,6 +60,10 @@ class Starter:
         self.under_way = None
         return Ended(os.waitstatus_to_exitcode(how), b"" if output else self.read(self.output), self.read(self.error))
 
+    def stack(self):
+        """The stack that a program which is started has, in kibibytes, as a shell says it."""
+        return self.ended([], wrapper=("/bin/sh", "-c", "ulimit -s")).output.decode().strip()
+
     @staticmethod
     def read(path):
         with open(path, "rb") as taken:
@@ -75,9 +79,10 @@ class Starter:
 def with_little_stack(kibibytes, starter, work):
     """Does work, a call without arguments, in a thread, while each program that is started has so much stack alone. The
     thread has a stack of its own, since the limit holds for this program's first one too."""
-    caught = []
+    caught, limited = [], threading.Event()
 
     def guarded():
+        limited.wait()
         try:
             work()
         except BaseException as fault:
@@ -89,6 +94,7 @@ def with_little_stack(kibibytes, starter, work):
     worker.start()
     if kibibytes:
         resource.setrlimit(resource.RLIMIT_STACK, (kibibytes << 10, kept[1]))
+    limited.set()
     while worker.is_alive():
         worker.join(LOOK)
         starter.end_what_hangs()

@@ -221,7 +221,7 @@ def through_limits(trial, starter, told):
 def through_all(commands, starter, told, asked):
     """So many texts through each command."""
     reference = Reference(asked.reference)
-    told.says(f"texts: {reference.said}")
+    told.says(f"texts: {reference.said}; {starter.stack()} KiB of stack")
     source = Texts(asked.seed)
     trial = Trial(commands, starter, told, reference)
     through_limits(trial, starter, told)

@@ -1,5 +1,6 @@
 """The table of public calls: what each needs, when it answers something else than success, and what it then leaves."""
 import re
+import textwrap
 
 from calling.sources import ROOT, calls
 
@@ -120,8 +121,8 @@ def table():
         faults.append(wrong(call))
         if may_wait(call):
             waiting.append(f"`{call.name}` of `{call.crate}`")
-    front = f"These may wait for threads that they started, or in a test's gate: {', '.join(waiting)}.\n"
-    return BEGIN + front + "".join(text) + "\n" + END, [fault for fault in faults if fault]
+    front = f"These may wait for threads that they started, or in a test's gate: {', '.join(waiting)}."
+    return BEGIN + textwrap.fill(front, 120) + "\n" + "".join(text) + "\n" + END, [fault for fault in faults if fault]
 
 
 def written():
