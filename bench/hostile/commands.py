@@ -18,8 +18,8 @@ LIMITS = (ROOT / "examples" / "tank.limits").read_bytes()
 LATE = (ROOT / "examples" / "late.rtic").read_bytes()
 TRACE = (ROOT / "examples" / "late.trace").read_bytes()
 DEVICES = b"device 0 pend UART0 20\ndevice 1 pend GPIOA 20\ndevice 2 pend QEI0 20\nstep 500\ntick 100\nstep 500\n"
-# what an image is in a listing: the lines that `build` writes
-IMAGE = "image"
+# In place of a text: what `build` writes of an application.
+IMAGES = {"image": TANK}
 
 # `texts` are what the words in `files` hold, `numbers` the words behind them. `free` says that the trace is free: which
 # pends meet, and at which step they come. `whole` is the status of the whole answer.
@@ -36,7 +36,7 @@ COMMANDS = [
     Command("demo", (), (), ("12",)),
     Command("deepest", ("app",), (TANK,)),
     Command("times", ("app", "limits"), (TANK, LIMITS)),
-    Command("verify", ("image",), (IMAGE,)),
+    Command("verify", ("image",), ("image",)),
     # no command: the usage line
     Command("help", (), (), whole=2),
     Command("pair", ("app", "second", "script"), (STATION, STATION, b"pend GPIOA 3\nstep 200\n"), free=True),
@@ -45,6 +45,7 @@ COMMANDS = [
 # The same commands on an application of so many bytes, which takes far more memory than a usage line.
 LARGE_BYTES = 16_000
 LARGE_TEXT = texts.hardware(LARGE_BYTES).encode()
+IMAGES["large image"] = LARGE_TEXT
 PENDS = b"pend I0 3\npend I31\nstep 400\n"
 LARGE = [
     Command("run", ("app", "script"), (LARGE_TEXT, PENDS)),
@@ -58,7 +59,7 @@ LARGE = [
     Command("demo", (), (), ("48",)),
     Command("deepest", ("app",), (LARGE_TEXT,)),
     Command("times", ("app", "limits"), (LARGE_TEXT, b"every I0 100000\n")),
-    Command("verify", ("image",), (IMAGE,)),
+    Command("verify", ("image",), ("large image",)),
     Command("pair", ("app", "second", "script"), (LARGE_TEXT, LARGE_TEXT, PENDS), free=True),
 ]
 
@@ -74,11 +75,10 @@ class Ready:
         self.answer = starter.ended(self.words)
 
     def text(self, text):
-        """A text, or the image that stands for one."""
-        if text != IMAGE:
+        """A text, or the listing of an image that is named in its place."""
+        if text not in IMAGES:
             return text
-        application = LARGE_TEXT if self.command in LARGE else TIMED
-        return self.starter.ended(["build", self.starter.write("imaged", application)]).output
+        return self.starter.ended(["build", self.starter.write("imaged", IMAGES[text])]).output
 
     @property
     def is_built(self):
