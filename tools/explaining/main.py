@@ -6,7 +6,7 @@ import stat
 import subprocess
 import traceback
 
-from . import audits, limits, scripts, texts, words as wording
+from . import audits, images, limits, scripts, texts, words as wording
 from .expected import may_stand, met, told
 from .report import Report, shown
 from .rules import Rules
@@ -19,7 +19,7 @@ WARNINGS = 20
 APPLICATION, SECOND = 262_144, 268_435_456
 DONE, REFUSED, USAGE, BAD_LINE, NO, UNREAD = range(6)
 REFUSAL = re.compile(rb"(\d+):(\d+) E(\d\d) ([^\n]*)\n")
-LINE_REFUSAL = re.compile(rb"(script|trace|limits):(\d+) (\d) ([^\n]*)\n")
+LINE_REFUSAL = re.compile(rb"(script|trace|limits|image):(\d+) (\d) ([^\n]*)\n")
 NOT_ASKED = "what may stand here is asked of the proved program, which is not built: ./build makes it"
 
 
@@ -42,7 +42,7 @@ class Explained:
             if stat.S_ISREG(mode) or stat.S_ISDIR(mode):
                 return name
             path = os.path.join(self.program.folder.name, f"input{number}")
-            left = (APPLICATION if number == 0 else SECOND) + 1
+            left = (APPLICATION if number == 0 and self.words[0] != "verify" else SECOND) + 1
             with open(name, "rb") as source, open(path, "wb") as copy:
                 while piece := source.read(min(1 << 16, left)):
                     left -= copy.write(piece)
@@ -67,6 +67,8 @@ class Explained:
             self.command_line()
         elif status == BAD_LINE and (found := LINE_REFUSAL.match(front)):
             self.bad_line(found[1].decode(), int(found[2]), int(found[3]), found[4].decode())
+        elif status == NO and self.words[0] == "verify":
+            self.broken_rule(int(front[3:]))
         elif status == NO and front.startswith(b"no "):
             self.wrong_item(int(front[3:]))
         elif status == NO and front == b"no\n":
@@ -154,25 +156,32 @@ class Explained:
 
     # Statuses 3 and 4.
 
-    def first_lines(self, count):
-        """So many lines of the second file."""
-        with open(self.paths[1], encoding="latin-1", newline="\n") as file:
+    def first_lines(self, place, count):
+        """So many lines of a file."""
+        with open(self.paths[place], encoding="latin-1", newline="\n") as file:
             return [line.rstrip("\n") for line in itertools.islice(file, count)]
 
     def bad_line(self, which, line, number, words):
-        app, lines = tree_of(self.text(0)), self.first_lines(line)
+        place = 0 if which == "image" else 1
+        lines, size = self.first_lines(place, line), os.path.getsize(self.paths[place])
         source = lines[line - 1] if line <= len(lines) else ""
-        if which == "script":
-            size = os.path.getsize(self.paths[1])
-            said = scripts.script_line(app, number, source, lines, size, self.table)
+        if which == "image":
+            said = images.image_line(number, source, size, self.table)
+        elif which == "script":
+            said = scripts.script_line(tree_of(self.text(0)), number, source, lines, size, self.table)
         elif which == "limits":
-            size = os.path.getsize(self.paths[1])
-            said = limits.limits_line(app, number, source, lines, size, self.table)
+            said = limits.limits_line(tree_of(self.text(0)), number, source, lines, size, self.table)
         else:
-            said = scripts.trace_line(app, number, source, lines, line, self.table)
-        self.report.head(self.names[1], line, said.start + 1, f"{which} {number} {words}")
+            said = scripts.trace_line(tree_of(self.text(0)), number, source, lines, line, self.table)
+        self.report.head(self.names[place], line, said.start + 1, f"{which} {number} {words}")
         self.report.rows([(line, source)], said.start, said.length, "")
         self.sentences([("cause", said.cause)] + [("help", one) for one in said.helps])
+
+    def broken_rule(self, number):
+        """The least rule that an image breaks."""
+        self.report.line(f"{self.names[0]}: no {number}")
+        key = f"verify {number}"
+        self.sentences([("cause", self.table.cause(key)), ("help", self.table.mending(key))])
 
     def wrong_item(self, number):
         """The item that is the first wrong one, and what `audit` takes in its place."""

@@ -15,7 +15,7 @@ def rows_of(page):
     section = page.split(HEADING + "\n", 1)[1].split("\n## ", 1)[0]
     for line in section.splitlines():
         cells = [cell.strip().replace("\\|", "|") for cell in re.split(r"(?<!\\)\|", line)[1:-1]]
-        if len(cells) == 3 and re.match(r"(E\d\d|script|trace|limits)\b", cells[0]):
+        if len(cells) == 3 and re.match(r"(E\d\d|script|trace|limits|image|verify)\b", cells[0]):
             yield cells[0], cells[1], cells[2]
 
 

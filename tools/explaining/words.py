@@ -6,12 +6,11 @@ import re
 COMMANDS = {
     "run": ("APP", "SCRIPT"), "check": ("APP",), "fmt": ("APP",), "build": ("APP",), "audit": ("APP", "TRACE"),
     "live": ("APP", "SCRIPT"), "soak": ("APP", "NUMBER", "COUNT", "WORKERS"), "demo": ("N",), "deepest": ("APP",),
-    "times": ("APP", "LIMITS"),
+    "times": ("APP", "LIMITS"), "verify": ("IMAGE",),
 }
 RANGES = {"NUMBER": (0, (1 << 64) - 1), "COUNT": (1, 10_000), "WORKERS": (1, 64), "N": (1, 48)}
 DIGITS = re.compile(r"[0-9]{1,20}")
 TO_COME = {
-    "verify": "`audit` judges a trace of any image",
     "pair": "`run` runs one application",
 }
 FORMS = {
@@ -49,7 +48,7 @@ def wrong_word(words):
 
 
 def of_command(words):
-    """The sentence on words that begin with a command that is built."""
+    """The sentence on words that begin with a command."""
     wanted, given = COMMANDS[words[0]], len(words) - 1
     if given == len(wanted):
         place = wrong_word(words)
@@ -62,7 +61,7 @@ def of_command(words):
 
 
 def of_words(words):
-    """The sentences on words that are no command that is built: pairs of a kind and a sentence."""
+    """The sentences on words that are no command: pairs of a kind and a sentence."""
     if not words:
         return [("help", BUILT)]
     name = words[0]

@@ -3,7 +3,7 @@ use Rattle.std.proofs.Common.{◌≡◌, ◌<◌, ◌≤◌, ℕ, Bool, IsTrue, 
 use Rattle.std.proofs.lemmas.Slice.Eq.{bytes_eq-Decides}
 use Rattle.std.specs.Str.Parse.{digits_value}
 use Rattle.std.specs.Borrow.{Bor}
-use Rattle.rt_top.specs.Words.{Command, Run, Check, Fmt, Build, Audit, Live, Soak, Demo, Deepest, Times, texts, Names, IsCommand}
+use Rattle.rt_top.specs.Words.{Command, Run, Check, Fmt, Build, Audit, Live, Soak, Demo, Deepest, Times, Verify, texts, Names, IsCommand}
 use Rattle.rt_top.specs.Inside.Meant.{IsInRange}
 
 -- three words are the first, and two more
@@ -86,12 +86,13 @@ refuted : {P : Type 0} (b : Bool) → (IsTrue b ↔ P) → b ≡ false → P →
 refuted b both is_false p = let is_true : b ≡ true = both.1 p in cc
 
 -- words that are none of these are no command
-module _ (words : List (List ℕ)) (run check fmt build audit live deepest times : Bool)
+module _ (words : List (List ℕ)) (run check fmt build audit live deepest times verify : Bool)
     (is_run : IsTrue run ↔ Names words Run) (is_check : IsTrue check ↔ Names words Check)
     (is_fmt : IsTrue fmt ↔ Names words Fmt) (is_build : IsTrue build ↔ Names words Build) (is_audit : IsTrue audit ↔ Names words Audit)
     (is_live : IsTrue live ↔ Names words Live) (is_deepest : IsTrue deepest ↔ Names words Deepest) (is_times : IsTrue times ↔ Names words Times)
+    (is_verify : IsTrue verify ↔ Names words Verify)
     (no_run : run ≡ false) (no_check : check ≡ false) (no_fmt : fmt ≡ false) (no_build : build ≡ false) (no_audit : audit ≡ false)
-    (no_live : live ≡ false) (no_deepest : deepest ≡ false) (no_times : times ≡ false) (no_demo : (n : ℕ) → Names words (Demo n) → ⊥)
+    (no_live : live ≡ false) (no_deepest : deepest ≡ false) (no_times : times ≡ false) (no_verify : verify ≡ false) (no_demo : (n : ℕ) → Names words (Demo n) → ⊥)
     (no_soak : (number count workers : ℕ) → Names words (Soak number count workers) → ⊥) where
   none : (c : Command) → Names words c → ⊥
   none Run named = refuted run is_run no_run named
@@ -102,6 +103,7 @@ module _ (words : List (List ℕ)) (run check fmt build audit live deepest times
   none Live named = refuted live is_live no_live named
   none Deepest named = refuted deepest is_deepest no_deepest named
   none Times named = refuted times is_times no_times named
+  none Verify named = refuted verify is_verify no_verify named
   none (Soak number count workers) named = no_soak number count workers named
   none (Demo n) named = no_demo n named
 
@@ -123,7 +125,8 @@ when false c other = other
 abbrev of_two : List ℕ → List ℕ → Option Command
 of_two verb word =
     when (bytes_eq verb (codes "check")) Check (when (bytes_eq verb (codes "fmt")) Fmt (when (bytes_eq verb (codes "build")) Build
-    (when (bytes_eq verb (codes "deepest")) Deepest (when (bytes_eq verb (codes "demo")) (Demo (digits_value 10 word)) None))))
+    (when (bytes_eq verb (codes "deepest")) Deepest (when (bytes_eq verb (codes "verify")) Verify
+    (when (bytes_eq verb (codes "demo")) (Demo (digits_value 10 word)) None)))))
 
 -- of three
 abbrev of_three : List ℕ → Option Command
@@ -152,6 +155,7 @@ names_it words (Soak number count workers) named =
     let c = named.is_workers.0.value in cc
 names_it words Deepest named = ap command_named named.1
 names_it words Times named = ap command_named named.2
+names_it words Verify named = ap command_named named.1
 names_it words (Demo n) named = let e = ap command_named named.1 in let a = named.2.value in cc
 
 -- words name one command at most
@@ -171,3 +175,4 @@ in_range words Audit named = tt
 in_range words Live named = tt
 in_range words Deepest named = tt
 in_range words Times named = tt
+in_range words Verify named = tt

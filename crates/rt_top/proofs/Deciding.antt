@@ -39,7 +39,7 @@ use Rattle.rt_top.specs.declared.reply.Reply.TheVariants as reply
 use Rattle.rt_top.proofs.Excluding.{tree_passes, application_passes}
 
 -- what a source holds that tells
-told_text : (o : Option (List ℕ)) → IsTold o → (text : List ℕ) × (o ≡ Some text)
+pub told_text : (o : Option (List ℕ)) → IsTold o → (text : List ℕ) × (o ≡ Some text)
 told_text (Some text) told = (text, refl)
 told_text None told = absurd told
 
@@ -392,22 +392,24 @@ reads_one command.Check run live audit times demo = refl
 reads_one command.Fmt run live audit times demo = refl
 reads_one command.Build run live audit times demo = refl
 reads_one command.Deepest run live audit times demo = refl
+reads_one command.Verify run live audit times demo = refl
 reads_one (command.Soak number count workers) run live audit times demo = refl
 
 -- and there is no other
 pub reads_other : (c : code.Command) → reads (meant c) ≡ 1 → (c ≡ command.Check → ⊥) → (c ≡ command.Fmt → ⊥)
-    → (c ≡ command.Build → ⊥) → (c ≡ command.Deepest → ⊥)
+    → (c ≡ command.Build → ⊥) → (c ≡ command.Deepest → ⊥) → (c ≡ command.Verify → ⊥)
     → ((number count workers : ℕ) → c ≡ command.Soak number count workers → ⊥) → ⊥
-reads_other command.Run one check fmt build deepest soak = omega (arith, one)
-reads_other command.Live one check fmt build deepest soak = omega (arith, one)
-reads_other command.Audit one check fmt build deepest soak = omega (arith, one)
-reads_other command.Times one check fmt build deepest soak = omega (arith, one)
-reads_other (command.Demo n) one check fmt build deepest soak = omega (arith, one)
-reads_other command.Check one check fmt build deepest soak = check refl
-reads_other command.Fmt one check fmt build deepest soak = fmt refl
-reads_other command.Build one check fmt build deepest soak = build refl
-reads_other command.Deepest one check fmt build deepest soak = deepest refl
-reads_other (command.Soak number count workers) one check fmt build deepest soak = soak number count workers refl
+reads_other command.Run one check fmt build deepest verify soak = omega (arith, one)
+reads_other command.Live one check fmt build deepest verify soak = omega (arith, one)
+reads_other command.Audit one check fmt build deepest verify soak = omega (arith, one)
+reads_other command.Times one check fmt build deepest verify soak = omega (arith, one)
+reads_other (command.Demo n) one check fmt build deepest verify soak = omega (arith, one)
+reads_other command.Check one check fmt build deepest verify soak = check refl
+reads_other command.Fmt one check fmt build deepest verify soak = fmt refl
+reads_other command.Build one check fmt build deepest verify soak = build refl
+reads_other command.Deepest one check fmt build deepest verify soak = deepest refl
+reads_other command.Verify one check fmt build deepest verify soak = verify refl
+reads_other (command.Soak number count workers) one check fmt build deepest verify soak = soak number count workers refl
 
 -- the demonstration application, of so many tasks
 demo_decided : (t : Inputs) (n : ℕ) (bytes : List ℕ) → bytes ≡ demo n → IsDecided (Demo n) t status.Done bytes

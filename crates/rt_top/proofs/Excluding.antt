@@ -13,6 +13,13 @@ use Rattle.rt_baker.specs.declared.verdict.Verdict.{Verdict}
 use Rattle.rt_baker.specs.declared.verdict.Verdict.TheVariants as judged
 use Rattle.rt_build.specs.Accepted.{broken, IsApplication}
 use Rattle.rt_build.proofs.Firsts.{no_first}
+use Rattle.rt_code.specs.Image.{Image}
+use Rattle.rt_load.specs.Reading.{IsListingText}
+use Rattle.rt_load.specs.Reading as loading
+use Rattle.rt_load.specs.declared.refusal.LoadRefused.{LoadRefused}
+use Rattle.rt_load.specs.declared.refusal.LoadRefused.TheVariants as in_image
+use Rattle.rt_load.proofs.OneWay as listings
+use Rattle.rt_points.specs.Checked.{IsChecked}
 use Rattle.rt_resolve.specs.Resolved.{resolved}
 use Rattle.rt_app.specs.Forms.{is_of_t_form}
 use Rattle.rt_rta.specs.Text as limits
@@ -33,11 +40,13 @@ use Rattle.rt_trace.specs.declared.operand.Wrong.TheVariants as trace_wrong
 use Rattle.rt_trace.specs.declared.refusal.TraceRefused.{TraceRefused}
 use Rattle.rt_trace.specs.declared.refusal.TraceRefused.TheVariants as in_trace
 use Rattle.rt_trace.proofs.OneWay as traces
-use Rattle.rt_top.specs.Words.{Command, Run, Check, Fmt, Build, Audit, Live, Soak, Demo, Deepest, Times}
+use Rattle.rt_top.specs.Words.{Command, Run, Check, Fmt, Build, Audit, Live, Soak, Demo, Deepest, Times, Verify}
 use Rattle.rt_top.specs.Refusal.{RefusesText, RefusesApplication}
 use Rattle.rt_top.specs.SecondRefusal.{SaysScript, SaysTrace, SaysLimits, RefusesScript, RefusesTrace, RefusesLimits}
 use Rattle.rt_top.specs.Outputs.{Says, IsAudited, TellsDeepest, TellsTimes, IsTimed}
 use Rattle.rt_top.specs.Outputs as outputs
+use Rattle.rt_top.specs.Verified.{SaysImage, TellsImage, IsVerified}
+use Rattle.rt_top.specs.Verified as verified
 use Rattle.rt_top.specs.Defined.{Inputs, RefusesFirst, RefusesSecond, Writes, Defined, refused, faulty, output, IsTold, IsFirstRefused, AreTold}
 use Rattle.rt_top.proofs.Refused.{not_refused}
 
@@ -136,6 +145,32 @@ limits_pass text more line ended bytes timed r =
     let app : timed.app ≡ r.app = application_only text timed.app r.app timed.of_text r.of_text in
     limits_read r.app more line timed.limits r.refusal (subst (λ p. limits.IsLimitsText p more timed.limits) app timed.read) r.refused r.says
 
+-- a listing is of one image, which is safe or is not
+told_once : (image image' : Image) → image' ≡ image → (a b : Status) (x y : List ℕ) → TellsImage image a x → TellsImage image' b y → a ≡ b
+told_once image image' same a b x y (verified.is_safe checked safe) (verified.is_safe checked' safe') = refl
+told_once image image' same a b x y (verified.is_safe checked safe) (verified.breaks rule least) =
+    let other = subst IsChecked (sym same) checked in absurd (least.broken (other least.rule))
+told_once image image' same a b x y (verified.breaks rule least) (verified.is_safe checked safe) =
+    let other = subst IsChecked same checked in absurd (least.broken (other least.rule))
+told_once image image' same a b x y (verified.breaks rule least) (verified.breaks rule' least') = refl
+
+-- what is the listing of an image is not refused
+image_read : (text line : List ℕ) (image : Image) (refusal : LoadRefused) → IsListingText text image → loading.IsRefused text refusal
+    → SaysImage refusal line → ⊥
+image_read text line image in_image.TooLong is met says = omega (arith, is.short, met)
+image_read text line image (in_image.BadLine n) is met says = listings.read_one_way.not_both text image n loading.Form is met
+image_read text line image (in_image.UnknownName n) is met says = listings.read_one_way.not_both text image n loading.Name is met
+image_read text line image in_image.NoMemory is met says = says
+
+verified_once : (text : List ℕ) (a b : Status) (x y : List ℕ) → IsVerified text a x → IsVerified text b y → a ≡ b
+verified_once text a b x y (verified.of_image image ended line is tells) (verified.of_image image' ended' line' is' tells') =
+    told_once image image' (listings.read_one_way.one_image text image' image is' is) ended ended' line line' tells tells'
+verified_once text a b x y (verified.of_image image ended line is tells) (verified.no_listing refusal line' met says) =
+    absurd (image_read text line' image refusal is met says)
+verified_once text a b x y (verified.no_listing refusal line met says) (verified.of_image image ended line' is tells) =
+    absurd (image_read text line image refusal is met says)
+verified_once text a b x y (verified.no_listing refusal line met says) (verified.no_listing refusal' line' met' says') = refl
+
 -- The ways to end exclude each other.
 
 some_same : (o : Option (List ℕ)) (a b : List ℕ) → o ≡ Some a → o ≡ Some b → a ≡ b
@@ -151,6 +186,7 @@ refused_no_second Live text more line other r s = application_passes text line s
 refused_no_second (Soak number count workers) text more line other r s = s
 refused_no_second (Demo n) text more line other r s = s
 refused_no_second Deepest text more line other r s = s
+refused_no_second Verify text more line other r s = s
 refused_no_second Times text more line other r s = application_passes text line s.app s.of_text r
 
 refused_no_output : (c : Command) (t : Inputs) (text line : List ℕ) (ended : Status) (bytes : List ℕ) → t.first ≡ Some text → RefusesFirst c text line → Writes c t ended bytes → ⊥
@@ -176,6 +212,7 @@ refused_no_output (Soak number count workers) t text line ended bytes e r (is, t
 refused_no_output (Demo n) t text line ended bytes e r w = r
 refused_no_output Deepest t text line ended bytes e r (text', e', (app, accepted, tells)) =
     application_passes text' line app accepted (subst (λ s. RefusesApplication s line) (some_same t.first text text' e e') r)
+refused_no_output Verify t text line ended bytes e r w = r
 refused_no_output Times t text line ended bytes e r (text', more, e', h, timed) =
     application_passes text' line timed.app timed.of_text
     (subst (λ s. RefusesApplication s line) (some_same t.first text text' e e') r)
@@ -196,6 +233,7 @@ faulty_no_output Live t text more line ended bytes e f s (is, text', more', e', 
 faulty_no_output (Soak number count workers) t text more line ended bytes e f s w = s
 faulty_no_output (Demo n) t text more line ended bytes e f s w = s
 faulty_no_output Deepest t text more line ended bytes e f s w = s
+faulty_no_output Verify t text more line ended bytes e f s w = s
 faulty_no_output Times t text more line ended bytes e f s (text', more', e', f', timed) =
     limits_pass text' more' line ended bytes timed
     (subst (λ m. RefusesLimits text' m line) (some_same t.second more more' f f') (subst (λ u. RefusesLimits u more line) (some_same t.first text text' e e') s))
@@ -219,6 +257,8 @@ one_output Times t a b x y (text, more, e, f, one) (text', more', e', f', other)
     let same : text' ≡ text = some_same t.first text' text e' e in
     let app : other.app ≡ one.app = application_only text other.app one.app (subst (λ u. IsApplication u other.app) same other.of_text) one.of_text in
     timed_once one.app other.app app one.limits other.limits a b x y one.tells other.tells
+one_output Verify t a b x y (text, e, is) (text', e', is') =
+    verified_once text a b x y is (subst (λ u. IsVerified u b y) (some_same t.first text' text e' e) is')
 
 pub one_due : (c : Command) (t : Inputs) (a b : Status) (x y : List ℕ) → Defined c t a x → Defined c t b y → a ≡ b
 one_due c t a b x y (refused text line e r) (refused text' line' e' r') = refl
@@ -246,6 +286,7 @@ told_output Live t ended bytes (is, text, more, e, f, live) = (λ _. is_told t.f
 told_output (Soak number count workers) t ended bytes (is, text, e, w) = (λ _. is_told t.first text e, λ few. absurd (omega (arith, few)))
 told_output Deepest t ended bytes (text, e, w) = (λ _. is_told t.first text e, λ few. absurd (omega (arith, few)))
 told_output Times t ended bytes (text, more, e, f, w) = (λ _. is_told t.first text e, λ _. is_told t.second more f)
+told_output Verify t ended bytes (text, e, w) = (λ _. is_told t.first text e, λ few. absurd (omega (arith, few)))
 told_output (Demo n) t ended bytes w = (λ few. absurd (omega (arith, few)), λ few. absurd (omega (arith, few)))
 
 pub told_of_due : (c : Command) (t : Inputs) (ended : Status) (bytes : List ℕ) → Defined c t ended bytes → IsFirstRefused c t ⊎ AreTold c t

@@ -11,3 +11,4 @@ mod Listed
 mod Ran
 mod Audited
 mod Auditing
+mod Verifying

@@ -5,10 +5,11 @@ use Rattle.rt_ids.specs.declared.status.Status.{Status}
 use Rattle.rt_ids.specs.declared.status.Status.TheVariants as status
 use Rattle.rt_demo.specs.Demo.{demo}
 use Rattle.rt_outside.specs.Bytes.{Took, TookPrefix}
-use Rattle.rt_top.specs.Words.{Command, Run, Check, Fmt, Build, Audit, Live, Soak, Demo, Deepest, Times, Names, reads}
+use Rattle.rt_top.specs.Words.{Command, Run, Check, Fmt, Build, Audit, Live, Soak, Demo, Deepest, Times, Verify, Names, reads}
 use Rattle.rt_top.specs.Refusal.{RefusesText, RefusesApplication}
 use Rattle.rt_top.specs.SecondRefusal.{RefusesScript, RefusesTrace, RefusesLimits}
 use Rattle.rt_top.specs.Outputs.{IsFormatted, IsChecked, IsListed, IsRun, IsAudited, IsLive, IsSoaked, IsDeepened, IsTimed}
+use Rattle.rt_top.specs.Verified.{IsVerified}
 
 -- what the sources have left, where they tell
 pub record Inputs : Type 0 where
@@ -20,7 +21,7 @@ pub record Inputs : Type 0 where
 abbrev pub inputs : Option (List ℕ) → Option (List ℕ) → Option (List ℕ) → Inputs
 inputs first second third = record { first = first; second = second; third = third }
 
--- the line refuses the first text
+-- the line refuses the application of the first text
 abbrev pub RefusesFirst : Command → List ℕ → List ℕ → Type 0
 RefusesFirst Run text line = RefusesApplication text line
 RefusesFirst Check text line = RefusesApplication text line
@@ -32,6 +33,7 @@ RefusesFirst (Soak number count workers) text line = RefusesApplication text lin
 RefusesFirst (Demo n) text line = ⊥
 RefusesFirst Deepest text line = RefusesApplication text line
 RefusesFirst Times text line = RefusesApplication text line
+RefusesFirst Verify text line = ⊥
 
 -- the line refuses the second text, where the first is not refused
 abbrev pub RefusesSecond : Command → List ℕ → List ℕ → List ℕ → Type 0
@@ -41,7 +43,8 @@ RefusesSecond Live text more line = RefusesScript text more line
 RefusesSecond Times text more line = RefusesLimits text more line
 RefusesSecond other text more line = ⊥
 
--- with this status these bytes are the output for texts that are not refused
+-- with this status these bytes are the output for texts that are not refused; for `verify` also the refusal of a text
+-- that is no listing
 abbrev pub Writes : Command → Inputs → Status → List ℕ → Type 0
 Writes Run t ended bytes =
     (ended ≡ status.Done) × (text more : List ℕ) × (t.first ≡ Some text) × (t.second ≡ Some more)
@@ -60,6 +63,7 @@ Writes (Demo n) t ended bytes = (ended ≡ status.Done) × (bytes ≡ demo n)
 Writes Deepest t ended bytes = (text : List ℕ) × (t.first ≡ Some text) × IsDeepened text ended bytes
 Writes Times t ended bytes =
     (text more : List ℕ) × (t.first ≡ Some text) × (t.second ≡ Some more) × IsTimed text more ended bytes
+Writes Verify t ended bytes = (text : List ℕ) × (t.first ≡ Some text) × IsVerified text ended bytes
 
 -- the status and the bytes that are due: the refusal of the first text, that of the second, or the output
 pub data Defined (c : Command) (t : Inputs) : Status → List ℕ → Type 0 where

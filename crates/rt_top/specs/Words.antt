@@ -21,6 +21,7 @@ pub data Command : Type 0 where
   Demo : (n : ℕ) → Command
   Deepest : Command
   Times : Command
+  Verify : Command
 
 -- a word of one to twenty digits, which spell this number
 pub record IsNumber (word : List ℕ) (n : ℕ) : Type 0 where
@@ -52,6 +53,7 @@ Names words (Soak number count workers) = IsSoak words number count workers
 Names words (Demo n) = (word : List ℕ) × (words ≡ codes "demo" ∷ word ∷ []) × IsNumber word n × (1 ≤ n) × (n ≤ 48)
 Names words Deepest = (app : List ℕ) × (words ≡ codes "deepest" ∷ app ∷ [])
 Names words Times = (app limits : List ℕ) × (words ≡ codes "times" ∷ app ∷ limits ∷ [])
+Names words Verify = (image : List ℕ) × (words ≡ codes "verify" ∷ image ∷ [])
 
 -- how many of the sources it reads, in order
 abbrev pub reads : Command → ℕ
@@ -65,6 +67,7 @@ reads (Soak number count workers) = 1
 reads (Demo n) = 0
 reads Deepest = 1
 reads Times = 2
+reads Verify = 1
 
 -- the words name a command
 abbrev pub IsCommand : List (List ℕ) → Type 0

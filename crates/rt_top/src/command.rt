@@ -39,6 +39,8 @@ pub(crate) enum Command {
     Deepest,
     /// `times APP LIMITS`
     Times,
+    /// `verify IMAGE`
+    Verify,
 }
 
 /// The command that the words name, None where they name none.
@@ -62,6 +64,8 @@ pub(crate) fn command_of(words: &[&str]) -> Option<Command>
         Some(Command::Deepest)
     } else if is_times(words) {
         Some(Command::Times)
+    } else if is_verify(words) {
+        Some(Command::Verify)
     } else if let Some(tasks) = demo_tasks(words) {
         Some(Command::Demo(tasks))
     } else {
@@ -145,6 +149,16 @@ fn is_times(words: &[&str]) -> bool
 {
     match words {
         [verb, _, _] => *verb == "times",
+        _ => false,
+    }
+}
+
+/// Whether the words are `verify IMAGE`.
+fn is_verify(words: &[&str]) -> bool
+    ensures { IsTrue result ↔ Names (texts words.now) word.Verify }
+{
+    match words {
+        [verb, _] => *verb == "verify",
         _ => false,
     }
 }

@@ -21,6 +21,7 @@ mod soak;
 mod start;
 mod times;
 pub mod top;
+mod verify;
 
 pub use rt_devices::{Gate, NoGate};
 pub use top::rtic;

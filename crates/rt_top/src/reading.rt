@@ -84,21 +84,21 @@ pub(crate) fn read_accepted<A: Source>(alloc: Global, app: &mut A) -> Result<App
     }
 }
 
-/// Reads the second text, None where it has more bytes than the limit. An error is the status to end with.
-pub(crate) fn read_second<B: Source>(
+/// Reads the text of a source, None where it has more bytes than the limit. An error is the status to end with.
+pub(crate) fn read_within<S: Source>(
     alloc: Global,
-    second: &mut B,
+    source: &mut S,
     limit: u32,
 ) -> Result<Option<Vec<u8>>, Status>
     requires { limit < 2 ^ 32 - 1 }
-    ensures whole { (text : List ℕ) → B.left second.old ≡ Some text →
+    ensures whole { (text : List ℕ) → S.left source.old ≡ Some text →
         IfOk result (λ read. IfSome read (λ own. own.items ≡ text)) }
-    ensures long { (text : List ℕ) → B.left second.old ≡ Some text →
+    ensures long { (text : List ℕ) → S.left source.old ≡ Some text →
         IfOk result (λ read. IfNone read (limit < length text)) }
-    ensures err { IfErr result (Stops (Rose (B.faults second.old) (B.faults second.new))) }
-    ensures heard { (B.faults second.new ≡ B.faults second.old) ⊎ IsErrOf result Status.Read }
+    ensures err { IfErr result (Stops (Rose (S.faults source.old) (S.faults source.new))) }
+    ensures heard { (S.faults source.new ≡ S.faults source.old) ⊎ IsErrOf result Status.Read }
 {
-    match read_text(alloc, second, limit) {
+    match read_text(alloc, source, limit) {
         Ok(text) => Ok(Some(text)),
         Err(ReadFail::TooLong) => Ok(None),
         Err(ReadFail::Fault) => Err(Status::Read),

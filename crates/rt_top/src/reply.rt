@@ -2,6 +2,7 @@ ghost use Rattle.std.specs.Prelude.{◌≡◌, ◌⊎◌, ◌++◌, decimal, IfO
 ghost use Rattle.rt_top.specs.Refusal.{refusal_line};
 ghost use Rattle.rt_top.specs.SecondRefusal.{script_line, SaysScript, trace_line, SaysTrace};
 ghost use Rattle.rt_top.specs.SecondRefusal.{limits_line, SaysLimits};
+ghost use Rattle.rt_top.specs.Verified.{image_line, SaysImage};
 ghost use Rattle.rt_top.specs.Ends.{Wrote};
 ghost use Rattle.rt_top.specs.Inside.Decides.{Tells, Finishes};
 ghost use Rattle.rt_ids.specs.declared.status.Status.TheVariants as status;
@@ -9,6 +10,7 @@ ghost use Rattle.rt_ids.specs.declared.status.Status.TheVariants as status;
 use crate::refusal::refusal_line;
 use itoa::Buffer;
 use rt_ids::{Fault, NoMemory, Status, push_bytes};
+use rt_load::LoadRefused;
 use rt_outside::{Sink, put_all};
 use rt_rta::LimitsRefused;
 use rt_script::ScriptRefused;
@@ -142,6 +144,25 @@ fn limits_line(alloc: Global, line: u32, words: &[u8]) -> Reply
     ensures { Tells status.Text (λ bytes. bytes ≡ limits_line line words.now) result }
 {
     numbered(alloc, Status::Text, b"limits:", u64::from(line), words)
+}
+
+/// The reply of a refusal of a listing.
+pub(crate) fn refuse_image(alloc: Global, refusal: LoadRefused) -> Reply
+    ensures { Tells status.Text (SaysImage refusal) result }
+{
+    match refusal {
+        LoadRefused::TooLong => image_line(alloc, 1, b" 1 too long\n"),
+        LoadRefused::BadLine(line) => image_line(alloc, line, b" 2 bad line\n"),
+        LoadRefused::UnknownName(line) => image_line(alloc, line, b" 3 unknown name\n"),
+        LoadRefused::NoMemory => Reply::Stop(Status::Memory),
+    }
+}
+
+/// The reply that a line of a listing is refused in these words.
+fn image_line(alloc: Global, line: u64, words: &[u8]) -> Reply
+    ensures { Tells status.Text (λ bytes. bytes ≡ image_line line words.now) result }
+{
+    numbered(alloc, Status::Text, b"image:", line, words)
 }
 
 /// Writes a reply, and answers the status that the program ends with.

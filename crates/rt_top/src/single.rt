@@ -13,11 +13,12 @@ use crate::deepest::deepest;
 use crate::format::fmt;
 use crate::reply::Reply;
 use crate::soak::soak;
+use crate::verify::verify;
 use rt_outside::Source;
 use std::alloc::Global;
 use std::thread::Threads;
 
-/// What a command replies that reads the application alone.
+/// What a command replies that reads the first source alone.
 pub(crate) fn single<R: Threads + Sync, A: Source>(
     rt: &R,
     alloc: Global,
@@ -40,6 +41,7 @@ pub(crate) fn single<R: Threads + Sync, A: Source>(
             workers,
         } => soak(rt, alloc, app, number, count, workers),
         Command::Deepest => deepest(alloc, app),
+        Command::Verify => verify(alloc, app),
         _ => unreachable!(),
     }
 }

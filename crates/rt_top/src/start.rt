@@ -14,7 +14,7 @@ ghost use Rattle.rt_top.specs.Inside.Decides.{Concludes, EndsAs};
 ghost use Rattle.rt_top.specs.Inside.Replies.{WantsMemory};
 ghost use Rattle.rt_top.specs.Inside.Started.{HasScript, IsStarted, IsGoodOf, AnswersRefusal};
 
-use crate::reading::{read_accepted, read_second};
+use crate::reading::{read_accepted, read_within};
 use crate::reply::{finish, refuse_script};
 use rt_app::App;
 use rt_core::Core;
@@ -56,7 +56,7 @@ pub(crate) fn start<A: Source, B: Source, K: Sink>(
         Ok(accepted) => accepted,
         Err(reply) => return Err(finish(out, &reply)),
     };
-    match read_second(alloc, second, SCRIPT_BYTES) {
+    match read_within(alloc, second, SCRIPT_BYTES) {
         Ok(Some(text)) => start_text(alloc, &accepted, &text, out),
         Ok(None) => Err(finish(out, &refuse_script(alloc, ScriptRefused::TooLong))),
         Err(status) => Err(status),

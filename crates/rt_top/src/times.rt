@@ -13,7 +13,7 @@ ghost use Rattle.rt_top.specs.Defined.{inputs, IsFirstRefused};
 ghost use Rattle.rt_top.specs.Inside.Decides.{Decides};
 ghost use Rattle.rt_top.specs.Inside.Replies.{IsHeard, Replies, AnswersTimes};
 
-use crate::reading::{read_accepted, read_second};
+use crate::reading::{read_accepted, read_within};
 use crate::reply::{NOT_OF_FORM, Reply, line, refuse_limits, told};
 use rt_app::App;
 use rt_frames::is_of_t_form;
@@ -38,7 +38,7 @@ pub(crate) fn times<A: Source, B: Source>(alloc: Global, app: &mut A, second: &m
         Ok(accepted) => accepted,
         Err(reply) => return reply,
     };
-    match read_second(alloc, second, SCRIPT_BYTES) {
+    match read_within(alloc, second, SCRIPT_BYTES) {
         Ok(Some(text)) => times_text(alloc, &accepted, &text),
         Ok(None) => refuse_limits(alloc, LimitsRefused::TooLong),
         Err(status) => Reply::Stop(status),

@@ -166,6 +166,7 @@ fn main(rt: HostRuntime) -> Result<()> {
     run(&rt, "failing", Table::Failing)?;
     run(&rt, "scripts", Table::Command("run app script"))?;
     run(&rt, "audits", Table::Command("audit app trace"))?;
+    run(&rt, "listings", Table::Command("verify image"))?;
     run_sweep(&rt, "cuts", Sweep::Cuts)?;
     run_sweep(&rt, "lines", Sweep::Lines)?;
     run(&rt, "commands", Table::Command(""))

@@ -15,6 +15,7 @@ meant (command.Soak number count workers) = word.Soak number count workers
 meant (command.Demo n) = word.Demo n
 meant command.Deepest = word.Deepest
 meant command.Times = word.Times
+meant command.Verify = word.Verify
 
 -- the numbers of a command are in range
 abbrev pub IsInRange : word.Command → Type 0

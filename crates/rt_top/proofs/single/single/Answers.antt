@@ -38,6 +38,12 @@ returns-in-Deepest-clause-decides g c second third =
     (Rose (g.A.Source.faults c.args.app.now) (g.A.Source.faults c.deepest.new.app)) ⊥ c.deepest.result) (sym c.in-Deepest.is)
     (c.deepest.ensures.decides second third)
 
+pub returns-in-Verify-clause-decides : goal.returns-in-Verify-clause-decides
+returns-in-Verify-clause-decides g c second third =
+    subst (λ (x : Command). Decides (meant x) (inputs (g.A.Source.left c.args.app.now) second third)
+    (Rose (g.A.Source.faults c.args.app.now) (g.A.Source.faults c.verify.new.image)) ⊥ c.verify.result) (sym c.in-Verify.is)
+    (c.verify.ensures.decides second third)
+
 pub soak-requires-clause-some : goal.soak-requires-clause-some
 soak-requires-clause-some g c lifetimes outlives = let range = subst (λ (x : Command). IsInRange (meant x)) c.in-Soak.is c.requires.range in range.1
 

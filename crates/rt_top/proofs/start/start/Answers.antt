@@ -51,8 +51,8 @@ returns-in-Ok-Some-clause-ends g c =
     IfErr-weaker c.start_text.result _ _
     (λ ended ends command has third.
     let rose = Rose (g.A.Source.faults c.args.app.now) (g.A.Source.faults c.read_accepted.new.app) in
-    let kept = IsKept g.B.Source.left g.B.Source.faults c.args.second.now c.read_second.new.second in
-    let second = Rose (g.B.Source.faults c.args.second.now) (g.B.Source.faults c.read_second.new.second) in
+    let kept = IsKept g.B.Source.left g.B.Source.faults c.args.second.now c.read_within.new.source in
+    let second = Rose (g.B.Source.faults c.args.second.now) (g.B.Source.faults c.read_within.new.source) in
     let t = (inputs (g.A.Source.left c.args.app.now) (g.B.Source.left c.args.second.now) third) in
     ends_as (AnswersRefusal (app_of c.in-Ok.accepted) c.deref.result.now) (IsDecided command t) WantsMemory
     (Stops (HasFailed command (rose × kept) second))
@@ -73,8 +73,8 @@ pub returns-in-Ok-None-clause-ends : goal.returns-in-Ok-None-clause-ends
 returns-in-Ok-None-clause-ends g c command has third =
     let t = (inputs (g.A.Source.left c.args.app.now) (g.B.Source.left c.args.second.now) third) in
     let rose = Rose (g.A.Source.faults c.args.app.now) (g.A.Source.faults c.read_accepted.new.app) in
-    let kept = IsKept g.B.Source.left g.B.Source.faults c.args.second.now c.read_second.new.second in
-    let second = Rose (g.B.Source.faults c.args.second.now) (g.B.Source.faults c.read_second.new.second) in
+    let kept = IsKept g.B.Source.left g.B.Source.faults c.args.second.now c.read_within.new.source in
+    let second = Rose (g.B.Source.faults c.args.second.now) (g.B.Source.faults c.read_within.new.source) in
     finished (g.K.Sink.taken c.args.out.now) (g.K.Sink.taken c.finish-in-Ok-None.new.out) (g.K.Sink.faults c.args.out.now)
     (g.K.Sink.faults c.finish-in-Ok-None.new.out) c.finish-in-Ok-None.result (IsDecided command t)
     (Stops (HasFailed command (rose × kept) second)) c.refuse_script.result
@@ -94,9 +94,9 @@ pub returns-clause-ends : goal.returns-clause-ends
 returns-clause-ends g c command has third =
     stopped command (inputs (g.A.Source.left c.args.app.now) (g.B.Source.left c.args.second.now) third)
     (Rose (g.A.Source.faults c.args.app.now) (g.A.Source.faults c.read_accepted.new.app)
-    × IsKept g.B.Source.left g.B.Source.faults c.args.second.now c.read_second.new.second)
-    (Rose (g.B.Source.faults c.args.second.now) (g.B.Source.faults c.read_second.new.second)) (script_reads command has)
-    (g.K.Sink.taken c.args.out.now) (g.K.Sink.faults c.args.out.now) c.in-Err-read_second.status c.in-Err-read_second.ensures.err
+    × IsKept g.B.Source.left g.B.Source.faults c.args.second.now c.read_within.new.source)
+    (Rose (g.B.Source.faults c.args.second.now) (g.B.Source.faults c.read_within.new.source)) (script_reads command has)
+    (g.K.Sink.taken c.args.out.now) (g.K.Sink.faults c.args.out.now) c.in-Err-read_within.status c.in-Err-read_within.ensures.err
 
 pub returns-clause-kept : goal.returns-clause-kept
 returns-clause-kept g c command has third r =

@@ -25,8 +25,8 @@ pub returns-in-Ok-Some-clause-decides : goal.returns-in-Ok-Some-clause-decides
 returns-in-Ok-Some-clause-decides g c third =
     replies_decides Times (inputs (g.A.Source.left c.args.app.now) (g.B.Source.left c.args.second.now) third)
     (Rose (g.A.Source.faults c.args.app.now) (g.A.Source.faults c.read_accepted.new.app)
-    × IsKept g.B.Source.left g.B.Source.faults c.args.second.now c.read_second.new.second)
-    (Rose (g.B.Source.faults c.args.second.now) (g.B.Source.faults c.read_second.new.second))
+    × IsKept g.B.Source.left g.B.Source.faults c.args.second.now c.read_within.new.source)
+    (Rose (g.B.Source.faults c.args.second.now) (g.B.Source.faults c.read_within.new.source))
     (AnswersTimes (app_of c.in-Ok.accepted) c.deref.result.now)
     (timed_decided (g.A.Source.left c.args.app.now) (g.B.Source.left c.args.second.now) third (app_of c.in-Ok.accepted)
     (λ text told. c.in-Ok.ensures.accepted text told) c.deref.result.now
@@ -42,8 +42,8 @@ pub returns-in-Ok-None-clause-decides : goal.returns-in-Ok-None-clause-decides
 returns-in-Ok-None-clause-decides g c third =
     tells_decides Times (inputs (g.A.Source.left c.args.app.now) (g.B.Source.left c.args.second.now) third)
     (Rose (g.A.Source.faults c.args.app.now) (g.A.Source.faults c.read_accepted.new.app)
-    × IsKept g.B.Source.left g.B.Source.faults c.args.second.now c.read_second.new.second)
-    (Rose (g.B.Source.faults c.args.second.now) (g.B.Source.faults c.read_second.new.second)) status.Text (SaysLimits in_limits.TooLong)
+    × IsKept g.B.Source.left g.B.Source.faults c.args.second.now c.read_within.new.source)
+    (Rose (g.B.Source.faults c.args.second.now) (g.B.Source.faults c.read_within.new.source)) status.Text (SaysLimits in_limits.TooLong)
     (long_limits_decided (g.A.Source.left c.args.app.now) (g.B.Source.left c.args.second.now) third
     (app_of c.in-Ok.accepted) (λ text told. c.in-Ok.ensures.accepted text told)
     (λ more heard. rw c.in-Ok-None.field-0-is at c.in-Ok-None.ensures.long more heard))
@@ -58,9 +58,9 @@ pub returns-clause-decides : goal.returns-clause-decides
 returns-clause-decides g c third =
     stops_decides Times
     (Rose (g.A.Source.faults c.args.app.now) (g.A.Source.faults c.read_accepted.new.app)
-    × IsKept g.B.Source.left g.B.Source.faults c.args.second.now c.read_second.new.second)
-    (Rose (g.B.Source.faults c.args.second.now) (g.B.Source.faults c.read_second.new.second)) (omega arith)
-    c.in-Err-read_second.status c.in-Err-read_second.ensures.err
+    × IsKept g.B.Source.left g.B.Source.faults c.args.second.now c.read_within.new.source)
+    (Rose (g.B.Source.faults c.args.second.now) (g.B.Source.faults c.read_within.new.source)) (omega arith)
+    c.in-Err-read_within.status c.in-Err-read_within.ensures.err
 
 pub returns-clause-kept : goal.returns-clause-kept
 returns-clause-kept g c third r =

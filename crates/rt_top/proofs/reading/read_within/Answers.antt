@@ -1,13 +1,13 @@
 use Rattle.std.proofs.Common.{refl, sym, arith}
 use Rattle.rt_top.proofs.FirstText.{whole_text, long_text}
-use Rattle.rt_top.proofs.reading.read_second.Goals as goal
+use Rattle.rt_top.proofs.reading.read_within.Goals as goal
 
 pub returns-in-Ok-clause-whole : goal.returns-in-Ok-clause-whole
 returns-in-Ok-clause-whole g c text told =
-    sym (whole_text (g.B.Source.left c.args.second.now) (g.B.Source.left c.read_text.new.source) c.in-Ok.text.items text told c.in-Ok.ensures.whole)
+    sym (whole_text (g.S.Source.left c.args.source.now) (g.S.Source.left c.read_text.new.source) c.in-Ok.text.items text told c.in-Ok.ensures.whole)
 
 pub returns-in-Err-TooLong-clause-long : goal.returns-in-Err-TooLong-clause-long
 returns-in-Err-TooLong-clause-long g c text told =
     let gave = (rw c.in-Err-TooLong.field-0-is at c.in-Err-TooLong.ensures.too_long) refl in
-    let long = long_text (g.B.Source.left c.args.second.now) (g.B.Source.left c.read_text.new.source) _ text told gave in
+    let long = long_text (g.S.Source.left c.args.source.now) (g.S.Source.left c.read_text.new.source) _ text told gave in
     omega (arith, long)

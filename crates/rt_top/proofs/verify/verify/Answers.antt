@@ -1,0 +1,28 @@
+use Rattle.std.proofs.Common.{◌∙◌}
+use Rattle.rt_ids.specs.declared.status.Status.TheVariants as status
+use Rattle.rt_outside.specs.Faults.{Rose}
+use Rattle.rt_load.specs.declared.refusal.LoadRefused.TheVariants as in_image
+use Rattle.rt_top.specs.Words.{Verify}
+use Rattle.rt_top.specs.Defined.{inputs}
+use Rattle.rt_top.specs.Verified.{SaysImage, IsVerified}
+use Rattle.rt_top.proofs.Deciding.{replies_decides, tells_decides}
+use Rattle.rt_top.proofs.Verifying.{verified_decided, long_decided}
+use Rattle.rt_top.proofs.verify.verify.Goals as goal
+
+pub returns-in-Ok-Some-clause-decides : goal.returns-in-Ok-Some-clause-decides
+returns-in-Ok-Some-clause-decides g c second third =
+    replies_decides Verify (inputs (g.A.Source.left c.args.image.now) second third)
+    (Rose (g.A.Source.faults c.args.image.now) (g.A.Source.faults c.read_within.new.source)) ⊥
+    (IsVerified c.deref.result.now)
+    (verified_decided (g.A.Source.left c.args.image.now) second third c.deref.result.now
+    (λ text told. c.deref.ensures.value ∙ (rw c.in-Ok-Some.field-0-is at c.in-Ok-Some.ensures.whole text told)))
+    c.verified.result c.verified.ensures
+
+pub returns-in-Ok-None-clause-decides : goal.returns-in-Ok-None-clause-decides
+returns-in-Ok-None-clause-decides g c second third =
+    tells_decides Verify (inputs (g.A.Source.left c.args.image.now) second third)
+    (Rose (g.A.Source.faults c.args.image.now) (g.A.Source.faults c.read_within.new.source)) ⊥ status.Text
+    (SaysImage in_image.TooLong)
+    (long_decided (g.A.Source.left c.args.image.now) second third
+    (λ text told. rw c.in-Ok-None.field-0-is at c.in-Ok-None.ensures.long text told))
+    c.refuse_image.result c.refuse_image.ensures

@@ -1,0 +1,36 @@
+-- What `verify` writes of a text: that it is no listing, that its image is safe, or the rule that its image breaks. It is
+-- this project's own; a listing is judged whatever made it, and no application stands beside it.
+use Rattle.std.specs.Prelude.{◌≡◌, ℕ, List, ◌++◌, codes, decimal}
+use Rattle.rt_ids.specs.declared.status.Status.{Status}
+use Rattle.rt_ids.specs.declared.status.Status.TheVariants as status
+use Rattle.rt_code.specs.Image.{Image}
+use Rattle.rt_load.specs.Reading.{IsListingText, IsRefused}
+use Rattle.rt_load.specs.declared.refusal.LoadRefused.{LoadRefused}
+use Rattle.rt_load.specs.declared.refusal.LoadRefused.TheVariants as in_image
+use Rattle.rt_points.specs.Checked.{IsChecked, IsLeastBroken}
+use Rattle.rt_safe.specs.Safe.{IsSafe}
+
+-- the line of a listing's line with a number
+abbrev pub image_line : ℕ → List ℕ → List ℕ
+image_line number words = codes "image:" ++ decimal number ++ words
+
+-- the line for the refusal of a text that is no listing; want of memory refuses nothing
+abbrev pub SaysImage : LoadRefused → List ℕ → Type 0
+SaysImage in_image.TooLong line = line ≡ image_line 1 (codes " 1 too long\n")
+SaysImage (in_image.BadLine n) line = line ≡ image_line n (codes " 2 bad line\n")
+SaysImage (in_image.UnknownName n) line = line ≡ image_line n (codes " 3 unknown name\n")
+SaysImage in_image.NoMemory line = ⊥
+
+-- the status and the line for an image
+pub data TellsImage (image : Image) : Status → List ℕ → Type 0 where
+  -- it keeps each rule, and is safe for every list of events
+  is_safe : IsChecked image → IsSafe image → TellsImage image status.Done (codes "yes\n")
+  -- the least of the rules that it breaks
+  breaks : (rule : ℕ) → IsLeastBroken image rule → TellsImage image status.No (codes "no " ++ decimal rule ++ codes "\n")
+
+-- `verify`: the status and the line for a text
+pub data IsVerified (text : List ℕ) : Status → List ℕ → Type 0 where
+  of_image : (image : Image) (ended : Status) (line : List ℕ) → IsListingText text image → TellsImage image ended line
+      → IsVerified text ended line
+  no_listing : (refusal : LoadRefused) (line : List ℕ) → IsRefused text refusal → SaysImage refusal line
+      → IsVerified text status.Text line
