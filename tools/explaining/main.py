@@ -18,7 +18,7 @@ from .warnings import warnings_of
 WARNINGS = 20
 APPLICATION, SECOND = 262_144, 268_435_456
 DONE, REFUSED, USAGE, BAD_LINE, NO, UNREAD = range(6)
-REFUSAL = re.compile(rb"(\d+):(\d+) E(\d\d) ([^\n]*)\n")
+REFUSAL = re.compile(rb"(second )?(\d+):(\d+) E(\d\d) ([^\n]*)\n")
 LINE_REFUSAL = re.compile(rb"(script|trace|limits|image):(\d+) (\d) ([^\n]*)\n")
 NOT_ASKED = "what may stand here is asked of the proved program, which is not built: ./build makes it"
 
@@ -62,7 +62,7 @@ class Explained:
         if status == DONE and self.words[0] == "check":
             self.warn()
         elif status == REFUSED and (found := REFUSAL.match(front)):
-            self.refused(int(found[1]), int(found[2]), int(found[3]), found[4].decode())
+            self.refused(1 if found[1] else 0, int(found[2]), int(found[3]), int(found[4]), found[5].decode())
         elif status == USAGE:
             self.command_line()
         elif status == BAD_LINE and (found := LINE_REFUSAL.match(front)):
@@ -93,10 +93,10 @@ class Explained:
 
     # Status 1.
 
-    def refused(self, line, column, number, words):
-        text, report = self.text(0), self.report
+    def refused(self, which, line, column, number, words):
+        text, report = self.text(which), self.report
         at = offset_of(text, line, column)
-        report.head(self.names[0], line, column, f"E{number:02} {words}")
+        report.head(self.names[which], line, column, f"E{number:02} {words}")
         if number == 1:
             cause, mending = texts.too_long(text, self.table)
             report.picture(text, at, 1)
@@ -113,7 +113,7 @@ class Explained:
             cause, mending = texts.limit(syntax, words.split(" ")[1], self.table)
             self.sentences([("cause", cause), ("help", mending)])
         else:
-            self.rule(text, at, number)
+            self.rule(which, text, at, number)
 
     def syntax(self, syntax):
         """What may stand there, what does, and how to mend it."""
@@ -129,14 +129,14 @@ class Explained:
         if not self.program.answers:
             self.report.say("note", NOT_ASKED)
 
-    def rule(self, text, at, number):
+    def rule(self, which, text, at, number):
         rules = Rules(tree_of(text), at)
         syntax = texts.Syntax(text, at)
         self.report.picture(text, at, len(syntax.token.text))
         getattr(rules, f"e{number:02}")(self.table)
         self.sentences([("cause", cause) for cause in rules.causes] + [("help", one) for one in rules.helps])
         for sentence, start, length in rules.notes:
-            self.report.note(sentence, self.names[0], text, start, length)
+            self.report.note(sentence, self.names[which], text, start, length)
 
     # Status 0, of check.
 
@@ -162,7 +162,7 @@ class Explained:
             return [line.rstrip("\n") for line in itertools.islice(file, count)]
 
     def bad_line(self, which, line, number, words):
-        place = 0 if which == "image" else 1
+        place = {"verify": 0, "pair": 2}.get(self.words[0], 1)
         lines, size = self.first_lines(place, line), os.path.getsize(self.paths[place])
         source = lines[line - 1] if line <= len(lines) else ""
         if which == "image":

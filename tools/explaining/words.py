@@ -1,4 +1,4 @@
-"""Statuses 2 and 5: which command is not built or which word is wrong, and which file could not be read."""
+"""Statuses 2 and 5: which word is wrong, and which file could not be read."""
 import difflib
 import os
 import re
@@ -6,13 +6,10 @@ import re
 COMMANDS = {
     "run": ("APP", "SCRIPT"), "check": ("APP",), "fmt": ("APP",), "build": ("APP",), "audit": ("APP", "TRACE"),
     "live": ("APP", "SCRIPT"), "soak": ("APP", "NUMBER", "COUNT", "WORKERS"), "demo": ("N",), "deepest": ("APP",),
-    "times": ("APP", "LIMITS"), "verify": ("IMAGE",),
+    "times": ("APP", "LIMITS"), "verify": ("IMAGE",), "pair": ("APP1", "APP2", "SCRIPT"),
 }
 RANGES = {"NUMBER": (0, (1 << 64) - 1), "COUNT": (1, 10_000), "WORKERS": (1, 64), "N": (1, 48)}
 DIGITS = re.compile(r"[0-9]{1,20}")
-TO_COME = {
-    "pair": "`run` runs one application",
-}
 FORMS = {
     "deepest": "`deepest` is for hardware tasks alone, without a monotonic, and an `init` that has no `pend` and costs at "
                "most 900,000",
@@ -65,9 +62,6 @@ def of_words(words):
     if not words:
         return [("help", BUILT)]
     name = words[0]
-    if name in TO_COME:
-        return [("cause", f"`{name}` is not built yet: the usage line names the commands to come too"),
-                ("help", TO_COME[name])]
     if name in COMMANDS:
         return [("cause", of_command(words))]
     if name.startswith("-"):

@@ -7,7 +7,7 @@ use std::thread::Threads;
 /// Bytes that a sink has room for, where nothing else is said.
 const ROOM: u32 = 1 << 23;
 
-/// The sources of a command and its sink. No command reads the third source.
+/// The sources of a command and its sink.
 pub struct Outside {
     pub app: MemSource,
     pub second: MemSource,
@@ -33,6 +33,21 @@ impl Outside {
             app: MemSource::new(alloc, app, &[])?,
             second: MemSource::new(alloc, second, &[])?,
             third: MemSource::new(alloc, b"third", &[0])?,
+            out: MemSink::new(alloc, ROOM, &[])?,
+        })
+    }
+
+    /// Sources of these three texts and a sink, in which nothing fails.
+    pub fn of_three(
+        alloc: Global,
+        app: &[u8],
+        second: &[u8],
+        third: &[u8],
+    ) -> Result<Outside, NoMemory> {
+        Ok(Outside {
+            app: MemSource::new(alloc, app, &[])?,
+            second: MemSource::new(alloc, second, &[])?,
+            third: MemSource::new(alloc, third, &[])?,
             out: MemSink::new(alloc, ROOM, &[])?,
         })
     }

@@ -45,12 +45,20 @@ fn sink(alloc: Global, case: &Case) -> Result<MemSink> {
     Ok(MemSink::new(alloc, case.number("room").unwrap_or(ROOM), &fails)?)
 }
 
+/// The third source, which fails at its first read where the case has no text for it.
+fn third(alloc: Global, case: &Case) -> Result<MemSource> {
+    if case.bytes("third").is_empty() {
+        return Ok(MemSource::new(alloc, b"third", &[0])?);
+    }
+    source(alloc, case, "third", "third_fails")
+}
+
 /// The sources and the sink of a case.
 fn outside(alloc: Global, case: &Case) -> Result<Outside> {
     Ok(Outside {
         app: source(alloc, case, "app", "app_fails")?,
         second: source(alloc, case, "second", "second_fails")?,
-        third: MemSource::new(alloc, b"third", &[0])?,
+        third: third(alloc, case)?,
         out: sink(alloc, case)?,
     })
 }
@@ -88,16 +96,16 @@ fn told_with_left(alloc: Global, ran: &mut Ran, case: &Case) -> Result<&'static 
     if !is_second_left(alloc, &mut ran.outside.second, case)? {
         return Ok("something else is left of the second source");
     }
-    if !is_third_left(alloc, &mut ran.outside.third)? {
+    if case.bytes("third").is_empty() && !is_third_left(alloc, &mut ran.outside.third)? {
         return Ok("the third source was read");
     }
     Ok(told(ran, case))
 }
 
 /// What is told of a case: `ok`, or what differs. The parts of a case are `words`, where they are not these; the
-/// texts `app` and `second`; the numbers of calls that fail, `app_fails`, `second_fails` and `out_fails`; the `room` of
-/// the sink; and what is wanted, `exit`, `output` and `second_left`, what the second source still has, where the case
-/// says that.
+/// texts `app`, `second` and `third`, where without the last the third source may not be read; the numbers of calls that
+/// fail, `app_fails`, `second_fails`, `third_fails` and `out_fails`; the `room` of the sink; and what is wanted, `exit`,
+/// `output` and `second_left`, what the second source still has, where the case says that.
 pub fn verdict<R: Threads + Sync>(
     rt: &R,
     alloc: Global,

@@ -3,7 +3,7 @@ use Rattle.std.proofs.Common.{◌≡◌, ◌<◌, ◌≤◌, ℕ, Bool, IsTrue, 
 use Rattle.std.proofs.lemmas.Slice.Eq.{bytes_eq-Decides}
 use Rattle.std.specs.Str.Parse.{digits_value}
 use Rattle.std.specs.Borrow.{Bor}
-use Rattle.rt_top.specs.Words.{Command, Run, Check, Fmt, Build, Audit, Live, Soak, Demo, Deepest, Times, Verify, texts, Names, IsCommand}
+use Rattle.rt_top.specs.Words.{Command, Run, Check, Fmt, Build, Audit, Live, Soak, Demo, Deepest, Times, Verify, Pair, texts, Names, IsCommand}
 use Rattle.rt_top.specs.Inside.Meant.{IsInRange}
 
 -- three words are the first, and two more
@@ -54,6 +54,32 @@ module _ (verb : List ℕ) (words : List (Bor (List ℕ))) (d : Bor (List ℕ)) 
         λ is. test ∙ decides.1 (head_of_two (sym t.1 ∙ is.1)),
       )
 
+-- four words are the first, and three more
+pub four : (words : List (Bor (List ℕ))) (d : Bor (List ℕ)) → 4 ≤ length words → length words < 5
+    → (a b c : List ℕ) × (texts words ≡ (get_or words 0 d).now ∷ a ∷ b ∷ c ∷ [])
+four [] d least most = absurd (omega arith)
+four (x ∷ []) d least most = absurd (omega arith)
+four (x ∷ y ∷ []) d least most = absurd (omega arith)
+four (x ∷ y ∷ z ∷ []) d least most = absurd (omega arith)
+four (x ∷ y ∷ z ∷ u ∷ []) d least most = (y.now, z.now, u.now, refl)
+four (x ∷ y ∷ z ∷ u ∷ v ∷ words) d least most = absurd (omega arith)
+
+head_of_four : {a b c d w x y z : List ℕ} → a ∷ b ∷ c ∷ d ∷ [] ≡ w ∷ x ∷ y ∷ z ∷ [] → a ≡ w
+head_of_four e = cc
+
+-- the test of the first of four words
+module _ (verb : List ℕ) (words : List (Bor (List ℕ))) (d : Bor (List ℕ)) (b : Bool) (least : 4 ≤ length words) (most : length words < 5) where
+  abbrev IsVerbOfFour : Type 0
+  IsVerbOfFour = (first second script : List ℕ) × (texts words ≡ verb ∷ first ∷ second ∷ script ∷ [])
+
+  pub is_verb_of_four_by : b ≡ bytes_eq (get_or words 0 d).now verb → (IsTrue b → IsVerbOfFour) × (IsVerbOfFour → IsTrue b)
+  is_verb_of_four_by test =
+      let t = four words d least most in
+      let decides = bytes_eq-Decides (get_or words 0 d).now verb in (
+        λ yes. (t.0, t.1, t.2, t.3 ∙ ap (λ w. w ∷ t.0 ∷ t.1 ∷ t.2 ∷ []) (decides.0 (sym test ∙ yes))),
+        λ is. test ∙ decides.1 (head_of_four (sym t.3 ∙ is.3)),
+      )
+
 -- two words, by their places
 pub pair_of : (words : List (Bor (List ℕ))) (d : Bor (List ℕ)) → 2 ≤ length words → length words < 3
     → texts words ≡ (get_or words 0 d).now ∷ (get_or words 1 d).now ∷ []
@@ -86,13 +112,13 @@ refuted : {P : Type 0} (b : Bool) → (IsTrue b ↔ P) → b ≡ false → P →
 refuted b both is_false p = let is_true : b ≡ true = both.1 p in cc
 
 -- words that are none of these are no command
-module _ (words : List (List ℕ)) (run check fmt build audit live deepest times verify : Bool)
+module _ (words : List (List ℕ)) (run check fmt build audit live deepest times verify pair : Bool)
     (is_run : IsTrue run ↔ Names words Run) (is_check : IsTrue check ↔ Names words Check)
     (is_fmt : IsTrue fmt ↔ Names words Fmt) (is_build : IsTrue build ↔ Names words Build) (is_audit : IsTrue audit ↔ Names words Audit)
     (is_live : IsTrue live ↔ Names words Live) (is_deepest : IsTrue deepest ↔ Names words Deepest) (is_times : IsTrue times ↔ Names words Times)
-    (is_verify : IsTrue verify ↔ Names words Verify)
+    (is_verify : IsTrue verify ↔ Names words Verify) (is_pair : IsTrue pair ↔ Names words Pair)
     (no_run : run ≡ false) (no_check : check ≡ false) (no_fmt : fmt ≡ false) (no_build : build ≡ false) (no_audit : audit ≡ false)
-    (no_live : live ≡ false) (no_deepest : deepest ≡ false) (no_times : times ≡ false) (no_verify : verify ≡ false) (no_demo : (n : ℕ) → Names words (Demo n) → ⊥)
+    (no_live : live ≡ false) (no_deepest : deepest ≡ false) (no_times : times ≡ false) (no_verify : verify ≡ false) (no_pair : pair ≡ false) (no_demo : (n : ℕ) → Names words (Demo n) → ⊥)
     (no_soak : (number count workers : ℕ) → Names words (Soak number count workers) → ⊥) where
   none : (c : Command) → Names words c → ⊥
   none Run named = refuted run is_run no_run named
@@ -104,6 +130,7 @@ module _ (words : List (List ℕ)) (run check fmt build audit live deepest times
   none Deepest named = refuted deepest is_deepest no_deepest named
   none Times named = refuted times is_times no_times named
   none Verify named = refuted verify is_verify no_verify named
+  none Pair named = refuted pair is_pair no_pair named
   none (Soak number count workers) named = no_soak number count workers named
   none (Demo n) named = no_demo n named
 
@@ -138,6 +165,7 @@ of_three verb =
 abbrev pub command_named : List (List ℕ) → Option Command
 command_named (verb ∷ word ∷ []) = of_two verb word
 command_named (verb ∷ word ∷ more ∷ []) = of_three verb
+command_named (verb ∷ first ∷ second ∷ script ∷ []) = when (bytes_eq verb (codes "pair")) Pair None
 command_named (verb ∷ app ∷ number ∷ count ∷ workers ∷ []) = Some (Soak (digits_value 10 number) (digits_value 10 count) (digits_value 10 workers))
 command_named other = None
 
@@ -156,6 +184,7 @@ names_it words (Soak number count workers) named =
 names_it words Deepest named = ap command_named named.1
 names_it words Times named = ap command_named named.2
 names_it words Verify named = ap command_named named.1
+names_it words Pair named = ap command_named named.3
 names_it words (Demo n) named = let e = ap command_named named.1 in let a = named.2.value in cc
 
 -- words name one command at most
@@ -176,3 +205,4 @@ in_range words Live named = tt
 in_range words Deepest named = tt
 in_range words Times named = tt
 in_range words Verify named = tt
+in_range words Pair named = tt

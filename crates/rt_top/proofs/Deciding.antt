@@ -24,7 +24,7 @@ use Rattle.rt_top.specs.Refusal.{RefusesApplication}
 use Rattle.rt_top.specs.SecondRefusal.{SaysScript, RefusesScript, SaysLimits}
 use Rattle.rt_top.specs.Outputs.{check_report, TellsSoak, TellsDeepest, TellsTimes}
 use Rattle.rt_top.specs.Outputs as outputs
-use Rattle.rt_top.specs.Defined.{Inputs, inputs, RefusesFirst, RefusesSecond, Defined, refused, faulty, output, IsTold, IsFirstRefused, AreTold, AreReadTold}
+use Rattle.rt_top.specs.Defined.{Inputs, inputs, RefusesFirst, RefusesSecond, Defined, refused, faulty, output, IsTold, IsFirstRefused, IsSecondRefused, AreTold, AreReadTold}
 use Rattle.rt_top.specs.Inside.Replies.{Replies, AnswersAudit, AnswersTimes, run_text}
 use Rattle.rt_top.specs.Inside.Started.{HasScript, IsStarted, AnswersRefusal, ShowsLive}
 use Rattle.rt_top.specs.Inside.Meant.{meant}
@@ -53,7 +53,7 @@ module _ (c : Command) (t : Inputs) (some : 1 ≤ reads c) (Refuses : List ℕ �
     where
       defined : AreReadTold c t status.App → Defined c t ended bytes
       defined told =
-          let text = told_text t.first (told some) in
+          let text = told_text t.first (told.0 some) in
           subst (λ s. Defined c t s bytes) (sym is) (refused text.0 bytes text.1 (means text.0 bytes (refuses text.0 text.1)))
 
   pub halts_decides : (failed first second : Type 0) → (failed → first) → (r : Reply) → Halts t.first Refuses failed r → Decides c t first second r
@@ -91,14 +91,14 @@ module _ (first second third : Option (List ℕ)) (a : tree.App) (spelled : (tex
 
   pub formatted_decided : (bytes : List ℕ) → bytes ≡ canonical a → IsDecided Fmt t status.Done bytes
   formatted_decided bytes says = record {
-    which = inr (is_done, λ r. tree_passes r.0 r.1 a (spelled r.0 r.2) r.3);
+    which = inr (is_done, λ r. tree_passes r.0 r.1 a (spelled r.0 r.2) r.3, λ r. r.5);
     defined = λ told.
         let text = told_text first (told.0 (omega arith)) in
         output status.Done bytes (refl, text.0, text.1, (a, spelled text.0 text.1, says));
   }
 
 -- what a command does behind a first text that is not refused, where it reads a second one
-module _ (c : Command) (t : Inputs) (passes : IsFirstRefused c t → ⊥) (two : 2 ≤ reads c) where
+module _ (c : Command) (t : Inputs) (passes : IsFirstRefused c t → ⊥) (none : IsSecondRefused c t → ⊥) (two : 2 ≤ reads c) where
   both_told : (ended : Status) → IsPast ended → AreReadTold c t ended → AreTold c t
   both_told ended is_done told = told
   both_told ended is_text told = told
@@ -107,7 +107,7 @@ module _ (c : Command) (t : Inputs) (passes : IsFirstRefused c t → ⊥) (two :
   past_decided : (ended : Status) (bytes : List ℕ) → IsPast ended
       → ((text more : List ℕ) → t.first ≡ Some text → t.second ≡ Some more → Defined c t ended bytes) → IsDecided c t ended bytes
   past_decided ended bytes past defined = record {
-    which = inr (past, passes);
+    which = inr (past, passes, none);
     defined = λ told.
         let all = both_told ended past told in
         let text = told_text t.first (all.0 (omega (arith, two))) in
@@ -120,6 +120,11 @@ pub script_reads : (c : Command) → HasScript c → 2 ≤ reads c
 script_reads Run has = omega arith
 script_reads Live has = omega arith
 script_reads other has = absurd has
+
+script_alone : (c : Command) → HasScript c → (t : Inputs) → IsSecondRefused c t → ⊥
+script_alone Run has t r = r.5
+script_alone Live has t r = r.5
+script_alone other has t r = absurd has
 
 pub refuses_first : (c : Command) → HasScript c → (text line : List ℕ) → RefusesApplication text line → RefusesFirst c text line
 refuses_first Run has text line r = r
@@ -147,7 +152,7 @@ module _ (first second third : Option (List ℕ)) (app : App) (accepted : (text 
   -- a report
   pub checked_decided : (bytes : List ℕ) → bytes ≡ check_report app → IsDecided Check u status.Done bytes
   checked_decided bytes says = record {
-    which = inr (is_done, λ r. application_passes r.0 r.1 app (accepted r.0 r.2) r.3);
+    which = inr (is_done, λ r. application_passes r.0 r.1 app (accepted r.0 r.2) r.3, λ r. r.5);
     defined = λ told.
         let text = told_text first (told.0 (omega arith)) in
         output status.Done bytes (refl, text.0, text.1, (app, accepted text.0 text.1, says));
@@ -160,7 +165,7 @@ module _ (first second third : Option (List ℕ)) (app : App) (accepted : (text 
   pub trace_decided : (ended : Status) (bytes : List ℕ) → AnswersTrace app second ended bytes
       → IsDecided Audit u ended bytes
   trace_decided ended bytes a =
-      past_decided Audit u audit_passes (omega arith) ended bytes a.past
+      past_decided Audit u audit_passes (λ r. r.5) (omega arith) ended bytes a.past
       (λ text more e f. at text more e f ended bytes (a.answers more f))
     where
       at : (text more : List ℕ) → first ≡ Some text → second ≡ Some more → (s : Status) (b : List ℕ)
@@ -194,7 +199,7 @@ module _ (first second third : Option (List ℕ)) (app : App) (accepted : (text 
   pub soaked_decided : (number count workers : ℕ) (bytes : List ℕ) → TellsSoak app number count bytes
       → IsDecided (Soak number count workers) u status.Done bytes
   soaked_decided number count workers bytes says = record {
-    which = inr (is_done, λ r. application_passes r.0 r.1 app (accepted r.0 r.2) r.3);
+    which = inr (is_done, λ r. application_passes r.0 r.1 app (accepted r.0 r.2) r.3, λ r. r.5);
     defined = λ told.
         let text = told_text first (told.0 (omega arith)) in
         output status.Done bytes (refl, text.0, text.1, (app, accepted text.0 text.1, says));
@@ -203,7 +208,7 @@ module _ (first second third : Option (List ℕ)) (app : App) (accepted : (text 
   -- a script to the stack bound
   pub deepened_decided : (ended : Status) (bytes : List ℕ) → TellsDeepest app ended bytes → IsDecided Deepest u ended bytes
   deepened_decided ended bytes tells = record {
-    which = inr (past tells, λ r. application_passes r.0 r.1 app (accepted r.0 r.2) r.3);
+    which = inr (past tells, λ r. application_passes r.0 r.1 app (accepted r.0 r.2) r.3, λ r. r.5);
     defined = λ told.
         let text = told_text first ((read_all told tells).0 (omega arith)) in
         output ended bytes (text.0, text.1, (app, accepted text.0 text.1, tells));
@@ -225,7 +230,7 @@ module _ (first second third : Option (List ℕ)) (app : App) (accepted : (text 
       → ((more : List ℕ) → second ≡ Some more → limits.IsRefused app more refusal)
       → SaysLimits refusal line → IsDecided Times u status.Text line
   limits_decided refusal line met says =
-      past_decided Times u times_passes (omega arith) status.Text line is_text (λ text more e f.
+      past_decided Times u times_passes (λ r. r.5) (omega arith) status.Text line is_text (λ text more e f.
       faulty text more line e f (record { app = app; of_text = accepted text e; refusal = refusal; refused = met more f; says = says }))
 
   pub long_limits_decided : ((more : List ℕ) → second ≡ Some more → SCRIPT_BYTES < length more) → (line : List ℕ)
@@ -235,7 +240,7 @@ module _ (first second third : Option (List ℕ)) (app : App) (accepted : (text 
   pub timed_decided : (own : List ℕ) → ((more : List ℕ) → second ≡ Some more → own ≡ more) → (ended : Status)
       (bytes : List ℕ) → AnswersTimes app own ended bytes → IsDecided Times u ended bytes
   timed_decided own same s b (replies.told ls s' b' read tells) =
-      past_decided Times u times_passes (omega arith) s b (past tells) (λ text more e f.
+      past_decided Times u times_passes (λ r. r.5) (omega arith) s b (past tells) (λ text more e f.
       output s b (
         text,
         more,
@@ -260,7 +265,7 @@ module _ (first second third : Option (List ℕ)) (app : App) (accepted : (text 
   pub listed_decided : IsAccepted app → (bytes : List ℕ) → Lists app bytes
       → IsDecided Build u status.Done bytes
   listed_decided is_accepted bytes (image, of_application, runnable, says) = record {
-    which = inr (is_done, λ r. application_passes r.0 r.1 app (accepted r.0 r.2) r.3);
+    which = inr (is_done, λ r. application_passes r.0 r.1 app (accepted r.0 r.2) r.3, λ r. r.5);
     defined = λ told.
         let text = told_text first (told.0 (omega arith)) in
         output status.Done bytes (
@@ -289,7 +294,7 @@ module _ (first second third : Option (List ℕ)) (app : App) (accepted : (text 
       → ((more : List ℕ) → second ≡ Some more → script.IsRefused (names_of app) more refusal)
       → SaysScript refusal line → IsDecided c u status.Text line
   script_decided c has refusal line met says =
-      past_decided c u (script_passes c has) (script_reads c has) status.Text line is_text (λ text more e f.
+      past_decided c u (script_passes c has) (script_alone c has u) (script_reads c has) status.Text line is_text (λ text more e f.
       faulty text more line e f (refuses_second c has text more line
       (record { app = app; of_text = accepted text e; refusal = refusal; refused = met more f; says = says })))
 
@@ -310,7 +315,7 @@ module _ (first second third : Option (List ℕ)) (image : Image) (asked : List 
       → IsDecided Run (inputs first second third) ended bytes
   run_decided ended bytes (is, written) =
       subst (λ e. IsDecided Run (inputs first second third) e bytes) (sym is)
-      (past_decided Run (inputs first second third) (script_passes first second third s.app s.of_text Run tt) (omega arith) status.Done bytes is_done
+      (past_decided Run (inputs first second third) (script_passes first second third s.app s.of_text Run tt) (λ r. r.5) (omega arith) status.Done bytes is_done
       (λ text more e f. output status.Done bytes (
         refl,
         text,
@@ -337,7 +342,7 @@ module _ (first second third : Option (List ℕ)) (image : Image) (asked : List 
       → IsDecided Live (inputs first second third) ended bytes
   live_decided ended bytes (is, shown, live, written) =
       subst (λ e. IsDecided Live (inputs first second third) e bytes) (sym is)
-      (past_decided Live (inputs first second third) (script_passes first second third s.app s.of_text Live tt) (omega arith) status.Done bytes is_done
+      (past_decided Live (inputs first second third) (script_passes first second third s.app s.of_text Live tt) (λ r. r.5) (omega arith) status.Done bytes is_done
       (λ text more e f. output status.Done bytes (
         refl,
         text,
@@ -380,20 +385,21 @@ kept_as c k same t kept keeps = subst (λ x. (reads (meant x) ≤ 1) ⊎ IsFirst
 pub some_read : {P : Type 0} (c k : code.Command) → c ≡ k → 1 ≤ reads (meant k) → reads (meant c) ≡ 0 → P
 some_read c k same some none = let e = ap (λ (x : code.Command). reads (meant x)) same in absurd (omega (arith, some, none, e))
 
--- the commands that read one source, of those that read none or two
-pub reads_one : (c : code.Command) → (c ≡ command.Run → ⊥) → (c ≡ command.Live → ⊥) → (c ≡ command.Audit → ⊥)
+-- the commands that read one source, of those that read two at most
+pub reads_one : (c : code.Command) → reads (meant c) ≤ 2 → (c ≡ command.Run → ⊥) → (c ≡ command.Live → ⊥) → (c ≡ command.Audit → ⊥)
     → (c ≡ command.Times → ⊥) → ((n : ℕ) → c ≡ command.Demo n → ⊥) → reads (meant c) ≡ 1
-reads_one command.Run run live audit times demo = absurd (run refl)
-reads_one command.Live run live audit times demo = absurd (live refl)
-reads_one command.Audit run live audit times demo = absurd (audit refl)
-reads_one command.Times run live audit times demo = absurd (times refl)
-reads_one (command.Demo n) run live audit times demo = absurd (demo n refl)
-reads_one command.Check run live audit times demo = refl
-reads_one command.Fmt run live audit times demo = refl
-reads_one command.Build run live audit times demo = refl
-reads_one command.Deepest run live audit times demo = refl
-reads_one command.Verify run live audit times demo = refl
-reads_one (command.Soak number count workers) run live audit times demo = refl
+reads_one command.Run few run live audit times demo = absurd (run refl)
+reads_one command.Live few run live audit times demo = absurd (live refl)
+reads_one command.Audit few run live audit times demo = absurd (audit refl)
+reads_one command.Times few run live audit times demo = absurd (times refl)
+reads_one (command.Demo n) few run live audit times demo = absurd (demo n refl)
+reads_one command.Check few run live audit times demo = refl
+reads_one command.Fmt few run live audit times demo = refl
+reads_one command.Build few run live audit times demo = refl
+reads_one command.Deepest few run live audit times demo = refl
+reads_one command.Verify few run live audit times demo = refl
+reads_one command.Pair few run live audit times demo = absurd (omega (arith, few))
+reads_one (command.Soak number count workers) few run live audit times demo = refl
 
 -- and there is no other
 pub reads_other : (c : code.Command) → reads (meant c) ≡ 1 → (c ≡ command.Check → ⊥) → (c ≡ command.Fmt → ⊥)
@@ -403,6 +409,7 @@ reads_other command.Run one check fmt build deepest verify soak = omega (arith, 
 reads_other command.Live one check fmt build deepest verify soak = omega (arith, one)
 reads_other command.Audit one check fmt build deepest verify soak = omega (arith, one)
 reads_other command.Times one check fmt build deepest verify soak = omega (arith, one)
+reads_other command.Pair one check fmt build deepest verify soak = omega (arith, one)
 reads_other (command.Demo n) one check fmt build deepest verify soak = omega (arith, one)
 reads_other command.Check one check fmt build deepest verify soak = check refl
 reads_other command.Fmt one check fmt build deepest verify soak = fmt refl
@@ -414,7 +421,7 @@ reads_other (command.Soak number count workers) one check fmt build deepest veri
 -- the demonstration application, of so many tasks
 demo_decided : (t : Inputs) (n : ℕ) (bytes : List ℕ) → bytes ≡ demo n → IsDecided (Demo n) t status.Done bytes
 demo_decided t n bytes says = record {
-  which = inr (is_done, λ r. r.3);
+  which = inr (is_done, λ r. r.3, λ r. r.5);
   defined = λ told. output status.Done bytes (refl, says);
 }
 

@@ -1,11 +1,11 @@
 -- From how a command ends to what the top call says.
-use Rattle.std.proofs.Common.{◌≡◌, ℕ, ◌⊎◌, List, [], Option, inl, inr, sym, subst, ◌∙◌}
+use Rattle.std.proofs.Common.{◌≡◌, ℕ, ◌⊎◌, List, [], Option, inl, inr, sym, subst, ◌∙◌, arith}
 use Rattle.rt_ids.specs.declared.status.Status.{Status}
 use Rattle.rt_ids.specs.declared.status.Status.TheVariants as status
 use Rattle.rt_outside.specs.Faults.{Rose}
 use Rattle.rt_outside.specs.Bytes.{Took}
 use Rattle.rt_top.specs.Words.{Command}
-use Rattle.rt_top.specs.Defined.{Inputs, Defined, IsDue, IsAnswer, IsFirstRefused, AreTold, AreReadTold, WroteAll, WrotePart}
+use Rattle.rt_top.specs.Defined.{Inputs, Defined, IsDue, IsAnswer, IsFirstRefused, IsSecondRefused, IsApplicationRefused, AreTold, AreReadTold, WroteAll, WrotePart}
 use Rattle.rt_top.specs.Inside.Decides.{IsPast, is_done, is_text, is_no, IsDecided, HasFailed, Concludes}
 use Rattle.rt_top.proofs.Excluding.{one_due, told_of_due, is_told}
 
@@ -13,28 +13,31 @@ no_answer : (ended : Status) → (ended ≡ status.Memory) ⊎ (ended ≡ status
 no_answer ended (inl is) answer = subst IsAnswer is answer
 no_answer ended (inr is) answer = subst IsAnswer is answer
 
--- what is written at an end that is no refusal of the first text is told by all sources that are read
+-- what is written at an end that is no refusal of an application is told by all sources that are read
 read_told : (c : Command) (t : Inputs) (ended : Status) → IsPast ended → AreTold c t → AreReadTold c t ended
 read_told c t ended is_done told = told
 read_told c t ended is_text told = told
 read_told c t ended is_no told = told
 
-first_told : (c : Command) (t : Inputs) → IsFirstRefused c t ⊎ AreTold c t → AreReadTold c t status.App
-first_told c t (inl (text, line, e, r)) = λ _. is_told t.first text e
-first_told c t (inr told) = told.0
+first_told : (c : Command) (t : Inputs) → IsApplicationRefused c t ⊎ AreTold c t → AreReadTold c t status.App
+first_told c t (inl (inl (text, line, e, r))) = (λ _. is_told t.first text e, λ _. inl (text, line, e, r))
+first_told c t (inl (inr (text, more, line, e, f, r))) = (λ _. is_told t.first text e, λ _. inr (is_told t.second more f))
+first_told c t (inr told) = (told.0, λ three. inr (told.1 (omega (arith, three))))
 
 module _ (c : Command) (t : Inputs) (ended : Status) (bytes : List ℕ) (d : IsDecided c t ended bytes) where
-  -- where the sources that the command reads tell, or the first text is refused
-  defined_by : IsFirstRefused c t ⊎ AreTold c t → Defined c t ended bytes
+  -- where the sources that the command reads tell, or an application is refused
+  defined_by : IsApplicationRefused c t ⊎ AreTold c t → Defined c t ended bytes
   defined_by told = at d.which
     where
-      other : IsPast ended → (IsFirstRefused c t → ⊥) → IsFirstRefused c t ⊎ AreTold c t → Defined c t ended bytes
-      other past passed (inl r) = absurd (passed r)
-      other past passed (inr all) = d.defined (read_told c t ended past all)
+      other : IsPast ended → (IsFirstRefused c t → ⊥) → (IsSecondRefused c t → ⊥) → IsApplicationRefused c t ⊎ AreTold c t
+          → Defined c t ended bytes
+      other past passed none (inl (inl r)) = absurd (passed r)
+      other past passed none (inl (inr r)) = absurd (none r)
+      other past passed none (inr all) = d.defined (read_told c t ended past all)
 
-      at : (ended ≡ status.App) ⊎ (IsPast ended × (IsFirstRefused c t → ⊥)) → Defined c t ended bytes
+      at : (ended ≡ status.App) ⊎ (IsPast ended × (IsFirstRefused c t → ⊥) × (IsSecondRefused c t → ⊥)) → Defined c t ended bytes
       at (inl is) = d.defined (subst (AreReadTold c t) (sym is) (first_told c t told))
-      at (inr (past, passed)) = other past passed told
+      at (inr (past, passed, none)) = other past passed none told
 
   is_due : (due : Status) → IsDue c t due → ended ≡ due
   is_due due (other, x) = one_due c t ended due bytes other (defined_by (told_of_due c t due other x)) x
@@ -43,9 +46,9 @@ module _ (c : Command) (t : Inputs) (ended : Status) (bytes : List ℕ) (d : IsD
   is_answer : (P : Status → Type 0) → (P status.App → ⊥) → ((s : Status) → IsPast s → P s → ⊥) → P ended → ⊥
   is_answer P app past p = at d.which
     where
-      at : (ended ≡ status.App) ⊎ (IsPast ended × (IsFirstRefused c t → ⊥)) → ⊥
+      at : (ended ≡ status.App) ⊎ (IsPast ended × (IsFirstRefused c t → ⊥) × (IsSecondRefused c t → ⊥)) → ⊥
       at (inl is) = app (subst P is p)
-      at (inr (is, passed)) = past ended is p
+      at (inr (is, passed, none)) = past ended is p
 
 -- no status behind the first text says why the program stopped
 past_no_usage : (s : Status) → IsPast s → s ≡ status.Usage → ⊥
@@ -123,7 +126,7 @@ module _ (c : Command) (t : Inputs) (first second : Type 0) (before after : Opti
   write (inr (inr (is, failed), none)) is_write = absurd cc
 
   pub part : Concludes c t first second before after fb fa result → result ≡ status.Write
-      → AreTold c t ⊎ IsFirstRefused c t → WrotePart c t before after
+      → AreTold c t ⊎ IsApplicationRefused c t → WrotePart c t before after
   part (inl (ended, bytes, d, inl (is, took))) is_write told =
       absurd (is_answer c t ended bytes d (λ s. s ≡ status.Write) (λ e. absurd cc) past_no_write (sym is ∙ is_write))
   part (inl (ended, bytes, d, inr (is, rose, took))) is_write (inl told) =

@@ -1,7 +1,8 @@
 -- A text is refused or is read, not both, and the status that is due is one.
-use Rattle.std.proofs.Common.{◌≡◌, ℕ, ◌⊎◌, Bool, true, false, List, Option, Some, inl, inr, refl, sym, ap, subst, ◌∙◌, arith}
+use Rattle.std.proofs.Common.{◌≡◌, ℕ, ◌≤◌, ◌⊎◌, Bool, true, false, List, Option, Some, inl, inr, refl, sym, ap, subst, ◌∙◌, arith}
 use Rattle.rt_ids.specs.Names.{Names}
 use Rattle.rt_ids.specs.declared.status.Status.{Status}
+use Rattle.rt_ids.specs.declared.status.Status.TheVariants as status
 use Rattle.rt_ast.specs.Tree as tree
 use Rattle.rt_grammar.specs.Text.{IsText}
 use Rattle.rt_parse.proofs.WholeOnly.{text_only}
@@ -40,14 +41,15 @@ use Rattle.rt_trace.specs.declared.operand.Wrong.TheVariants as trace_wrong
 use Rattle.rt_trace.specs.declared.refusal.TraceRefused.{TraceRefused}
 use Rattle.rt_trace.specs.declared.refusal.TraceRefused.TheVariants as in_trace
 use Rattle.rt_trace.proofs.OneWay as traces
-use Rattle.rt_top.specs.Words.{Command, Run, Check, Fmt, Build, Audit, Live, Soak, Demo, Deepest, Times, Verify}
+use Rattle.rt_top.specs.Words.{Command, Run, Check, Fmt, Build, Audit, Live, Soak, Demo, Deepest, Times, Verify, Pair, reads}
 use Rattle.rt_top.specs.Refusal.{RefusesText, RefusesApplication}
 use Rattle.rt_top.specs.SecondRefusal.{SaysScript, SaysTrace, SaysLimits, RefusesScript, RefusesTrace, RefusesLimits}
 use Rattle.rt_top.specs.Outputs.{Says, IsAudited, TellsDeepest, TellsTimes, IsTimed}
 use Rattle.rt_top.specs.Outputs as outputs
 use Rattle.rt_top.specs.Verified.{SaysImage, TellsImage, IsVerified}
 use Rattle.rt_top.specs.Verified as verified
-use Rattle.rt_top.specs.Defined.{Inputs, RefusesFirst, RefusesSecond, Writes, Defined, refused, faulty, output, IsTold, IsFirstRefused, AreTold}
+use Rattle.rt_top.specs.Defined.{Inputs, RefusesFirst, RefusesSecondApplication, RefusesSecond, RefusesThird, Writes, Defined}
+use Rattle.rt_top.specs.Defined.{refused, second_refused, faulty, third_faulty, output, IsTold, IsApplicationRefused, AreTold}
 use Rattle.rt_top.proofs.Refused.{not_refused}
 
 -- What is read is refused by no line.
@@ -187,6 +189,7 @@ refused_no_second (Soak number count workers) text more line other r s = s
 refused_no_second (Demo n) text more line other r s = s
 refused_no_second Deepest text more line other r s = s
 refused_no_second Verify text more line other r s = s
+refused_no_second Pair text more line other r s = s
 refused_no_second Times text more line other r s = application_passes text line s.app s.of_text r
 
 refused_no_output : (c : Command) (t : Inputs) (text line : List ℕ) (ended : Status) (bytes : List ℕ) → t.first ≡ Some text → RefusesFirst c text line → Writes c t ended bytes → ⊥
@@ -213,6 +216,9 @@ refused_no_output (Demo n) t text line ended bytes e r w = r
 refused_no_output Deepest t text line ended bytes e r (text', e', (app, accepted, tells)) =
     application_passes text' line app accepted (subst (λ s. RefusesApplication s line) (some_same t.first text text' e e') r)
 refused_no_output Verify t text line ended bytes e r w = r
+refused_no_output Pair t text line ended bytes e r (is, text', more, last, e', f, g, pair) =
+    application_passes text' line pair.first pair.is_first.of_text
+    (subst (λ s. RefusesApplication s line) (some_same t.first text text' e e') r)
 refused_no_output Times t text line ended bytes e r (text', more, e', h, timed) =
     application_passes text' line timed.app timed.of_text
     (subst (λ s. RefusesApplication s line) (some_same t.first text text' e e') r)
@@ -234,6 +240,7 @@ faulty_no_output (Soak number count workers) t text more line ended bytes e f s 
 faulty_no_output (Demo n) t text more line ended bytes e f s w = s
 faulty_no_output Deepest t text more line ended bytes e f s w = s
 faulty_no_output Verify t text more line ended bytes e f s w = s
+faulty_no_output Pair t text more line ended bytes e f s w = s
 faulty_no_output Times t text more line ended bytes e f s (text', more', e', f', timed) =
     limits_pass text' more' line ended bytes timed
     (subst (λ m. RefusesLimits text' m line) (some_same t.second more more' f f') (subst (λ u. RefusesLimits u more line) (some_same t.first text text' e e') s))
@@ -247,6 +254,7 @@ one_output Audit t a b x y (text, more, e, f, one) (text', more', e', f', other)
     audited_once text more a b x y one
     (subst (λ u. IsAudited u more b y) (some_same t.first text' text e' e) (subst (λ m. IsAudited text' m b y) (some_same t.second more' more f' f) other))
 one_output Live t a b x y w v = w.0 ∙ sym v.0
+one_output Pair t a b x y w v = w.0 ∙ sym v.0
 one_output (Soak number count workers) t a b x y w v = w.0 ∙ sym v.0
 one_output (Demo n) t a b x y w v = w.0 ∙ sym v.0
 one_output Deepest t a b x y (text, e, (app, is, tells)) (text', e', (app', is', tells')) =
@@ -260,16 +268,84 @@ one_output Times t a b x y (text, more, e, f, one) (text', more', e', f', other)
 one_output Verify t a b x y (text, e, is) (text', e', is') =
     verified_once text a b x y is (subst (λ u. IsVerified u b y) (some_same t.first text' text e' e) is')
 
-pub one_due : (c : Command) (t : Inputs) (a b : Status) (x y : List ℕ) → Defined c t a x → Defined c t b y → a ≡ b
-one_due c t a b x y (refused text line e r) (refused text' line' e' r') = refl
-one_due c t a b x y (refused text line e r) (faulty text' more line' e' f' s') = absurd (refused_no_second c text' more line line' (subst (λ u. RefusesFirst c u line) (some_same t.first text text' e e') r) s')
-one_due c t a b x y (refused text line e r) (output ended bytes w) = absurd (refused_no_output c t text line ended bytes e r w)
-one_due c t a b x y (faulty text more line e f s) (refused text' line' e' r') = absurd (refused_no_second c text more line' line (subst (λ u. RefusesFirst c u line') (some_same t.first text' text e' e) r') s)
-one_due c t a b x y (faulty text more line e f s) (faulty text' more' line' e' f' s') = refl
-one_due c t a b x y (faulty text more line e f s) (output ended bytes w) = absurd (faulty_no_output c t text more line ended bytes e f s w)
-one_due c t a b x y (output ended bytes w) (refused text line e r) = absurd (refused_no_output c t text line ended bytes e r w)
-one_due c t a b x y (output ended bytes w) (faulty text more line e f s) = absurd (faulty_no_output c t text more line ended bytes e f s w)
-one_due c t a b x y (output ended bytes w) (output ended' bytes' w') = one_output c t ended ended' bytes bytes' w w'
+-- the second application of a pair is refused, or is accepted
+refused_no_other : (c : Command) (text more line other : List ℕ) → RefusesFirst c text line → RefusesSecondApplication c text more other → ⊥
+refused_no_other Pair text more line other r s = application_passes text line s.app s.of_text r
+refused_no_other c text more line other r s = absurd s
+
+other_no_faulty : (c : Command) (text more line : List ℕ) (text' more' line' : List ℕ) → RefusesSecondApplication c text more line
+    → RefusesSecond c text' more' line' → ⊥
+other_no_faulty Pair text more line text' more' line' r s = s
+other_no_faulty c text more line text' more' line' r s = absurd r
+
+other_no_third : (c : Command) (text more last line other : List ℕ) → RefusesSecondApplication c text more line
+    → RefusesThird c text more last other → ⊥
+other_no_third Pair text more last line other r s = application_passes more r.own s.other s.of_other r.refuses
+other_no_third c text more last line other r s = absurd r
+
+other_no_output : (c : Command) (t : Inputs) (text more line : List ℕ) (ended : Status) (bytes : List ℕ) → t.first ≡ Some text → t.second ≡ Some more → RefusesSecondApplication c text more line → Writes c t ended bytes → ⊥
+other_no_output Pair t text more line ended bytes e f r (is, text', more', last, e', f', g, pair) =
+    application_passes more' r.own pair.second pair.is_second.of_text
+    (subst (λ m. RefusesApplication m r.own) (some_same t.second more more' f f') r.refuses)
+other_no_output c t text more line ended bytes e f r w = absurd r
+
+-- its script is refused, or is read
+refused_no_third : (c : Command) (text more last line other : List ℕ) → RefusesFirst c text line → RefusesThird c text more last other → ⊥
+refused_no_third Pair text more last line other r s = application_passes text line s.refuses.app s.refuses.of_text r
+refused_no_third c text more last line other r s = absurd s
+
+third_no_output : (c : Command) (t : Inputs) (text more last line : List ℕ) (ended : Status) (bytes : List ℕ) → t.first ≡ Some text → t.third ≡ Some last → RefusesThird c text more last line → Writes c t ended bytes → ⊥
+third_no_output Pair t text more last line ended bytes e g s (is, text', more', last', e', f', g', pair) =
+    script_passes text' last' line pair.first pair.is_first.of_text pair.script pair.read
+    (subst (λ m. RefusesScript text' m line) (some_same t.third last last' g g') (subst (λ u. RefusesScript u last line) (some_same t.first text text' e e') s.refuses))
+third_no_output c t text more last line ended bytes e g s w = absurd s
+
+-- What is due, with one status: the refusal of the first application, of the second, of the second or the third text, or
+-- the output. Any two of different kinds exclude each other.
+module _ (c : Command) (t : Inputs) where
+  first_or : (text line : List ℕ) (b : Status) (y : List ℕ) → t.first ≡ Some text → RefusesFirst c text line → Defined c t b y → b ≡ status.App
+  first_or text line b y e r (refused text' line' e' r') = refl
+  first_or text line b y e r (second_refused text' more' line' e' f' r') = refl
+  first_or text line b y e r (faulty text' more line' e' f' s') = absurd (refused_no_second c text' more line line' (subst (λ u. RefusesFirst c u line) (some_same t.first text text' e e') r) s')
+  first_or text line b y e r (third_faulty text' more last line' e' f' g' s') = absurd (refused_no_third c text' more last line line' (subst (λ u. RefusesFirst c u line) (some_same t.first text text' e e') r) s')
+  first_or text line b y e r (output ended bytes w) = absurd (refused_no_output c t text line ended bytes e r w)
+
+  second_or : (text more line : List ℕ) (b : Status) (y : List ℕ) → t.first ≡ Some text → t.second ≡ Some more → RefusesSecondApplication c text more line → Defined c t b y → b ≡ status.App
+  second_or text more line b y e f r (refused text' line' e' r') = refl
+  second_or text more line b y e f r (second_refused text' more' line' e' f' r') = refl
+  second_or text more line b y e f r (faulty text' more' line' e' f' s') = absurd (other_no_faulty c text more line text' more' line' r s')
+  second_or text more line b y e f r (third_faulty text' more' last line' e' f' g' s') =
+      absurd (other_no_third c text' more' last line line' (subst (λ m. RefusesSecondApplication c text' m line) (some_same t.second more more' f f') (subst (λ u. RefusesSecondApplication c u more line) (some_same t.first text text' e e') r)) s')
+  second_or text more line b y e f r (output ended bytes w) = absurd (other_no_output c t text more line ended bytes e f r w)
+
+  text_or : (text more line : List ℕ) (b : Status) (y : List ℕ) → t.first ≡ Some text → t.second ≡ Some more → RefusesSecond c text more line → Defined c t b y → b ≡ status.Text
+  text_or text more line b y e f s (refused text' line' e' r') = absurd (refused_no_second c text more line' line (subst (λ u. RefusesFirst c u line') (some_same t.first text' text e' e) r') s)
+  text_or text more line b y e f s (second_refused text' more' line' e' f' r') = absurd (other_no_faulty c text' more' line' text more line r' s)
+  text_or text more line b y e f s (faulty text' more' line' e' f' s') = refl
+  text_or text more line b y e f s (third_faulty text' more' last line' e' f' g' s') = refl
+  text_or text more line b y e f s (output ended bytes w) = absurd (faulty_no_output c t text more line ended bytes e f s w)
+
+  third_or : (text more last line : List ℕ) (b : Status) (y : List ℕ) → t.first ≡ Some text → t.second ≡ Some more → t.third ≡ Some last → RefusesThird c text more last line → Defined c t b y → b ≡ status.Text
+  third_or text more last line b y e f g s (refused text' line' e' r') = absurd (refused_no_third c text more last line' line (subst (λ u. RefusesFirst c u line') (some_same t.first text' text e' e) r') s)
+  third_or text more last line b y e f g s (second_refused text' more' line' e' f' r') =
+      absurd (other_no_third c text more last line' line (subst (λ m. RefusesSecondApplication c text m line') (some_same t.second more' more f' f) (subst (λ u. RefusesSecondApplication c u more' line') (some_same t.first text' text e' e) r')) s)
+  third_or text more last line b y e f g s (faulty text' more' line' e' f' s') = refl
+  third_or text more last line b y e f g s (third_faulty text' more' last' line' e' f' g' s') = refl
+  third_or text more last line b y e f g s (output ended bytes w) = absurd (third_no_output c t text more last line ended bytes e g s w)
+
+  output_or : (a b : Status) (x y : List ℕ) → Writes c t a x → Defined c t b y → a ≡ b
+  output_or a b x y w (refused text line e r) = absurd (refused_no_output c t text line a x e r w)
+  output_or a b x y w (second_refused text more line e f r) = absurd (other_no_output c t text more line a x e f r w)
+  output_or a b x y w (faulty text more line e f s) = absurd (faulty_no_output c t text more line a x e f s w)
+  output_or a b x y w (third_faulty text more last line e f g s) = absurd (third_no_output c t text more last line a x e g s w)
+  output_or a b x y w (output ended bytes w') = one_output c t a ended x bytes w w'
+
+  pub one_due : (a b : Status) (x y : List ℕ) → Defined c t a x → Defined c t b y → a ≡ b
+  one_due a b x y (refused text line e r) d = sym (first_or text line b y e r d)
+  one_due a b x y (second_refused text more line e f r) d = sym (second_or text more line b y e f r d)
+  one_due a b x y (faulty text more line e f s) d = sym (text_or text more line b y e f s d)
+  one_due a b x y (third_faulty text more last line e f g s) d = sym (third_or text more last line b y e f g s d)
+  one_due a b x y (output ended bytes w) d = output_or ended b bytes y w d
 
 -- What is due tells the sources that it comes from.
 
@@ -277,19 +353,37 @@ pub is_told : (o : Option (List ℕ)) (text : List ℕ) → o ≡ Some text → 
 is_told o text e = subst IsTold (sym e) tt
 
 told_output : (c : Command) (t : Inputs) (ended : Status) (bytes : List ℕ) → Writes c t ended bytes → AreTold c t
-told_output Run t ended bytes (is, text, more, e, f, run) = (λ _. is_told t.first text e, λ _. is_told t.second more f)
-told_output Check t ended bytes (is, text, e, w) = (λ _. is_told t.first text e, λ few. absurd (omega (arith, few)))
-told_output Fmt t ended bytes (is, text, e, w) = (λ _. is_told t.first text e, λ few. absurd (omega (arith, few)))
-told_output Build t ended bytes (is, text, e, w) = (λ _. is_told t.first text e, λ few. absurd (omega (arith, few)))
-told_output Audit t ended bytes (text, more, e, f, audited) = (λ _. is_told t.first text e, λ _. is_told t.second more f)
-told_output Live t ended bytes (is, text, more, e, f, live) = (λ _. is_told t.first text e, λ _. is_told t.second more f)
-told_output (Soak number count workers) t ended bytes (is, text, e, w) = (λ _. is_told t.first text e, λ few. absurd (omega (arith, few)))
-told_output Deepest t ended bytes (text, e, w) = (λ _. is_told t.first text e, λ few. absurd (omega (arith, few)))
-told_output Times t ended bytes (text, more, e, f, w) = (λ _. is_told t.first text e, λ _. is_told t.second more f)
-told_output Verify t ended bytes (text, e, w) = (λ _. is_told t.first text e, λ few. absurd (omega (arith, few)))
-told_output (Demo n) t ended bytes w = (λ few. absurd (omega (arith, few)), λ few. absurd (omega (arith, few)))
+told_output Run t ended bytes (is, text, more, e, f, run) = (λ _. is_told t.first text e, λ _. is_told t.second more f, λ few. absurd (omega (arith, few)))
+told_output Check t ended bytes (is, text, e, w) = (λ _. is_told t.first text e, λ few. absurd (omega (arith, few)), λ few. absurd (omega (arith, few)))
+told_output Fmt t ended bytes (is, text, e, w) = (λ _. is_told t.first text e, λ few. absurd (omega (arith, few)), λ few. absurd (omega (arith, few)))
+told_output Build t ended bytes (is, text, e, w) = (λ _. is_told t.first text e, λ few. absurd (omega (arith, few)), λ few. absurd (omega (arith, few)))
+told_output Audit t ended bytes (text, more, e, f, audited) = (λ _. is_told t.first text e, λ _. is_told t.second more f, λ few. absurd (omega (arith, few)))
+told_output Live t ended bytes (is, text, more, e, f, live) = (λ _. is_told t.first text e, λ _. is_told t.second more f, λ few. absurd (omega (arith, few)))
+told_output (Soak number count workers) t ended bytes (is, text, e, w) = (λ _. is_told t.first text e, λ few. absurd (omega (arith, few)), λ few. absurd (omega (arith, few)))
+told_output Deepest t ended bytes (text, e, w) = (λ _. is_told t.first text e, λ few. absurd (omega (arith, few)), λ few. absurd (omega (arith, few)))
+told_output Times t ended bytes (text, more, e, f, w) = (λ _. is_told t.first text e, λ _. is_told t.second more f, λ few. absurd (omega (arith, few)))
+told_output Pair t ended bytes (is, text, more, last, e, f, g, w) = (
+  λ _. is_told t.first text e,
+  λ _. is_told t.second more f,
+  λ _. is_told t.third last g,
+)
+told_output Verify t ended bytes (text, e, w) = (λ _. is_told t.first text e, λ few. absurd (omega (arith, few)), λ few. absurd (omega (arith, few)))
+told_output (Demo n) t ended bytes w = (λ few. absurd (omega (arith, few)), λ few. absurd (omega (arith, few)), λ few. absurd (omega (arith, few)))
 
-pub told_of_due : (c : Command) (t : Inputs) (ended : Status) (bytes : List ℕ) → Defined c t ended bytes → IsFirstRefused c t ⊎ AreTold c t
-told_of_due c t a x (refused text line e r) = inl (text, line, e, r)
-told_of_due c t a x (faulty text more line e f s) = inr (λ _. is_told t.first text e, λ _. is_told t.second more f)
+-- a command with a faulty second text reads two sources
+faulty_two : (c : Command) (text more line : List ℕ) → RefusesSecond c text more line → reads c ≤ 2
+faulty_two Run text more line s = omega arith
+faulty_two Audit text more line s = omega arith
+faulty_two Live text more line s = omega arith
+faulty_two Times text more line s = omega arith
+faulty_two c text more line s = absurd s
+
+pub told_of_due : (c : Command) (t : Inputs) (ended : Status) (bytes : List ℕ) → Defined c t ended bytes → IsApplicationRefused c t ⊎ AreTold c t
+told_of_due c t a x (refused text line e r) = inl (inl (text, line, e, r))
+told_of_due c t a x (second_refused text more line e f r) = inl (inr (text, more, line, e, f, r))
+told_of_due c t a x (faulty text more line e f s) =
+    let two = faulty_two c text more line s in
+    inr (λ _. is_told t.first text e, λ _. is_told t.second more f, λ three. absurd (omega (arith, two, three)))
+told_of_due c t a x (third_faulty text more last line e f g s) =
+    inr (λ _. is_told t.first text e, λ _. is_told t.second more f, λ _. is_told t.third last g)
 told_of_due c t a x (output ended bytes w) = inr (told_output c t ended bytes w)

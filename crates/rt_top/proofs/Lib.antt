@@ -12,3 +12,4 @@ mod Ran
 mod Audited
 mod Auditing
 mod Verifying
+mod Pairing

@@ -54,7 +54,7 @@ module _ (first second third : Option (List ℕ)) where
   pub verified_decided : (own : List ℕ) → ((text : List ℕ) → first ≡ Some text → own ≡ text) → (ended : Status) (bytes : List ℕ)
       → IsVerified own ended bytes → IsDecided Verify t ended bytes
   verified_decided own same ended bytes is = record {
-    which = inr (past is, λ r. r.3);
+    which = inr (past is, λ r. r.3, λ r. r.5);
     defined = λ told.
         let text = told_text first ((all_told t (past is) told).0 (omega arith)) in
         output ended bytes (text.0, text.1, subst (λ u. IsVerified u ended bytes) (same text.0 text.1) is);
@@ -63,7 +63,7 @@ module _ (first second third : Option (List ℕ)) where
   pub long_decided : ((text : List ℕ) → first ≡ Some text → IMAGE_BYTES < length text) → (line : List ℕ)
       → SaysImage in_image.TooLong line → IsDecided Verify t status.Text line
   long_decided long line says = record {
-    which = inr (is_text, λ r. r.3);
+    which = inr (is_text, λ r. r.3, λ r. r.5);
     defined = λ told.
         let text = told_text first (told.0 (omega arith)) in
         output status.Text line (text.0, text.1, verified.no_listing in_image.TooLong line (long text.0 text.1) says);

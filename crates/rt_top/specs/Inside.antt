@@ -4,3 +4,4 @@ pub mod Decides
 pub mod Auditor
 pub mod Meant
 pub mod Started
+pub mod Pairing

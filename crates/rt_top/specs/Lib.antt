@@ -3,6 +3,7 @@ pub mod Refusal
 pub mod SecondRefusal
 pub mod Outputs
 pub mod Verified
+pub mod Paired
 pub mod Ends
 pub mod Defined
 pub mod Inside

@@ -22,6 +22,7 @@ pub data Command : Type 0 where
   Deepest : Command
   Times : Command
   Verify : Command
+  Pair : Command
 
 -- a word of one to twenty digits, which spell this number
 pub record IsNumber (word : List ℕ) (n : ℕ) : Type 0 where
@@ -54,6 +55,7 @@ Names words (Demo n) = (word : List ℕ) × (words ≡ codes "demo" ∷ word ∷
 Names words Deepest = (app : List ℕ) × (words ≡ codes "deepest" ∷ app ∷ [])
 Names words Times = (app limits : List ℕ) × (words ≡ codes "times" ∷ app ∷ limits ∷ [])
 Names words Verify = (image : List ℕ) × (words ≡ codes "verify" ∷ image ∷ [])
+Names words Pair = (first second script : List ℕ) × (words ≡ codes "pair" ∷ first ∷ second ∷ script ∷ [])
 
 -- how many of the sources it reads, in order
 abbrev pub reads : Command → ℕ
@@ -68,6 +70,7 @@ reads (Demo n) = 0
 reads Deepest = 1
 reads Times = 2
 reads Verify = 1
+reads Pair = 3
 
 -- the words name a command
 abbrev pub IsCommand : List (List ℕ) → Type 0

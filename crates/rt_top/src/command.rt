@@ -41,6 +41,8 @@ pub(crate) enum Command {
     Times,
     /// `verify IMAGE`
     Verify,
+    /// `pair APP1 APP2 SCRIPT`
+    Pair,
 }
 
 /// The command that the words name, None where they name none.
@@ -66,6 +68,8 @@ pub(crate) fn command_of(words: &[&str]) -> Option<Command>
         Some(Command::Times)
     } else if is_verify(words) {
         Some(Command::Verify)
+    } else if is_pair(words) {
+        Some(Command::Pair)
     } else if let Some(tasks) = demo_tasks(words) {
         Some(Command::Demo(tasks))
     } else {
@@ -159,6 +163,16 @@ fn is_verify(words: &[&str]) -> bool
 {
     match words {
         [verb, _] => *verb == "verify",
+        _ => false,
+    }
+}
+
+/// Whether the words are `pair APP1 APP2 SCRIPT`.
+fn is_pair(words: &[&str]) -> bool
+    ensures { IsTrue result ↔ Names (texts words.now) word.Pair }
+{
+    match words {
+        [verb, _, _, _] => *verb == "pair",
         _ => false,
     }
 }

@@ -2,7 +2,7 @@ ghost use Rattle.std.specs.Prelude.{◌≡◌, ◌≤◌, ◌⊎◌, ℕ, List, 
 ghost use Rattle.rt_outside.specs.Faults.{Rose};
 ghost use Rattle.rt_top.specs.Words.{reads};
 ghost use Rattle.rt_top.specs.Ends.{IsKept};
-ghost use Rattle.rt_top.specs.Defined.{inputs, IsFirstRefused};
+ghost use Rattle.rt_top.specs.Defined.{inputs, IsFirstRefused, IsApplicationRefused};
 ghost use Rattle.rt_top.specs.Inside.Decides.{Concludes};
 ghost use Rattle.rt_top.specs.Inside.Meant.{meant, IsInRange};
 
@@ -10,6 +10,7 @@ use crate::audit::audit;
 use crate::command::Command;
 use crate::demo::demo;
 use crate::live::live;
+use crate::pair::pair;
 use crate::reply::finish;
 use crate::run::run;
 use crate::single::single;
@@ -21,7 +22,49 @@ use std::alloc::Global;
 use std::thread::Threads;
 
 /// Does what the command is, and answers the status that the program ends with.
-pub(crate) fn decide<R: Threads + Sync, A: Source, B: Source, K: Sink + Send, G: Gate + Sync>(
+pub(crate) fn decide<
+    R: Threads + Sync,
+    A: Source,
+    B: Source,
+    C: Source,
+    K: Sink + Send,
+    G: Gate + Sync,
+>(
+    rt: &R,
+    alloc: Global,
+    command: Command,
+    app: &mut A,
+    second: &mut B,
+    third: &mut C,
+    out: &mut K,
+    gate: &G,
+) -> Status
+    requires { IsInRange (meant command) }
+    ensures concludes { Concludes (meant command) (inputs (A.left app.old) (B.left second.old) (C.left third.old))
+        (Rose (A.faults app.old) (A.faults app.new) × IsKept B.left B.faults second.old second.new
+        × IsKept C.left C.faults third.old third.new)
+        ((Rose (B.faults second.old) (B.faults second.new) × IsKept C.left C.faults third.old third.new)
+        ⊎ ((3 ≤ reads (meant command)) × Rose (C.faults third.old) (C.faults third.new)))
+        (K.taken out.old) (K.taken out.new) (K.faults out.old) (K.faults out.new) result }
+    ensures first_kept { reads (meant command) ≡ 0 → IsKept A.left A.faults app.old app.new }
+    ensures second_kept { let t = inputs (A.left app.old) (B.left second.old) (C.left third.old) in
+        (reads (meant command) ≤ 1) ⊎ IsFirstRefused (meant command) t → IsKept B.left B.faults second.old second.new }
+    ensures third_kept { let t = inputs (A.left app.old) (B.left second.old) (C.left third.old) in
+        (reads (meant command) ≤ 2) ⊎ IsApplicationRefused (meant command) t →
+        IsKept C.left C.faults third.old third.new }
+    ensures first_heard { (A.faults app.new ≡ A.faults app.old) ⊎ (result ≡ Status.Read) }
+    ensures second_heard { (B.faults second.new ≡ B.faults second.old) ⊎ (result ≡ Status.Read) }
+    ensures third_heard { (C.faults third.new ≡ C.faults third.old) ⊎ (result ≡ Status.Read) }
+    ensures sink_heard { (K.faults out.new ≡ K.faults out.old) ⊎ (result ≡ Status.Write) }
+{
+    match command {
+        Command::Pair => pair(rt, alloc, app, second, third, out, gate),
+        other => decide_two(rt, alloc, other, app, second, out, gate),
+    }
+}
+
+/// Does what a command is that reads two sources at most.
+fn decide_two<R: Threads + Sync, A: Source, B: Source, K: Sink + Send, G: Gate + Sync>(
     rt: &R,
     alloc: Global,
     command: Command,
@@ -30,7 +73,8 @@ pub(crate) fn decide<R: Threads + Sync, A: Source, B: Source, K: Sink + Send, G:
     out: &mut K,
     gate: &G,
 ) -> Status
-    requires { IsInRange (meant command) }
+    requires range { IsInRange (meant command) }
+    requires two { reads (meant command) ≤ 2 }
     ensures concludes { (third : Option (List ℕ)) →
         Concludes (meant command) (inputs (A.left app.old) (B.left second.old) third)
         (Rose (A.faults app.old) (A.faults app.new) × IsKept B.left B.faults second.old second.new)

@@ -12,6 +12,7 @@ mod demo;
 mod format;
 mod live;
 mod number;
+mod pair;
 mod reading;
 mod refusal;
 mod reply;

@@ -1,4 +1,4 @@
-ghost use Rattle.std.specs.Prelude.{◌≡◌, ◌<◌, ◌-◌, ◌^◌, ◌⊎◌, ℕ, List, Some, true, length, IfOk, IfErr, IfSome};
+ghost use Rattle.std.specs.Prelude.{◌≡◌, ◌<◌, ◌-◌, ◌^◌, ◌⊎◌, ℕ, List, Some, true, Option, length, IfOk, IfErr, IfSome};
 ghost use Rattle.std.specs.Prelude.{IfNone, IsErrOf};
 ghost use Rattle.rt_ids.specs.declared.status.Status.TheVariants as status;
 ghost use Rattle.rt_outside.specs.Faults.{Rose};
@@ -8,10 +8,13 @@ ghost use Rattle.rt_app.specs.View as resolved;
 ghost use Rattle.rt_app.specs.Accepted.{IsAccepted};
 ghost use Rattle.rt_build.specs.Accepted.{KeepsRules, IsApplication};
 ghost use Rattle.rt_top.specs.Refusal.{RefusesText, RefusesApplication};
-ghost use Rattle.rt_top.specs.Inside.Decides.{Tells, Stops, Halts, IsBrokenBy};
+ghost use Rattle.rt_top.specs.Words as word;
+ghost use Rattle.rt_top.specs.Ends.{IsKept};
+ghost use Rattle.rt_top.specs.Defined.{inputs, IsFirstRefused};
+ghost use Rattle.rt_top.specs.Inside.Decides.{Tells, Stops, Halts, IsBrokenBy, Decides};
 ghost use Rattle.rt_top.specs.Inside.Replies.{IsHeardIn};
 
-use crate::reply::{Reply, refuse};
+use crate::reply::{Reply, of_second, refuse};
 use rt_app::App;
 use rt_ast::AppTree;
 use rt_build::judge;
@@ -81,6 +84,45 @@ pub(crate) fn read_accepted<A: Source>(alloc: Global, app: &mut A) -> Result<App
     match read_tree(alloc, app) {
         Ok(written) => judged(alloc, &written),
         Err(reply) => Err(reply),
+    }
+}
+
+/// Two applications.
+#[derive(Drop)]
+pub(crate) struct Both {
+    pub(crate) first: App,
+    pub(crate) second: App,
+}
+
+/// Reads two applications, the second where the first breaks no rule.
+pub(crate) fn read_both<A: Source, B: Source>(
+    alloc: Global,
+    app: &mut A,
+    second: &mut B,
+) -> Result<Both, Reply>
+    ensures first { (text : List ℕ) → A.left app.old ≡ Some text →
+        IfOk result (λ both. IsApplication text (resolved.app_of both.first)) }
+    ensures second { (text : List ℕ) → B.left second.old ≡ Some text →
+        IfOk result (λ both. IsApplication text (resolved.app_of both.second)) }
+    ensures first_accepted { IfOk result (λ both. IsAccepted (resolved.app_of both.first)) }
+    ensures second_accepted { IfOk result (λ both. IsAccepted (resolved.app_of both.second)) }
+    ensures decides { (third : Option (List ℕ)) →
+        IfErr result (Decides word.Pair (inputs (A.left app.old) (B.left second.old) third)
+        (Rose (A.faults app.old) (A.faults app.new) × IsKept B.left B.faults second.old second.new)
+        (Rose (B.faults second.old) (B.faults second.new))) }
+    ensures kept { (third : Option (List ℕ)) →
+        IsFirstRefused word.Pair (inputs (A.left app.old) (B.left second.old) third) →
+        IsKept B.left B.faults second.old second.new }
+    ensures first_heard { IsHeardIn (A.faults app.old) (A.faults app.new) result }
+    ensures second_heard { IsHeardIn (B.faults second.old) (B.faults second.new) result }
+{
+    let first = match read_accepted(alloc, app) {
+        Ok(first) => first,
+        Err(reply) => return Err(reply),
+    };
+    match read_accepted(alloc, second) {
+        Ok(second) => Ok(Both { first, second }),
+        Err(reply) => Err(of_second(alloc, reply)),
     }
 }
 

@@ -1,10 +1,11 @@
-ghost use Rattle.std.specs.Prelude.{◌≡◌, ◌⊎◌, ◌++◌, decimal, IfOk, OnErr};
+ghost use Rattle.std.specs.Prelude.{◌≡◌, ◌⊎◌, ◌++◌, codes, decimal, IfOk, OnErr};
 ghost use Rattle.rt_top.specs.Refusal.{refusal_line};
 ghost use Rattle.rt_top.specs.SecondRefusal.{script_line, SaysScript, trace_line, SaysTrace};
 ghost use Rattle.rt_top.specs.SecondRefusal.{limits_line, SaysLimits};
 ghost use Rattle.rt_top.specs.Verified.{image_line, SaysImage};
 ghost use Rattle.rt_top.specs.Ends.{Wrote};
 ghost use Rattle.rt_top.specs.Inside.Decides.{Tells, Finishes};
+ghost use Rattle.rt_top.specs.Inside.Pairing.{IsOfSecond};
 ghost use Rattle.rt_ids.specs.declared.status.Status.TheVariants as status;
 
 use crate::refusal::refusal_line;
@@ -77,6 +78,26 @@ fn numbered_line(alloc: Global, front: &[u8], number: u64, back: &[u8]) -> Resul
     push_bytes(&mut line, buffer.format(number).as_bytes())?;
     push_bytes(&mut line, back)?;
     Ok(line)
+}
+
+/// The reply about a second application: the one that it would be of a first, with a word in front of its line.
+pub(crate) fn of_second(alloc: Global, reply: Reply) -> Reply
+    ensures { IsOfSecond reply result }
+{
+    match reply {
+        Reply::Write { status, text } => told(status, second_line(alloc, &text)),
+        Reply::Stop(status) => Reply::Stop(status),
+    }
+}
+
+/// A line with a word in front.
+fn second_line(alloc: Global, line: &[u8]) -> Result<Vec<u8>, NoMemory>
+    ensures { IfOk result (λ text. text.items ≡ codes "second " ++ line.now) }
+{
+    let mut text = Vec::new(alloc);
+    push_bytes(&mut text, b"second ")?;
+    push_bytes(&mut text, line)?;
+    Ok(text)
 }
 
 /// The reply of a refusal of a script.

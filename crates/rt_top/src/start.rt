@@ -64,7 +64,7 @@ pub(crate) fn start<A: Source, B: Source, K: Sink>(
 }
 
 /// A core with the application's image, and the script of a text.
-fn start_text<K: Sink>(
+pub(crate) fn start_text<K: Sink>(
     alloc: Global,
     app: &App,
     text: &[u8],

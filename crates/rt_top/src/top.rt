@@ -2,8 +2,8 @@ ghost use Rattle.std.specs.Prelude.{◌≡◌, ◌≤◌, ◌⊎◌, ℕ, List, 
 ghost use Rattle.rt_outside.specs.Faults.{Rose};
 ghost use Rattle.rt_outside.specs.Bytes.{Took};
 ghost use Rattle.rt_top.specs.Words.{Command, texts, Names, IsCommand, reads, usage_line};
-ghost use Rattle.rt_top.specs.Defined.{inputs, IsDue, IsAnswer, IsFirstRefused, AreTold, AreReadTold};
-ghost use Rattle.rt_top.specs.Defined.{SkipsFirst, SkipsSecond, WroteAll, WrotePart};
+ghost use Rattle.rt_top.specs.Defined.{inputs, IsDue, IsAnswer, IsApplicationRefused, AreTold, AreReadTold};
+ghost use Rattle.rt_top.specs.Defined.{SkipsFirst, SkipsSecond, SkipsThird, WroteAll, WrotePart};
 ghost use Rattle.rt_top.specs.Ends.{Wrote, IsKept};
 
 use crate::command::command_of;
@@ -22,8 +22,8 @@ const USAGE: &[u8] =
 | pair APP1 APP2 SCRIPT\n";
 
 /// Runs the command that the words name, and answers its status. `app` is the source of the application, of `verify` that
-/// of the listing; `second` is that of the script, the trace or the limits; `third` is read by no command yet. All that is
-/// written goes to `out`.
+/// of the listing; `second` is that of the script, the trace or the limits. `pair` has its second application in `second`
+/// and its script in `third`, which no other command reads. All that is written goes to `out`.
 pub fn rtic<R: Threads + Sync, A: Source, B: Source, C: Source, K: Sink + Send, G: Gate + Sync>(
     rt: &R,
     alloc: Global,
@@ -55,6 +55,10 @@ pub fn rtic<R: Threads + Sync, A: Source, B: Source, C: Source, K: Sink + Send, 
     // in the image's region, sections are exclusive, no lock is found taken, and each cell for which contexts contend is
     // touched inside its one section alone. With `no K` and `No`, K is the least of the rules that the image breaks. A
     // text that is no listing is refused at its first wrong line with `Text`.
+    //
+    // `pair` takes two applications and a script over the names of the first. At `Done` it has written, for each of two
+    // cores, the listing of an image of its application, and that image's trace beside the other core, with an account of
+    // the other core's requests; of each image all holds that `run` promises of its own.
     ensures answered { (c : Command) → Names (texts words.now) c → IsAnswer result →
         let t = inputs (A.left app.old) (B.left second.old) (C.left third.old) in
         AreReadTold c t result → WroteAll c t result (K.taken out.old) (K.taken out.new) }
@@ -63,7 +67,7 @@ pub fn rtic<R: Threads + Sync, A: Source, B: Source, C: Source, K: Sink + Send, 
     ensures complete { (c : Command) (due : Status) → Names (texts words.now) c →
         IsDue c (inputs (A.left app.old) (B.left second.old) (C.left third.old)) due →
         ¬ Rose (A.faults app.old) (A.faults app.new) → ¬ Rose (B.faults second.old) (B.faults second.new) →
-        ¬ Rose (K.faults out.old) (K.faults out.new) → (result ≡ due) ⊎ (result ≡ Status.Memory) }
+        ¬ Rose (C.faults third.old) (C.faults third.new) → ¬ Rose (K.faults out.old) (K.faults out.new) → (result ≡ due) ⊎ (result ≡ Status.Memory) }
 
     // Words that are no command give the usage line.
     ensures usage { ¬ IsCommand (texts words.now) →
@@ -76,27 +80,33 @@ pub fn rtic<R: Threads + Sync, A: Source, B: Source, C: Source, K: Sink + Send, 
     ensures second_unread { SkipsSecond (texts words.now)
         (inputs (A.left app.old) (B.left second.old) (C.left third.old)) →
         IsKept B.left B.faults second.old second.new }
-    ensures third_unread { IsKept C.left C.faults third.old third.new }
+    ensures third_unread { SkipsThird (texts words.now)
+        (inputs (A.left app.old) (B.left second.old) (C.left third.old)) →
+        IsKept C.left C.faults third.old third.new }
 
     // A source that the command reads failed, and then no source behind it was read and nothing was written.
     ensures read { result ≡ Status.Read → (c : Command) × Names (texts words.now) c
-        × (((1 ≤ reads c) × Rose (A.faults app.old) (A.faults app.new) × IsKept B.left B.faults second.old second.new)
-        ⊎ ((2 ≤ reads c) × Rose (B.faults second.old) (B.faults second.new))) }
+        × (((1 ≤ reads c) × Rose (A.faults app.old) (A.faults app.new)
+        × IsKept B.left B.faults second.old second.new × IsKept C.left C.faults third.old third.new)
+        ⊎ ((2 ≤ reads c) × Rose (B.faults second.old) (B.faults second.new)
+        × IsKept C.left C.faults third.old third.new)
+        ⊎ ((3 ≤ reads c) × Rose (C.faults third.old) (C.faults third.new))) }
     ensures silent { (result ≡ Status.Read) ⊎ (result ≡ Status.Memory) → Took (K.taken out.old) (K.taken out.new) [] }
 
     // A fault is told: where one came, the status says so.
     ensures first_heard { (A.faults app.new ≡ A.faults app.old) ⊎ (result ≡ Status.Read) }
     ensures second_heard { (B.faults second.new ≡ B.faults second.old) ⊎ (result ≡ Status.Read) }
+    ensures third_heard { (C.faults third.new ≡ C.faults third.old) ⊎ (result ≡ Status.Read) }
     ensures sink_heard { (K.faults out.new ≡ K.faults out.old) ⊎ (result ≡ Status.Write) }
 
     // The sink failed, having taken a beginning of what is defined.
     ensures write { result ≡ Status.Write → Rose (K.faults out.old) (K.faults out.new) }
     ensures part { (c : Command) → Names (texts words.now) c → result ≡ Status.Write →
         let t = inputs (A.left app.old) (B.left second.old) (C.left third.old) in
-        AreTold c t ⊎ IsFirstRefused c t → WrotePart c t (K.taken out.old) (K.taken out.new) }
+        AreTold c t ⊎ IsApplicationRefused c t → WrotePart c t (K.taken out.old) (K.taken out.new) }
 {
     match command_of(words) {
-        Some(command) => decide(rt, alloc, command, app, second, out, gate),
+        Some(command) => decide(rt, alloc, command, app, second, third, out, gate),
         None => answer(out, USAGE, Status::Usage),
     }
 }

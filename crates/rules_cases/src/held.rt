@@ -49,16 +49,23 @@ impl<R> Drop for ByTurns<'_, R> {
     }
 }
 
+/// Waits until so many have come, and tells whether they have before the hold gives up.
+pub(crate) fn is_in_time<R: Clock>(rt: &R, come: &AtomicU64, wanted: u64) -> bool {
+    for _turn in 0..TURNS {
+        if come.load(SeqCst) >= wanted {
+            return true;
+        }
+        thread::sleep(rt, Duration::from_millis(PAUSE));
+    }
+    false
+}
+
 impl<R: Clock> ByTurns<'_, R> {
     /// Waits until so many have come.
     fn hold(&self, come: &AtomicU64, wanted: u64) {
-        for _turn in 0..TURNS {
-            if come.load(SeqCst) >= wanted {
-                return;
-            }
-            thread::sleep(self.rt, Duration::from_millis(PAUSE));
+        if !is_in_time(self.rt, come, wanted) {
+            self.is_late.store(true, SeqCst);
         }
-        self.is_late.store(true, SeqCst);
     }
 }
 

@@ -9,6 +9,7 @@ mod failing;
 mod held;
 mod live;
 mod messages;
+mod pairs;
 mod slow;
 mod soaks;
 mod tokens;
@@ -39,6 +40,8 @@ enum Table {
     Slow,
     /// Such runs with a gate that holds the core and a device.
     Held,
+    /// Runs of two cores beside each other.
+    Pairs,
     /// Many runs as one.
     Soaks,
 }
@@ -58,6 +61,7 @@ fn told<R: Threads + Clock + Sync>(
         Table::Live => live::verdict(rt, alloc, case),
         Table::Slow => slow::verdict(rt, alloc, case),
         Table::Held => held::verdict(rt, alloc, case),
+        Table::Pairs => pairs::verdict(rt, alloc, case),
         Table::Soaks => soaks::verdict(rt, alloc, case),
     }
 }
@@ -156,6 +160,7 @@ fn run_threads<R: Threads + Clock + Sync + Files + Print + AllocGlobal>(rt: &R) 
     run(rt, "live", Table::Live)?;
     run(rt, "slow", Table::Slow)?;
     run(rt, "held", Table::Held)?;
+    run(rt, "pairs", Table::Pairs)?;
     run(rt, "soaks", Table::Soaks)?;
     run_sweep(rt, "demos", Sweep::Demos)
 }

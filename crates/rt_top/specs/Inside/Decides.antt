@@ -15,7 +15,7 @@ use Rattle.rt_listing.specs.Listing.{listing}
 use Rattle.rt_top.specs.Words as word
 use Rattle.rt_top.specs.Refusal.{refusal_line}
 use Rattle.rt_top.specs.Ends.{Wrote}
-use Rattle.rt_top.specs.Defined.{Inputs, Defined, IsFirstRefused, AreReadTold}
+use Rattle.rt_top.specs.Defined.{Inputs, Defined, IsFirstRefused, IsSecondRefused, AreReadTold}
 use Rattle.rt_top.specs.Inside.Replies.{Gives, Replies, AnswersAudit}
 use Rattle.rt_top.specs.declared.reply.Reply.{Reply}
 
@@ -43,7 +43,7 @@ pub record IsBrokenBy (text : List ℕ) (a : tree.App) (line : List ℕ) : Type 
 abbrev pub Lists : App → List ℕ → Type 0
 Lists app bytes = (image : Image) × IsImageOf app image × IsRunnable image × (bytes ≡ listing image)
 
--- a status behind the first text, which is not refused then
+-- a status behind the applications, which are not refused then
 pub data IsPast : Status → Type 0 where
   is_done : IsPast status.Done
   is_text : IsPast status.Text
@@ -54,9 +54,9 @@ pub record AnswersTrace (app : App) (told : Option (List ℕ)) (ended : Status) 
   pub past : IsPast ended
   pub answers : (more : List ℕ) → told ≡ Some more → AnswersAudit app more ended bytes
 
--- These bytes and this status are due: the first text is refused, or is not, and the status tells which.
+-- These bytes and this status are due: an application is refused, or none is, and the status tells which.
 pub record IsDecided (c : word.Command) (t : Inputs) (ended : Status) (bytes : List ℕ) : Type 0 where
-  pub which : (ended ≡ status.App) ⊎ (IsPast ended × (IsFirstRefused c t → ⊥))
+  pub which : (ended ≡ status.App) ⊎ (IsPast ended × (IsFirstRefused c t → ⊥) × (IsSecondRefused c t → ⊥))
   pub defined : AreReadTold c t ended → Defined c t ended bytes
 
 -- The first or the second source failed so, where the command reads it.

@@ -16,6 +16,7 @@ meant (command.Demo n) = word.Demo n
 meant command.Deepest = word.Deepest
 meant command.Times = word.Times
 meant command.Verify = word.Verify
+meant command.Pair = word.Pair
 
 -- the numbers of a command are in range
 abbrev pub IsInRange : word.Command → Type 0

@@ -2,7 +2,7 @@ use Rattle.rt_outside.specs.Faults.{Rose}
 use Rattle.rt_top.specs.Words.{texts}
 use Rattle.rt_top.specs.Ends.{IsKept}
 use Rattle.rt_top.specs.Defined.{inputs}
-use Rattle.rt_top.proofs.Clauses.{answered, complete, no_usage, is_command, first_unread, second_unread, read, silent, write, part, no_words}
+use Rattle.rt_top.proofs.Clauses.{answered, complete, no_usage, is_command, first_unread, second_unread, third_unread, read, silent, write, part, no_words}
 use Rattle.rt_top.proofs.top.rtic.Goals as goal
 
 pub returns-in-Some-clause-answered : goal.returns-in-Some-clause-answered
@@ -11,21 +11,25 @@ returns-in-Some-clause-answered g c command named is_answer told =
     (inputs (g.A.Source.left c.args.app.now) (g.B.Source.left c.args.second.now) (g.C.Source.left c.args.third.now))
     (Rose (g.A.Source.faults c.args.app.now) (g.A.Source.faults c.decide.new.app))
     (IsKept g.B.Source.left g.B.Source.faults c.args.second.now c.decide.new.second)
+    (IsKept g.C.Source.left g.C.Source.faults c.args.third.now c.decide.new.third)
     (Rose (g.B.Source.faults c.args.second.now) (g.B.Source.faults c.decide.new.second))
+    (Rose (g.C.Source.faults c.args.third.now) (g.C.Source.faults c.decide.new.third))
     (g.K.Sink.taken c.args.out.now) (g.K.Sink.taken c.decide.new.out) (g.K.Sink.faults c.args.out.now)
-    (g.K.Sink.faults c.decide.new.out) c.decide.result (c.decide.ensures.concludes (g.C.Source.left c.args.third.now))
+    (g.K.Sink.faults c.decide.new.out) c.decide.result (c.decide.ensures.concludes)
     command named is_answer told
 
 pub returns-in-Some-clause-complete : goal.returns-in-Some-clause-complete
-returns-in-Some-clause-complete g c command due named is_due no_first no_second no_sink =
+returns-in-Some-clause-complete g c command due named is_due no_first no_second no_third no_sink =
     complete (texts c.args.words.now) c.in-Some.command c.in-Some.ensures.some
     (inputs (g.A.Source.left c.args.app.now) (g.B.Source.left c.args.second.now) (g.C.Source.left c.args.third.now))
     (Rose (g.A.Source.faults c.args.app.now) (g.A.Source.faults c.decide.new.app))
     (IsKept g.B.Source.left g.B.Source.faults c.args.second.now c.decide.new.second)
+    (IsKept g.C.Source.left g.C.Source.faults c.args.third.now c.decide.new.third)
     (Rose (g.B.Source.faults c.args.second.now) (g.B.Source.faults c.decide.new.second))
+    (Rose (g.C.Source.faults c.args.third.now) (g.C.Source.faults c.decide.new.third))
     (g.K.Sink.taken c.args.out.now) (g.K.Sink.taken c.decide.new.out) (g.K.Sink.faults c.args.out.now)
-    (g.K.Sink.faults c.decide.new.out) c.decide.result (c.decide.ensures.concludes (g.C.Source.left c.args.third.now))
-    command due named is_due no_first no_second no_sink
+    (g.K.Sink.faults c.decide.new.out) c.decide.result (c.decide.ensures.concludes)
+    command due named is_due no_first no_second no_third no_sink
 
 pub returns-in-Some-clause-usage : goal.returns-in-Some-clause-usage
 returns-in-Some-clause-usage g c none =
@@ -37,9 +41,11 @@ returns-in-Some-clause-no_usage g c is_usage =
     (inputs (g.A.Source.left c.args.app.now) (g.B.Source.left c.args.second.now) (g.C.Source.left c.args.third.now))
     (Rose (g.A.Source.faults c.args.app.now) (g.A.Source.faults c.decide.new.app))
     (IsKept g.B.Source.left g.B.Source.faults c.args.second.now c.decide.new.second)
+    (IsKept g.C.Source.left g.C.Source.faults c.args.third.now c.decide.new.third)
     (Rose (g.B.Source.faults c.args.second.now) (g.B.Source.faults c.decide.new.second))
+    (Rose (g.C.Source.faults c.args.third.now) (g.C.Source.faults c.decide.new.third))
     (g.K.Sink.taken c.args.out.now) (g.K.Sink.taken c.decide.new.out) (g.K.Sink.faults c.args.out.now)
-    (g.K.Sink.faults c.decide.new.out) c.decide.result (c.decide.ensures.concludes (g.C.Source.left c.args.third.now))
+    (g.K.Sink.faults c.decide.new.out) c.decide.result (c.decide.ensures.concludes)
     is_usage
 
 pub returns-in-Some-clause-first_unread : goal.returns-in-Some-clause-first_unread
@@ -53,10 +59,25 @@ returns-in-Some-clause-second_unread g c skips =
     (inputs (g.A.Source.left c.args.app.now) (g.B.Source.left c.args.second.now) (g.C.Source.left c.args.third.now))
     (Rose (g.A.Source.faults c.args.app.now) (g.A.Source.faults c.decide.new.app))
     (IsKept g.B.Source.left g.B.Source.faults c.args.second.now c.decide.new.second)
+    (IsKept g.C.Source.left g.C.Source.faults c.args.third.now c.decide.new.third)
     (Rose (g.B.Source.faults c.args.second.now) (g.B.Source.faults c.decide.new.second))
+    (Rose (g.C.Source.faults c.args.third.now) (g.C.Source.faults c.decide.new.third))
     (g.K.Sink.taken c.args.out.now) (g.K.Sink.taken c.decide.new.out) (g.K.Sink.faults c.args.out.now)
-    (g.K.Sink.faults c.decide.new.out) c.decide.result (c.decide.ensures.concludes (g.C.Source.left c.args.third.now))
-    (c.decide.ensures.kept (g.C.Source.left c.args.third.now)) skips
+    (g.K.Sink.faults c.decide.new.out) c.decide.result (c.decide.ensures.concludes)
+    c.decide.ensures.second_kept skips
+
+pub returns-in-Some-clause-third_unread : goal.returns-in-Some-clause-third_unread
+returns-in-Some-clause-third_unread g c skips =
+    third_unread (texts c.args.words.now) c.in-Some.command c.in-Some.ensures.some
+    (inputs (g.A.Source.left c.args.app.now) (g.B.Source.left c.args.second.now) (g.C.Source.left c.args.third.now))
+    (Rose (g.A.Source.faults c.args.app.now) (g.A.Source.faults c.decide.new.app))
+    (IsKept g.B.Source.left g.B.Source.faults c.args.second.now c.decide.new.second)
+    (IsKept g.C.Source.left g.C.Source.faults c.args.third.now c.decide.new.third)
+    (Rose (g.B.Source.faults c.args.second.now) (g.B.Source.faults c.decide.new.second))
+    (Rose (g.C.Source.faults c.args.third.now) (g.C.Source.faults c.decide.new.third))
+    (g.K.Sink.taken c.args.out.now) (g.K.Sink.taken c.decide.new.out) (g.K.Sink.faults c.args.out.now)
+    (g.K.Sink.faults c.decide.new.out) c.decide.result (c.decide.ensures.concludes)
+    c.decide.ensures.third_kept skips
 
 pub returns-in-Some-clause-read : goal.returns-in-Some-clause-read
 returns-in-Some-clause-read g c is_read =
@@ -64,9 +85,11 @@ returns-in-Some-clause-read g c is_read =
     (inputs (g.A.Source.left c.args.app.now) (g.B.Source.left c.args.second.now) (g.C.Source.left c.args.third.now))
     (Rose (g.A.Source.faults c.args.app.now) (g.A.Source.faults c.decide.new.app))
     (IsKept g.B.Source.left g.B.Source.faults c.args.second.now c.decide.new.second)
+    (IsKept g.C.Source.left g.C.Source.faults c.args.third.now c.decide.new.third)
     (Rose (g.B.Source.faults c.args.second.now) (g.B.Source.faults c.decide.new.second))
+    (Rose (g.C.Source.faults c.args.third.now) (g.C.Source.faults c.decide.new.third))
     (g.K.Sink.taken c.args.out.now) (g.K.Sink.taken c.decide.new.out) (g.K.Sink.faults c.args.out.now)
-    (g.K.Sink.faults c.decide.new.out) c.decide.result (c.decide.ensures.concludes (g.C.Source.left c.args.third.now))
+    (g.K.Sink.faults c.decide.new.out) c.decide.result (c.decide.ensures.concludes)
     is_read
 
 pub returns-in-Some-clause-silent : goal.returns-in-Some-clause-silent
@@ -75,9 +98,11 @@ returns-in-Some-clause-silent g c quiet =
     (inputs (g.A.Source.left c.args.app.now) (g.B.Source.left c.args.second.now) (g.C.Source.left c.args.third.now))
     (Rose (g.A.Source.faults c.args.app.now) (g.A.Source.faults c.decide.new.app))
     (IsKept g.B.Source.left g.B.Source.faults c.args.second.now c.decide.new.second)
+    (IsKept g.C.Source.left g.C.Source.faults c.args.third.now c.decide.new.third)
     (Rose (g.B.Source.faults c.args.second.now) (g.B.Source.faults c.decide.new.second))
+    (Rose (g.C.Source.faults c.args.third.now) (g.C.Source.faults c.decide.new.third))
     (g.K.Sink.taken c.args.out.now) (g.K.Sink.taken c.decide.new.out) (g.K.Sink.faults c.args.out.now)
-    (g.K.Sink.faults c.decide.new.out) c.decide.result (c.decide.ensures.concludes (g.C.Source.left c.args.third.now))
+    (g.K.Sink.faults c.decide.new.out) c.decide.result (c.decide.ensures.concludes)
     quiet
 
 pub returns-in-Some-clause-write : goal.returns-in-Some-clause-write
@@ -86,9 +111,11 @@ returns-in-Some-clause-write g c is_write =
     (inputs (g.A.Source.left c.args.app.now) (g.B.Source.left c.args.second.now) (g.C.Source.left c.args.third.now))
     (Rose (g.A.Source.faults c.args.app.now) (g.A.Source.faults c.decide.new.app))
     (IsKept g.B.Source.left g.B.Source.faults c.args.second.now c.decide.new.second)
+    (IsKept g.C.Source.left g.C.Source.faults c.args.third.now c.decide.new.third)
     (Rose (g.B.Source.faults c.args.second.now) (g.B.Source.faults c.decide.new.second))
+    (Rose (g.C.Source.faults c.args.third.now) (g.C.Source.faults c.decide.new.third))
     (g.K.Sink.taken c.args.out.now) (g.K.Sink.taken c.decide.new.out) (g.K.Sink.faults c.args.out.now)
-    (g.K.Sink.faults c.decide.new.out) c.decide.result (c.decide.ensures.concludes (g.C.Source.left c.args.third.now))
+    (g.K.Sink.faults c.decide.new.out) c.decide.result (c.decide.ensures.concludes)
     is_write
 
 pub returns-in-Some-clause-part : goal.returns-in-Some-clause-part
@@ -97,16 +124,18 @@ returns-in-Some-clause-part g c command named is_write told =
     (inputs (g.A.Source.left c.args.app.now) (g.B.Source.left c.args.second.now) (g.C.Source.left c.args.third.now))
     (Rose (g.A.Source.faults c.args.app.now) (g.A.Source.faults c.decide.new.app))
     (IsKept g.B.Source.left g.B.Source.faults c.args.second.now c.decide.new.second)
+    (IsKept g.C.Source.left g.C.Source.faults c.args.third.now c.decide.new.third)
     (Rose (g.B.Source.faults c.args.second.now) (g.B.Source.faults c.decide.new.second))
+    (Rose (g.C.Source.faults c.args.third.now) (g.C.Source.faults c.decide.new.third))
     (g.K.Sink.taken c.args.out.now) (g.K.Sink.taken c.decide.new.out) (g.K.Sink.faults c.args.out.now)
-    (g.K.Sink.faults c.decide.new.out) c.decide.result (c.decide.ensures.concludes (g.C.Source.left c.args.third.now))
+    (g.K.Sink.faults c.decide.new.out) c.decide.result (c.decide.ensures.concludes)
     command named is_write told
 
 pub returns-in-None-clause-answered : goal.returns-in-None-clause-answered
 returns-in-None-clause-answered g c command named is_answer told = no_words (texts c.args.words.now) c.in-None.ensures.none command named
 
 pub returns-in-None-clause-complete : goal.returns-in-None-clause-complete
-returns-in-None-clause-complete g c command due named is_due no_first no_second no_sink = no_words (texts c.args.words.now) c.in-None.ensures.none command named
+returns-in-None-clause-complete g c command due named is_due no_first no_second no_third no_sink = no_words (texts c.args.words.now) c.in-None.ensures.none command named
 
 pub returns-in-None-clause-part : goal.returns-in-None-clause-part
 returns-in-None-clause-part g c command named is_write told = no_words (texts c.args.words.now) c.in-None.ensures.none command named

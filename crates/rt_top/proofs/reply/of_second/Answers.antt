@@ -1,0 +1,10 @@
+use Rattle.std.proofs.Common.{sym, subst}
+use Rattle.rt_top.specs.Inside.Pairing.{IsOfSecond}
+use Rattle.rt_top.proofs.Pairing.{second_tells}
+use Rattle.rt_top.proofs.reply.of_second.Goals as goal
+
+pub returns-in-Write : goal.returns-in-Write
+returns-in-Write c =
+    subst (λ r. IsOfSecond r c.told.result) (sym c.in-Write.is)
+    (second_tells c.in-Write.status c.deref.result.now c.in-Write.text.items c.deref.ensures.value c.second_line.result
+    c.second_line.ensures c.told.result c.told.ensures.text c.told.ensures.memory)

@@ -1,0 +1,35 @@
+-- What `pair` says of its applications and its script alone.
+use Rattle.std.specs.Prelude.{◌≡◌, ℕ, List, ◌++◌, codes}
+use Rattle.rt_ids.specs.declared.status.Status.{Status}
+use Rattle.rt_ids.specs.declared.status.Status.TheVariants as status
+use Rattle.rt_app.specs.Names.{names_of}
+use Rattle.rt_app.specs.Tree.{App}
+use Rattle.rt_code.specs.Image.{Image}
+use Rattle.rt_dual.specs.Output.{IsPairText}
+use Rattle.rt_script.specs.Text.{IsScriptText}
+use Rattle.rt_script.specs.declared.line.Line.{Line}
+use Rattle.rt_top.specs.Inside.Replies.{Replies}
+use Rattle.rt_top.specs.Inside.Started.{IsGoodOf, AnswersRefusal}
+use Rattle.rt_top.specs.declared.reply.Reply.{Reply}
+use Rattle.rt_top.specs.declared.reply.Reply.TheVariants as reply
+
+-- the reply about a second application that is this one about a first, with a word in front; or memory was wanted
+abbrev pub IsOfSecond : Reply → Reply → Type 0
+IsOfSecond (reply.Write ended text) r =
+    Replies (λ status bytes. (status ≡ ended) × (bytes ≡ codes "second " ++ text.items)) r
+IsOfSecond (reply.Stop ended) r = r ≡ reply.Stop ended
+
+-- what a core with this image shows under a script beside a core with a good image of the other application
+pub record ShowsPair (image : Image) (other : App) (asked : List Line) (ended : Status) (bytes : List ℕ) : Type 0 where
+  pub done : ended ≡ status.Done
+  pub second : Image
+  pub good : IsGoodOf other second
+  pub is : IsPairText image second asked bytes
+
+-- what `pair` says of two applications and the text of a script
+pub data AnswersPair (first other : App) (last : List ℕ) : Status → List ℕ → Type 0 where
+  refused_script : (ended : Status) (line : List ℕ) → AnswersRefusal first last ended line
+      → AnswersPair first other last ended line
+  shown : (image : Image) (asked : List Line) (ended : Status) (bytes : List ℕ) → IsGoodOf first image
+      → IsScriptText (names_of first) last asked → ShowsPair image other asked ended bytes
+      → AnswersPair first other last ended bytes

@@ -1,0 +1,39 @@
+-- What `pair` writes: the refusal of its second application or of its script, or what two cores show that run beside each
+-- other. It is this project's own.
+use Rattle.std.specs.Prelude.{◌≡◌, ℕ, List, ◌++◌, codes}
+use Rattle.rt_app.specs.Names.{names_of}
+use Rattle.rt_app.specs.Tree.{App}
+use Rattle.rt_build.specs.Accepted.{IsApplication}
+use Rattle.rt_code.specs.Image.{Image}
+use Rattle.rt_dual.specs.Output.{IsPairText}
+use Rattle.rt_script.specs.Text.{IsScriptText}
+use Rattle.rt_script.specs.declared.line.Line.{Line}
+use Rattle.rt_top.specs.Outputs.{IsGoodImage}
+use Rattle.rt_top.specs.Refusal.{RefusesApplication}
+use Rattle.rt_top.specs.SecondRefusal.{RefusesScript}
+
+-- the line refuses the second application, where the first is accepted
+pub record RefusesOther (text more line : List ℕ) : Type 0 where
+  pub app : App
+  pub of_text : IsApplication text app
+  pub own : List ℕ
+  pub refuses : RefusesApplication more own
+  pub says : line ≡ codes "second " ++ own
+
+-- the line refuses a text that is no script over the names of the first application, where both are accepted
+pub record RefusesPairScript (text more last line : List ℕ) : Type 0 where
+  pub other : App
+  pub of_other : IsApplication more other
+  pub refuses : RefusesScript text last line
+
+-- `pair`: what two cores may write under a script, each with a good image of its own application
+pub record IsPaired (text more last bytes : List ℕ) : Type 0 where
+  pub first : App
+  pub second : App
+  pub first_image : Image
+  pub second_image : Image
+  pub is_first : IsGoodImage text first first_image
+  pub is_second : IsGoodImage more second second_image
+  pub script : List Line
+  pub read : IsScriptText (names_of first) last script
+  pub written : IsPairText first_image second_image script bytes
