@@ -164,33 +164,33 @@ pair_text script a a' b b' old new bytes fresh_a fresh_b before ended written =
       left = written.two_settled.left;
     } in
     record {
-  one = one;
-  two = two;
-  is_one =
-      is_course First b.image (first_events script) a a' old.one new.one old.left new.left old.right new.right fresh_a
-      before.one ended.one ended.left written.one written.one_settled
-      (forwarded b.image a.image.names (shown b.image (second_events script) two))
-      (rang a.image (second_events script) b b' fresh_b old.right new.right old.one.words 2 before.one.made.silent
-      before.two.routes ended.right)
-      (known a.image (second_events script) b b' fresh_b old.right new.right old.one.words 2 before.one.made.silent
-      before.two.routes ended.right);
-  is_two =
-      is_course Second a.image (second_events script) b b' old.two new.two old.right new.right old.left new.left fresh_b
-      before.two ended.two ended.right written.two written.two_settled
-      (forwarded a.image b.image.names (shown a.image (first_events script) one))
-      (rang b.image (first_events script) a a' fresh_a old.left new.left old.two.words 1 before.two.made.silent
-      before.one.routes ended.left)
-      (known b.image (first_events script) a a' fresh_a old.left new.left old.two.words 1 before.two.made.silent
-      before.one.routes ended.left);
-  written =
-      written.written
-      ∙ ap (λ t. t ++ (new.two.front.items ++ (new.right.trace.bytes.items ++ account_text b.image.names written.two)))
-      (core_written First b.image (first_events script) a a' old.one new.one old.left new.left old.right new.right fresh_a
-      before.one ended.one ended.left written.one written.one_settled)
-      ∙ ap (λ t. core_text (codes "core 1\n") a.image (first_events script) one ++ t)
-      (core_written Second a.image (second_events script) b b' old.two new.two old.right new.right old.left new.left
-      fresh_b before.two ended.two ended.right written.two written.two_settled);
-}
+      one = one;
+      two = two;
+      is_one =
+          is_course First b.image (first_events script) a a' old.one new.one old.left new.left old.right new.right fresh_a
+          before.one ended.one ended.left written.one written.one_settled
+          (forwarded b.image a.image.names (shown b.image (second_events script) two))
+          (rang a.image (second_events script) b b' fresh_b old.right new.right old.one.words 2 before.one.made.silent
+          before.two.routes ended.right)
+          (known a.image (second_events script) b b' fresh_b old.right new.right old.one.words 2 before.one.made.silent
+          before.two.routes ended.right);
+      is_two =
+          is_course Second a.image (second_events script) b b' old.two new.two old.right new.right old.left new.left fresh_b
+          before.two ended.two ended.right written.two written.two_settled
+          (forwarded a.image b.image.names (shown a.image (first_events script) one))
+          (rang b.image (first_events script) a a' fresh_a old.left new.left old.two.words 1 before.two.made.silent
+          before.one.routes ended.left)
+          (known b.image (first_events script) a a' fresh_a old.left new.left old.two.words 1 before.two.made.silent
+          before.one.routes ended.left);
+      written =
+          written.written
+          ∙ ap (λ t. t ++ (new.two.front.items ++ (new.right.trace.bytes.items ++ account_text b.image.names written.two)))
+          (core_written First b.image (first_events script) a a' old.one new.one old.left new.left old.right new.right fresh_a
+          before.one ended.one ended.left written.one written.one_settled)
+          ∙ ap (λ t. core_text (codes "core 1\n") a.image (first_events script) one ++ t)
+          (core_written Second a.image (second_events script) b b' old.two new.two old.right new.right old.left new.left
+          fresh_b before.two ended.two ended.right written.two written.two_settled);
+    }
 
 -- the text of a core, part by part
 pub same_text : (f f' t t' : List ℕ) (n n' : Names) (rows : List AccountRow) → f ≡ f' → t ≡ t' → n ≡ n'

@@ -49,8 +49,7 @@ look_more (Happens (Arrive irq) ∷ ts) found last few =
 look_more (Happens Step ∷ ts) [] last few = (Step ∷ weave ts [], refl)
 look_more (Happens Step ∷ ts) (ws ∷ found) last few =
     let rest = look_more ts found last (omega (arith, few)) in
-    let front : List Event = Step ∷ weave ts found in
-    (
+    let front : List Event = Step ∷ weave ts found in (
       rest.0,
       ap (λ es. arrived ws ++ Step ∷ es) rest.1
           ∙ sym (ap (λ es. es ++ rest.0) (append_assoc (arrived ws) front (arrived last))
@@ -58,8 +57,7 @@ look_more (Happens Step ∷ ts) (ws ∷ found) last few =
     )
 look_more (Looks ∷ ts) [] last few = (weave ts [], refl)
 look_more (Looks ∷ ts) (ws ∷ found) last few =
-    let rest = look_more ts found last (omega (arith, few)) in
-    (
+    let rest = look_more ts found last (omega (arith, few)) in (
       rest.0,
       ap (λ es. arrived ws ++ es) rest.1
           ∙ sym (ap (λ es. es ++ rest.0) (append_assoc (arrived ws) (weave ts found) (arrived last))

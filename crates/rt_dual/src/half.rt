@@ -51,7 +51,11 @@ fn front_of(alloc: Global, place: Place, image: &Image) -> Result<Vec<u8>, NoMem
 
 /// The words of a core with these names, and the two lines that call them.
 #[inline(never)]
-fn words_of(alloc: Global, place: Place, names: &Names) -> Result<(Words, Lines, Vec<AccountRow>), NoMemory>
+fn words_of(
+    alloc: Global,
+    place: Place,
+    names: &Names,
+) -> Result<(Words, Lines, Vec<AccountRow>), NoMemory>
     ensures { IfOk result (λ r.
         IsMade names.now (number_of (other_of place)) r.0 r.1.own r.1.bell r.2.items) }
 {

@@ -206,12 +206,7 @@ fn run_both<R: Threads + Sync, G: Gate + Sync>(
 
 /// Closes the words of both cores, and writes their texts. It takes no memory.
 #[inline(never)]
-fn put_both<K: Sink>(
-    both: Both,
-    first: &Image,
-    second: &Image,
-    out: &mut K,
-) -> Result<(), Failed>
+fn put_both<K: Sink>(both: Both, first: &Image, second: &Image, out: &mut K) -> Result<(), Failed>
     requires { CanWrite both }
     ensures ok { OnOk result ((bytes : List ℕ) × IsWritten first.now second.now both bytes
         × Took (K.taken out.old) (K.taken out.new) bytes) }

@@ -53,12 +53,7 @@ fn step<G: Gate>(
 }
 
 /// A request of the script, which the first core gets.
-fn request(
-    core: &mut Core,
-    side: &mut Side,
-    irq: Irq,
-    held: &mut LineBuffer,
-) -> Result<(), Failed>
+fn request(core: &mut Core, side: &mut Side, irq: Irq, held: &mut LineBuffer) -> Result<(), Failed>
     requires writable { IsWritable core.old }
     requires few { core.old.steps < 2 ^ 31 }
     requires declared { IsDeclaredAt side.old.place core.old.image.names irq }

@@ -28,5 +28,5 @@ pub few_keys : {X : Type 0} (m : BTreeMap ℕ X) (n : ℕ) → IsOrdered nat_cmp
 few_keys {X} m n ordered below =
     let long = length-map m.entries (λ (e : ℕ × X). e.0) in
     let few = few_below (keys m) n ordered
-        (λ i within. below (get_or (keys m) i 0) (All-keys_found nat_cmp_total m ordered i 0 within)) in
+    (λ i within. below (get_or (keys m) i 0) (All-keys_found nat_cmp_total m ordered i 0 within)) in
     omega (arith, long, few)

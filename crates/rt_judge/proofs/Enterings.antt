@@ -72,7 +72,7 @@ module _ (img : Image) (ps : List Point) (p : Point) (i : Instr) (x : Section) (
   by_cases y q j e before now = ⊎_elim
       (λ seen. before (record { seen = seen; enters = e.enters }))
       (λ same. let enters : EntersBy img p j y = subst (λ r. EntersBy img r j y) (sym same) e.enters in
-          now same (one_instr img p i j x y stands enters) (one_section img p i j x y stands enters))
+      now same (one_instr img p i j x y stands enters) (one_section img p i j x y stands enters))
       (Contains-push_cases ps p q e.seen)
 
   abbrev level_now : ℕ
@@ -217,10 +217,10 @@ module _ (img : Image) (ps : List Point) (p : Point) (i : Instr) (x : Section) (
         → IsEntering img (ps ++ p ∷ []) (added e row).section (added e row)
     step_row row is = ⊎_elim
         (λ same. subst (λ r. IsEntering img (ps ++ p ∷ []) r.section r) (sym (added_here row same))
-            (same_row row (same_is row.section e.section same ∙ of) is))
+        (same_row row (same_is row.section e.section same ∙ of) is))
         (λ apart. subst (λ r. IsEntering img (ps ++ p ∷ []) r.section r) (sym (added_apart row apart))
-            (other_row row (λ same. absurd (let both : is_same_section row.section e.section ≡ true =
-                subst (λ y. is_same_section row.section y ≡ true) (same ∙ sym of) (is_same row.section) in cc)) is))
+        (other_row row (λ same. absurd (let both : is_same_section row.section e.section ≡ true =
+        subst (λ y. is_same_section row.section y ≡ true) (same ∙ sym of) (is_same row.section) in cc)) is))
         (either (is_same_section row.section e.section))
       where
         either : (b : Bool) → (b ≡ true) ⊎ (b ≡ false)
@@ -236,9 +236,9 @@ module _ (img : Image) (ps : List Point) (p : Point) (i : Instr) (x : Section) (
     section_added : (row : Entering) → (added e row).section ≡ row.section
     section_added row = elim (is_same_section row.section e.section) as
         (λ b. is_same_section row.section e.section ≡ b → (added e row).section ≡ row.section) [
-        | true ↦ λ same. rw same refl
-        | false ↦ λ apart. rw apart refl
-      ] refl
+          | true ↦ λ same. rw same refl
+          | false ↦ λ apart. rw apart refl
+        ] refl
 
     any_added : (y : Section) (rows : List Entering) → list_any (λ row. is_same_section row.section y) (map (added e) rows)
         ≡ list_any (λ row. is_same_section row.section y) rows
@@ -255,11 +255,12 @@ module _ (img : Image) (ps : List Point) (p : Point) (i : Instr) (x : Section) (
         → AllByRecursion (λ row. IsEntering img (ps ++ p ∷ []) row.section row) rows
     rows_apart [] none all = tt
     rows_apart (row ∷ rows) none all =
-        let parts = both_of_none (is_same_section row.section e.section) (list_any (λ r. is_same_section r.section e.section) rows) none in
-        (other_row row (λ same. absurd (let yes : is_same_section row.section e.section ≡ true =
-            subst (λ y. is_same_section row.section y ≡ true) (same ∙ sym of) (is_same row.section) in
-            let no = parts.0 in cc)) all.0,
-        rows_apart rows parts.1 all.1)
+        let parts = both_of_none (is_same_section row.section e.section) (list_any (λ r. is_same_section r.section e.section) rows) none in (
+          other_row row (λ same. absurd (let yes : is_same_section row.section e.section ≡ true =
+              subst (λ y. is_same_section row.section y ≡ true) (same ∙ sym of) (is_same row.section) in
+              let no = parts.0 in cc)) all.0,
+          rows_apart rows parts.1 all.1,
+        )
 
     -- what the rows have, with the next
     module _ (s t : Sections) (tells : TellsOfSections img ps s) (free : t.free ≡ (s.free && not (list_any (λ o. is_same_section o.section x) p.inside)))
@@ -280,27 +281,29 @@ module _ (img : Image) (ps : List Point) (p : Point) (i : Instr) (x : Section) (
           (λ b. list_any (λ row. is_same_section row.section e.section) s.rows.items ≡ b
           → AllByRecursion (λ row. IsEntering img (ps ++ p ∷ []) row.section row)
           (if b then map (added e) s.rows.items else s.rows.items ++ e ∷ [])) [
-          | true ↦ λ there. rows_on s.rows.items tells.rows
-          | false ↦ λ none. all_append (λ row. IsEntering img (ps ++ p ∷ []) row.section row) s.rows.items (e ∷ [])
-              (rows_apart s.rows.items none tells.rows)
-              (subst (λ y. IsEntering img (ps ++ p ∷ []) y e) (sym of)
-              (first_row (λ q j before. absurd (let yes = tells.each x q j before in
-              let no = subst (λ y. list_any (λ row. is_same_section row.section y) s.rows.items ≡ false) of none in cc))), tt)
-        ] refl
+            | true ↦ λ there. rows_on s.rows.items tells.rows
+            | false ↦ λ none. all_append (λ row. IsEntering img (ps ++ p ∷ []) row.section row) s.rows.items (e ∷ [])
+                (rows_apart s.rows.items none tells.rows) (
+                  subst (λ y. IsEntering img (ps ++ p ∷ []) y e) (sym of)
+                      (first_row (λ q j before. absurd (let yes = tells.each x q j before in
+                      let no = subst (λ y. list_any (λ row. is_same_section row.section y) s.rows.items ≡ false) of none in cc))),
+                  tt,
+                )
+          ] refl
 
       each_now : (y : Section) (q : Point) (j : Instr) → Enterer img (ps ++ p ∷ []) y q j
           → list_any (λ row. is_same_section row.section y) (entered e s.rows.items) ≡ true
       each_now y q j enters = elim (list_any (λ row. is_same_section row.section e.section) s.rows.items) as
           (λ b. list_any (λ row. is_same_section row.section e.section) s.rows.items ≡ b
           → list_any (λ row. is_same_section row.section y) (if b then map (added e) s.rows.items else s.rows.items ++ e ∷ []) ≡ true) [
-          | true ↦ λ there. any_added y s.rows.items ∙ by_cases y q j enters (tells.each y q j)
-              (λ _ _ same. subst (λ z. list_any (λ row. is_same_section row.section z) s.rows.items ≡ true) (of ∙ same) there)
-          | false ↦ λ none. by_cases y q j enters
-              (λ before. any_left (λ row. is_same_section row.section y) s.rows.items (e ∷ []) (tells.each y q j before))
-              (λ _ _ same. any_right (λ row. is_same_section row.section y) s.rows.items (e ∷ [])
-                  (or_left (is_same_section e.section y) false
-                  (subst (λ z. is_same_section e.section z ≡ true) (of ∙ same) (is_same e.section))))
-        ] refl
+            | true ↦ λ there. any_added y s.rows.items ∙ by_cases y q j enters (tells.each y q j)
+                (λ _ _ same. subst (λ z. list_any (λ row. is_same_section row.section z) s.rows.items ≡ true) (of ∙ same) there)
+            | false ↦ λ none. by_cases y q j enters
+                (λ before. any_left (λ row. is_same_section row.section y) s.rows.items (e ∷ []) (tells.each y q j before))
+                (λ _ _ same. any_right (λ row. is_same_section row.section y) s.rows.items (e ∷ [])
+                (or_left (is_same_section e.section y) false
+                (subst (λ z. is_same_section e.section z ≡ true) (of ∙ same) (is_same e.section))))
+          ] refl
 
       pub takes_enter : TellsOfSections img (ps ++ p ∷ []) t
       takes_enter = record {
@@ -355,9 +358,9 @@ pub takes_none : (img : Image) (ps : List Point) (p : Point) (s : Sections) → 
 takes_none img ps p s none tells =
     let before : (y : Section) (q : Point) (j : Instr) → Enterer img (ps ++ p ∷ []) y q j → Enterer img ps y q j =
     λ y q j e. ⊎_elim
-        (λ seen. record { seen = seen; enters = e.enters })
-        (λ same. absurd (none j y (subst (λ r. EntersBy img r j y) (sym same) e.enters)))
-        (Contains-push_cases ps p q e.seen) in
+    (λ seen. record { seen = seen; enters = e.enters })
+    (λ same. absurd (none j y (subst (λ r. EntersBy img r j y) (sym same) e.enters)))
+    (Contains-push_cases ps p q e.seen) in
     record {
       free = (
         λ yes. all_append (FreeAt img) ps (p ∷ []) (tells.free.0 yes) ((λ j y enters. absurd (none j y enters)), tt),

@@ -43,9 +43,9 @@ by_handler : (value : ℕ) (o : Option Handler) (rows : List IrqRow)
 by_handler value None rows = refl
 by_handler value (Some h) rows = elim (h.value == value) as (λ b. greater (if b then Some h.frame else None) (greatest_or_none (frames value rows))
     ≡ greatest_or_none (map (λ (h : Handler). h.frame) (cond b (h ∷ filter (λ (h : Handler). h.value == value) (handlers rows)) (filter (λ (h : Handler). h.value == value) (handlers rows))))) [
-    | true ↦ more_frames h.frame (frames value rows)
-    | false ↦ refl
-  ]
+      | true ↦ more_frames h.frame (frames value rows)
+      | false ↦ refl
+    ]
 
 pub greatest_of_frames : (value : ℕ) (rows : List IrqRow) → greatest_frame value rows ≡ greatest_or_none (frames value rows)
 greatest_of_frames value [] = refl

@@ -117,9 +117,9 @@ module _ (img : Image) (t : Table) (bs : List Place) (start : Place) (begins : s
     thread_has p (Enters place h is) mine = absurd (let e : Handling place ≡ Thread = mine in cc)
     thread_has s (Leads p q is to) mine = ⊎_elim
         (λ same.
-            let was : p.owner ≡ Thread = sym same ∙ sym to.owner ∙ mine in
-            behind.closed (place_of p) q (thread_has p is was)
-            (subst (λ o. LeadsTo img (point p.address o p.inside) q) was to) mine)
+        let was : p.owner ≡ Thread = sym same ∙ sym to.owner ∙ mine in
+        behind.closed (place_of p) q (thread_has p is was)
+        (subst (λ o. LeadsTo img (point p.address o p.inside) q) was to) mine)
         (λ served. behind.began (place_of q) (thread_starts p q is to served.0 mine))
         (serves to.line.0 p.owner)
 
@@ -135,9 +135,9 @@ module _ (img : Image) (place : ℕ) (h : Handler) (is : handler_at img place �
       (subst (Has t) begins (walked.began start (contains_here start [])))
   handler_has s (Leads p q from to) mine = ⊎_elim
       (λ same.
-          let was : p.owner ≡ Handling place = sym same ∙ sym to.owner ∙ mine in
-          walked.closed (place_of p) q (handler_has p from was)
-          (subst (λ o. LeadsTo img (point p.address o p.inside) q) was to) mine)
+      let was : p.owner ≡ Handling place = sym same ∙ sym to.owner ∙ mine in
+      walked.closed (place_of p) q (handler_has p from was)
+      (subst (λ o. LeadsTo img (point p.address o p.inside) q) was to) mine)
       (λ served. absurd (let both : Thread ≡ Handling place = sym served.1 ∙ sym to.owner ∙ mine in cc))
       (serves to.line.0 p.owner)
 
@@ -173,9 +173,9 @@ pub owner_below : (img : Image) (p : Point) → IsPoint img p → IsBelow (lengt
 owner_below img p Begins = tt
 owner_below img p (Enters place h is) = elim (slice_get img.irqs place) as
     (λ row. slice_get img.irqs place ≡ row → then_from row (λ r. r.handler) ≡ Some h → place < length img.irqs) [
-    | None ↦ λ e bad. absurd (none-some h bad)
-    | Some row ↦ λ e good. slice_get_within img.irqs place row e
-  ] refl is
+      | None ↦ λ e bad. absurd (none-some h bad)
+      | Some row ↦ λ e good. slice_get_within img.irqs place row e
+    ] refl is
 owner_below img s (Leads p q from to) = ⊎_elim
     (λ same. subst (IsBelow (length img.irqs)) (sym same ∙ sym to.owner) (owner_below img p from))
     (λ served. subst (IsBelow (length img.irqs)) (sym (to.owner ∙ served.1)) tt)

@@ -115,15 +115,21 @@ module _ (img : Image) (ps : List Point) (p : Point) where
       → TellsOfCells img ps rows → TellsOfCells img (ps ++ p ∷ []) rows
   takes_nowhere rows absent tells k line at = row_more k
       (λ q b t. ⊎_elim
-          (λ seen. record {
-            seen = seen; outside = t.outside; instr = t.instr; told = t.told; stands = t.stands; by = t.by; touches = t.touches;
-          })
-          (λ same. absurd (
-              let none : slice_get img.code p.address ≡ no_line = absent in
-              let some : slice_get img.code p.address ≡ told_line t.instr t.told =
-              ap (λ (r : Point). slice_get img.code r.address) same ∙ t.stands in
-              let both : no_line ≡ told_line t.instr t.told = sym none ∙ some in cc))
-          (Contains-push_cases ps p q t.seen))
+      (λ seen. record {
+        seen = seen;
+        outside = t.outside;
+        instr = t.instr;
+        told = t.told;
+        stands = t.stands;
+        by = t.by;
+        touches = t.touches;
+      })
+      (λ same. absurd (
+      let none : slice_get img.code p.address ≡ no_line = absent in
+      let some : slice_get img.code p.address ≡ told_line t.instr t.told =
+      ap (λ (r : Point). slice_get img.code r.address) same ∙ t.stands in
+      let both : no_line ≡ told_line t.instr t.told = sym none ∙ some in cc))
+      (Contains-push_cases ps p q t.seen))
       line (tells k line at)
 
 module _ (img : Image) (ps : List Point) (p : Point) (i : Instr) (told : Option Note)
@@ -133,22 +139,28 @@ module _ (img : Image) (ps : List Point) (p : Point) (i : Instr) (told : Option 
       → (Toucher img ps k q b → G) → (p ≡ q → p.owner ≢ Starting → touched i ≡ Some b → cell_of b ≡ k → G) → G
   by_cases k q b t before now = ⊎_elim
       (λ seen. before (record {
-        seen = seen; outside = t.outside; instr = t.instr; told = t.told; stands = t.stands; by = t.by; touches = t.touches;
+        seen = seen;
+        outside = t.outside;
+        instr = t.instr;
+        told = t.told;
+        stands = t.stands;
+        by = t.by;
+        touches = t.touches;
       }))
       (λ same.
-          let was : slice_get img.code p.address ≡ told_line i told = stands in
-          let is : slice_get img.code p.address ≡ told_line t.instr t.told =
-          ap (λ (r : Point). slice_get img.code r.address) same ∙ t.stands in
-          let one : i ≡ t.instr = ap (instr_in i) (sym was ∙ is) in
-          now same (subst (λ (r : Point). r.owner ≢ Starting) (sym same) t.outside) (ap touched one ∙ t.by) t.touches)
+      let was : slice_get img.code p.address ≡ told_line i told = stands in
+      let is : slice_get img.code p.address ≡ told_line t.instr t.told =
+      ap (λ (r : Point). slice_get img.code r.address) same ∙ t.stands in
+      let one : i ≡ t.instr = ap (instr_in i) (sym was ∙ is) in
+      now same (subst (λ (r : Point). r.owner ≢ Starting) (sym same) t.outside) (ap touched one ∙ t.by) t.touches)
       (Contains-push_cases ps p q t.seen)
 
   pub takes_no_touch : (rows : List (Option Touching)) → (p.owner ≡ Starting) ⊎ (touched i ≡ None)
       → TellsOfCells img ps rows → TellsOfCells img (ps ++ p ∷ []) rows
   takes_no_touch rows none tells k row at = row_more img ps p k
       (λ q b t. by_cases k q b t (λ h. h) (λ same outside by is. absurd (⊎_elim
-          (λ starting. outside starting)
-          (λ nothing. let both : Some b ≡ None = sym by ∙ nothing in cc) none)))
+      (λ starting. outside starting)
+      (λ nothing. let both : Some b ≡ None = sym by ∙ nothing in cc) none)))
       row (tells k row at)
 
   -- the next point touches a cell
@@ -168,7 +180,13 @@ module _ (img : Image) (ps : List Point) (p : Point) (i : Instr) (told : Option 
 
     here : Toucher img (ps ++ p ∷ []) touch.cell p a
     here = record {
-      seen = Contains-push ps p; outside = outside; instr = i; told = told; stands = stands; by = by; touches = at;
+      seen = Contains-push ps p;
+      outside = outside;
+      instr = i;
+      told = told;
+      stands = stands;
+      by = by;
+      touches = at;
     }
 
     same_value : (q : Point) → p ≡ q → owner_value img q.owner ≡ touch.value
@@ -206,8 +224,8 @@ module _ (img : Image) (ps : List Point) (p : Point) (i : Instr) (told : Option 
           (λ q b h. (seen_before img ps p touch.cell q b h.0, h.1))
           (λ yes. (p, a, (here, store_test a (stores ∙ yes))))
           (λ no q b h. by_cases touch.cell q b h.0 (λ before. (before, h.1))
-              (λ _ _ other _. absurd (let yes = test_store a (subst IsStore (sym (same_access b other)) h.1) in
-              let not_so = stores ∙ no in cc)))
+          (λ _ _ other _. absurd (let yes = test_store a (subst IsStore (sym (same_access b other)) h.1) in
+          let not_so = stores ∙ no in cc)))
           was.stored);
       first = was.first;
       access = was.access;
@@ -219,10 +237,17 @@ module _ (img : Image) (ps : List Point) (p : Point) (i : Instr) (told : Option 
           (λ q b. Toucher img ps touch.cell q b × (owner_value img q.owner ≢ old.value))
           (λ q b. Toucher img (ps ++ p ∷ []) touch.cell q b × (owner_value img q.owner ≢ old.value))
           (λ q b h. (seen_before img ps p touch.cell q b h.0, h.1))
-          (λ yes. (p, a, (here, λ same. absurd (let no = not_true (touch.value == old.value) yes in
-              let eq = eq-eqb touch.value old.value (sym value ∙ same) in cc))))
+          (λ yes. (
+            p,
+            a,
+            (
+              here,
+              λ same. absurd (let no = not_true (touch.value == old.value) yes in
+                  let eq = eq-eqb touch.value old.value (sym value ∙ same) in cc),
+            ),
+          ))
           (λ no q b h. by_cases touch.cell q b h.0 (λ before. (before, h.1))
-              (λ same _ _ _. absurd (h.1 (same_value q same ∙ eqb-true touch.value old.value (not_false (touch.value == old.value) no)))))
+          (λ same _ _ _. absurd (h.1 (same_value q same ∙ eqb-true touch.value old.value (not_false (touch.value == old.value) no)))))
           was.differ));
       guards = λ x inside q b h.
           let both = in_filter (is_open p.inside) old.sections.items x (subst (λ xs. IsIn xs x) is.sections inside) in
@@ -243,8 +268,8 @@ module _ (img : Image) (ps : List Point) (p : Point) (i : Instr) (told : Option 
         → TellsOfCells img ps old → TellsOfCells img (ps ++ p ∷ []) new
     takes_inner_touch old new done tells k row is = ⊎_elim
         (λ same. subst (λ n. TellsOfTouching img (ps ++ p ∷ []) n row) (sym same.0)
-            (subst (TellsOfTouching img (ps ++ p ∷ []) touch.cell) same.1
-            (next_row done.row done.next done.is_next (tells touch.cell done.row done.was))))
+        (subst (TellsOfTouching img (ps ++ p ∷ []) touch.cell) same.1
+        (next_row done.row done.next done.is_next (tells touch.cell done.row done.was))))
         (λ there. row_more img ps p k (apart k there.0) row (tells k row there.1))
         (get_set old touch.cell k (Some done.next) row (subst (λ rows. slice_get rows k ≡ Some row) done.is is))
 
@@ -259,6 +284,6 @@ pub access_of_touch : (i : Instr) (touch : Touch) → option_map cell_of (touche
     → is_stored (touched i) ≡ touch.stored → HasAccess i touch
 access_of_touch i touch cell stores = elim (touched i) as
     (λ (o : Option Access). touched i ≡ o → option_map cell_of o ≡ Some touch.cell → is_stored o ≡ touch.stored → HasAccess i touch) [
-    | None ↦ λ e at s. absurd (none-some touch.cell at)
-    | Some a ↦ λ e at s. record { access = a; by = e; at = same_Some (cell_of a) touch.cell at; stores = s }
-  ] refl cell stores
+      | None ↦ λ e at s. absurd (none-some touch.cell at)
+      | Some a ↦ λ e at s. record { access = a; by = e; at = same_Some (cell_of a) touch.cell at; stores = s }
+    ] refl cell stores

@@ -135,10 +135,10 @@ module _ (img : Image) (f : Findings) (looked : Looked img f) where
         free = all_has (FreeAt img) looked.points p (looked.finds.sections.free.0 free) (looked.all p stands.0) i x stands.1;
         others = λ q j outside other.
             let row = any_one (λ (r : Entering). is_same_section r.section x) f.sections.rows.items
-                (looked.finds.sections.each x p i (enterer p i x stands)) in
+            (looked.finds.sections.each x p i (enterer p i x stands)) in
             let same : row.1.section ≡ x = same_is row.1.section x row.3 in
             let is = all_at (λ (r : Entering). IsEntering img looked.points r.section r) f.sections.rows.items row.0 row.1
-                looked.finds.sections.rows row.2 in
+            looked.finds.sections.rows row.2 in
             let high = holds_at holds_off f.sections.rows.items row.0 row.1 all row.2 in
             subst (λ y. level_behind img p i y ≤ owner_value img q.owner) same
             (row_high row.1 is high p q i j
@@ -155,7 +155,7 @@ module _ (img : Image) (f : Findings) (looked : Looked img f) where
           let p = is.level.point in
           let q = l.point in
           let holds = (all p is.level.instr row.section (enters_at p is.level.instr row.section is.level.enterer)).others q l.instr
-              l.outside (enters_at q l.instr row.section l.enterer) in
+          l.outside (enters_at q l.instr row.section l.enterer) in
           let level : level_behind img p is.level.instr row.section ≡ row.level = is.level.is in
           let value : owner_value img q.owner ≡ v = l.is in
           let above : v < row.level = lt_of row.level v fail in
@@ -167,7 +167,7 @@ module _ (img : Image) (f : Findings) (looked : Looked img f) where
     | true ↦ λ e rest.
         let row = fails_at holds_off f.sections.rows.items rest in
         row_low row.item (all_at (λ (r : Entering). IsEntering img looked.points r.section r) f.sections.rows.items row.place row.item
-            looked.finds.sections.rows row.at) row.fails all
+        looked.finds.sections.rows row.at) row.fails all
     | false ↦ λ e rest. is_false f.sections.free e looked.finds.sections.free
         (all_weaker (IsPoint img) (FreeAt img) (λ p is i x at. (all p i x (is, at)).free) looked.points looked.sound)
   ] refl fail
@@ -175,13 +175,24 @@ module _ (img : Image) (f : Findings) (looked : Looked img f) where
   -- cells
   toucher : (cell : ℕ) (p : Point) (t : Touches img cell p) → Toucher img looked.points cell p t.access
   toucher cell p t = record {
-    seen = looked.all p t.stands.0; outside = t.outside; instr = t.instr; told = t.told; stands = t.stands.1; by = t.by; touches = t.touches;
+    seen = looked.all p t.stands.0;
+    outside = t.outside;
+    instr = t.instr;
+    told = t.told;
+    stands = t.stands.1;
+    by = t.by;
+    touches = t.touches;
   }
 
   abbrev touches : (cell : ℕ) (p : Point) (a : Access) → Toucher img looked.points cell p a → Touches img cell p
   touches cell p a t = record {
-    outside = t.outside; instr = t.instr; told = t.told;
-    stands = (all_has (IsPoint img) looked.points p looked.sound t.seen, t.stands); access = a; by = t.by; touches = t.touches;
+    outside = t.outside;
+    instr = t.instr;
+    told = t.told;
+    stands = (all_has (IsPoint img) looked.points p looked.sound t.seen, t.stands);
+    access = a;
+    by = t.by;
+    touches = t.touches;
   }
 
   in_memory : OperatesWell img → (cell : ℕ) (p : Point) → Touches img cell p → cell < length img.cells
@@ -204,8 +215,10 @@ module _ (img : Image) (f : Findings) (looked : Looked img f) where
           → SomeIfTrue d (λ p a. Toucher img looked.points cell p a × (owner_value img p.owner ≢ t.value))
           → (not b || (not d || not (length t.sections.items == 0))) ≡ true → (x : Section) × IsGuardedBy img cell x
       by_stored false none d differ pass = absurd (none c.storer c.stored.access (toucher cell c.storer c.stored, c.is_store))
-      by_stored true some false same pass = absurd (same c.one c.one_touches.access (toucher cell c.one c.one_touches,
-          λ one. same c.other c.other_touches.access (toucher cell c.other c.other_touches, λ other. c.differ (one ∙ sym other))))
+      by_stored true some false same pass = absurd (same c.one c.one_touches.access (
+        toucher cell c.one c.one_touches,
+        λ one. same c.other c.other_touches.access (toucher cell c.other c.other_touches, λ other. c.differ (one ∙ sym other)),
+      ))
       by_stored true some true differ pass = guarded_by t.sections.items refl pass
 
   pub guards : OperatesWell img → list_all is_row_guarded f.cells.rows.items ≡ true → GuardsCells img

@@ -55,7 +55,7 @@ next_is_point : (img : Image) (owner : Owner) (place : Place) (line : Line) → 
 next_is_point img owner place line stands point [] all = tt
 next_is_point img owner place line stands point (to ∷ tos) all = (
   Leads (point_of owner place) (point_of (owner_after line.0 owner) (next line place.nesting to)) point
-  (record { line = line; stands = stands; address = all.0; owner = refl; inside = refl }),
+      (record { line = line; stands = stands; address = all.0; owner = refl; inside = refl }),
   next_is_point img owner place line stands point tos all.1,
 )
 
@@ -136,8 +136,8 @@ module _ (old new : Table) (place : Place) (added : IsAdded old new place) (abse
   is_one : (s : Place) → Has new s → (s ≡ place) ⊎ Has old s
   is_one s has = ⊎_elim
       (λ same. inl (let n : s.nesting ≡ place.nesting =
-          some_of s.nesting place.nesting (sym has ∙ ap (get nat_cmp new) (sym same) ∙ has_new) in
-          λ i. record { address = sym same i; nesting = n i }))
+      some_of s.nesting place.nesting (sym has ∙ ap (get nat_cmp new) (sym same) ∙ has_new) in
+      λ i. record { address = sym same i; nesting = n i }))
       (λ apart. inr (sym (added.updates.2 s.address (is_apart place.address s.address apart)) ∙ has))
       (cases_eq place.address s.address)
 
@@ -150,9 +150,9 @@ module _ (img : Image) (owner : Owner) (starts : List Place) (old new : Table) (
   pub walks_past : Has old place → IsWalking img owner starts old rest bs
   walks_past has =
       let known : (s : Place) → IsKnown old (rest ++ place ∷ []) s → IsKnown old rest s = λ s is. ⊎_elim
-          (λ in_table. inl in_table)
-          (λ waits. ⊎_elim (λ front. inr front) (λ same. inl (subst (Has old) same has)) (Contains-push_cases rest place s waits))
-          is in
+      (λ in_table. inl in_table)
+      (λ waits. ⊎_elim (λ front. inr front) (λ same. inl (subst (Has old) same has)) (Contains-push_cases rest place s waits))
+      is in
       record {
         table = before.table;
         waiting = all_front (λ s. IsPoint img (point_of owner s)) rest place before.waiting;
@@ -172,9 +172,9 @@ module _ (img : Image) (owner : Owner) (starts : List Place) (old new : Table) (
     known s is = ⊎_elim
         (λ in_table. inl (keeps_old old new place added absent s in_table))
         (λ waiting. ⊎_elim
-            (λ front. inr (Contains-append_left rest (waits img owner place) s front))
-            (λ same. inl (subst (Has new) same (has_new old new place added absent)))
-            (Contains-push_cases rest place s waiting))
+        (λ front. inr (Contains-append_left rest (waits img owner place) s front))
+        (λ same. inl (subst (Has new) same (has_new old new place added absent)))
+        (Contains-push_cases rest place s waiting))
         is
 
     of_each : (P : Place → Type 0) → P place → ((s : Place) → Has old s → P s) → (s : Place) → Has new s → P s
@@ -263,7 +263,7 @@ goes_nearer img owner place old new rest before after was is longer few =
     let long_after : length after ≡ length rest + w = ap length is ∙ length-append rest (waits img owner place) in
     let long_before : length before ≡ length rest + 1 = ap length was ∙ length-append rest (place ∷ []) in
     let less = nearer (2 ^ 32) (btree_map_len old) (btree_map_len new) (length rest) w longer few
-        (waits_short (slice_get img.code place.address) owner place) in
+    (waits_short (slice_get img.code place.address) owner place) in
     rw (long_after, long_before) less
 
 pub none_of_none : (places : List Place) → length places ≡ 0 → places ≡ []

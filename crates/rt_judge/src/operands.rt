@@ -41,9 +41,8 @@ fn has_its_slots(instr: &Instr, frame: u32) -> bool
         | Instr::Restore(slot)
         | Instr::Mask(slot)
         | Instr::Unmask(slot) => slot < frame,
-        Instr::Copy(slot, other) | Instr::LoadAt(slot, _, other) | Instr::StoreAt(_, slot, other) => {
-            slot < frame && other < frame
-        }
+        Instr::Copy(slot, other) | Instr::LoadAt(slot, _, other) | Instr::StoreAt(_, slot, other) =>
+            { slot < frame && other < frame }
         Instr::Calc(_, slot, left, right) => slot < frame && left < frame && right < frame,
         _ => true,
     }

@@ -52,11 +52,13 @@ fn sections_of(alloc: Global, opened: &[Opened]) -> Result<Vec<Section>, NoMemor
 fn common(alloc: Global, sections: &[Section], opened: &[Opened]) -> Result<Vec<Section>, NoMemory>
     ensures { IfOk result (λ all. all.items ≡ filter (spec.is_open opened.now) sections.now) }
 {
-    Ok(sections
-        .iter()
-        .copied()
-        .filter(|section| is_inside(opened, section))
-        .collect(alloc)?)
+    Ok(
+        sections
+            .iter()
+            .copied()
+            .filter(|section| is_inside(opened, section))
+            .collect(alloc)?,
+    )
 }
 
 impl Touching {

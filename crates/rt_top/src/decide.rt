@@ -64,6 +64,7 @@ pub(crate) fn decide<
 }
 
 /// Does what a command is that reads two sources at most.
+#[inline(never)]
 fn decide_two<R: Threads + Sync, A: Source, B: Source, K: Sink + Send, G: Gate + Sync>(
     rt: &R,
     alloc: Global,

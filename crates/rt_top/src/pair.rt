@@ -29,6 +29,7 @@ use std::thread::Threads;
 
 /// `pair APP1 APP2 SCRIPT`: two cores beside each other, each with the image of its application: of each the listing, the
 /// trace, and an account of the other core's requests.
+#[inline(never)]
 pub(crate) fn pair<R: Threads + Sync, A: Source, B: Source, C: Source, K: Sink, G: Gate + Sync>(
     rt: &R,
     alloc: Global,

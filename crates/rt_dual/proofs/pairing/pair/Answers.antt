@@ -50,8 +50,7 @@ returns-in-Ok-put_both-clause-ok g c =
     let written : IsWritten a.image b.image new wrote.0 =
     subst (λ (i : Image). IsWritten i b.image new wrote.0) (c.image-3.ensures ∙ ended.left.leads.image)
     (subst (λ (i : Image). IsWritten c.image-3.result.now i new wrote.0) (c.image-4.ensures ∙ ended.right.leads.image)
-    wrote.1) in
-    (
+    wrote.1) in (
       wrote.0,
       pair_text c.args.script.now a x b y old new wrote.0 c.requires.first_fresh c.requires.second_fresh before ended
           written,

@@ -16,8 +16,8 @@ pub returns-in-Some : goal.returns-in-Some
 returns-in-Some c =
     let img = c.args.image.now in
     let first = some_case c.in_ok-behind.field-0 c.in-Some.behind (¬ NestsInOneWay img)
-        (λ bs. LooksFrom img Starting c.in_ok-starts.starts.items c.args.findings.now c.look_from.new.findings bs.items)
-        c.in-Some.is c.in_ok-behind.ensures in
+    (λ bs. LooksFrom img Starting c.in_ok-starts.starts.items c.args.findings.now c.look_from.new.findings bs.items)
+    c.in-Some.is c.in_ok-behind.ensures in
     if_ok_weaker c.look_behind.result _ _ (λ kept. kept_weaker kept _ _ _ (λ behind.
     looks_thread c.args.image.now c.args.findings.now c.look_from.new.findings c.look_behind.new.findings
     c.in_ok-starts.starts.items c.in-Some.behind.items c.in_ok-starts.ensures first behind)) c.look_behind.ensures
