@@ -1,0 +1,12 @@
+-- Bytes that are not too long are read in one way: they are the listing of a loadable image or have a first wrong line,
+-- not both, and they are the listing of one loadable image.
+use Rattle.std.specs.Prelude.{◌≡◌, ℕ, List}
+use Rattle.rt_code.specs.Image.{Image}
+use Rattle.rt_load.specs.Reading.{IsListingText, IsFirstWrong, Fault}
+
+pub record AreReadOneWay : Type 0 where
+  pub one_image : (text : List ℕ) (a b : Image) → IsListingText text a → IsListingText text b → a ≡ b
+  pub not_both : (text : List ℕ) (img : Image) (n : ℕ) (fault : Fault) → IsListingText text img
+      → IsFirstWrong text n fault → ⊥
+  pub one_fault : (text : List ℕ) (n m : ℕ) (f g : Fault) → IsFirstWrong text n f → IsFirstWrong text m g
+      → (n ≡ m) × (f ≡ g)

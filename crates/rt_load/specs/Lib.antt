@@ -1,0 +1,3 @@
+pub mod Loadable
+pub mod Reading
+pub mod Laws
