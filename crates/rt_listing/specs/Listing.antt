@@ -17,11 +17,14 @@ use Rattle.rt_listing.specs.Words.{spaced, instr_text, note_text}
 abbrev pub form_text : Bool → List ℕ
 form_text fpu = if fpu then codes "image 2" else codes "image 1"
 
--- its form, priority bits, stack bytes, words of the thread's frame, instructions, cells
-abbrev pub sizes_line : Image → List ℕ
-sizes_line img =
+-- its form, priority bits, stack bytes, words of the thread's frame, and this many instructions and cells
+abbrev pub first_line : Image → ℕ → ℕ → List ℕ
+first_line img code cells =
     form_text img.fpu ++ spaced img.bits ++ spaced img.stack_bytes ++ spaced img.thread_words
-    ++ spaced (length img.code) ++ spaced (length img.cells) ++ 10 ∷ []
+    ++ spaced code ++ spaced cells ++ 10 ∷ []
+
+abbrev pub sizes_line : Image → List ℕ
+sizes_line img = first_line img (length img.code) (length img.cells)
 
 -- a line for each thing, which says its number
 abbrev pub numbered : {A : Type 0} → (ℕ → A → List ℕ) → ℕ → List A → List ℕ

@@ -29,7 +29,7 @@ pub(crate) fn push_count(out: &mut Vec<u8>, count: usize) -> Result<(), NoMemory
 }
 
 /// The word of a binary operation.
-fn op_word(op: Op) -> &'static [u8]
+pub fn op_word(op: Op) -> &'static [u8]
     ensures { result.now ≡ word.op_word op }
 {
     match op {

@@ -1,5 +1,6 @@
 ghost use Rattle.std.specs.Prelude.{◌≡◌, [], ◌∷◌, ◌++◌, flat_map, All, IfOk, OnOk};
-ghost use Rattle.rt_listing.specs.Listing.{form_text, sizes_line, numbered, cell_line, irq_line, body_line, code_line};
+ghost use Rattle.rt_listing.specs.Listing.{form_text, first_line, sizes_line, numbered, cell_line, irq_line, body_line};
+ghost use Rattle.rt_listing.specs.Listing.{code_line};
 ghost use Rattle.rt_listing.specs.Listing as spec;
 ghost use Rattle.rt_listing.specs.Numbers.{AreShort, HasShortNumbers};
 ghost use Rattle.rt_listing.specs.Short.{IsShortCell, IsShortIrq, IsShortBody, HasShortInstr, HasShortNote};
@@ -36,12 +37,25 @@ fn push_sizes(out: &mut Vec<u8>, image: &Image) -> Result<(), NoMemory>
     ensures text { OnOk result (out.new.items ≡ out.old.items ++ sizes_line image.now) }
     ensures short { OnOk result (AreShort (image.now.bits ∷ image.now.stack_bytes ∷ image.now.thread_words ∷ [])) }
 {
+    push_first_line(out, image, image.code.len(), image.cells.len())
+}
+
+/// Appends the first line of the listing of an image that will have so many instructions and cells.
+pub fn push_first_line(
+    out: &mut Vec<u8>,
+    image: &Image,
+    code: usize,
+    cells: usize,
+) -> Result<(), NoMemory>
+    ensures text { OnOk result (out.new.items ≡ out.old.items ++ first_line image.now code cells) }
+    ensures short { OnOk result (AreShort (image.now.bits ∷ image.now.stack_bytes ∷ image.now.thread_words ∷ [])) }
+{
     push_bytes(out, form(image.fpu))?;
     push_spaced(out, u32::from(image.bits))?;
     push_spaced(out, image.stack_bytes)?;
     push_spaced(out, image.thread_words)?;
-    push_count(out, image.code.len())?;
-    push_count(out, image.cells.len())?;
+    push_count(out, code)?;
+    push_count(out, cells)?;
     push_bytes(out, b"\n")
 }
 
@@ -51,14 +65,22 @@ fn push_cells(out: &mut Vec<u8>, cells: &[CellRow]) -> Result<(), NoMemory>
     ensures short { OnOk result (All IsShortCell cells.now) }
 {
     for (number, cell) in cells.iter().enumerate() {
-        push_bytes(out, b"cell")?;
-        push_count(out, number)?;
-        push_spaced(out, cell.first)?;
-        push_bytes(out, b" ")?;
-        push_bytes(out, cell.name.bytes())?;
-        push_bytes(out, b"\n")?;
+        push_cell(out, number, cell)?;
     }
     Ok(())
+}
+
+/// Appends the line of the cell of a number.
+pub fn push_cell(out: &mut Vec<u8>, number: usize, cell: &CellRow) -> Result<(), NoMemory>
+    ensures text { OnOk result (out.new.items ≡ out.old.items ++ cell_line number cell.now) }
+    ensures short { OnOk result (IsShortCell cell.now) }
+{
+    push_bytes(out, b"cell")?;
+    push_count(out, number)?;
+    push_spaced(out, cell.first)?;
+    push_bytes(out, b" ")?;
+    push_bytes(out, cell.name.bytes())?;
+    push_bytes(out, b"\n")
 }
 
 /// Appends a line for each declared interrupt.
@@ -73,7 +95,7 @@ fn push_irqs(out: &mut Vec<u8>, irqs: &[IrqRow]) -> Result<(), NoMemory>
 }
 
 /// Appends the line of a declared interrupt.
-fn push_irq(out: &mut Vec<u8>, row: &IrqRow) -> Result<(), NoMemory>
+pub fn push_irq(out: &mut Vec<u8>, row: &IrqRow) -> Result<(), NoMemory>
     ensures text { OnOk result (out.new.items ≡ out.old.items ++ irq_line row.now) }
     ensures short { OnOk result (IsShortIrq row.now) }
 {
@@ -103,7 +125,7 @@ fn push_bodies(out: &mut Vec<u8>, bodies: &[BodyRow], names: &Names) -> Result<(
 }
 
 /// Appends the line of a body of a software task.
-fn push_body(out: &mut Vec<u8>, row: BodyRow, names: &Names) -> Result<(), NoMemory>
+pub fn push_body(out: &mut Vec<u8>, row: BodyRow, names: &Names) -> Result<(), NoMemory>
     ensures text { OnOk result (out.new.items ≡ out.old.items ++ body_line names.now row) }
     ensures short { IsShortBody row }
 {
@@ -121,13 +143,27 @@ fn push_code(out: &mut Vec<u8>, code: &[Line], names: &Names) -> Result<(), NoMe
     ensures instrs_short { OnOk result (All HasShortInstr code.now) }
     ensures notes_short { OnOk result (All HasShortNote code.now) }
 {
-    for (address, (instr, note)) in code.iter().enumerate() {
-        push_bytes(out, b"code")?;
-        push_count(out, address)?;
-        push_bytes(out, b" ")?;
-        push_instr(out, *instr, names)?;
-        push_note(out, *note, names)?;
-        push_bytes(out, b"\n")?;
+    for (address, line) in code.iter().enumerate() {
+        push_line(out, address, *line, names)?;
     }
     Ok(())
+}
+
+/// Appends the line of the instruction at an address, with its note.
+pub fn push_line(
+    out: &mut Vec<u8>,
+    address: usize,
+    line: Line,
+    names: &Names,
+) -> Result<(), NoMemory>
+    ensures text { OnOk result (out.new.items ≡ out.old.items ++ code_line names.now address line) }
+    ensures instr_short { HasShortInstr line }
+    ensures note_short { HasShortNote line }
+{
+    push_bytes(out, b"code")?;
+    push_count(out, address)?;
+    push_bytes(out, b" ")?;
+    push_instr(out, line.0, names)?;
+    push_note(out, line.1, names)?;
+    push_bytes(out, b"\n")
 }

@@ -1,0 +1,10 @@
+pub mod Declared
+pub mod Clean
+pub mod Coded
+pub mod Read
+pub mod Fronts
+pub mod Ends
+pub mod Taken
+pub mod Tables
+pub mod CodedBack
+pub mod Progress

@@ -1,3 +1,4 @@
 pub mod Loadable
 pub mod Reading
 pub mod Laws
+pub mod Inside

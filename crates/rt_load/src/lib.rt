@@ -1,9 +1,16 @@
 // Listings that something else made: each is read as the image whose listing it is, or refused at its first wrong line.
 #![tactic(auto)]
 
+mod coding;
+mod declaring;
+mod front;
 mod laws;
 mod loading;
+mod noting;
+mod operand;
+mod printed;
 pub mod refusal;
+mod rows;
 
 pub use laws::texts_are_read_one_way;
 pub use loading::load;

@@ -8,7 +8,7 @@ use Rattle.rt_listing.proofs.text.push_cells.Goals as goal
 pub loop-number-preserved : goal.loop-number-preserved
 loop-number-preserved c = record {
   text = grind (arith, common_steps);
-  short = one_more IsShortCell c.args.cells.now _ c.index-cells-number.result (omega arith) c.index-cells-number.is c.loop-number.invariant.short c.push_spaced.ensures.short;
+  short = one_more IsShortCell c.args.cells.now _ c.index-cells-number.result (omega arith) c.index-cells-number.is c.loop-number.invariant.short c.in_ok-push_cell.ensures.short;
 }
 
 pub returns-clause-short : goal.returns-clause-short

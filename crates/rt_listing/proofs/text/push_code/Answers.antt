@@ -11,8 +11,8 @@ loop-address-preserved c =
     let line = c.index-code-address in
     record {
       text = grind (arith, common_steps);
-      instrs = one_more HasShortInstr lines _ line.result (omega arith) line.is c.loop-address.invariant.instrs c.push_instr.ensures.short;
-      notes = one_more HasShortNote lines _ line.result (omega arith) line.is c.loop-address.invariant.notes c.push_note.ensures.short;
+      instrs = one_more HasShortInstr lines _ line.result (omega arith) line.is c.loop-address.invariant.instrs c.push_line.ensures.instr_short;
+      notes = one_more HasShortNote lines _ line.result (omega arith) line.is c.loop-address.invariant.notes c.push_line.ensures.note_short;
     }
 
 pub returns-clause-instrs_short : goal.returns-clause-instrs_short
