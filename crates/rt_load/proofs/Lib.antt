@@ -8,3 +8,6 @@ pub mod Taken
 pub mod Tables
 pub mod CodedBack
 pub mod Progress
+pub mod Lines
+pub mod Forward
+pub mod Again
