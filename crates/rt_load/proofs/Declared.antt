@@ -1,12 +1,13 @@
 -- Which names may be declared, and which are new.
-use Rattle.std.proofs.Common.{◌≡◌, ◌≤◌, ◌<◌, ℕ, true, false, not, ◌&&◌, nat_le, nat_lt, List, [], ◌∷◌, length, Option, Some, None, is_none, refl, ap, arith}
+use Rattle.std.proofs.Common.{◌≡◌, ◌≤◌, ◌<◌, ℕ, true, false, not, ◌&&◌, nat_le, nat_lt, List, [], ◌∷◌, length, Option, Some, None, is_none, refl, ap, arith, sym, subst, ◌∙◌, Bool, if◌then◌else◌}
 use Rattle.std.specs.Bool.{Decides}
 use Rattle.std.proofs.lemmas.Bool.{leb-true, le-leb, ltb-true, lt-ltb}
 use Rattle.rt_lemmas.proofs.Bools.{and_parts, and_both, not_true}
 use Rattle.rt_ids.specs.Names.{Names, irq_of, task_of, resource_of}
 use Rattle.rt_ids.specs.Word.{IsName, is_identifier, is_word}
 use Rattle.rt_ids.specs.declared.limits.TheConstants.{NAME_BYTES, IRQS, TASKS, SHARED}
-use Rattle.rt_load.specs.Inside.Taking.{may_declare, is_new_irq, is_new_task, is_new_resource}
+use Rattle.rt_load.specs.Loadable.{has_dot}
+use Rattle.rt_load.specs.Inside.Taking.{may_declare, is_new_irq, is_new_task, is_new_resource, may_name_cell, has_blank}
 
 some_byte : (name : List ℕ) → is_identifier name ≡ true → 1 ≤ length name
 some_byte [] h = absurd (cc)
@@ -48,3 +49,14 @@ new_from name found count room h =
     let both = and_parts (may_declare name && is_none found) (nat_lt count room) h in
     let first = and_parts (may_declare name) (is_none found) both.0 in
     record { named = named name first.0; unknown = none_from found first.1; below = ltb-true count room both.1 }
+
+-- the same of a text that is the name
+pub irq_new : (names : Names) (name text : List ℕ) → text ≡ name → is_new_irq names name ≡ true → IsNew text (irq_of names text) (length names.irqs) IRQS
+irq_new names name text same new = new_from text (irq_of names text) (length names.irqs) IRQS (subst (λ (n : List ℕ). is_new_irq names n ≡ true) (sym same) new)
+
+-- where a cell of no dot may be named so
+pub resource_new : (names : Names) (name text : List ℕ) → text ≡ name → has_dot name ≡ false → may_name_cell names name ≡ true
+    → IsNew text (resource_of names text) (length names.shared) SHARED
+resource_new names name text same no_dot may =
+    let new : is_new_resource names name ≡ true = sym (ap (λ (b : Bool). if b then not (has_blank name) else is_new_resource names name) no_dot) ∙ may in
+    new_from text (resource_of names text) (length names.shared) SHARED (subst (λ (n : List ℕ). is_new_resource names n ≡ true) (sym same) new)

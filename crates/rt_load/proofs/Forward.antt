@@ -117,7 +117,7 @@ cells_front img done = record {
   cells = length img.cells;
 }
 
-abbrev texts_from : {A : Type 0} → (ℕ → A → List ℕ) → ℕ → List A → List (List ℕ)
+abbrev pub texts_from : {A : Type 0} → (ℕ → A → List ℕ) → ℕ → List A → List (List ℕ)
 texts_from text n [] = []
 texts_from text n (x ∷ xs) = text n x ∷ texts_from text (suc n) xs
 

@@ -11,3 +11,8 @@ pub mod Progress
 pub mod Lines
 pub mod Forward
 pub mod Again
+pub mod Nexts
+pub mod Split
+pub mod Witness
+pub mod Unknown
+pub mod Verdict

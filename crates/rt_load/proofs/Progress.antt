@@ -212,7 +212,7 @@ no_names_are = record {
   few_shared = omega arith;
 }
 
-first_stands : (fpu : Bool) (bits stack thread code cells : ℕ) → is_within (front_of fpu bits stack thread code cells) ≡ true
+pub first_stands : (fpu : Bool) (bits stack thread code cells : ℕ) → is_within (front_of fpu bits stack thread code cells) ≡ true
     → Is32Bits stack → Is32Bits thread → Is32Bits cells → Stands (front_of fpu bits stack thread code cells)
 first_stands fpu bits stack thread code cells within s t n =
     let both = and_parts (nat_le LEAST_BITS bits && nat_le bits MOST_BITS) (nat_le code CODE_SIZE) within in

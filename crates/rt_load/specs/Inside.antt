@@ -4,3 +4,4 @@ pub mod Coding
 pub mod Noting
 pub mod Rows
 pub mod Taking
+pub mod Progress

@@ -1,7 +1,7 @@
 -- Which bytes are the listing of a loadable image, and which is the first wrong line of bytes that are not: the lines
 -- before it begin some listing, and with it they begin none. The form of listings is this project's own. No line is
 -- read here: whether a line is wrong is said by the listings that there are, and the code decides it by reading.
-use Rattle.std.specs.Prelude.{◌≡◌, ◌≢◌, ℕ, suc, ◌≤◌, ◌<◌, true, List, [], ◌∷◌, ◌++◌, length, map, flat_map, Option}
+use Rattle.std.specs.Prelude.{◌≡◌, ◌≢◌, ℕ, suc, ◌≤◌, ◌<◌, true, List, [], ◌∷◌, ◌++◌, length, map, flat_map, Option, None}
 use Rattle.std.specs.List.{AllByRecursion}
 use Rattle.rt_ids.specs.Lists.{AreDifferent}
 use Rattle.rt_ids.specs.Names.{Names}
@@ -9,6 +9,7 @@ use Rattle.rt_ids.specs.Word.{is_identifier}
 use Rattle.rt_code.specs.Image.{Image}
 use Rattle.rt_code.specs.Listable.{HasInstr, HasNote}
 use Rattle.rt_code.specs.declared.instr.Instr.{Instr}
+use Rattle.rt_code.specs.declared.instr.Instr.TheVariants as instr
 use Rattle.rt_code.specs.declared.instr.Note.{Note}
 use Rattle.rt_listing.specs.Listing.{code_line, listing}
 use Rattle.rt_load.specs.Loadable.{IsLineWithin, IsLoadable}
@@ -53,15 +54,15 @@ pub record AreMore (names more : Names) : Type 0 where
   pub tasks_differ : AreDifferent more.tasks
   pub shared_differ : AreDifferent more.shared
 
--- All that is wrong with a line behind this front is that a name in it is in no table: the front goes on with a line
--- of code, and over tables that name more this would be a line of code in its place.
+-- All that is wrong with a line behind this front is that a name in it is in no table: an instruction may stand here, and
+-- over tables that name more the line would be that of one.
 pub record IsOfUnknownName (front line : List ℕ) : Type 0 where
   pub image : Image
   pub loadable : IsLoadable image
   pub address : ℕ
-  pub other : Instr × Option Note
   pub behind : List ℕ
-  pub place : listing image ≡ front ++ code_line image.names address other ++ behind
+  -- some listing goes on with a `mark` at this address, where any other instruction could stand
+  pub place : listing image ≡ front ++ code_line image.names address (instr.Mark, None) ++ behind
   pub names : Names
   pub more : AreMore image.names names
   pub code : Instr × Option Note

@@ -4,9 +4,8 @@ ghost use Rattle.rt_lines.specs.Parts.{words_of};
 ghost use Rattle.rt_load.specs.Inside.Taking as spec;
 
 use crate::declaring::{has_dot, is_new_irq, is_new_task, may_name_cell};
-use crate::noting::read_line;
 use crate::operand::{Wrong, read_byte, read_number};
-use crate::printed::{is_body_line, is_cell_line, is_code_line, is_first_line, is_irq_line};
+use crate::printed::{is_body_line, is_cell_line, is_first_line, is_irq_line, printed_line};
 use crate::rows::{read_body_row, read_cell, read_irq_row, read_three};
 use rt_code::{BodyRow, Image, IrqRow, Line};
 use rt_ids::limits::{CODE_SIZE, LEAST_BITS, MOST_BITS};
@@ -243,7 +242,7 @@ impl Front {
             return Err(Wrong::Form);
         }
         self.image.names.add_task(alloc, name)?;
-        if is_body_line(alloc, &self.image.names, row, line)? {
+        if is_body_line(alloc, &self.image.names, &row, line)? {
             add_body(&mut self.image.bodies, row)?;
             Ok(())
         } else {
@@ -262,13 +261,8 @@ impl Front {
         ensures refused { IfErr result (λ w. w ≢ Wrong.NoMemory
             → spec.next_line self.now line.now (words_of words.entry) ≡ Err w) }
     {
-        if !self.may_add_line() {
-            return Err(Wrong::Form);
-        }
-        let address = self.image.code.len();
-        let code = read_line(&self.image.names, address, words)?;
-        if is_code_line(alloc, &self.image.names, address, &code, line)? {
-            Ok(code)
+        if self.may_add_line() {
+            printed_line(alloc, &self.image.names, self.image.code.len(), line, words)
         } else {
             Err(Wrong::Form)
         }
@@ -285,9 +279,10 @@ impl Front {
         ensures refused { IfErr result (λ w. w ≢ Wrong.NoMemory
             → spec.take_code self.old line.now (words_of words.entry) ≡ Err w) }
     {
-        let code = self.next_line(alloc, line, words)?;
-        add_line(&mut self.image.code, code)?;
-        Ok(())
+        match self.next_line(alloc, line, words) {
+            Ok(code) => Ok(add_line(&mut self.image.code, code)?),
+            Err(wrong) => Err(wrong),
+        }
     }
 }
 
@@ -337,6 +332,6 @@ fn add_body(bodies: &mut Vec<BodyRow>, row: BodyRow) -> Result<(), NoMemory>
 fn add_line(code: &mut Vec<Line>, line: Line) -> Result<(), NoMemory>
     ensures { OnOk result (code.new.items ≡ code.old.items ++ line ∷ []) }
 {
-    code.push(line)?;
+    code.extend_from_slice(&[line])?;
     Ok(())
 }

@@ -161,13 +161,14 @@ next_body front line ws =
 abbrev pub take_body : Front → List ℕ → List (List ℕ) → Result Front Wrong
 take_body front line ws = and_make (next_body front line ws) (λ body. and_body front body.0 body.1)
 
--- the instruction of a line, with its note
+-- the instruction of a line, with its note, at an address
+abbrev pub printed_line : Names → ℕ → List ℕ → List (List ℕ) → Result (Instr × Option Note) Wrong
+printed_line names address line ws =
+    and_then (line_at names address ws) (λ code. if_line (code_line names address code) line code)
+
 abbrev pub next_line : Front → List ℕ → List (List ℕ) → Result (Instr × Option Note) Wrong
 next_line front line ws =
-    if may_add_line front
-    then and_then (line_at front.image.names (length front.image.code) ws) (λ code.
-    if_line (code_line front.image.names (length front.image.code) code) line code)
-    else Err wrong.Form
+    if may_add_line front then printed_line front.image.names (length front.image.code) line ws else Err wrong.Form
 
 abbrev pub take_code : Front → List ℕ → List (List ℕ) → Result Front Wrong
 take_code front line ws = and_make (next_line front line ws) (and_line front)
