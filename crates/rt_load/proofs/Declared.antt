@@ -3,11 +3,13 @@ use Rattle.std.proofs.Common.{◌≡◌, ◌≤◌, ◌<◌, ℕ, true, false, n
 use Rattle.std.specs.Bool.{Decides}
 use Rattle.std.proofs.lemmas.Bool.{leb-true, le-leb, ltb-true, lt-ltb}
 use Rattle.rt_lemmas.proofs.Bools.{and_parts, and_both, not_true}
+use Rattle.rt_ids.specs.Lists.{is_empty}
 use Rattle.rt_ids.specs.Names.{Names, irq_of, task_of, resource_of}
 use Rattle.rt_ids.specs.Word.{IsName, is_identifier, is_word}
 use Rattle.rt_ids.specs.declared.limits.TheConstants.{NAME_BYTES, IRQS, TASKS, SHARED}
 use Rattle.rt_load.specs.Loadable.{has_dot}
-use Rattle.rt_load.specs.Inside.Taking.{may_declare, is_new_irq, is_new_task, is_new_resource, may_name_cell, has_blank}
+use Rattle.rt_load.specs.Inside.Taking.{may_declare, is_new_irq, is_new_task, is_new_resource, may_name_cell, has_blank, may_add_body, has_cells}
+use Rattle.rt_load.specs.declared.front.Front.{Front}
 
 some_byte : (name : List ℕ) → is_identifier name ≡ true → 1 ≤ length name
 some_byte [] h = absurd (cc)
@@ -60,3 +62,9 @@ pub resource_new : (names : Names) (name text : List ℕ) → text ≡ name → 
 resource_new names name text same no_dot may =
     let new : is_new_resource names name ≡ true = sym (ap (λ (b : Bool). if b then not (has_blank name) else is_new_resource names name) no_dot) ∙ may in
     new_from text (resource_of names text) (length names.shared) SHARED (subst (λ (n : List ℕ). is_new_resource names n ≡ true) (sym same) new)
+
+-- where a body of a task of this name may be added
+pub task_new : (front : Front) (name : List ℕ) → may_add_body front name ≡ true → IsNew name (task_of front.image.names name) (length front.image.names.tasks) TASKS
+task_new front name may =
+    let both = and_parts (has_cells front && is_empty front.image.code) (is_new_task front.image.names name) may in
+    new_from name (task_of front.image.names name) (length front.image.names.tasks) TASKS both.1

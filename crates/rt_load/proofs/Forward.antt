@@ -43,10 +43,10 @@ use Rattle.rt_load.proofs.Coded.{number_back}
 use Rattle.rt_load.proofs.Lines.{first_text, cell_text, irq_text, body_text, code_text, first_words, form_word, first_spelled, cell_spelled, irq_spelled, body_spelled, handler_words, known_names, code_words, code_spelled}
 
 -- what passes
-passes : {A : Type 0} (printed line : List ℕ) (x : A) → printed ≡ ended line → if_line printed line x ≡ Ok x
+pub passes : {A : Type 0} (printed line : List ℕ) (x : A) → printed ≡ ended line → if_line printed line x ≡ Ok x
 passes printed line x same = ap (λ (b : Bool). if b then Ok x else Err wrong.Form) ((bytes_eq-Decides printed (ended line)).1 same)
 
-chooses : {A : Type 0} (b : Bool) (r : Result A Wrong) → b ≡ true → (if b then r else Err wrong.Form) ≡ r
+pub chooses : {A : Type 0} (b : Bool) (r : Result A Wrong) → b ≡ true → (if b then r else Err wrong.Form) ≡ r
 chooses b r h = ap (λ (t : Bool). if t then r else Err wrong.Form) h
 
 -- a thing that stands in a list stands behind as many as are in front of it

@@ -16,3 +16,4 @@ pub mod Split
 pub mod Witness
 pub mod Unknown
 pub mod Verdict
+pub mod Following

@@ -96,7 +96,7 @@ place_named texts word i e =
 pub task_from : (names : Names) (word : List ℕ) (t : ℕ) → task_at names word ≡ Ok t → (word ≡ task_name names t) × HasTask names t
 task_from names word t e = let known = found_ok word (task_of names word) t e in place_named names.tasks word t known.1
 
-resource_from : (names : Names) (word : List ℕ) (r : ℕ) → resource_at names word ≡ Ok r → (word ≡ resource_name names r) × (r < length names.shared)
+pub resource_from : (names : Names) (word : List ℕ) (r : ℕ) → resource_at names word ≡ Ok r → (word ≡ resource_name names r) × (r < length names.shared)
 resource_from names word r e = let known = found_ok word (resource_of names word) r e in place_named names.shared word r known.1
 
 named_irq : (names : Names) (word : List ℕ) (irq : ℕ) (row : Option (List ℕ × ℕ)) → irq_named names irq ≡ row → irq_name names irq ≡ word → is_identifier word ≡ true → IsSome row

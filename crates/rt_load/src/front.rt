@@ -94,11 +94,14 @@ impl Front {
     }
 
     /// Takes the next line behind the first.
+    #[tactic(auto, unfolding(crate::specs::Inside::Taking::take_line))]
     pub fn take(&mut self, alloc: Global, line: &[u8]) -> Result<(), Wrong>
         ensures taken { OnOk result (spec.take_line self.old line.now ≡ Ok self.new) }
         ensures refused { IfErr result (λ w. w ≢ Wrong.NoMemory → spec.take_line self.old line.now ≡ Err w) }
     {
-        let (kind, words) = next_word(Some(line)).ok_or(Wrong::Form)?;
+        let Some((kind, words)) = next_word(Some(line)) else {
+            return Err(Wrong::Form);
+        };
         if kind == b"cell".as_slice() {
             self.take_cell(alloc, line, words)
         } else if kind == b"irq".as_slice() {

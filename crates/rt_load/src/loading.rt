@@ -1,5 +1,7 @@
-ghost use Rattle.std.specs.Prelude.{◌≡◌, ◌<◌, length, Err, IfOk, IfErr};
-ghost use Rattle.rt_load.specs.Reading.{IsListingText, IsRefused};
+ghost use Rattle.std.specs.Prelude.{◌≡◌, ◌<◌, length, Ok, Err, IfOk, IfErr, OnOk, MatchOption};
+ghost use Rattle.rt_load.specs.Reading.{IsLine, IsListingText, IsRefused};
+ghost use Rattle.rt_load.specs.Inside.Progress.{IsCut, IsRefusalOf, IsRefusalOfFirst};
+ghost use Rattle.rt_load.specs.Inside.Taking as spec;
 ghost use Rattle.rt_load.specs.declared.refusal.TheConstants.{IMAGE_BYTES};
 
 use crate::front::Front;
@@ -18,12 +20,14 @@ pub fn load(alloc: Global, bytes: &[u8]) -> Result<Image, LoadRefused>
     if bytes.len() > IMAGE_BYTES as usize {
         return Err(LoadRefused::TooLong);
     }
-    let (line, rest) = first_line(bytes).ok_or(LoadRefused::BadLine(1))?;
-    let mut front = refused_at(Front::begin(alloc, line), 1)?;
-    let mut rest = rest;
+    let Some((line, behind)) = first_line(bytes) else {
+        return Err(LoadRefused::BadLine(1));
+    };
+    let mut front = begin(alloc, line)?;
+    let mut rest = behind;
     let mut number = 2;
     while let Some((line, behind)) = first_line(rest) {
-        refused_at(front.take(alloc, line), number)?;
+        take_line(alloc, &mut front, line, number)?;
         number += 1;
         rest = behind;
     }
@@ -34,8 +38,41 @@ pub fn load(alloc: Global, bytes: &[u8]) -> Result<Image, LoadRefused>
     }
 }
 
-/// The image that is told.
-fn image_of(front: Front) -> Image {
+/// The front of a first line.
+fn begin(alloc: Global, line: &[u8]) -> Result<Front, LoadRefused>
+    ensures read { IfOk result (λ front. spec.take_first line.now ≡ Ok front) }
+    ensures refused { IfErr result (λ refusal. IsRefusalOfFirst (spec.take_first line.now) refusal) }
+{
+    match Front::begin(alloc, line) {
+        Ok(front) => Ok(front),
+        Err(Wrong::Form) => Err(LoadRefused::BadLine(1)),
+        Err(Wrong::Name) => Err(LoadRefused::BadLine(1)),
+        Err(Wrong::NoMemory) => Err(LoadRefused::NoMemory),
+    }
+}
+
+/// Takes the line of a number behind the first.
+fn take_line(
+    alloc: Global,
+    front: &mut Front,
+    line: &[u8],
+    number: u64,
+) -> Result<(), LoadRefused>
+    ensures taken { OnOk result (spec.take_line front.old line.now ≡ Ok front.new) }
+    ensures refused { IfErr result (λ refusal. IsRefusalOf (spec.take_line front.old line.now) number refusal) }
+{
+    match front.take(alloc, line) {
+        Ok(()) => Ok(()),
+        Err(Wrong::Form) => Err(LoadRefused::BadLine(number)),
+        Err(Wrong::Name) => Err(LoadRefused::UnknownName(number)),
+        Err(Wrong::NoMemory) => Err(LoadRefused::NoMemory),
+    }
+}
+
+/// The image that a front tells.
+fn image_of(front: Front) -> Image
+    ensures { result ≡ front.image }
+{
     let Front {
         image,
         code: _,
@@ -45,17 +82,11 @@ fn image_of(front: Front) -> Image {
 }
 
 /// The first line of a text, and what stands behind its line feed; None where there is no line feed.
-fn first_line(text: &[u8]) -> Option<(&[u8], &[u8])> {
-    let at = text.iter().position(|b| *b == b'\n')?;
-    Some((&text[..at], &text[at + 1..]))
-}
-
-/// What is refused at the line of a number.
-fn refused_at<T: Drop>(taken: Result<T, Wrong>, number: u64) -> Result<T, LoadRefused> {
-    match taken {
-        Ok(value) => Ok(value),
-        Err(Wrong::Form) => Err(LoadRefused::BadLine(number)),
-        Err(Wrong::Name) => Err(LoadRefused::UnknownName(number)),
-        Err(Wrong::NoMemory) => Err(LoadRefused::NoMemory),
+fn first_line(text: &[u8]) -> Option<(&[u8], &[u8])>
+    ensures { MatchOption result (IsLine text.now) (λ cut. IsCut text.now cut.0.now cut.1.now) }
+{
+    match text.iter().position(|b| *b == b'\n') {
+        Some(at) => Some((&text[..at], &text[at + 1..])),
+        None => None,
     }
 }

@@ -30,3 +30,14 @@ IsRefusalOf answer number refused.TooLong = ⊥
 IsRefusalOf answer number (refused.BadLine n) = (n ≡ number) × (answer ≡ Err wrong.Form)
 IsRefusalOf answer number (refused.UnknownName n) = (n ≡ number) × (answer ≡ Err wrong.Name)
 IsRefusalOf answer number refused.NoMemory = Unit {0}
+
+-- the same of the first line, which is of no form where it is refused
+abbrev pub IsNoFront : Result Front Wrong → Type 0
+IsNoFront (Ok front) = ⊥
+IsNoFront (Err w) = Unit {0}
+
+abbrev pub IsRefusalOfFirst : Result Front Wrong → LoadRefused → Type 0
+IsRefusalOfFirst answer refused.TooLong = ⊥
+IsRefusalOfFirst answer (refused.BadLine n) = (n ≡ 1) × IsNoFront answer
+IsRefusalOfFirst answer (refused.UnknownName n) = ⊥
+IsRefusalOfFirst answer refused.NoMemory = Unit {0}
