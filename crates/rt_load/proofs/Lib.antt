@@ -17,3 +17,4 @@ pub mod Witness
 pub mod Unknown
 pub mod Verdict
 pub mod Following
+pub mod Further

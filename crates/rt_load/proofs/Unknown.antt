@@ -122,7 +122,7 @@ module _ (names more : Names) (are : AreNames names) (m : AreMore names more) wh
               unknown_read : (w : List ℕ) → is_identifier w ≡ true → irq_of names w ≡ None → irq_at names w ≡ Err wrong.Name
               unknown_read w identifier unknown = rw (identifier, unknown) refl
 
-  known_more : AreKnown more
+  pub known_more : AreKnown more
   known_more =
       let known = known_names names are in
       record {
@@ -416,7 +416,3 @@ form_is before front line all taken stands e u =
     let few : Is32Bits place = omega (arith, fits, few_lines) in
     refuted front line u.names u.address u.code m l.limits.names marked.may marked.address_is few u.within u.has_instr u.has_note
     ((last_same line (code_text u.names u.address u.code) 10 10 (sym u.line_is)).0) e
-
-pub name_is : (before : List (List ℕ)) (front : Front) (line : List ℕ) → Stands front → front_text front ≡ flat_map ended before
-    → take_line front line ≡ Err wrong.Name → IsOfUnknownName (flat_map ended before) line
-name_is before front line stands text e = ?
