@@ -18,3 +18,4 @@ pub mod Unknown
 pub mod Verdict
 pub mod Following
 pub mod Further
+pub mod Named

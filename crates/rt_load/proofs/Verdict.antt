@@ -25,7 +25,8 @@ use Rattle.rt_load.proofs.Forward.{taken_append, listing_lines, whole, listing_t
 use Rattle.rt_load.proofs.Split.{lines_split, lines_end, listing_is, are_lines}
 use Rattle.rt_load.proofs.Witness.{whole_text, begins}
 use Rattle.rt_load.proofs.Following.{Left, all_leave, all_append_taken, lines_behind, next_taken, ok_err}
-use Rattle.rt_load.proofs.Unknown.{form_is, name_is}
+use Rattle.rt_load.proofs.Unknown.{form_is}
+use Rattle.rt_load.proofs.Named.{name_is}
 
 not_begins : (before : List (List ℕ)) (front : Front) (line : List ℕ) (w : Wrong) → AllByRecursion IsLine before → IsLine line
     → take_all before ≡ Ok front → take_line front line ≡ Err w → ¬ Begins (flat_map ended before ++ ended line)
