@@ -19,3 +19,4 @@ pub mod Verdict
 pub mod Following
 pub mod Further
 pub mod Named
+pub mod OneWay

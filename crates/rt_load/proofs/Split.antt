@@ -29,7 +29,7 @@ cut_same (a ∷ u) (b ∷ v) x y p q e =
 not_none : (u x : List ℕ) → u ++ 10 ∷ x ≡ [] → ⊥
 not_none u x e = let long : length (u ++ 10 ∷ x) ≡ 0 = ap length e in omega (arith, long, length-append u (10 ∷ x))
 
-no_feed : (u x : List ℕ) → IsLine (u ++ 10 ∷ x) → ⊥
+pub no_feed : (u x : List ℕ) → IsLine (u ++ 10 ∷ x) → ⊥
 no_feed [] x h = h.0 refl
 no_feed (b ∷ u) x h = no_feed u x h.1
 

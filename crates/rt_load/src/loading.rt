@@ -1,4 +1,5 @@
-ghost use Rattle.std.specs.Prelude.{◌≡◌, ◌<◌, length, Ok, Err, IfOk, IfErr, OnOk, MatchOption};
+ghost use Rattle.std.specs.Prelude.{◌≡◌, ◌<◌, ◌==◌, ◌&&◌, length, position, Ok, Err, IfOk, IfErr, OnOk, MatchOption};
+ghost use Rattle.rt_ids.specs.Lists.{is_empty};
 ghost use Rattle.rt_load.specs.Reading.{IsLine, IsListingText, IsRefused};
 ghost use Rattle.rt_load.specs.Inside.Progress.{IsCut, IsRefusalOf, IsRefusalOfFirst};
 ghost use Rattle.rt_load.specs.Inside.Taking as spec;
@@ -23,19 +24,31 @@ pub fn load(alloc: Global, bytes: &[u8]) -> Result<Image, LoadRefused>
     let Some((line, behind)) = first_line(bytes) else {
         return Err(LoadRefused::BadLine(1));
     };
-    let mut front = begin(alloc, line)?;
+    let mut front = match begin(alloc, line) {
+        Ok(front) => front,
+        Err(refusal) => return Err(refusal),
+    };
     let mut rest = behind;
     let mut number = 2;
     while let Some((line, behind)) = first_line(rest) {
-        take_line(alloc, &mut front, line, number)?;
+        if let Err(refusal) = take_line(alloc, &mut front, line, number) {
+            return Err(refusal);
+        }
         number += 1;
         rest = behind;
     }
-    if rest.is_empty() && front.is_complete() {
+    if is_whole(&front, rest) {
         Ok(image_of(front))
     } else {
         Err(LoadRefused::BadLine(number))
     }
+}
+
+/// Whether neither a line nor the rest of a line is missing.
+fn is_whole(front: &Front, rest: &[u8]) -> bool
+    ensures { result ≡ (is_empty rest.now && spec.is_complete front.now) }
+{
+    rest.is_empty() && front.is_complete()
 }
 
 /// The front of a first line.
@@ -81,11 +94,18 @@ fn image_of(front: Front) -> Image
     image
 }
 
+/// Where the first line feed stands.
+fn first_feed(text: &[u8]) -> Option<usize>
+    ensures { result ≡ position (λ b. b == 10) text.now }
+{
+    text.iter().position(|b| *b == b'\n')
+}
+
 /// The first line of a text, and what stands behind its line feed; None where there is no line feed.
 fn first_line(text: &[u8]) -> Option<(&[u8], &[u8])>
     ensures { MatchOption result (IsLine text.now) (λ cut. IsCut text.now cut.0.now cut.1.now) }
 {
-    match text.iter().position(|b| *b == b'\n') {
+    match first_feed(text) {
         Some(at) => Some((&text[..at], &text[at + 1..])),
         None => None,
     }
