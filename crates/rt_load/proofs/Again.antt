@@ -1,22 +1,20 @@
 -- A line of code that tables write is read again: over the same tables as the line itself, and over tables that go on
 -- in others as the line, or as one with an unknown name.
-use Rattle.std.proofs.Common.{◌≡◌, ◌⊎◌, inl, inr, ◌<◌, ◌≤◌, ◌^◌, ◌==◌, ◌+◌, ℕ, zero, suc, Bool, true, false, List, [], ◌∷◌, ◌++◌, length, map, decimal, codes, bytes_eq, find, position, slice_get, Option, Some, None, IsSome, option_map, Result, Ok, Err, if◌then◌else◌, refl, ap, sym, ◌∙◌, subst, arith, eq-eqb}
-use Rattle.std.specs.List.{AllByRecursion}
-use Rattle.rt_ids.specs.Names.{Names, AreNames, irq_of, task_of, resource_of}
-use Rattle.rt_ids.specs.Naming.{irq_named, irq_name, task_name, resource_name, section_name, body_name}
-use Rattle.rt_code.specs.Listable.{HasIrq, HasTask, HasSection, HasBody, HasInstr, HasNote}
+use Rattle.std.proofs.Common.{◌≡◌, ◌==◌, ℕ, Bool, List, ◌∷◌, ◌++◌, Option, Some, None, Result, Ok, Err, if◌then◌else◌, refl, ap, ◌∙◌, eq-eqb}
+use Rattle.rt_ids.specs.Names.{Names, AreNames}
+use Rattle.rt_code.specs.Listable.{HasInstr, HasNote}
 use Rattle.rt_code.specs.declared.instr.Instr.{Instr}
 use Rattle.rt_code.specs.declared.instr.Instr.TheVariants as instr
 use Rattle.rt_code.specs.declared.instr.Note.{Note}
 use Rattle.rt_code.specs.declared.instr.Note.TheVariants as note
 use Rattle.rt_lines.specs.Answers.{and_then, and_make}
 use Rattle.rt_load.specs.Loadable.{Is32Bits, IsLineWithin, IsNoteWithin}
-use Rattle.rt_load.specs.Inside.Operand.{word_at, irq_at, task_at, section_at, body_at, in_front, behind}
+use Rattle.rt_load.specs.Inside.Operand.{in_front, behind}
 use Rattle.rt_load.specs.Inside.Coding.{instr_word, instr_at}
-use Rattle.rt_load.specs.Inside.Noting.{note_word, note_at, note_behind, noted, line_at}
+use Rattle.rt_load.specs.Inside.Noting.{note_behind, noted, line_at}
 use Rattle.rt_load.specs.declared.operand.Wrong.{Wrong}
 use Rattle.rt_load.specs.declared.operand.Wrong.TheVariants as wrong
-use Rattle.rt_load.proofs.Coded.{instr_words, note_operands, number_back, instr_again, instr_reads, note_again, note_reads}
+use Rattle.rt_load.proofs.Coded.{instr_words, number_back, instr_again, instr_reads, note_again, note_reads}
 use Rattle.rt_load.proofs.Lines.{AreKnown, instr_words_clean, note_part, end_words, in_front_is, behind_is, code_words}
 use Rattle.rt_load.proofs.Tables.{irq_back, task_back, section_back, body_back}
 
@@ -35,7 +33,7 @@ line_again names more address line known has few within =
     let part = note_part more line.1 in
     let clean = instr_words_clean more line.0 known has in
     ap (λ (r : Result ℕ Wrong). and_then r (λ n. if n == address
-        then noted (instr_at names (in_front (iws ++ end_words part))) (note_behind names (behind (iws ++ end_words part))) else Err wrong.Form)) (number_back address few)
+    then noted (instr_at names (in_front (iws ++ end_words part))) (note_behind names (behind (iws ++ end_words part))) else Err wrong.Form)) (number_back address few)
     ∙ ap (λ (b : Bool). if b then noted (instr_at names (in_front (iws ++ end_words part))) (note_behind names (behind (iws ++ end_words part))) else Err wrong.Form) (eq-eqb address address refl)
     ∙ ap (λ (ws : List (List ℕ)). noted (instr_at names ws) (note_behind names (behind (iws ++ end_words part)))) (in_front_is iws part clean)
     ∙ ap (λ (p : Option (List (List ℕ))). noted (instr_at names iws) (note_behind names p)) (behind_is iws part clean)

@@ -1,13 +1,8 @@
 -- The words of an instruction and of a note, and what is read of them over other tables.
-use Rattle.std.proofs.Common.{◌≡◌, ◌<◌, ◌^◌, ℕ, true, false, Bool, cond, ◌||◌, ◌&&◌, if◌then◌else◌, List, [], ◌∷◌, ◌++◌, map, decimal, codes, bytes_eq, Option, Some, None, Result, Ok, Err, refl, ap, sym, ◌∙◌, subst, arith, append_assoc, append-nil}
+use Rattle.std.proofs.Common.{◌≡◌, ◌^◌, ℕ, false, List, [], ◌∷◌, ◌++◌, map, decimal, codes, Some, Result, Ok, Err, refl, arith}
 use Rattle.std.specs.List.{AllByRecursion, list_any}
-use Rattle.rt_lemmas.proofs.Lists.{all_append}
 use Rattle.rt_ids.specs.Names.{Names}
-use Rattle.rt_ids.specs.Naming.{irq_name, task_name, resource_name, section_name, body_name}
-use Rattle.rt_ids.specs.declared.ids.BodyId.{BodyId}
-use Rattle.rt_ids.specs.declared.ids.BodyId.TheVariants as body
-use Rattle.rt_ids.specs.declared.ids.Section.{Section}
-use Rattle.rt_ids.specs.declared.ids.Section.TheVariants as section
+use Rattle.rt_ids.specs.Naming.{irq_name, task_name, section_name, body_name}
 use Rattle.rt_ids.specs.declared.op.Op.{Op}
 use Rattle.rt_ids.specs.declared.op.Op.TheVariants as op
 use Rattle.rt_code.specs.declared.instr.Instr.{Instr}
@@ -24,7 +19,6 @@ use Rattle.rt_load.specs.Inside.Operand.{word_at, irq_at, task_at, section_at, b
 use Rattle.rt_load.specs.Inside.Coding.{instr_word, instr_at}
 use Rattle.rt_load.specs.Inside.Noting.{note_word, note_at}
 use Rattle.rt_load.specs.declared.operand.Wrong.{Wrong}
-use Rattle.rt_load.specs.declared.operand.Wrong.TheVariants as wrong
 use Rattle.rt_load.proofs.Clean.{is_mark, IsClean, clean_from_test, decimal_clean, spaced1, spaced2, spaced3}
 
 -- the words behind the first

@@ -1,13 +1,10 @@
 -- The words that an instruction and a note were read of are theirs.
-use Rattle.std.proofs.Common.{◌≡◌, ◌<◌, ◌≤◌, ◌^◌, ℕ, Bool, true, false, List, [], ◌∷◌, ◌++◌, map, decimal, codes, bytes_eq, find, Option, Some, None, Result, Ok, Err, if◌then◌else◌, refl, ap, sym, ◌∙◌, subst, arith}
-use Rattle.std.specs.List.{AllByRecursion, list_any}
-use Rattle.std.specs.Option.{ok_or}
+use Rattle.std.proofs.Common.{◌≡◌, ◌^◌, ℕ, true, List, [], ◌∷◌, decimal, codes, bytes_eq, find, Some, Ok, Err, if◌then◌else◌, refl, ap, sym, ◌∙◌, subst, arith}
+use Rattle.std.specs.List.{AllByRecursion}
 use Rattle.std.proofs.lemmas.Slice.Eq.{bytes_eq-Decides}
 use Rattle.rt_lemmas.proofs.Lists.{find_has}
 use Rattle.rt_ids.specs.Names.{Names}
-use Rattle.rt_ids.specs.Naming.{irq_name, task_name, section_name, body_name}
-use Rattle.rt_ids.specs.declared.ids.BodyId.{BodyId}
-use Rattle.rt_ids.specs.declared.ids.Section.{Section}
+use Rattle.rt_ids.specs.Naming.{task_name}
 use Rattle.rt_code.specs.Listable.{HasInstr, HasNote}
 use Rattle.rt_code.specs.declared.instr.Instr.{Instr}
 use Rattle.rt_code.specs.declared.instr.Instr.TheVariants as instr
@@ -20,7 +17,6 @@ use Rattle.rt_load.specs.Loadable.{Is32Bits, IsNoteWithin}
 use Rattle.rt_load.specs.Inside.Operand.{word_at, irq_at, task_at, section_at, body_at}
 use Rattle.rt_load.specs.Inside.Coding.{instr_word, instr_named, bare_instrs, instrs_of_one, instrs_of_two, instrs_of_three, with_one, with_two, with_three, instr_at}
 use Rattle.rt_load.specs.Inside.Noting.{note_word, note_named, notes_of_task, notes_of_slot, is_task_word, is_slot_word, on_task, with_word, with_slot, with_slots, note_at}
-use Rattle.rt_load.specs.declared.operand.Wrong.{Wrong}
 use Rattle.rt_load.specs.declared.operand.Wrong.TheVariants as wrong
 use Rattle.rt_load.proofs.Coded.{instr_words, note_operands}
 use Rattle.rt_load.proofs.Read.{then_ok, make_ok, or_ok, number_from}
@@ -76,7 +72,7 @@ one_is names word a i e =
 two_is : (names : Names) (word a b : List ℕ) (i : Instr) → with_two names word a b ≡ Ok i → IsInstr names (word ∷ a ∷ b ∷ []) i
 two_is names word a b i e =
     let first = then_ok (word_at a) (λ n. if bytes_eq word (codes "alarm") then and_make (irq_at names b) (instr.Alarm n)
-        else and_then (word_at b) (λ m. instr_named (instrs_of_two n m) word)) i e in
+    else and_then (word_at b) (λ m. instr_named (instrs_of_two n m) word)) i e in
     let n = first.0 in
     let number = number32_from n a first.1 in
     subst (λ (w : List ℕ). IsInstr names (word ∷ w ∷ b ∷ []) i) (sym number.0)
@@ -108,7 +104,7 @@ three_is names word a b c i e =
     let z = number32_from k c third.1 in
     let h : IsOf names (decimal n ∷ decimal m ∷ decimal k ∷ []) (instr.LoadAt n m k) = (refl, tt, (x.1, (y.1, (z.1, tt)))) in
     let own = named_is names (instrs_of_three n m k) word (decimal n ∷ decimal m ∷ decimal k ∷ []) i
-        (h, (h, (h, (h, (h, (h, (h, (h, (h, (h, (h, (h, (h, (h, (h, (h, (h, (h, tt)))))))))))))))))) third.2 in
+    (h, (h, (h, (h, (h, (h, (h, (h, (h, (h, (h, (h, (h, (h, (h, (h, (h, (h, tt)))))))))))))))))) third.2 in
     subst (λ (ws : List (List ℕ)). IsInstr names ws i) (sym (three_words word a b c (decimal n) (decimal m) (decimal k) x.0 y.0 z.0)) own
 
 bare_is : (names : Names) (word : List ℕ) (i : Instr) → instr_named bare_instrs word ≡ Ok i → IsInstr names (word ∷ []) i
@@ -185,7 +181,7 @@ word_is names word x n e =
 slot_is : (names : Names) (word t s : List ℕ) (n : Note) → with_slot names word t s ≡ Ok n → IsNote names (word ∷ t ∷ s ∷ []) n
 slot_is names word t s n e =
     let first = then_ok (word_at s) (λ slot. if is_slot_word word
-        then and_then (task_at names t) (λ task. note_named (notes_of_slot task slot) word) else Err wrong.Form) n e in
+    then and_then (task_at names t) (λ task. note_named (notes_of_slot task slot) word) else Err wrong.Form) n e in
     let slot = first.0 in
     let number = number32_from slot s first.1 in
     chosen (is_slot_word word) (and_then (task_at names t) (λ task. note_named (notes_of_slot task slot) word)) (Err wrong.Form) (Ok n) (IsNote names (word ∷ t ∷ s ∷ []) n) first.2

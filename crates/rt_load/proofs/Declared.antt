@@ -1,7 +1,7 @@
 -- Which names may be declared, and which are new.
 use Rattle.std.proofs.Common.{◌≡◌, ◌≤◌, ◌<◌, ℕ, true, false, not, ◌&&◌, nat_le, nat_lt, List, [], ◌∷◌, length, Option, Some, None, is_none, refl, ap, arith, sym, subst, ◌∙◌, Bool, if◌then◌else◌}
 use Rattle.std.specs.Bool.{Decides}
-use Rattle.std.proofs.lemmas.Bool.{leb-true, le-leb, ltb-true, lt-ltb}
+use Rattle.std.proofs.lemmas.Bool.{leb-true, le-leb, ltb-true}
 use Rattle.rt_lemmas.proofs.Bools.{and_parts, and_both, not_true}
 use Rattle.rt_ids.specs.Lists.{is_empty}
 use Rattle.rt_ids.specs.Names.{Names, irq_of, task_of, resource_of}

@@ -1,6 +1,6 @@
 -- Lines with their line feeds.
-use Rattle.std.proofs.Common.{◌≡◌, ◌≢◌, ◌+◌, ℕ, zero, suc, ◌<◌, ◌==◌, Bool, true, false, List, [], ◌∷◌, ◌++◌, length, get_or, take, drop, bytes_eq, nat_eq, position, Option, Some, None, refl, ap, ap₂, sym, ◌∙◌, subst, arith, length-append, length-take, length-drop, append_assoc, add-one, drop-cons, is_some, eq-eqb}
-use Rattle.std.specs.List.{AllByRecursion, list_any}
+use Rattle.std.proofs.Common.{◌≡◌, ◌≢◌, ◌+◌, ℕ, zero, suc, ◌<◌, ◌==◌, false, List, [], ◌∷◌, ◌++◌, length, get_or, take, drop, bytes_eq, position, Some, None, refl, ap, ap₂, sym, ◌∙◌, arith, length-append, length-take, length-drop, append_assoc, add-one, drop-cons, is_some, eq-eqb}
+use Rattle.std.specs.List.{list_any}
 use Rattle.std.proofs.lemmas.List.{take-append-drop}
 use Rattle.std.proofs.lemmas.List.Quantifiers.{position-Some}
 use Rattle.std.proofs.lemmas.Grind.{common_steps}
@@ -8,7 +8,6 @@ use Rattle.rt_lemmas.proofs.Bools.{true_and_false, left_of_none, right_of_none}
 use Rattle.rt_lemmas.proofs.Lists.{all_from_places}
 use Rattle.rt_ids.proofs.Lists.{is_some-position}
 use Rattle.rt_load.specs.Inside.Progress.{IsCut}
-use Rattle.std.specs.Bool.{Decides}
 use Rattle.std.proofs.lemmas.Bool.{false_from_ne_true, eqb-true}
 use Rattle.std.proofs.lemmas.Bool.Decides.{same_from_decides}
 use Rattle.std.proofs.lemmas.Slice.Eq.{bytes_eq-Decides}
@@ -26,9 +25,10 @@ last_same (x ∷ xs) (y ∷ ys) a b e =
 -- a printed line is the line with its line feed where it ends so and is the line in front
 pub ended_eq : (text line : List ℕ) → bytes_eq text line ≡ bytes_eq (text ++ 10 ∷ []) (ended line)
 ended_eq text line =
-    same_from_decides (bytes_eq text line) (bytes_eq (text ++ 10 ∷ []) (ended line)) (bytes_eq-Decides text line)
-    (λ e. (last_same text line 10 10 ((bytes_eq-Decides (text ++ 10 ∷ []) (ended line)).0 e)).0,
-    λ e. (bytes_eq-Decides (text ++ 10 ∷ []) (ended line)).1 (ap (λ t. t ++ 10 ∷ []) e))
+    same_from_decides (bytes_eq text line) (bytes_eq (text ++ 10 ∷ []) (ended line)) (bytes_eq-Decides text line) (
+      λ e. (last_same text line 10 10 ((bytes_eq-Decides (text ++ 10 ∷ []) (ended line)).0 e)).0,
+      λ e. (bytes_eq-Decides (text ++ 10 ∷ []) (ended line)).1 (ap (λ t. t ++ 10 ∷ []) e),
+    )
 
 pub other_end : (text line : List ℕ) (last : ℕ) → last ≢ 10 → bytes_eq (text ++ last ∷ []) (ended line) ≡ false
 other_end text line last differs =
@@ -38,9 +38,10 @@ other_end text line last differs =
 -- a text with no line feed
 pub line_of_none : (text : List ℕ) → list_any (λ b. b == 10) text ≡ false → IsLine text
 line_of_none [] none = tt
-line_of_none (b ∷ text) none =
-    ((λ e. true_and_false (b == 10) (eq-eqb b 10 e) (left_of_none (b == 10) (list_any (λ b. b == 10) text) none)),
-    line_of_none text (right_of_none (b == 10) (list_any (λ b. b == 10) text) none))
+line_of_none (b ∷ text) none = (
+  (λ e. true_and_false (b == 10) (eq-eqb b 10 e) (left_of_none (b == 10) (list_any (λ b. b == 10) text) none)),
+  line_of_none text (right_of_none (b == 10) (list_any (λ b. b == 10) text) none),
+)
 
 pub no_feed_line : (text : List ℕ) → position (λ b. b == 10) text ≡ None → IsLine text
 no_feed_line text none = line_of_none text (sym (is_some-position (λ b. b == 10) text) ∙ ap is_some none)

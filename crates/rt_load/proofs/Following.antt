@@ -66,4 +66,3 @@ next_taken before front line rest img l all own taken is =
 
 pub ok_err : (r : Result Front Wrong) (f : Front) (w : Wrong) → r ≡ Ok f → r ≡ Err w → ⊥
 ok_err r f w a b = cc
-

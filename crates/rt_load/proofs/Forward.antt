@@ -1,22 +1,22 @@
 -- The lines of the listing of a loadable image are taken, one after another, and tell the image.
-use Rattle.std.proofs.Common.{◌≡◌, ◌≢◌, ◌<◌, ◌≤◌, ◌^◌, ◌+◌, ℕ, zero, suc, Bool, true, false, not, ◌&&◌, ◌||◌, ◌==◌, nat_lt, nat_le, List, [], ◌∷◌, ◌++◌, length, map, filter, flat_map, take, decimal, codes, bytes_eq, Option, Some, None, Result, Ok, Err, if◌then◌else◌, is_none, refl, ap, sym, ◌∙◌, subst, arith, append_assoc, append-nil, length-append, slice_index_or, slice_get, eq-eqb}
-use Rattle.std.specs.List.{AllByRecursion, Contains, list_any}
-use Rattle.std.proofs.lemmas.Bool.{lt-ltb, le-leb, eqb-true, false_from_ne_true, ne_eqb}
-use Rattle.std.proofs.lemmas.Option.{slice_get-get_or, same_Some}
+use Rattle.std.proofs.Common.{◌≡◌, ◌<◌, ◌≤◌, ◌^◌, ℕ, suc, Bool, true, false, not, ◌&&◌, ◌||◌, ◌==◌, nat_lt, nat_le, List, [], ◌∷◌, ◌++◌, length, map, filter, take, decimal, codes, bytes_eq, Option, Some, None, Result, Ok, Err, if◌then◌else◌, is_none, refl, ap, sym, ◌∙◌, subst, arith, append_assoc, append-nil, length-append, slice_get, eq-eqb}
+use Rattle.std.specs.List.{AllByRecursion}
+use Rattle.std.proofs.lemmas.Bool.{lt-ltb, le-leb, ne_eqb}
+use Rattle.std.proofs.lemmas.Option.{slice_get-get_or}
 use Rattle.std.proofs.lemmas.List.{map_push, get_or_push}
 use Rattle.std.proofs.lemmas.List.Elements.{filter-append}
 use Rattle.std.proofs.lemmas.Slice.Eq.{bytes_eq-Decides}
 use Rattle.rt_lemmas.proofs.Bools.{and_both, or_neither}
-use Rattle.rt_lemmas.proofs.Lists.{all_front, all_behind}
+use Rattle.rt_lemmas.proofs.Lists.{all_behind}
 use Rattle.rt_lemmas.proofs.Membership.{all_weaker}
-use Rattle.rt_ids.specs.Names.{Names, AreNames, irq_of, task_of, resource_of, with_irq, with_task, with_resource}
+use Rattle.rt_ids.specs.Names.{Names, irq_of, task_of, resource_of, with_task}
 use Rattle.rt_ids.specs.Naming.{task_name}
 use Rattle.rt_ids.specs.Word.{IsName}
 use Rattle.rt_ids.specs.declared.cell.CellRow.{CellRow}
-use Rattle.rt_ids.specs.declared.limits.TheConstants.{IRQ_NUMBERS, CODE_SIZE, IRQS, TASKS, SHARED, LEAST_BITS, MOST_BITS, ARGUMENTS}
+use Rattle.rt_ids.specs.declared.limits.TheConstants.{IRQ_NUMBERS, CODE_SIZE, IRQS, TASKS, SHARED, LEAST_BITS, MOST_BITS}
 use Rattle.rt_ids.proofs.Declared.{next_irq, next_task, next_resource}
 use Rattle.rt_code.specs.Image.{Image}
-use Rattle.rt_code.specs.Listable.{blanks, IsWord, IsPlain, HasInstr, HasNote}
+use Rattle.rt_code.specs.Listable.{IsWord, IsPlain, HasInstr, HasNote}
 use Rattle.rt_code.specs.declared.image.IrqRow.{IrqRow}
 use Rattle.rt_code.specs.declared.image.Handler.{Handler}
 use Rattle.rt_code.specs.declared.image.BodyRow.{BodyRow}
@@ -30,8 +30,8 @@ use Rattle.rt_load.specs.Loadable.{IsLoadable, IsIrqWithin, IsHandlerWithin, IsB
 use Rattle.rt_load.specs.Reading.{ended}
 use Rattle.rt_load.specs.Inside.Operand.{number_at, word_at}
 use Rattle.rt_load.specs.Inside.Noting.{line_at}
-use Rattle.rt_load.specs.Inside.Rows.{three_at, cell_at, service_at, handler_at, irq_row_at, body_row_at}
-use Rattle.rt_load.specs.Inside.Taking.{if_line, front_of, first_at, is_within, take_first, may_declare, has_blank, is_new_resource, is_new_irq, is_new_task, may_name_cell, is_in_cells, may_add_cell, may_add_irq, may_add_body, may_add_line, has_cells, with_name_of, and_cell, and_irq, and_body, and_line, next_cell, next_body, next_line, take_cell, take_irq, take_body, take_code, take_words, take_line, take_lines, take_all}
+use Rattle.rt_load.specs.Inside.Rows.{three_at, cell_at, handler_at, irq_row_at, body_row_at}
+use Rattle.rt_load.specs.Inside.Taking.{if_line, front_of, first_at, is_within, take_first, may_declare, has_blank, is_new_resource, is_new_irq, is_new_task, may_name_cell, is_in_cells, may_add_cell, may_add_irq, may_add_body, may_add_line, has_cells, with_name_of, and_cell, and_irq, and_body, and_line, next_cell, take_words, take_line, take_lines, take_all}
 use Rattle.rt_load.specs.declared.front.Front.{Front}
 use Rattle.rt_load.specs.declared.operand.Wrong.{Wrong}
 use Rattle.rt_load.specs.declared.operand.Wrong.TheVariants as wrong
@@ -181,7 +181,7 @@ module _ (img : Image) (l : IsLoadable img) where
       let read : cell_at ws ≡ Ok cell = ap (λ (r : Result ℕ Wrong). and_make r (λ n. record { name = cell.name; first = n })) (number_back cell.first first) in
       let next : next_cell front line ws ≡ Ok cell =
       ap (λ (r : Result CellRow Wrong). and_then r (λ cell. if may_add_cell front cell.name
-          then if_line (cell_line (length front.image.cells) cell) line cell else Err wrong.Form)) read
+      then if_line (cell_line (length front.image.cells) cell) line cell else Err wrong.Form)) read
       ∙ chooses (may_add_cell front cell.name) (if_line (cell_line (length done) cell) line cell) (cell_may done left cell is word)
       ∙ passes (cell_line (length done) cell) line cell refl in
       ap (take_words front line) (words_of_spelled line (codes "cell") ws (cell_spelled (length done) cell word))
@@ -236,7 +236,7 @@ module _ (img : Image) (l : IsLoadable img) where
       let split = irqs_split done left row is in
       let named : IsName row.name =
       let behind = all_behind (λ (irq : List ℕ × ℕ). IsName irq.0) before ((row.name, row.number) ∷ after)
-          (subst (AllByRecursion (λ (irq : List ℕ × ℕ). IsName irq.0)) split l.limits.names.irqs) in behind.0 in
+      (subst (AllByRecursion (λ (irq : List ℕ × ℕ). IsName irq.0)) split l.limits.names.irqs) in behind.0 in
       let unknown : irq_of (irqs_names done) row.name ≡ None =
       next_irq (irqs_names done) (length before) row.name img.names.irqs row.number
       (sym (ap (take (length before)) split ∙ front_taken before (row.name, row.number) after))
@@ -357,7 +357,7 @@ module _ (img : Image) (l : IsLoadable img) where
       ap (λ (n : List ℕ). ended (((codes "body " ++ n) ++ (32 ∷ decimal row.entry)) ++ (32 ∷ decimal row.frame) ++ (32 ∷ decimal row.args))) own in
       ap (take_words front line) (words_of_spelled line (codes "body") ws (body_spelled img.names row (known_names img.names l.limits.names) has))
       ∙ ap (λ (r : Result (List ℕ × BodyRow) Wrong). and_make (and_then r (λ body. if may_add_body front body.0
-          then if_line (body_line (with_task front.image.names body.0) body.1) line body else Err wrong.Form)) (λ body. and_body front body.0 body.1)) read
+      then if_line (body_line (with_task front.image.names body.0) body.1) line body else Err wrong.Form)) (λ body. and_body front body.0 body.1)) read
       ∙ ap (λ (r : Result (List ℕ × BodyRow) Wrong). and_make r (λ body. and_body front body.0 body.1))
       (chooses (may_add_body front name) (if_line (body_line (with_task front.image.names name) row) line (name, row)) (body_may done left row is)
       ∙ passes (body_line (with_task front.image.names name) row) line (name, row) text)
@@ -438,9 +438,9 @@ module _ (img : Image) (l : IsLoadable img) where
       (and_both (nat_le LEAST_BITS img.bits) (nat_le img.bits MOST_BITS) (le-leb LEAST_BITS img.bits least) (le-leb img.bits MOST_BITS most)) (le-leb code CODE_SIZE few_lines) in
       let read : first_at (codes "image" ∷ first_words img code cells) ≡ Ok (cells_front img []) =
       ap (λ (r : Result ℕ Wrong). and_then r (λ b. and_then (word_at (decimal img.stack_bytes)) (λ s. and_make (three_at (decimal img.thread_words ∷ decimal code ∷ decimal cells ∷ [])) (λ n.
-          front_of (bytes_eq (form_word img.fpu) (codes "2")) b s n.0 n.1 n.2)))) bits
+      front_of (bytes_eq (form_word img.fpu) (codes "2")) b s n.0 n.1 n.2)))) bits
       ∙ ap (λ (r : Result ℕ Wrong). and_then r (λ s. and_make (three_at (decimal img.thread_words ∷ decimal code ∷ decimal cells ∷ [])) (λ n.
-          front_of (bytes_eq (form_word img.fpu) (codes "2")) img.bits s n.0 n.1 n.2))) (number_back img.stack_bytes lim.stack_bytes)
+      front_of (bytes_eq (form_word img.fpu) (codes "2")) img.bits s n.0 n.1 n.2))) (number_back img.stack_bytes lim.stack_bytes)
       ∙ ap (λ (r : Result (ℕ × ℕ × ℕ) Wrong). and_make r (λ n. front_of (bytes_eq (form_word img.fpu) (codes "2")) img.bits img.stack_bytes n.0 n.1 n.2))
       (three_read img.thread_words code cells lim.thread_words (omega (arith, few_lines)) lim.few_cells)
       ∙ ap (λ (f : Bool). Ok (front_of f img.bits img.stack_bytes img.thread_words code cells)) (form_reads img.fpu) in

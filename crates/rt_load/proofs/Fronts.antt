@@ -1,33 +1,18 @@
 -- What a reader has read stands: the image so far is loadable, and its text so far is what was read.
-use Rattle.std.proofs.Common.{◌≡◌, ◌⊎◌, inl, inr, ◌<◌, ◌≤◌, ◌^◌, ◌+◌, ℕ, zero, suc, Bool, true, false, not, ◌&&◌, ◌==◌, ◌||◌, nat_lt, nat_le, List, [], ◌∷◌, ◌++◌, length, map, filter, flat_map, Option, Some, None, Result, Ok, Err, if◌then◌else◌, refl, ap, sym, ◌∙◌, subst, arith, append_assoc, append-nil, length-append, is_none}
-use Rattle.std.specs.List.{AllByRecursion, Contains, list_any}
-use Rattle.std.proofs.lemmas.Bool.{ltb-true, leb-true, eqb-true, false_from_ne_true}
-use Rattle.std.proofs.lemmas.List.{map_push}
-use Rattle.std.proofs.lemmas.List.Elements.{filter-append}
+use Rattle.std.proofs.Common.{◌≡◌, ◌⊎◌, ◌≤◌, ◌+◌, ℕ, zero, suc, Bool, true, false, not, ◌==◌, ◌||◌, List, [], ◌∷◌, ◌++◌, length, flat_map, if◌then◌else◌, refl, ap, sym, ◌∙◌, arith, append_assoc, append-nil}
+use Rattle.std.specs.List.{Contains}
 use Rattle.std.proofs.lemmas.List.Concat.{flat_map-append}
-use Rattle.rt_lemmas.proofs.Bools.{and_parts, not_true, left_of_none, right_of_none, or_left, true_and_false}
-use Rattle.rt_lemmas.proofs.Membership.{all_weaker}
+use Rattle.rt_lemmas.proofs.Bools.{not_true, left_of_none, right_of_none, true_and_false}
 use Rattle.rt_ids.specs.Lists.{is_empty}
-use Rattle.rt_ids.specs.Names.{Names, AreNames, irq_of, task_of, resource_of, with_irq, with_task, with_resource}
-use Rattle.rt_ids.specs.Naming.{task_name}
-use Rattle.rt_ids.specs.Word.{IsName}
-use Rattle.rt_ids.specs.declared.cell.CellRow.{CellRow}
-use Rattle.rt_ids.specs.declared.limits.TheConstants.{IRQ_NUMBERS, CODE_SIZE, IRQS, TASKS, SHARED}
-use Rattle.rt_ids.proofs.Lists.{all_push}
-use Rattle.rt_ids.proofs.Declared.{irq_added, task_added, resource_added}
+use Rattle.rt_ids.specs.Names.{Names, resource_of}
+use Rattle.rt_ids.specs.declared.limits.TheConstants.{CODE_SIZE, SHARED}
 use Rattle.rt_code.specs.Image.{Image}
-use Rattle.rt_code.specs.Listable.{IsListable, IsWord, IsPlain, AreWritable, HasTask, HasInstr, HasNote, blanks}
-use Rattle.rt_code.proofs.Writable.{names_writable}
-use Rattle.rt_code.specs.declared.image.IrqRow.{IrqRow}
-use Rattle.rt_code.specs.declared.image.BodyRow.{BodyRow}
-use Rattle.rt_code.specs.declared.instr.Instr.{Instr}
-use Rattle.rt_code.specs.declared.instr.Note.{Note}
+use Rattle.rt_code.specs.Listable.{IsWord, blanks}
 use Rattle.rt_listing.specs.Listing.{first_line, numbered, cell_line, irq_line, body_line, code_line}
-use Rattle.rt_load.specs.Loadable.{IsLoadable, IsWithinLimits, IsIrqWithin, IsBodyWithin, IsLineWithin, Is32Bits, has_dot, told_names}
-use Rattle.rt_load.specs.Reading.{ended}
-use Rattle.rt_load.specs.Inside.Taking.{front_of, may_declare, has_blank, with_name_of, may_name_cell, is_in_cells, may_add_cell, may_add_irq, may_add_body, may_add_line, and_cell, and_irq, and_body, and_line, is_new_irq, is_new_task, is_new_resource}
+use Rattle.rt_load.specs.Loadable.{IsLoadable, Is32Bits, has_dot}
+use Rattle.rt_load.specs.Inside.Taking.{has_blank, may_name_cell, is_new_resource}
 use Rattle.rt_load.specs.declared.front.Front.{Front}
-use Rattle.rt_load.proofs.Declared.{named, IsNew, new_from}
+use Rattle.rt_load.proofs.Declared.{IsNew, new_from}
 
 -- the text of what was read
 abbrev pub front_text : Front → List ℕ

@@ -1,15 +1,13 @@
 -- The tables that name what a line names besides: over them the line is that of an instruction.
-use Rattle.std.proofs.Common.{◌≡◌, ◌⊎◌, inl, inr, ◌<◌, ◌≤◌, ◌^◌, ◌+◌, ◌==◌, ◌||◌, ℕ, zero, suc, Bool, true, false, List, [], ◌∷◌, ◌++◌, length, map, flat_map, drop, take, decimal, codes, bytes_eq, nat_eq, find, position, slice_get, Option, Some, None, IsSome, is_some, option_map, Result, Ok, Err, if◌then◌else◌, refl, ap, sym, ◌∙◌, subst, arith, append_assoc, append-nil, length-append, slice_index_or}
-use Rattle.std.specs.List.{AllByRecursion, list_any, starts_with, join_with_byte}
+use Rattle.std.proofs.Common.{◌≡◌, ◌⊎◌, inl, inr, ◌<◌, ◌^◌, ◌==◌, ◌||◌, ℕ, zero, suc, Bool, true, false, List, [], ◌∷◌, ◌++◌, length, map, drop, take, decimal, codes, bytes_eq, nat_eq, find, position, slice_get, Option, Some, None, IsSome, is_some, option_map, Result, Ok, Err, if◌then◌else◌, refl, ap, sym, ◌∙◌, subst, arith, append-nil, length-append, slice_index_or}
+use Rattle.std.specs.List.{AllByRecursion, list_any, starts_with}
 use Rattle.std.specs.Option.{ok_or, option_or, unwrap_or}
-use Rattle.std.proofs.lemmas.Bool.{false≢true, eqb-true, ne_eqb}
+use Rattle.std.proofs.lemmas.Bool.{false≢true, ne_eqb}
 use Rattle.std.proofs.lemmas.Option.{none-some, same_Some}
 use Rattle.std.proofs.lemmas.List.{map_push, get_or_push, take-append-drop}
 use Rattle.std.proofs.lemmas.List.Folds.{find-append}
-use Rattle.std.proofs.lemmas.List.Splits.{join_with_byte-slice_split}
 use Rattle.std.proofs.lemmas.Slice.Eq.{bytes_eq-Decides}
 use Rattle.rt_lemmas.proofs.Bools.{or_cases}
-use Rattle.rt_lemmas.proofs.Lists.{all_map}
 use Rattle.rt_ids.specs.Lists.{AreDifferent}
 use Rattle.rt_ids.specs.Names.{Names, AreNames, irq_of, task_of, resource_of}
 use Rattle.rt_ids.specs.Naming.{irq_named, irq_name, task_name, resource_name, section_name, body_name}
@@ -29,9 +27,8 @@ use Rattle.rt_lines.specs.Answers.{and_then, and_make}
 use Rattle.rt_lines.specs.Numbers.{number_below}
 use Rattle.rt_listing.specs.Numbers.{instr_numbers}
 use Rattle.rt_load.specs.Loadable.{Is32Bits, IsNoteWithin}
-use Rattle.rt_load.specs.Reading.{AreMore}
 use Rattle.rt_load.specs.Inside.Operand.{number_at, word_at, found, first_named, irq_at, task_at, resource_at, ready_at, queue_at, section_at, body_at}
-use Rattle.rt_load.specs.Inside.Coding.{instr_word, instr_named, instrs_of_one, instrs_of_two, instrs_of_three, bare_instrs, with_one, with_two, with_three, instr_at}
+use Rattle.rt_load.specs.Inside.Coding.{instr_word, instr_named, instrs_of_one, instrs_of_two, instrs_of_three, bare_instrs, instr_at}
 use Rattle.rt_load.specs.Inside.Noting.{note_word, note_named, notes_of_task, notes_of_slot, is_task_word, is_slot_word, on_task, with_word, with_slot, with_slots, note_at, note_behind, noted}
 use Rattle.rt_load.specs.declared.operand.Wrong.{Wrong}
 use Rattle.rt_load.specs.declared.operand.Wrong.TheVariants as wrong
@@ -39,7 +36,7 @@ use Rattle.rt_load.proofs.Coded.{instr_words, irq_words, note_operands}
 use Rattle.rt_load.proofs.CodedBack.{number32_from, IsInstr, IsNote, instr_from, note_from}
 use Rattle.rt_load.proofs.Lines.{note_part}
 use Rattle.rt_load.proofs.Tables.{chosen, found_none}
-use Rattle.rt_load.proofs.Read.{then_ok, make_ok, same_ok}
+use Rattle.rt_load.proofs.Read.{make_ok}
 
 -- answers that say of no name that it is unknown
 abbrev pub NoName : {A : Type 0} → Result A Wrong → Type 0
@@ -268,7 +265,7 @@ instr_over names (w ∷ a ∷ []) are below (inr e) =
     (λ _ is. absurd (then_no_name (word_at a) (λ n. instr_named (instrs_of_one n) w) (number_no_name (2 ^ 32) a) (λ n. instr_named_no_name (instrs_of_one n) w) is))
 instr_over names (w ∷ a ∷ b ∷ []) are below (inr e) =
     let first = then_name (word_at a) (λ n. if bytes_eq w (codes "alarm") then and_make (irq_at names b) (instr.Alarm n)
-        else and_then (word_at b) (λ m. instr_named (instrs_of_two n m) w)) (number_no_name (2 ^ 32) a) e in
+    else and_then (word_at b) (λ m. instr_named (instrs_of_two n m) w)) (number_no_name (2 ^ 32) a) e in
     let n = first.0 in
     let number = number32_from n a first.1 in
     chosen (bytes_eq w (codes "alarm")) (and_make (irq_at names b) (instr.Alarm n)) (and_then (word_at b) (λ m. instr_named (instrs_of_two n m) w)) (Err wrong.Name) (InstrOver names (w ∷ a ∷ b ∷ [])) first.2
@@ -544,7 +541,7 @@ word_over names word x are e =
 slot_over : (names : Names) (word t s : List ℕ) → AreNames names → with_slot names word t s ≡ Err wrong.Name → NoteOver names (Some (word ∷ t ∷ s ∷ []))
 slot_over names word t s are e =
     let first = then_name (word_at s) (λ slot. if is_slot_word word
-        then and_then (task_at names t) (λ task. note_named (notes_of_slot task slot) word) else Err wrong.Form) (number_no_name (2 ^ 32) s) e in
+    then and_then (task_at names t) (λ task. note_named (notes_of_slot task slot) word) else Err wrong.Form) (number_no_name (2 ^ 32) s) e in
     let slot = first.0 in
     let number = number32_from slot s first.1 in
     chosen (is_slot_word word) (and_then (task_at names t) (λ task. note_named (notes_of_slot task slot) word)) (Err wrong.Form) (Err wrong.Name) (NoteOver names (Some (word ∷ t ∷ s ∷ []))) first.2

@@ -1,5 +1,5 @@
 -- The lines of a listing, and of which words each is made.
-use Rattle.std.proofs.Common.{◌≡◌, ◌≢◌, ℕ, zero, suc, ◌+◌, ◌<◌, ◌^◌, Bool, true, false, List, [], ◌∷◌, ◌++◌, length, map, flat_map, decimal, codes, drop, get_or, find, Option, Some, None, IsSome, option_map, refl, ap, ap₂, sym, ◌∙◌, subst, arith, append_assoc, append-nil, length-append, slice_index_or}
+use Rattle.std.proofs.Common.{◌≡◌, ℕ, ◌<◌, Bool, true, false, List, [], ◌∷◌, ◌++◌, length, decimal, codes, Option, Some, None, IsSome, option_map, refl, ap, sym, ◌∙◌, append_assoc, append-nil, slice_index_or}
 use Rattle.std.specs.Option.{unwrap_or}
 use Rattle.std.specs.List.{AllByRecursion}
 use Rattle.std.proofs.lemmas.Option.{slice_get-get_or}
@@ -25,14 +25,13 @@ use Rattle.rt_code.specs.declared.instr.Note.{Note}
 use Rattle.rt_code.specs.declared.instr.Note.TheVariants as note
 use Rattle.rt_listing.specs.Words.{instr_text, note_text, note_words}
 use Rattle.rt_listing.specs.Words as number
-use Rattle.rt_listing.specs.Listing.{form_text, first_line, numbered, cell_line, handler_text, irq_line, body_line, code_line, listing}
+use Rattle.rt_listing.specs.Listing.{form_text, handler_text}
 use Rattle.rt_listing.proofs.Reading.{HasNoBlank, word_has_no_blank}
 use Rattle.rt_trace.specs.Text.{spaced}
-use Rattle.rt_load.specs.Reading.{ended, IsLine}
-use Rattle.rt_load.specs.Inside.Operand.{is_end, in_front, behind}
+use Rattle.rt_load.specs.Inside.Operand.{in_front, behind}
 use Rattle.rt_load.specs.Inside.Coding.{instr_word}
 use Rattle.rt_load.specs.Inside.Noting.{note_word}
-use Rattle.rt_load.proofs.Clean.{IsClean, clean_plain, all_plain, clean_end, clean_append, clean_from_test, decimal_clean, name_clean, IsSpelled, line_of_spelled, spaced3, spaced4}
+use Rattle.rt_load.proofs.Clean.{IsClean, clean_plain, all_plain, clean_end, clean_append, clean_from_test, decimal_clean, name_clean, IsSpelled, spaced3, spaced4}
 use Rattle.rt_load.proofs.Coded.{instr_words, irq_words, note_operands, instr_is, note_is, instr_word_clean, note_word_clean, decimals_clean}
 
 -- tables of names of the form of a name
@@ -253,6 +252,8 @@ code_spelled names n line known has_instr has_note =
           ∙ code_parts (codes "code") (32 ∷ decimal n) (instr_word i) (spaced ops) (spaced part)
           ∙ ap (λ t. codes "code" ++ ((32 ∷ decimal n) ++ ((32 ∷ instr_word i) ++ t))) (sym (spaced_append ops part));
       first = clean_plain (codes "code") (clean_from_test (codes "code") refl);
-      others = (clean_plain (decimal n) (decimal_clean n),
-          all_append HasNoBlank (instr_word i ∷ ops) part (all_plain (instr_word i ∷ ops) (instr_words_clean names i known has_instr)) (end_clean names line.1 known has_note));
+      others = (
+        clean_plain (decimal n) (decimal_clean n),
+        all_append HasNoBlank (instr_word i ∷ ops) part (all_plain (instr_word i ∷ ops) (instr_words_clean names i known has_instr)) (end_clean names line.1 known has_note),
+      );
     }

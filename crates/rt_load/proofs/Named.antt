@@ -1,27 +1,23 @@
 -- A line that is refused for a name alone is one of an unknown name.
-use Rattle.std.proofs.Common.{◌≡◌, ◌⊎◌, inl, inr, ◌<◌, ◌≤◌, ◌^◌, ◌+◌, ◌==◌, ℕ, zero, suc, Bool, true, false, List, [], ◌∷◌, ◌++◌, length, map, flat_map, decimal, codes, bytes_eq, nat_lt, Option, Some, None, Result, Ok, Err, if◌then◌else◌, refl, ap, sym, ◌∙◌, subst, arith, append_assoc, append-nil}
+use Rattle.std.proofs.Common.{◌≡◌, ◌<◌, ◌^◌, ◌==◌, ℕ, Bool, true, false, List, [], ◌∷◌, ◌++◌, length, flat_map, decimal, codes, bytes_eq, nat_lt, Option, Some, None, Result, Ok, Err, if◌then◌else◌, refl, ap, sym, ◌∙◌, subst, append-nil}
 use Rattle.std.specs.List.{AllByRecursion, join_with_byte}
 use Rattle.std.proofs.lemmas.Bool.{eqb-true, ltb-true}
 use Rattle.std.proofs.lemmas.List.Splits.{join_with_byte-slice_split}
 use Rattle.std.proofs.lemmas.Slice.Eq.{bytes_eq-Decides}
 use Rattle.rt_lemmas.proofs.Bools.{and_parts}
 use Rattle.rt_lemmas.proofs.Lists.{all_map}
-use Rattle.rt_ids.specs.Names.{Names, AreNames, with_task}
-use Rattle.rt_ids.specs.declared.cell.CellRow.{CellRow}
+use Rattle.rt_ids.specs.Names.{Names, with_task}
 use Rattle.rt_ids.specs.declared.limits.TheConstants.{IRQ_NUMBERS}
-use Rattle.rt_code.specs.Image.{Image}
 use Rattle.rt_code.specs.Listable.{HasInstr, HasNote}
 use Rattle.rt_code.specs.declared.image.IrqRow.{IrqRow}
-use Rattle.rt_code.specs.declared.image.BodyRow.{BodyRow}
-use Rattle.rt_code.specs.declared.image.Handler.{Handler}
 use Rattle.rt_code.specs.declared.instr.Instr.{Instr}
 use Rattle.rt_code.specs.declared.instr.Instr.TheVariants as instr
 use Rattle.rt_code.specs.declared.instr.Note.{Note}
 use Rattle.rt_lines.specs.Answers.{and_then, and_make}
 use Rattle.rt_lines.specs.Parts.{words}
-use Rattle.rt_listing.specs.Listing.{cell_line, irq_line, body_line, code_line, listing}
+use Rattle.rt_listing.specs.Listing.{cell_line, irq_line, body_line, code_line}
 use Rattle.rt_trace.specs.Text.{spaced}
-use Rattle.rt_load.specs.Loadable.{IsLoadable, IsIrqWithin}
+use Rattle.rt_load.specs.Loadable.{IsIrqWithin}
 use Rattle.rt_load.specs.Reading.{ended, IsOfUnknownName, AreMore}
 use Rattle.rt_load.specs.Inside.Operand.{number_at, word_at, is_end, in_front, behind}
 use Rattle.rt_load.specs.Inside.Coding.{instr_word, instr_at}
@@ -36,10 +32,9 @@ use Rattle.rt_load.proofs.CodedBack.{number32_from}
 use Rattle.rt_load.proofs.Coded.{instr_words}
 use Rattle.rt_load.proofs.Lines.{end_words, note_part, code_words, code_text, code_spelled}
 use Rattle.rt_load.proofs.Fronts.{front_text, Stands}
-use Rattle.rt_load.proofs.Taken.{Goes}
 use Rattle.rt_load.proofs.Witness.{witness, mark_goes}
 use Rattle.rt_load.proofs.Unknown.{known_more}
-use Rattle.rt_load.proofs.Further.{NoName, form_no_name, ok_no_name, or_form, then_no_name, make_no_name, if_no_name, number_no_name, then_name, further, InstrOver, NoteOver, OkOrName, instr_over, note_over, noted_name}
+use Rattle.rt_load.proofs.Further.{NoName, form_no_name, ok_no_name, then_no_name, make_no_name, if_no_name, number_no_name, then_name, further, InstrOver, NoteOver, instr_over, note_over, noted_name}
 
 -- lines of other kinds name nothing that is in a table
 three_no_name : (ws : List (List ℕ)) → NoName (three ws)
@@ -110,7 +105,7 @@ take_body_no_name : (front : Front) (line : List ℕ) (ws : List (List ℕ)) →
 take_body_no_name front line ws =
     make_no_name (next_body front line ws) (λ body. and_body front body.0 body.1)
     (then_no_name (body_row_at (length front.image.names.tasks) ws) (λ body. if may_add_body front body.0
-        then if_line (body_line (with_task front.image.names body.0) body.1) line body else Err wrong.Form) (body_no_name (length front.image.names.tasks) ws)
+    then if_line (body_line (with_task front.image.names body.0) body.1) line body else Err wrong.Form) (body_no_name (length front.image.names.tasks) ws)
     (λ body. may_no_name (may_add_body front body.0) (if_line (body_line (with_task front.image.names body.0) body.1) line body)
     (line_no_name (body_line (with_task front.image.names body.0) body.1) line body)))
 

@@ -1,5 +1,5 @@
 -- What a row that comes next may be named.
-use Rattle.std.proofs.Common.{◌≡◌, Bool, true, false, ◌&&◌, ◌∙◌, bytes_eq, List, ℕ, length, Result, Ok, Err, if◌then◌else◌, ap, sym, subst}
+use Rattle.std.proofs.Common.{◌≡◌, Bool, true, false, ◌&&◌, ◌∙◌, bytes_eq, List, ℕ, length, Result, Ok, Err, if◌then◌else◌, ap, subst}
 use Rattle.rt_lemmas.proofs.Bools.{and_parts}
 use Rattle.rt_ids.specs.Lists.{is_empty}
 use Rattle.rt_ids.specs.declared.cell.CellRow.{CellRow}
@@ -19,7 +19,7 @@ use Rattle.rt_load.proofs.Read.{then_ok, if_ok, line_ok}
 pub next_cell_may : (front : Front) (line : List ℕ) (ws : List (List ℕ)) (cell : CellRow) → next_cell front line ws ≡ Ok cell → may_name_cell front.image.names cell.name ≡ true
 next_cell_may front line ws cell e =
     let parts = then_ok (cell_at ws) (λ cell. if may_add_cell front cell.name
-        then if_line (cell_line (length front.image.cells) cell) line cell else Err wrong.Form) cell e in
+    then if_line (cell_line (length front.image.cells) cell) line cell else Err wrong.Form) cell e in
     let read = parts.0 in
     let may = if_ok (may_add_cell front read.name) (if_line (cell_line (length front.image.cells) read) line read) wrong.Form cell parts.2 in
     let same = line_ok (cell_line (length front.image.cells) read) line read cell may.1 in
@@ -44,6 +44,6 @@ body_of_other_line front line ws body task names here read may added other =
     let differs : bytes_eq text (ended line) ≡ false = subst (λ (n : Names). bytes_eq (body_line n body.1) (ended line) ≡ false) added other in
     let is : body_row_at (length front.image.names.tasks) ws ≡ Ok body = subst (λ (t : ℕ). body_row_at t ws ≡ Ok body) here read in
     ap (λ (r : Result (List ℕ × BodyRow) Wrong). and_make (and_then r (λ body. if may_add_body front body.0
-        then if_line (body_line (with_task front.image.names body.0) body.1) line body else Err wrong.Form)) (λ body. and_body front body.0 body.1)) is
+    then if_line (body_line (with_task front.image.names body.0) body.1) line body else Err wrong.Form)) (λ body. and_body front body.0 body.1)) is
     ∙ ap (λ (b : Bool). and_make (if b then if_line text line body else Err wrong.Form) (λ body. and_body front body.0 body.1)) may
     ∙ ap (λ (b : Bool). and_make (if b then Ok body else Err wrong.Form) (λ body. and_body front body.0 body.1)) differs

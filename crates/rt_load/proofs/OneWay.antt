@@ -1,12 +1,12 @@
 -- Bytes are read in one way.
-use Rattle.std.proofs.Common.{◌≡◌, ◌≢◌, ◌⊎◌, inl, inr, ℕ, suc, List, [], ◌∷◌, ◌++◌, length, flat_map, Ok, Err, refl, ap, sym, ◌∙◌, subst, append_assoc, append-nil}
+use Rattle.std.proofs.Common.{◌≡◌, ℕ, suc, List, [], ◌∷◌, ◌++◌, length, flat_map, refl, ap, sym, ◌∙◌, subst, append_assoc, append-nil}
 use Rattle.std.specs.List.{AllByRecursion}
 use Rattle.std.proofs.lemmas.List.Concat.{flat_map-append}
 use Rattle.rt_code.specs.Image.{Image}
 use Rattle.rt_listing.specs.Listing.{listing}
 use Rattle.rt_load.specs.Loadable.{IsLoadable}
 use Rattle.rt_load.specs.Laws.{AreReadOneWay}
-use Rattle.rt_load.specs.Reading.{IsListingText, Begins, ended, IsLine, IsFirstWrong, IsWrong, Fault, Form, Name, IsFault}
+use Rattle.rt_load.specs.Reading.{IsListingText, Begins, ended, IsLine, IsFirstWrong, IsWrong, Fault, Form, Name}
 use Rattle.rt_load.specs.Inside.Taking.{take_all}
 use Rattle.rt_load.specs.declared.front.Front.{Front}
 use Rattle.rt_load.proofs.Read.{same_ok}
@@ -95,7 +95,7 @@ cuts (l ∷ ls) [] line other behind after all all2 own own2 e f is =
     Behind same.1.0 same.1.1 ls (ap (λ (x : List ℕ). x ∷ ls) (sym same.0))
 cuts (l ∷ ls) (m ∷ ms) line other behind after all all2 own own2 e f is =
     let same = cut_same l m (flat_map ended ls ++ (line ++ behind)) (flat_map ended ms ++ (other ++ after)) all.0 all2.0
-        (sym (one_more l (flat_map ended ls) (line ++ behind)) ∙ is ∙ one_more m (flat_map ended ms) (other ++ after)) in
+    (sym (one_more l (flat_map ended ls) (line ++ behind)) ∙ is ∙ one_more m (flat_map ended ms) (other ++ after)) in
     cuts_one l ls ms m line other behind after same.0 (cuts ls ms line other behind after all.1 all2.1 own own2 e f same.1)
 
 -- a front that goes on with more lines

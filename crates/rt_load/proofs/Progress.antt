@@ -1,14 +1,12 @@
 -- A line that is taken leaves what stands, with the line behind the text so far.
-use Rattle.std.proofs.Common.{◌≡◌, ◌⊎◌, inl, inr, ◌<◌, ◌≤◌, ◌^◌, ◌+◌, ℕ, zero, suc, Bool, true, false, not, ◌&&◌, ◌==◌, nat_lt, nat_le, List, [], ◌∷◌, ◌++◌, length, map, filter, flat_map, Option, Some, None, Result, Ok, Err, if◌then◌else◌, refl, ap, sym, ◌∙◌, subst, arith, append_assoc, append-nil, codes, bytes_eq}
-use Rattle.std.specs.List.{AllByRecursion}
+use Rattle.std.proofs.Common.{◌≡◌, inr, ◌^◌, ℕ, Bool, true, ◌&&◌, ◌==◌, nat_le, List, [], ◌∷◌, ◌++◌, length, Option, Some, None, Result, Ok, Err, if◌then◌else◌, refl, ap, sym, ◌∙◌, subst, arith, append-nil, codes, bytes_eq}
 use Rattle.std.proofs.lemmas.Bool.{leb-true}
 use Rattle.std.proofs.lemmas.Option.{none-some}
 use Rattle.rt_lemmas.proofs.Bools.{and_parts}
 use Rattle.rt_ids.specs.Names.{Names, AreNames, no_names, with_task}
 use Rattle.rt_ids.specs.declared.cell.CellRow.{CellRow}
-use Rattle.rt_ids.specs.declared.limits.TheConstants.{IRQ_NUMBERS, CODE_SIZE, LEAST_BITS, MOST_BITS, ARGUMENTS}
-use Rattle.rt_code.specs.Image.{Image}
-use Rattle.rt_code.specs.Listable.{HasInstr, HasNote}
+use Rattle.rt_ids.specs.declared.limits.TheConstants.{IRQ_NUMBERS, CODE_SIZE, LEAST_BITS, MOST_BITS}
+use Rattle.rt_code.specs.Listable.{HasNote}
 use Rattle.rt_code.proofs.Writable.{names_writable}
 use Rattle.rt_code.specs.declared.image.IrqRow.{IrqRow}
 use Rattle.rt_code.specs.declared.image.BodyRow.{BodyRow}
@@ -18,7 +16,7 @@ use Rattle.rt_code.specs.declared.instr.Note.{Note}
 use Rattle.rt_lines.specs.Answers.{and_then, and_make}
 use Rattle.rt_lines.specs.Parts.{words}
 use Rattle.rt_listing.specs.Listing.{first_line, cell_line, irq_line, body_line, code_line}
-use Rattle.rt_load.specs.Loadable.{IsLoadable, IsNoteWithin, IsIrqWithin, IsHandlerWithin, IsBodyWithin, Is32Bits}
+use Rattle.rt_load.specs.Loadable.{IsNoteWithin, IsIrqWithin, IsHandlerWithin, IsBodyWithin, Is32Bits}
 use Rattle.rt_load.specs.Reading.{ended}
 use Rattle.rt_load.specs.Inside.Operand.{number_at, word_at, in_front, behind}
 use Rattle.rt_load.specs.Inside.Coding.{instr_at}
@@ -30,8 +28,8 @@ use Rattle.rt_load.specs.declared.operand.Wrong.{Wrong}
 use Rattle.rt_load.specs.declared.operand.Wrong.TheVariants as wrong
 use Rattle.rt_load.proofs.Read.{then_ok, make_ok, if_ok, line_ok, same_ok, number_from}
 use Rattle.rt_load.proofs.Tables.{chosen}
-use Rattle.rt_load.proofs.CodedBack.{number32_from, IsInstr, IsNote, instr_from, note_from}
-use Rattle.rt_load.proofs.Fronts.{front_text, Stands, IsInCells}
+use Rattle.rt_load.proofs.CodedBack.{number32_from, instr_from, note_from}
+use Rattle.rt_load.proofs.Fronts.{front_text, Stands}
 use Rattle.rt_load.proofs.Taken.{Goes, IsRight, cell_goes, irq_goes, body_goes, line_goes}
 
 goes_as : (front next other : Front) (line text : List ℕ) → Goes front next line → line ≡ text → next ≡ other → Goes front other text
@@ -49,7 +47,7 @@ cell_taken : (front next : Front) (line : List ℕ) (ws : List (List ℕ)) → S
 cell_taken front next line ws stands e =
     let made = make_ok (next_cell front line ws) (and_cell front) next e in
     let parts = then_ok (cell_at ws) (λ cell. if may_add_cell front cell.name
-        then if_line (cell_line (length front.image.cells) cell) line cell else Err wrong.Form) made.0 made.1 in
+    then if_line (cell_line (length front.image.cells) cell) line cell else Err wrong.Form) made.0 made.1 in
     let cell = parts.0 in
     let may = if_ok (may_add_cell front cell.name) (if_line (cell_line (length front.image.cells) cell) line cell) wrong.Form made.0 parts.2 in
     let printed = line_ok (cell_line (length front.image.cells) cell) line cell made.0 may.1 in
@@ -60,7 +58,7 @@ cell_taken front next line ws stands e =
 service_within : (value entry frame : List ℕ) (h : Handler) → service_at value entry frame ≡ Ok h → IsHandlerWithin (Some h)
 service_within value entry frame h e =
     let first = then_ok (number_at (2 ^ 8) value) (λ v. and_then (word_at entry) (λ e. and_make (word_at frame) (λ f.
-        record { value = v; entry = e; frame = f }))) h e in
+    record { value = v; entry = e; frame = f }))) h e in
     let second = then_ok (word_at entry) (λ e. and_make (word_at frame) (λ f. record { value = first.0; entry = e; frame = f })) h first.2 in
     let made = make_ok (word_at frame) (λ f. record { value = first.0; entry = second.0; frame = f }) h second.2 in
     let v = number_from (2 ^ 8) first.0 value (omega arith) first.1 in
@@ -100,10 +98,10 @@ body_within : (task : ℕ) (ws : List (List ℕ)) (body : List ℕ × BodyRow) �
 body_within task [] body e = absurd (cc)
 body_within task (name ∷ ws) body e =
     let words = then_ok (three ws) (λ w. and_then (word_at w.0) (λ e. and_then (word_at w.1) (λ f.
-        and_make (number_at 5 w.2) (λ a. (name, record { task = task; entry = e; frame = f; args = a }))))) body e in
+    and_make (number_at 5 w.2) (λ a. (name, record { task = task; entry = e; frame = f; args = a }))))) body e in
     let w = words.0 in
     let first = then_ok (word_at w.0) (λ e. and_then (word_at w.1) (λ f.
-        and_make (number_at 5 w.2) (λ a. (name, record { task = task; entry = e; frame = f; args = a })))) body words.2 in
+    and_make (number_at 5 w.2) (λ a. (name, record { task = task; entry = e; frame = f; args = a })))) body words.2 in
     let second = then_ok (word_at w.1) (λ f. and_make (number_at 5 w.2) (λ a. (name, record { task = task; entry = first.0; frame = f; args = a }))) body first.2 in
     let made = make_ok (number_at 5 w.2) (λ a. (name, record { task = task; entry = first.0; frame = second.0; args = a })) body second.2 in
     let x = number32_from first.0 w.0 first.1 in
@@ -117,7 +115,7 @@ body_taken front next line ws stands e =
     let tasks = length front.image.names.tasks in
     let made = make_ok (next_body front line ws) (λ body. and_body front body.0 body.1) next e in
     let parts = then_ok (body_row_at tasks ws) (λ body. if may_add_body front body.0
-        then if_line (body_line (with_task front.image.names body.0) body.1) line body else Err wrong.Form) made.0 made.1 in
+    then if_line (body_line (with_task front.image.names body.0) body.1) line body else Err wrong.Form) made.0 made.1 in
     let body = parts.0 in
     let text = body_line (with_task front.image.names body.0) body.1 in
     let may = if_ok (may_add_body front body.0) (if_line text line body) wrong.Form made.0 parts.2 in
@@ -147,7 +145,7 @@ pub line_right : (names : Names) (address : ℕ) (ws : List (List ℕ)) (line : 
 line_right names address [] line e = absurd (cc)
 line_right names address (number ∷ ws) line e =
     let parts = then_ok (word_at number) (λ n. if n == address
-        then noted (instr_at names (in_front ws)) (note_behind names (behind ws)) else Err wrong.Form) line e in
+    then noted (instr_at names (in_front ws)) (note_behind names (behind ws)) else Err wrong.Form) line e in
     let here = if_ok (parts.0 == address) (noted (instr_at names (in_front ws)) (note_behind names (behind ws))) wrong.Form line parts.2 in
     let both = noted_ok (instr_at names (in_front ws)) (note_behind names (behind ws)) line here.1 in
     let i = instr_from names (in_front ws) line.0 both.0 in
@@ -264,9 +262,10 @@ first_at_stands (kind ∷ form ∷ bits ∷ stack ∷ ws) front e within =
     let s = number32_from second.0 stack second.1 in
     let n = three_within ws made.0 made.1 in
     let line = first_line (front_of fpu first.0 second.0 made.0.0 made.0.1 made.0.2).image made.0.1 made.0.2 in
-    subst (λ (f : Front). Stands f × (front_text f ≡ first_line f.image f.code f.cells)) made.2
-    (first_stands fpu first.0 second.0 made.0.0 made.0.1 made.0.2 (subst (λ (f : Front). is_within f ≡ true) (sym made.2) within) s.1 n.0 n.2,
-    append-nil (((line ++ []) ++ []) ++ []) ∙ append-nil ((line ++ []) ++ []) ∙ append-nil (line ++ []) ∙ append-nil line)
+    subst (λ (f : Front). Stands f × (front_text f ≡ first_line f.image f.code f.cells)) made.2 (
+      first_stands fpu first.0 second.0 made.0.0 made.0.1 made.0.2 (subst (λ (f : Front). is_within f ≡ true) (sym made.2) within) s.1 n.0 n.2,
+      append-nil (((line ++ []) ++ []) ++ []) ∙ append-nil ((line ++ []) ++ []) ∙ append-nil (line ++ []) ∙ append-nil line,
+    )
 first_at_stands [] front e within = absurd (cc)
 first_at_stands (kind ∷ []) front e within = absurd (cc)
 first_at_stands (kind ∷ form ∷ []) front e within = absurd (cc)
@@ -275,7 +274,7 @@ first_at_stands (kind ∷ form ∷ bits ∷ []) front e within = absurd (cc)
 pub first_taken : (line : List ℕ) (front : Front) → take_first line ≡ Ok front → Stands front × (front_text front ≡ ended line)
 first_taken line front e =
     let parts = then_ok (first_at (words line)) (λ front. if is_within front
-        then if_line (first_line front.image front.code front.cells) line front else Err wrong.Form) front e in
+    then if_line (first_line front.image front.code front.cells) line front else Err wrong.Form) front e in
     let read = parts.0 in
     let within = if_ok (is_within read) (if_line (first_line read.image read.code read.cells) line read) wrong.Form front parts.2 in
     let printed = line_ok (first_line read.image read.code read.cells) line read front within.1 in

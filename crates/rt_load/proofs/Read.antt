@@ -1,5 +1,5 @@
 -- What an answer that is a value comes from, and what a number, a name and a printed line say.
-use Rattle.std.proofs.Common.{◌≡◌, ◌<◌, ◌≤◌, ◌^◌, ℕ, Bool, true, false, List, [], ◌∷◌, ◌++◌, decimal, bytes_eq, Option, Some, None, Result, Ok, Err, if◌then◌else◌, refl, ap, sym, ◌∙◌, subst, arith}
+use Rattle.std.proofs.Common.{◌≡◌, ◌<◌, ◌≤◌, ◌^◌, ℕ, Bool, true, false, List, decimal, bytes_eq, Option, Some, None, Result, Ok, Err, if◌then◌else◌, refl, ap}
 use Rattle.std.specs.Option.{ok_or}
 use Rattle.std.proofs.lemmas.Slice.Eq.{bytes_eq-Decides}
 use Rattle.rt_lines.specs.Answers.{and_then, and_make}

@@ -1,5 +1,5 @@
 -- A text is cut into lines in one way.
-use Rattle.std.proofs.Common.{◌≡◌, ◌≢◌, ℕ, zero, suc, ◌+◌, ◌<◌, Option, List, [], ◌∷◌, ◌++◌, length, flat_map, map, drop, get_or, refl, ap, ap₂, sym, ◌∙◌, subst, arith, append_assoc, length-append}
+use Rattle.std.proofs.Common.{◌≡◌, ℕ, suc, ◌<◌, Option, List, [], ◌∷◌, ◌++◌, length, flat_map, map, drop, get_or, refl, ap, ap₂, sym, ◌∙◌, subst, arith, append_assoc, length-append}
 use Rattle.std.specs.List.{AllByRecursion}
 use Rattle.std.proofs.lemmas.List.Concat.{flat_map-append}
 use Rattle.rt_lemmas.proofs.Lists.{all_append}
@@ -15,7 +15,7 @@ use Rattle.rt_listing.specs.Listing.{first_line, numbered, cell_line, irq_line, 
 use Rattle.rt_load.specs.Loadable.{IsLoadable}
 use Rattle.rt_load.specs.Reading.{ended, IsLine}
 use Rattle.rt_load.proofs.Clean.{line_of_spelled}
-use Rattle.rt_load.proofs.Lines.{AreKnown, first_text, first_words, cell_text, irq_text, body_text, code_text, first_spelled, cell_spelled, irq_spelled, body_spelled, code_spelled, known_names}
+use Rattle.rt_load.proofs.Lines.{AreKnown, first_text, cell_text, irq_text, body_text, code_text, first_spelled, cell_spelled, irq_spelled, body_spelled, code_spelled, known_names}
 use Rattle.rt_load.proofs.Forward.{texts_from, listing_lines}
 
 pub cut_same : (u v x y : List ℕ) → IsLine u → IsLine v → u ++ 10 ∷ x ≡ v ++ 10 ∷ y → (u ≡ v) × (x ≡ y)
@@ -50,7 +50,7 @@ lines_split (l ∷ ls) line rest [] all own others e =
     absurd (not_none l (flat_map ended ls ++ (line ++ 10 ∷ rest)) (sym (one_more l (flat_map ended ls) (line ++ 10 ∷ rest)) ∙ e))
 lines_split (l ∷ ls) line rest (m ∷ ms) all own others e =
     let same = cut_same l m (flat_map ended ls ++ (line ++ 10 ∷ rest)) (flat_map ended ms) all.0 others.0
-        (sym (one_more l (flat_map ended ls) (line ++ 10 ∷ rest)) ∙ e ∙ last_one m (flat_map ended ms)) in
+    (sym (one_more l (flat_map ended ls) (line ++ 10 ∷ rest)) ∙ e ∙ last_one m (flat_map ended ms)) in
     let rec = lines_split ls line rest ms all.1 own others.1 same.1 in
     (rec.0, ap (λ (x : List ℕ). x ∷ ms) (sym same.0) ∙ ap (λ (xs : List (List ℕ)). l ∷ xs) rec.1)
 
@@ -61,7 +61,7 @@ lines_end [] line (m ∷ ms) all own others e = absurd (no_feed m (flat_map ende
 lines_end (l ∷ ls) line [] all own others e = absurd (not_none l (flat_map ended ls ++ line) (sym (one_more l (flat_map ended ls) line) ∙ e))
 lines_end (l ∷ ls) line (m ∷ ms) all own others e =
     let same = cut_same l m (flat_map ended ls ++ line) (flat_map ended ms) all.0 others.0
-        (sym (one_more l (flat_map ended ls) line) ∙ e ∙ last_one m (flat_map ended ms)) in
+    (sym (one_more l (flat_map ended ls) line) ∙ e ∙ last_one m (flat_map ended ms)) in
     let rec = lines_end ls line ms all.1 own others.1 same.1 in
     (rec.0, ap₂ (λ (x : List ℕ) (xs : List (List ℕ)). x ∷ xs) same.0 rec.1)
 
@@ -126,7 +126,8 @@ are_lines img l =
     let a = texts_from cell_text 0 img.cells in
     let b = map irq_text img.irqs in
     let c = map (body_text img.names) img.bodies in
-    let d = texts_from (code_text img.names) 0 img.code in
-    (line_of_spelled (first_text img (length img.code) (length img.cells)) _ _ (first_spelled img (length img.code) (length img.cells)),
-    all_append IsLine ((a ++ b) ++ c) d (all_append IsLine (a ++ b) c (all_append IsLine a b (cells_are_lines 0 img.cells li.cells) (irqs_are_lines img.irqs li.irqs))
-    (bodies_are_lines img.names img.bodies known li.bodies)) (code_are_lines img.names 0 img.code known li.instrs li.notes))
+    let d = texts_from (code_text img.names) 0 img.code in (
+      line_of_spelled (first_text img (length img.code) (length img.cells)) _ _ (first_spelled img (length img.code) (length img.cells)),
+      all_append IsLine ((a ++ b) ++ c) d (all_append IsLine (a ++ b) c (all_append IsLine a b (cells_are_lines 0 img.cells li.cells) (irqs_are_lines img.irqs li.irqs))
+          (bodies_are_lines img.names img.bodies known li.bodies)) (code_are_lines img.names 0 img.code known li.instrs li.notes),
+    )

@@ -1,6 +1,6 @@
 -- Names that are read: what is read of the name of a thing, and of which thing a word that is read is the name.
-use Rattle.std.proofs.Common.{◌≡◌, ◌⊎◌, inl, inr, ◌<◌, ◌≤◌, ◌^◌, ◌==◌, ℕ, zero, suc, Bool, true, false, List, [], ◌∷◌, ◌++◌, length, map, take, drop, get_or, decimal, codes, bytes_eq, nat_eq, find, position, slice_get, option_map, Option, Some, None, IsSome, Result, Ok, Err, if◌then◌else◌, refl, ap, sym, ◌∙◌, subst, arith}
-use Rattle.std.specs.List.{AllByRecursion, starts_with}
+use Rattle.std.proofs.Common.{◌≡◌, ◌<◌, ◌^◌, ℕ, Bool, true, false, List, [], ◌++◌, length, take, drop, get_or, decimal, codes, bytes_eq, nat_eq, position, Option, Some, None, IsSome, Result, Ok, Err, if◌then◌else◌, refl, ap, sym, ◌∙◌, subst, arith}
+use Rattle.std.specs.List.{starts_with}
 use Rattle.std.specs.Option.{ok_or}
 use Rattle.std.proofs.lemmas.Bool.{false≢true, false_from_ne_true}
 use Rattle.std.proofs.lemmas.List.{take-append-drop}
@@ -15,10 +15,10 @@ use Rattle.rt_ids.specs.declared.ids.BodyId.TheVariants as body
 use Rattle.rt_ids.specs.declared.ids.Section.{Section}
 use Rattle.rt_ids.specs.declared.ids.Section.TheVariants as section
 use Rattle.rt_code.specs.Listable.{HasIrq, HasTask, HasSection, HasBody}
-use Rattle.rt_lines.specs.Answers.{and_then, and_make}
+use Rattle.rt_lines.specs.Answers.{and_make}
 use Rattle.rt_trace.proofs.Numerals.{number_spelled}
 use Rattle.rt_trace.proofs.Tables.{irq_known, name_at, task_found, resource_found}
-use Rattle.rt_load.specs.Loadable.{Is32Bits, IsSectionWithin}
+use Rattle.rt_load.specs.Loadable.{IsSectionWithin}
 use Rattle.rt_load.specs.Inside.Operand.{number_at, found, first_named, irq_at, task_at, resource_at, ready_at, queue_at, section_at, body_at}
 use Rattle.rt_load.specs.declared.operand.Wrong.{Wrong}
 use Rattle.rt_load.specs.declared.operand.Wrong.TheVariants as wrong

@@ -1,7 +1,7 @@
 -- With each line that is taken, what a reader has read goes on to stand.
-use Rattle.std.proofs.Common.{◌≡◌, ◌⊎◌, inl, inr, ◌<◌, ◌≤◌, ◌^◌, ◌+◌, ℕ, zero, suc, Bool, true, false, not, ◌&&◌, ◌==◌, nat_lt, nat_le, List, [], ◌∷◌, ◌++◌, length, map, filter, flat_map, Option, Some, None, Result, Ok, Err, if◌then◌else◌, refl, ap, sym, ◌∙◌, subst, arith, append_assoc, append-nil, length-append, is_none, codes, bytes_eq, slice_index_or, slice_get}
+use Rattle.std.proofs.Common.{◌≡◌, inl, inr, ◌<◌, ◌+◌, ℕ, zero, suc, true, not, ◌&&◌, nat_lt, List, [], ◌∷◌, ◌++◌, length, map, filter, flat_map, Option, Some, refl, ap, sym, ◌∙◌, subst, arith, append_assoc, append-nil, length-append, slice_index_or, slice_get}
 use Rattle.std.specs.List.{AllByRecursion}
-use Rattle.std.proofs.lemmas.Bool.{ltb-true, leb-true, eqb-true}
+use Rattle.std.proofs.lemmas.Bool.{ltb-true, eqb-true}
 use Rattle.std.proofs.lemmas.Option.{none-some}
 use Rattle.std.proofs.lemmas.List.{map_push, get_or_push, get_or_append_left}
 use Rattle.std.proofs.lemmas.List.Elements.{filter-append}
@@ -9,22 +9,22 @@ use Rattle.rt_lemmas.proofs.Bools.{and_parts}
 use Rattle.rt_lemmas.proofs.Membership.{all_weaker}
 use Rattle.rt_lemmas.proofs.Lists.{map_alike}
 use Rattle.rt_ids.specs.Lists.{is_empty}
-use Rattle.rt_ids.specs.Names.{Names, AreNames, irq_of, task_of, resource_of, no_names, with_irq, with_task, with_resource}
+use Rattle.rt_ids.specs.Names.{Names, AreNames, irq_of, task_of, with_irq, with_task}
 use Rattle.rt_ids.specs.Naming.{task_name}
 use Rattle.rt_ids.specs.Word.{IsName}
 use Rattle.rt_ids.specs.declared.cell.CellRow.{CellRow}
-use Rattle.rt_ids.specs.declared.limits.TheConstants.{IRQ_NUMBERS, CODE_SIZE, IRQS, TASKS, SHARED, LEAST_BITS, MOST_BITS}
+use Rattle.rt_ids.specs.declared.limits.TheConstants.{IRQS, TASKS}
 use Rattle.rt_ids.proofs.Lists.{all_push}
 use Rattle.rt_ids.proofs.Declared.{irq_added, task_added, resource_added}
 use Rattle.rt_code.specs.Image.{Image}
-use Rattle.rt_code.specs.Listable.{IsListable, IsWord, IsPlain, HasTask, HasInstr, HasNote}
+use Rattle.rt_code.specs.Listable.{IsWord, IsPlain, HasTask, HasInstr, HasNote}
 use Rattle.rt_code.proofs.Writable.{names_writable}
 use Rattle.rt_code.specs.declared.image.IrqRow.{IrqRow}
 use Rattle.rt_code.specs.declared.image.BodyRow.{BodyRow}
 use Rattle.rt_code.specs.declared.instr.Instr.{Instr}
 use Rattle.rt_code.specs.declared.instr.Note.{Note}
 use Rattle.rt_listing.specs.Listing.{first_line, numbered, cell_line, irq_line, body_line, code_line}
-use Rattle.rt_load.specs.Loadable.{IsLoadable, IsWithinLimits, IsIrqWithin, IsBodyWithin, IsLineWithin, Is32Bits, has_dot, told_names}
+use Rattle.rt_load.specs.Loadable.{IsLoadable, IsIrqWithin, IsBodyWithin, IsLineWithin, Is32Bits, has_dot}
 use Rattle.rt_load.specs.Inside.Taking.{with_name_of, may_name_cell, is_in_cells, has_cells, may_add_cell, may_add_irq, may_add_body, may_add_line, and_cell, and_irq, and_body, and_line, is_new_irq, is_new_task}
 use Rattle.rt_load.specs.declared.front.Front.{Front}
 use Rattle.rt_load.proofs.Declared.{IsNew, new_from}
@@ -312,7 +312,7 @@ body_goes front name row stands may within task =
     let names = with_task front.image.names name in
     let front_irqs = (first_line front.image front.code front.cells ++ numbered cell_line 0 front.image.cells) ++ flat_map irq_line front.image.irqs in
     let text_of_bodies : (n : Names) (rows : List BodyRow) (lines : List (Instr × Option Note)) → lines ≡ []
-        → (front_irqs ++ flat_map (body_line n) rows) ++ numbered (code_line n) 0 lines ≡ front_irqs ++ flat_map (body_line n) rows =
+    → (front_irqs ++ flat_map (body_line n) rows) ++ numbered (code_line n) 0 lines ≡ front_irqs ++ flat_map (body_line n) rows =
     λ n rows lines none. ap (λ (ls : List (Instr × Option Note)). (front_irqs ++ flat_map (body_line n) rows) ++ numbered (code_line n) 0 ls) none
     ∙ append-nil (front_irqs ++ flat_map (body_line n) rows) in
     record {
@@ -348,7 +348,7 @@ line_goes front line stands may right =
     let l = stands.loadable in
     let names = front.image.names in
     let front_bodies = ((first_line front.image front.code front.cells ++ numbered cell_line 0 front.image.cells)
-        ++ flat_map irq_line front.image.irqs) ++ flat_map (body_line names) front.image.bodies in
+    ++ flat_map irq_line front.image.irqs) ++ flat_map (body_line names) front.image.bodies in
     record {
       stands = record {
         loadable = record {

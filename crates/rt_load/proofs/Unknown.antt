@@ -1,14 +1,14 @@
 -- Where nothing is wrong with a line but that a name in it is in no table.
-use Rattle.std.proofs.Common.{◌≡◌, ◌⊎◌, inl, inr, ◌<◌, ◌≤◌, ◌^◌, ◌+◌, ◌==◌, ◌&&◌, ℕ, zero, suc, Bool, true, false, List, [], ◌∷◌, ◌++◌, length, map, flat_map, decimal, codes, bytes_eq, find, position, slice_get, nat_lt, Option, Some, None, IsSome, option_map, Result, Ok, Err, if◌then◌else◌, refl, ap, sym, ◌∙◌, subst, arith, append_assoc, append-nil, length-append, slice_index_or}
+use Rattle.std.proofs.Common.{◌≡◌, ◌⊎◌, inl, inr, ◌<◌, ◌+◌, ◌==◌, ◌&&◌, ℕ, zero, suc, Bool, true, false, List, [], ◌∷◌, ◌++◌, length, map, flat_map, decimal, codes, bytes_eq, find, slice_get, nat_lt, Option, Some, None, IsSome, option_map, Result, Ok, Err, if◌then◌else◌, refl, ap, sym, ◌∙◌, subst, arith}
 use Rattle.std.specs.List.{AllByRecursion}
 use Rattle.std.specs.Option.{option_or, unwrap_or}
 use Rattle.std.proofs.lemmas.Bool.{false≢true, eqb-true}
-use Rattle.std.proofs.lemmas.Option.{none-some, same_Some, slice_get_within, slice_get-map, slice_get-get_or}
+use Rattle.std.proofs.lemmas.Option.{none-some, slice_get_within, slice_get-map}
 use Rattle.std.proofs.lemmas.List.Folds.{find-append}
 use Rattle.std.proofs.lemmas.Slice.Eq.{bytes_eq-Decides}
 use Rattle.rt_lemmas.proofs.Bools.{and_parts}
 use Rattle.rt_lemmas.proofs.Lists.{all_append, find_has}
-use Rattle.rt_ids.specs.Lists.{AreDifferent, is_empty}
+use Rattle.rt_ids.specs.Lists.{is_empty}
 use Rattle.rt_ids.specs.Names.{Names, AreNames, irq_of, task_of, resource_of, with_task}
 use Rattle.rt_ids.specs.Naming.{irq_named, irq_name, task_name, resource_name, section_name, body_name}
 use Rattle.rt_ids.specs.Word.{is_identifier}
@@ -16,22 +16,20 @@ use Rattle.rt_ids.specs.declared.ids.BodyId.{BodyId}
 use Rattle.rt_ids.specs.declared.ids.BodyId.TheVariants as body
 use Rattle.rt_ids.specs.declared.ids.Section.{Section}
 use Rattle.rt_ids.specs.declared.ids.Section.TheVariants as section
-use Rattle.rt_code.specs.Image.{Image}
 use Rattle.rt_code.specs.Listable.{HasIrq, HasTask, HasSection, HasBody, HasInstr, HasNote}
 use Rattle.rt_code.specs.declared.instr.Instr.{Instr}
 use Rattle.rt_code.specs.declared.instr.Instr.TheVariants as instr
 use Rattle.rt_code.specs.declared.instr.Note.{Note}
 use Rattle.rt_code.specs.declared.instr.Note.TheVariants as note
 use Rattle.rt_lines.specs.Answers.{and_then, and_make}
-use Rattle.rt_listing.specs.Listing.{cell_line, irq_line, body_line, code_line, listing}
+use Rattle.rt_listing.specs.Listing.{cell_line, irq_line, body_line, code_line}
 use Rattle.rt_listing.specs.Words.{instr_text, note_text, note_words}
-use Rattle.rt_trace.specs.Text.{spaced}
 use Rattle.rt_trace.proofs.Tables.{found_passes, found_at}
-use Rattle.rt_load.specs.Loadable.{Is32Bits, IsLoadable, IsLineWithin, IsNoteWithin, IsSectionWithin}
+use Rattle.rt_load.specs.Loadable.{Is32Bits, IsLineWithin, IsNoteWithin, IsSectionWithin}
 use Rattle.rt_load.specs.Reading.{ended, IsLine, AreMore, IsOfUnknownName}
-use Rattle.rt_load.specs.Inside.Operand.{word_at, found, irq_at, task_at, resource_at, queue_at, section_at, body_at, in_front, behind}
+use Rattle.rt_load.specs.Inside.Operand.{word_at, irq_at, task_at, resource_at, queue_at, section_at, body_at, in_front, behind}
 use Rattle.rt_load.specs.Inside.Coding.{instr_word, instr_at}
-use Rattle.rt_load.specs.Inside.Noting.{note_word, note_at, note_behind, noted, line_at}
+use Rattle.rt_load.specs.Inside.Noting.{note_behind, noted, line_at}
 use Rattle.rt_load.specs.Inside.Rows.{cell_at, irq_row_at, body_row_at}
 use Rattle.rt_lines.specs.Parts.{words}
 use Rattle.rt_load.specs.Inside.Taking.{if_line, has_cells, may_add_line, may_add_cell, may_add_irq, may_add_body, may_name_cell, is_in_cells, is_new_irq, is_new_task, and_cell, and_irq, and_body, and_line, printed_line, next_line, next_cell, next_irq, next_body, take_cell, take_irq, take_body, take_code, take_words, take_all, take_line, take_lines}
@@ -40,15 +38,15 @@ use Rattle.rt_load.specs.declared.operand.Wrong.{Wrong}
 use Rattle.rt_load.specs.declared.operand.Wrong.TheVariants as wrong
 use Rattle.rt_load.proofs.Read.{then_ok, make_ok, if_ok, same_ok}
 use Rattle.rt_load.proofs.Clean.{words_of_spelled, line_of_spelled}
-use Rattle.rt_load.proofs.Coded.{instr_words, note_operands, instr_is, note_is, instr_again, note_again}
-use Rattle.rt_load.proofs.Lines.{AreKnown, known_names, code_text, code_words, code_spelled, end_words, note_part, irq_identifier, name_identifier}
+use Rattle.rt_load.proofs.Coded.{instr_words, instr_again, note_again}
+use Rattle.rt_load.proofs.Lines.{AreKnown, known_names, code_text, code_words, code_spelled, end_words, note_part, name_identifier}
 use Rattle.rt_load.proofs.Again.{notes_again, line_again}
-use Rattle.rt_load.proofs.Tables.{chosen, irq_back, section_back, task_from, resource_from, section_from, body_from}
+use Rattle.rt_load.proofs.Tables.{chosen, irq_back, section_back, task_from, resource_from}
 use Rattle.rt_load.proofs.Forward.{passes, chooses, whole}
 use Rattle.rt_load.proofs.Following.{next_taken, ok_err}
 use Rattle.rt_load.proofs.CodedBack.{number32_from}
 use Rattle.rt_load.proofs.Ends.{last_same}
-use Rattle.rt_load.proofs.Fronts.{front_text, Stands}
+use Rattle.rt_load.proofs.Fronts.{Stands}
 
 -- places in two lists, one behind the other
 get_left : {X : Type 0} (xs ys : List X) (i : ℕ) (x : X) → slice_get xs i ≡ Some x → slice_get (xs ++ ys) i ≡ Some x
@@ -250,9 +248,12 @@ module _ (names more : Names) (are : AreNames names) (m : AreMore names more) wh
       → ReadOr a (instr_text names) (instr_text more line.0) → ReadOr b (note_text names) (note_text more line.1)
       → ReadOr (noted a b) (code_line names address) (code_line more address line)
   both_more address a b line (inl i) (inl n) =
-      inl ((i.0, n.0), ap (λ (r : Result Instr Wrong). noted r b) i.1 ∙ ap (λ (r : Result (Option Note) Wrong). noted (Ok i.0) r) n.1,
-      ap (λ t. (((codes "code" ++ (32 ∷ decimal address)) ++ (32 ∷ t)) ++ note_text names n.0) ++ 10 ∷ []) i.2
-      ∙ ap (λ t. (((codes "code" ++ (32 ∷ decimal address)) ++ (32 ∷ instr_text more line.0)) ++ t) ++ 10 ∷ []) n.2)
+      inl (
+        (i.0, n.0),
+        ap (λ (r : Result Instr Wrong). noted r b) i.1 ∙ ap (λ (r : Result (Option Note) Wrong). noted (Ok i.0) r) n.1,
+        ap (λ t. (((codes "code" ++ (32 ∷ decimal address)) ++ (32 ∷ t)) ++ note_text names n.0) ++ 10 ∷ []) i.2
+            ∙ ap (λ t. (((codes "code" ++ (32 ∷ decimal address)) ++ (32 ∷ instr_text more line.0)) ++ t) ++ 10 ∷ []) n.2,
+      )
   both_more address a b line (inl i) (inr n) = inr (ap (λ (r : Result Instr Wrong). noted r b) i.1 ∙ ap (λ (r : Result (Option Note) Wrong). noted (Ok i.0) r) n)
   both_more address a b line (inr i) (inl n) = inr (ap (λ (r : Result Instr Wrong). noted r b) i ∙ ap (λ (r : Result (Option Note) Wrong). noted (Err wrong.Name) r) n.1)
   both_more address a b line (inr i) (inr n) = inr (ap (λ (r : Result Instr Wrong). noted r b) i ∙ ap (λ (r : Result (Option Note) Wrong). noted (Err wrong.Name) r) n)
@@ -306,7 +307,7 @@ words_keep front next line (kind ∷ ws) some e =
     (λ _ is.
     let made = make_ok (next_body front line ws) (λ body. and_body front body.0 body.1) next is in
     let parts = then_ok (body_row_at (length front.image.names.tasks) ws) (λ body. if may_add_body front body.0
-        then if_line (body_line (with_task front.image.names body.0) body.1) line body else Err wrong.Form) made.0 made.1 in
+    then if_line (body_line (with_task front.image.names body.0) body.1) line body else Err wrong.Form) made.0 made.1 in
     let may = if_ok (may_add_body front parts.0.0) (if_line (body_line (with_task front.image.names parts.0.0) parts.0.1) line parts.0) wrong.Form made.0 parts.2 in
     let both = and_parts (has_cells front && is_empty front.image.code) (is_new_task front.image.names parts.0.0) may.0 in
     let none = and_parts (has_cells front) (is_empty front.image.code) both.0 in
@@ -337,7 +338,7 @@ record Marked (front next : Front) (address : ℕ) : Type 0 where
 marked_at : (names : Names) (address place : ℕ) (rest : List (List ℕ)) (line : Instr × Option Note) → line_at names place (decimal address ∷ rest) ≡ Ok line → decimal address ≡ decimal place
 marked_at names address place rest line e =
     let parts = then_ok (word_at (decimal address)) (λ n. if n == place
-        then noted (instr_at names (in_front rest)) (note_behind names (behind rest)) else Err wrong.Form) line e in
+    then noted (instr_at names (in_front rest)) (note_behind names (behind rest)) else Err wrong.Form) line e in
     let here = if_ok (parts.0 == place) (noted (instr_at names (in_front rest)) (note_behind names (behind rest))) wrong.Form line parts.2 in
     let number = number32_from parts.0 (decimal address) parts.1 in
     number.0 ∙ ap decimal (eqb-true parts.0 place here.0)
@@ -384,16 +385,16 @@ refuted front line more address code m are may here few within has_instr has_not
     let refused : take_line front text ≡ Err wrong.Form = ap (take_line front) (sym is) ∙ e in
     elim (line_more fn more are m place code has_instr has_note few within) [
       | inl read ↦
-        let printed : printed_line fn place text ws ≡ Ok read.0 =
-        ap (λ (vs : List (List ℕ)). and_then (line_at fn place vs) (λ code. if_line (code_line fn place code) text code)) moved
-        ∙ ap (λ (r : Result (Instr × Option Note) Wrong). and_then r (λ code. if_line (code_line fn place code) text code)) read.1
-        ∙ passes (code_line fn place read.0) text read.0 (read.2 ∙ line_moved) in
-        ok_err (take_line front text) (and_line front read.0) wrong.Form (step ∙ ap (λ (r : Result (Instr × Option Note) Wrong). and_make r (and_line front)) printed) refused
+          let printed : printed_line fn place text ws ≡ Ok read.0 =
+          ap (λ (vs : List (List ℕ)). and_then (line_at fn place vs) (λ code. if_line (code_line fn place code) text code)) moved
+          ∙ ap (λ (r : Result (Instr × Option Note) Wrong). and_then r (λ code. if_line (code_line fn place code) text code)) read.1
+          ∙ passes (code_line fn place read.0) text read.0 (read.2 ∙ line_moved) in
+          ok_err (take_line front text) (and_line front read.0) wrong.Form (step ∙ ap (λ (r : Result (Instr × Option Note) Wrong). and_make r (and_line front)) printed) refused
       | inr unknown ↦
-        let printed : printed_line fn place text ws ≡ Err wrong.Name =
-        ap (λ (vs : List (List ℕ)). and_then (line_at fn place vs) (λ code. if_line (code_line fn place code) text code)) moved
-        ∙ ap (λ (r : Result (Instr × Option Note) Wrong). and_then r (λ code. if_line (code_line fn place code) text code)) unknown in
-        err_err (take_line front text) (step ∙ ap (λ (r : Result (Instr × Option Note) Wrong). and_make r (and_line front)) printed) refused
+          let printed : printed_line fn place text ws ≡ Err wrong.Name =
+          ap (λ (vs : List (List ℕ)). and_then (line_at fn place vs) (λ code. if_line (code_line fn place code) text code)) moved
+          ∙ ap (λ (r : Result (Instr × Option Note) Wrong). and_then r (λ code. if_line (code_line fn place code) text code)) unknown in
+          err_err (take_line front text) (step ∙ ap (λ (r : Result (Instr × Option Note) Wrong). and_make r (and_line front)) printed) refused
     ]
 
 pub form_is : (before : List (List ℕ)) (front : Front) (line : List ℕ) → AllByRecursion IsLine before → take_all before ≡ Ok front → Stands front

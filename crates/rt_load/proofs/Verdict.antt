@@ -1,13 +1,12 @@
 -- What lines that are taken, and a line that is refused, say of the text.
-use Rattle.std.proofs.Common.{◌≡◌, ◌≢◌, ◌<◌, ◌≤◌, ◌+◌, ◌==◌, ◌&&◌, ℕ, zero, suc, Bool, true, false, List, [], ◌∷◌, ◌++◌, length, flat_map, get_or, codes, Result, Ok, Err, None, refl, ap, sym, ◌∙◌, subst, arith, append_assoc, append-nil, length-append, eq-eqb}
+use Rattle.std.proofs.Common.{◌≡◌, ◌≤◌, ◌+◌, ◌==◌, ℕ, Bool, true, false, List, [], ◌∷◌, ◌++◌, length, flat_map, get_or, Result, Ok, Err, None, refl, ap, sym, ◌∙◌, arith, append_assoc, append-nil, length-append, eq-eqb}
 use Rattle.std.specs.List.{AllByRecursion}
 use Rattle.std.proofs.lemmas.Bool.{eqb-true, false≢true}
 use Rattle.rt_lemmas.proofs.Bools.{and_parts, and_both}
 use Rattle.rt_code.specs.Image.{Image}
 use Rattle.rt_code.specs.declared.instr.Instr.TheVariants as instr
-use Rattle.rt_ids.specs.Names.{Names}
 use Rattle.rt_lines.specs.Answers.{and_then}
-use Rattle.rt_listing.specs.Listing.{listing, code_line}
+use Rattle.rt_listing.specs.Listing.{listing}
 use Rattle.rt_load.specs.Loadable.{IsLoadable}
 use Rattle.rt_load.specs.Reading.{IsListingText, Begins, ended, IsLine, IsFirstWrong, Fault, Form, Name, IsFault, IsOfUnknownName}
 use Rattle.rt_load.specs.Inside.Progress.{HasRead, IsCut}
@@ -20,11 +19,11 @@ use Rattle.rt_load.proofs.Read.{then_ok, same_ok}
 use Rattle.rt_load.proofs.Clean.{line_of_spelled}
 use Rattle.rt_load.proofs.Lines.{first_text, code_text, code_spelled, known_names}
 use Rattle.rt_load.proofs.Fronts.{front_text, Stands}
-use Rattle.rt_load.proofs.Progress.{line_taken, first_taken, first_stands}
-use Rattle.rt_load.proofs.Forward.{taken_append, listing_lines, whole, listing_taken}
-use Rattle.rt_load.proofs.Split.{lines_split, lines_end, listing_is, are_lines}
+use Rattle.rt_load.proofs.Progress.{first_stands}
+use Rattle.rt_load.proofs.Forward.{listing_lines, whole, listing_taken}
+use Rattle.rt_load.proofs.Split.{lines_end, listing_is, are_lines}
 use Rattle.rt_load.proofs.Witness.{whole_text, begins}
-use Rattle.rt_load.proofs.Following.{Left, all_leave, all_append_taken, lines_behind, next_taken, ok_err}
+use Rattle.rt_load.proofs.Following.{all_leave, all_append_taken, lines_behind, next_taken, ok_err}
 use Rattle.rt_load.proofs.Unknown.{form_is}
 use Rattle.rt_load.proofs.Named.{name_is}
 

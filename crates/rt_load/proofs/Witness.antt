@@ -1,9 +1,8 @@
 -- What a reader has read is the front of some listing: missing cells and instructions can be filled in.
-use Rattle.std.proofs.Common.{◌≡◌, ◌⊎◌, inl, inr, ◌<◌, ◌≤◌, ◌+◌, ◌-◌, ◌==◌, ◌&&◌, nat_lt, ℕ, zero, suc, Bool, true, false, List, [], ◌∷◌, ◌++◌, length, flat_map, codes, Option, None, refl, ap, sym, ◌∙◌, subst, arith, append_assoc, append-nil, length-append, eq-eqb}
+use Rattle.std.proofs.Common.{◌≡◌, inl, inr, ◌<◌, ◌+◌, ◌-◌, ◌&&◌, nat_lt, ℕ, zero, suc, true, List, [], ◌∷◌, ◌++◌, length, flat_map, codes, Option, None, refl, ap, sym, ◌∙◌, arith, append_assoc, append-nil, length-append, eq-eqb}
 use Rattle.std.proofs.lemmas.Bool.{lt-ltb}
 use Rattle.rt_lemmas.proofs.Bools.{and_both}
 use Rattle.rt_ids.specs.Lists.{is_empty}
-use Rattle.rt_ids.specs.Names.{Names}
 use Rattle.rt_ids.specs.declared.cell.CellRow.{CellRow}
 use Rattle.rt_code.specs.Image.{Image}
 use Rattle.rt_code.specs.declared.instr.Instr.{Instr}
@@ -12,7 +11,7 @@ use Rattle.rt_code.specs.declared.instr.Note.{Note}
 use Rattle.rt_listing.specs.Listing.{first_line, numbered, cell_line, irq_line, body_line, code_line, listing}
 use Rattle.rt_load.specs.Loadable.{IsLoadable}
 use Rattle.rt_load.specs.Reading.{Begins}
-use Rattle.rt_load.specs.Inside.Taking.{may_add_cell, may_name_cell, may_add_line, is_in_cells, has_cells, and_cell, and_line}
+use Rattle.rt_load.specs.Inside.Taking.{may_add_cell, may_name_cell, is_in_cells, has_cells, and_cell, and_line}
 use Rattle.rt_load.specs.declared.front.Front.{Front}
 use Rattle.rt_load.proofs.Fronts.{front_text, Stands, IsInCells}
 use Rattle.rt_load.proofs.Taken.{Goes, cell_goes, line_goes}

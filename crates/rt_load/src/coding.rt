@@ -79,12 +79,7 @@ fn bare(word: &[u8]) -> Result<Instr, Wrong>
 }
 
 /// The instruction of a first word, an operand and the words behind it.
-fn read_operands(
-    names: &Names,
-    word: &[u8],
-    a: &[u8],
-    words: Option<&[u8]>,
-) -> Result<Instr, Wrong>
+fn read_operands(names: &Names, word: &[u8], a: &[u8], words: Option<&[u8]>) -> Result<Instr, Wrong>
     ensures { result ≡ spec.instr_at names.now (word.now ∷ a.now ∷ in_front (words_of words.entry)) }
 {
     match next_operand(words) {

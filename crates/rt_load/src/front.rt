@@ -147,12 +147,7 @@ impl Front {
         self.has_cells() && self.image.code.len() < self.code as usize
     }
 
-    fn next_cell(
-        &self,
-        alloc: Global,
-        line: &[u8],
-        words: Option<&[u8]>,
-    ) -> Result<CellRow, Wrong>
+    fn next_cell(&self, alloc: Global, line: &[u8], words: Option<&[u8]>) -> Result<CellRow, Wrong>
         ensures read { IfOk result (λ x. spec.next_cell self.now line.now (words_of words.entry) ≡ Ok x) }
         ensures refused { IfErr result (λ w. w ≢ Wrong.NoMemory → spec.next_cell self.now line.now (words_of words.entry) ≡ Err w) }
     {
@@ -171,12 +166,7 @@ impl Front {
         }
     }
 
-    fn take_cell(
-        &mut self,
-        alloc: Global,
-        line: &[u8],
-        words: Option<&[u8]>,
-    ) -> Result<(), Wrong>
+    fn take_cell(&mut self, alloc: Global, line: &[u8], words: Option<&[u8]>) -> Result<(), Wrong>
         ensures taken { OnOk result (spec.take_cell self.old line.now (words_of words.entry) ≡ Ok self.new) }
         ensures refused { IfErr result (λ w. w ≢ Wrong.NoMemory → spec.take_cell self.old line.now (words_of words.entry) ≡ Err w) }
     {
@@ -185,12 +175,7 @@ impl Front {
         Ok(())
     }
 
-    fn next_irq(
-        &self,
-        alloc: Global,
-        line: &[u8],
-        words: Option<&[u8]>,
-    ) -> Result<IrqRow, Wrong>
+    fn next_irq(&self, alloc: Global, line: &[u8], words: Option<&[u8]>) -> Result<IrqRow, Wrong>
         ensures read { IfOk result (λ x. spec.next_irq self.now line.now (words_of words.entry) ≡ Ok x) }
         ensures refused { IfErr result (λ w. w ≢ Wrong.NoMemory → spec.next_irq self.now line.now (words_of words.entry) ≡ Err w) }
     {
@@ -213,12 +198,7 @@ impl Front {
         }
     }
 
-    fn take_irq(
-        &mut self,
-        alloc: Global,
-        line: &[u8],
-        words: Option<&[u8]>,
-    ) -> Result<(), Wrong>
+    fn take_irq(&mut self, alloc: Global, line: &[u8], words: Option<&[u8]>) -> Result<(), Wrong>
         ensures taken { OnOk result (spec.take_irq self.old line.now (words_of words.entry) ≡ Ok self.new) }
         ensures refused { IfErr result (λ w. w ≢ Wrong.NoMemory → spec.take_irq self.old line.now (words_of words.entry) ≡ Err w) }
     {
@@ -227,12 +207,7 @@ impl Front {
         Ok(())
     }
 
-    fn take_body(
-        &mut self,
-        alloc: Global,
-        line: &[u8],
-        words: Option<&[u8]>,
-    ) -> Result<(), Wrong>
+    fn take_body(&mut self, alloc: Global, line: &[u8], words: Option<&[u8]>) -> Result<(), Wrong>
         ensures taken { OnOk result (spec.take_body self.old line.now (words_of words.entry) ≡ Ok self.new) }
         ensures refused { IfErr result (λ w. w ≢ Wrong.NoMemory → spec.take_body self.old line.now (words_of words.entry) ≡ Err w) }
     {
@@ -254,12 +229,7 @@ impl Front {
     }
 
     /// The instruction of a line, with its note.
-    fn next_line(
-        &self,
-        alloc: Global,
-        line: &[u8],
-        words: Option<&[u8]>,
-    ) -> Result<Line, Wrong>
+    fn next_line(&self, alloc: Global, line: &[u8], words: Option<&[u8]>) -> Result<Line, Wrong>
         ensures read { IfOk result (λ x. spec.next_line self.now line.now (words_of words.entry) ≡ Ok x) }
         ensures refused { IfErr result (λ w. w ≢ Wrong.NoMemory
             → spec.next_line self.now line.now (words_of words.entry) ≡ Err w) }
@@ -272,12 +242,7 @@ impl Front {
     }
 
     /// Takes the line of an instruction.
-    fn take_code(
-        &mut self,
-        alloc: Global,
-        line: &[u8],
-        words: Option<&[u8]>,
-    ) -> Result<(), Wrong>
+    fn take_code(&mut self, alloc: Global, line: &[u8], words: Option<&[u8]>) -> Result<(), Wrong>
         ensures taken { OnOk result (spec.take_code self.old line.now (words_of words.entry) ≡ Ok self.new) }
         ensures refused { IfErr result (λ w. w ≢ Wrong.NoMemory
             → spec.take_code self.old line.now (words_of words.entry) ≡ Err w) }

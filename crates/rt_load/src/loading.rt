@@ -65,12 +65,7 @@ fn begin(alloc: Global, line: &[u8]) -> Result<Front, LoadRefused>
 }
 
 /// Takes the line of a number behind the first.
-fn take_line(
-    alloc: Global,
-    front: &mut Front,
-    line: &[u8],
-    number: u64,
-) -> Result<(), LoadRefused>
+fn take_line(alloc: Global, front: &mut Front, line: &[u8], number: u64) -> Result<(), LoadRefused>
     ensures taken { OnOk result (spec.take_line front.old line.now ≡ Ok front.new) }
     ensures refused { IfErr result (λ refusal. IsRefusalOf (spec.take_line front.old line.now) number refusal) }
 {

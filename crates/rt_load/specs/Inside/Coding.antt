@@ -1,5 +1,5 @@
 -- The instruction of words: that of the first word, of those with so many operands.
-use Rattle.std.specs.Prelude.{ℕ, if◌then◌else◌, bytes_eq, codes, List, [], ◌∷◌, find, Option, Result, Err}
+use Rattle.std.specs.Prelude.{ℕ, if◌then◌else◌, bytes_eq, codes, List, [], ◌∷◌, find, Result, Err}
 use Rattle.std.specs.Option.{ok_or}
 use Rattle.rt_ids.specs.Names.{Names}
 use Rattle.rt_ids.specs.declared.op.Op.TheVariants as op

@@ -1,5 +1,5 @@
 -- What lines tell, one after another: a reader that has read some lines of a listing, and what it makes of the next.
-use Rattle.std.specs.Prelude.{ℕ, suc, ◌^◌, ◌==◌, ◌&&◌, ◌||◌, nat_le, nat_lt, not, Bool, true, if◌then◌else◌, bytes_eq}
+use Rattle.std.specs.Prelude.{ℕ, ◌^◌, ◌==◌, ◌&&◌, ◌||◌, nat_le, nat_lt, not, Bool, if◌then◌else◌, bytes_eq}
 use Rattle.std.specs.Prelude.{codes, List, [], ◌∷◌, ◌++◌, length, is_none, Option, Result, Ok, Err}
 use Rattle.std.specs.List.{list_any}
 use Rattle.rt_ids.specs.Lists.{is_empty}
@@ -8,7 +8,6 @@ use Rattle.rt_ids.specs.Word.{is_identifier, is_word}
 use Rattle.rt_ids.specs.declared.cell.CellRow.{CellRow}
 use Rattle.rt_ids.specs.declared.limits.TheConstants.{IRQS, TASKS, SHARED, NAME_BYTES, CODE_SIZE, LEAST_BITS}
 use Rattle.rt_ids.specs.declared.limits.TheConstants.{MOST_BITS}
-use Rattle.rt_code.specs.Image.{Image}
 use Rattle.rt_code.specs.declared.image.IrqRow.{IrqRow}
 use Rattle.rt_code.specs.declared.image.BodyRow.{BodyRow}
 use Rattle.rt_code.specs.declared.instr.Instr.{Instr}
@@ -114,22 +113,28 @@ abbrev pub with_name_of : Names → List ℕ → Names
 with_name_of names name = if has_dot name then names else with_resource names name
 
 abbrev pub and_cell : Front → CellRow → Front
-and_cell front cell = record front { image = record front.image {
-  cells = front.image.cells ++ cell ∷ [];
-  names = with_name_of front.image.names cell.name;
-} }
+and_cell front cell = record front {
+  image = record front.image {
+    cells = front.image.cells ++ cell ∷ [];
+    names = with_name_of front.image.names cell.name;
+  };
+}
 
 abbrev pub and_irq : Front → IrqRow → Front
-and_irq front row = record front { image = record front.image {
-  irqs = front.image.irqs ++ row ∷ [];
-  names = with_irq front.image.names row.name row.number;
-} }
+and_irq front row = record front {
+  image = record front.image {
+    irqs = front.image.irqs ++ row ∷ [];
+    names = with_irq front.image.names row.name row.number;
+  };
+}
 
 abbrev pub and_body : Front → List ℕ → BodyRow → Front
-and_body front name row = record front { image = record front.image {
-  bodies = front.image.bodies ++ row ∷ [];
-  names = with_task front.image.names name;
-} }
+and_body front name row = record front {
+  image = record front.image {
+    bodies = front.image.bodies ++ row ∷ [];
+    names = with_task front.image.names name;
+  };
+}
 
 abbrev pub and_line : Front → Instr × Option Note → Front
 and_line front line = record front { image = record front.image { code = front.image.code ++ line ∷ [] } }

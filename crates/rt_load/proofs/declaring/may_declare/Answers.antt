@@ -1,4 +1,3 @@
-use Rattle.rt_ids.specs.Word.{IsName}
 use Rattle.std.proofs.lemmas.Bool.Decides.{same_from_decides}
 use Rattle.rt_load.specs.Inside.Taking.{may_declare}
 use Rattle.rt_load.proofs.Declared.{declarable}

@@ -1,5 +1,4 @@
 use Rattle.std.proofs.Common.{◌≡◌, false, sym, ap, ◌∙◌, List, ℕ}
-use Rattle.rt_lemmas.proofs.Bools.{not_true}
 use Rattle.rt_load.specs.Loadable.{has_dot}
 use Rattle.rt_load.proofs.Declared.{resource_new}
 use Rattle.rt_load.proofs.front.add_cell.Goals as goal

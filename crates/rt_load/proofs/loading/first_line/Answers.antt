@@ -1,4 +1,4 @@
-use Rattle.std.proofs.Common.{◌≡◌, ◌+◌, ◌-◌, ◌∙◌, take, drop, length, sym, ap, arith, length-drop, ℕ, List}
+use Rattle.std.proofs.Common.{◌+◌, ◌-◌, ◌∙◌, take, drop, length, sym, arith, length-drop, ℕ, List}
 use Rattle.std.proofs.lemmas.List.{take_all}
 use Rattle.rt_load.proofs.Ends.{feed_cut, no_feed_line}
 use Rattle.rt_load.proofs.loading.first_line.Goals as goal

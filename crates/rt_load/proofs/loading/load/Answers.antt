@@ -1,4 +1,4 @@
-use Rattle.std.proofs.Common.{◌≡◌, ◌∙◌, ◌≤◌, ◌<◌, ◌&&◌, Bool, true, false, [], ◌∷◌, List, ℕ, length, Result, Ok, Err, refl, sym, ap, subst, arith}
+use Rattle.std.proofs.Common.{◌≡◌, ◌∙◌, ◌≤◌, ◌&&◌, Bool, true, false, [], ◌∷◌, List, ℕ, length, Result, Ok, Err, refl, sym, ap, subst, arith}
 use Rattle.std.proofs.lemmas.Bool.{false≢true}
 use Rattle.rt_ids.specs.Lists.{is_empty}
 use Rattle.rt_load.specs.Reading.{IsListingText, IsFirstWrong, IsRefused, Form, Name}

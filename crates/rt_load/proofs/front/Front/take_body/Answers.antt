@@ -1,10 +1,9 @@
-use Rattle.std.proofs.Common.{◌≡◌, ◌<◌, true, false, sym, subst, ap, ◌∙◌, List, ℕ, length, None, Result, Ok, Bor}
-use Rattle.rt_ids.specs.Names.{Names, task_of, with_task}
+use Rattle.std.proofs.Common.{◌≡◌, ◌<◌, true, sym, subst, ap, ◌∙◌, List, ℕ, length, None, Result, Bor}
+use Rattle.rt_ids.specs.Names.{task_of, with_task}
 use Rattle.rt_ids.specs.declared.limits.TheConstants.{TASKS}
 use Rattle.rt_lines.specs.Parts.{words_of}
 use Rattle.rt_lines.specs.Answers.{and_make}
 use Rattle.rt_code.specs.declared.image.BodyRow.{BodyRow}
-use Rattle.rt_load.specs.Inside.Rows.{body_row_at}
 use Rattle.rt_load.specs.Inside.Taking.{may_add_body}
 use Rattle.rt_load.specs.declared.front.Front.{Front}
 use Rattle.rt_load.specs.declared.operand.Wrong.{Wrong}
