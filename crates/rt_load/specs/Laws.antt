@@ -4,6 +4,7 @@ use Rattle.std.specs.Prelude.{◌≡◌, ℕ, List}
 use Rattle.rt_code.specs.Image.{Image}
 use Rattle.rt_load.specs.Reading.{IsListingText, IsFirstWrong, Fault}
 
+-- bytes are read in one way
 pub record AreReadOneWay : Type 0 where
   pub one_image : (text : List ℕ) (a b : Image) → IsListingText text a → IsListingText text b → a ≡ b
   pub not_both : (text : List ℕ) (img : Image) (n : ℕ) (fault : Fault) → IsListingText text img

@@ -27,10 +27,12 @@ abbrev pub IsHandlerWithin : Option Handler → Type 0
 IsHandlerWithin None = Unit {0}
 IsHandlerWithin (Some h) = (h.value < 2 ^ 8) × Is32Bits h.entry × Is32Bits h.frame
 
+-- a number that an interrupt may have, and how it is served
 pub record IsIrqWithin (row : IrqRow) : Type 0 where
   pub number : row.number < IRQ_NUMBERS
   pub handler : IsHandlerWithin row.handler
 
+-- an address and a frame of 32 bits, and no more arguments than a task may have
 pub record IsBodyWithin (row : BodyRow) : Type 0 where
   pub entry : Is32Bits row.entry
   pub frame : Is32Bits row.frame
@@ -51,6 +53,7 @@ IsNoteWithin (Some (note.Cancel t s)) = Is32Bits s
 IsNoteWithin (Some (note.Move t s a)) = Is32Bits s × Is32Bits a
 IsNoteWithin n = Unit {0}
 
+-- an instruction and its note say numbers of 32 bits
 pub record IsLineWithin (line : Instr × Option Note) : Type 0 where
   pub operands : AllByRecursion Is32Bits (instr_numbers line.0)
   pub note : IsNoteWithin line.1
@@ -82,6 +85,7 @@ told_names img = record {
   shared = filter (λ name. not (has_dot name)) (map (λ cell. cell.name) img.cells);
 }
 
+-- a listing tells the image: it is within the limits, has a listing, and has the names that its rows tell
 pub record IsLoadable (img : Image) : Type 0 where
   pub limits : IsWithinLimits img
   pub listable : IsListable img

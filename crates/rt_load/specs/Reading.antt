@@ -77,6 +77,7 @@ pub data Fault : Type 0 where
   -- nothing but that a name in it is in no table
   Name : Fault
 
+-- what is wrong with a line behind this front: a name alone, or not that
 abbrev pub IsFault : List ℕ → List ℕ → Fault → Type 0
 IsFault front line Name = IsOfUnknownName front line
 IsFault front line Form = ¬ IsOfUnknownName front line

@@ -42,18 +42,22 @@ instr_word instr.Ret = codes "ret"
 abbrev pub instr_named : List Instr → List ℕ → Result Instr Wrong
 instr_named instrs word = ok_or (find (λ i. bytes_eq (instr_word i) word) instrs) wrong.Form
 
+-- the instructions of no operand
 abbrev pub bare_instrs : List Instr
 bare_instrs = instr.NoAlarm ∷ instr.Mark ∷ instr.Serve ∷ instr.Wait ∷ instr.Back ∷ instr.Ret ∷ []
 
+-- those of one number
 abbrev pub instrs_of_one : ℕ → List Instr
 instrs_of_one a =
     instr.Jump a ∷ instr.Emit a ∷ instr.Clock a ∷ instr.Restore a ∷ instr.Mask a ∷ instr.Unmask a ∷ []
 
+-- of two
 abbrev pub instrs_of_two : ℕ → ℕ → List Instr
 instrs_of_two a b =
     instr.Set a b ∷ instr.Copy a b ∷ instr.Load a b ∷ instr.Store a b ∷ instr.JumpZ a b ∷ instr.Raise a b
     ∷ instr.Call a b ∷ []
 
+-- of three
 abbrev pub instrs_of_three : ℕ → ℕ → ℕ → List Instr
 instrs_of_three a b c =
     instr.LoadAt a b c ∷ instr.StoreAt a b c ∷ instr.Calc op.Add a b c ∷ instr.Calc op.Sub a b c

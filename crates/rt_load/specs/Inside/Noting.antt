@@ -32,9 +32,11 @@ note_word (note.End b) = codes "end"
 abbrev pub note_named : List Note → List ℕ → Result Note Wrong
 note_named notes word = ok_or (find (λ n. bytes_eq (note_word n) word) notes) wrong.Form
 
+-- the notes that name a task alone
 abbrev pub notes_of_task : ℕ → List Note
 notes_of_task t = note.Placed t ∷ note.Full t ∷ note.Ready t ∷ note.Free t ∷ note.Fire t ∷ []
 
+-- those that name a task and a slot
 abbrev pub notes_of_slot : ℕ → ℕ → List Note
 notes_of_slot t s = note.Start t s ∷ note.Arm t s ∷ note.Cancel t s ∷ []
 
@@ -43,6 +45,7 @@ abbrev pub is_task_word : List ℕ → Bool
 is_task_word word =
     list_any (λ w. bytes_eq word w) (codes "ok" ∷ codes "full" ∷ codes "ready" ∷ codes "free" ∷ codes "fire" ∷ [])
 
+-- and the words of the others
 abbrev pub is_slot_word : List ℕ → Bool
 is_slot_word word = list_any (λ w. bytes_eq word w) (codes "start" ∷ codes "arm" ∷ codes "cancel" ∷ [])
 

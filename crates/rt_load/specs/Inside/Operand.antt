@@ -32,12 +32,15 @@ found word place = if is_identifier word then ok_or place wrong.Name else Err wr
 abbrev pub first_named : Names → List ℕ → ℕ → Result ℕ Wrong
 first_named names word irq = if bytes_eq (irq_name names irq) word then Ok irq else Err wrong.Form
 
+-- the interrupt of a name
 abbrev pub irq_at : Names → List ℕ → Result ℕ Wrong
 irq_at names word = and_then (found word (irq_of names word)) (first_named names word)
 
+-- the task
 abbrev pub task_at : Names → List ℕ → Result ℕ Wrong
 task_at names word = found word (task_of names word)
 
+-- the shared resource
 abbrev pub resource_at : Names → List ℕ → Result ℕ Wrong
 resource_at names word = found word (resource_of names word)
 
@@ -68,10 +71,12 @@ body_at names word =
 abbrev pub is_end : List ℕ → Bool
 is_end word = bytes_eq word (codes ";")
 
+-- the words in front of it
 abbrev pub in_front : List (List ℕ) → List (List ℕ)
 in_front [] = []
 in_front (word ∷ words) = if is_end word then [] else word ∷ in_front words
 
+-- and those behind it
 abbrev pub behind : List (List ℕ) → Option (List (List ℕ))
 behind [] = None
 behind (word ∷ words) = if is_end word then Some words else behind words

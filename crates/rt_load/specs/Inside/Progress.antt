@@ -36,6 +36,7 @@ abbrev pub IsNoFront : Result Front Wrong → Type 0
 IsNoFront (Ok front) = ⊥
 IsNoFront (Err w) = Unit {0}
 
+-- the refusal of the first line
 abbrev pub IsRefusalOfFirst : Result Front Wrong → LoadRefused → Type 0
 IsRefusalOfFirst answer refused.TooLong = ⊥
 IsRefusalOfFirst answer (refused.BadLine n) = (n ≡ 1) × IsNoFront answer

@@ -11,10 +11,12 @@ use Rattle.rt_load.specs.Inside.Operand.{number_at, word_at}
 use Rattle.rt_load.specs.declared.operand.Wrong.{Wrong}
 use Rattle.rt_load.specs.declared.operand.Wrong.TheVariants as wrong
 
+-- the only word
 abbrev pub only : List (List ℕ) → Result (List ℕ) Wrong
 only (word ∷ []) = Ok word
 only words = Err wrong.Form
 
+-- the only three words
 abbrev pub three : List (List ℕ) → Result (List ℕ × List ℕ × List ℕ) Wrong
 three (first ∷ second ∷ third ∷ []) = Ok (first, second, third)
 three words = Err wrong.Form
@@ -29,6 +31,7 @@ three_at words =
 abbrev pub cell_at : List (List ℕ) → Result CellRow Wrong
 cell_at words = and_then (three words) (λ w. and_make (word_at w.1) (λ n. record { name = w.2; first = n }))
 
+-- how an enabled interrupt is served
 abbrev pub service_at : List ℕ → List ℕ → List ℕ → Result Handler Wrong
 service_at value entry frame =
     and_then (number_at (2 ^ 8) value) (λ v. and_then (word_at entry) (λ e. and_make (word_at frame) (λ f.

@@ -46,12 +46,14 @@ front_of fpu bits stack_bytes thread_words code cells = record {
   cells = cells;
 }
 
+-- the front of the words of a first line
 abbrev pub first_at : List (List ℕ) → Result Front Wrong
 first_at (kind ∷ form ∷ bits ∷ stack ∷ words) =
     and_then (number_at (2 ^ 8) bits) (λ b. and_then (word_at stack) (λ s. and_make (three_at words) (λ n.
     front_of (bytes_eq form (codes "2")) b s n.0 n.1 n.2)))
 first_at words = Err wrong.Form
 
+-- the sizes are within the limits of applications
 abbrev pub is_within : Front → Bool
 is_within front =
     nat_le LEAST_BITS front.image.bits && nat_le front.image.bits MOST_BITS && nat_le front.code CODE_SIZE
@@ -66,6 +68,7 @@ take_first line =
 abbrev pub may_declare : List ℕ → Bool
 may_declare name = nat_le (length name) NAME_BYTES && is_identifier name && not (is_word name)
 
+-- a tab, a line feed, a carriage return or a space stands in it
 abbrev pub has_blank : List ℕ → Bool
 has_blank name = list_any (λ b. (b == 9) || (b == 10) || (b == 13) || (b == 32)) name
 
@@ -84,9 +87,11 @@ is_in_cells front =
     nat_lt (length front.image.cells) front.cells && is_empty front.image.irqs && is_empty front.image.bodies
     && is_empty front.image.code
 
+-- no cell is missing
 abbrev pub has_cells : Front → Bool
 has_cells front = length front.image.cells == front.cells
 
+-- a cell of this name may come next
 abbrev pub may_add_cell : Front → List ℕ → Bool
 may_add_cell front name = is_in_cells front && may_name_cell front.image.names name
 
@@ -94,6 +99,7 @@ may_add_cell front name = is_in_cells front && may_name_cell front.image.names n
 abbrev pub is_new_irq : Names → List ℕ → Bool
 is_new_irq names name = may_declare name && is_none (irq_of names name) && nat_lt (length names.irqs) IRQS
 
+-- an interrupt of this name may come next
 abbrev pub may_add_irq : Front → List ℕ → Bool
 may_add_irq front name =
     has_cells front && is_empty front.image.bodies && is_empty front.image.code && is_new_irq front.image.names name
@@ -102,9 +108,11 @@ may_add_irq front name =
 abbrev pub is_new_task : Names → List ℕ → Bool
 is_new_task names name = may_declare name && is_none (task_of names name) && nat_lt (length names.tasks) TASKS
 
+-- a body of a task of this name may come next
 abbrev pub may_add_body : Front → List ℕ → Bool
 may_add_body front name = has_cells front && is_empty front.image.code && is_new_task front.image.names name
 
+-- an instruction may come next
 abbrev pub may_add_line : Front → Bool
 may_add_line front = has_cells front && nat_lt (length front.image.code) front.code
 
@@ -112,6 +120,7 @@ may_add_line front = has_cells front && nat_lt (length front.image.code) front.c
 abbrev pub with_name_of : Names → List ℕ → Names
 with_name_of names name = if has_dot name then names else with_resource names name
 
+-- the front with a cell more
 abbrev pub and_cell : Front → CellRow → Front
 and_cell front cell = record front {
   image = record front.image {
@@ -120,6 +129,7 @@ and_cell front cell = record front {
   };
 }
 
+-- with an interrupt more
 abbrev pub and_irq : Front → IrqRow → Front
 and_irq front row = record front {
   image = record front.image {
@@ -128,6 +138,7 @@ and_irq front row = record front {
   };
 }
 
+-- with a body more
 abbrev pub and_body : Front → List ℕ → BodyRow → Front
 and_body front name row = record front {
   image = record front.image {
@@ -136,6 +147,7 @@ and_body front name row = record front {
   };
 }
 
+-- with an instruction more
 abbrev pub and_line : Front → Instr × Option Note → Front
 and_line front line = record front { image = record front.image { code = front.image.code ++ line ∷ [] } }
 
@@ -145,6 +157,7 @@ next_cell front line ws =
     and_then (cell_at ws) (λ cell. if may_add_cell front cell.name
     then if_line (cell_line (length front.image.cells) cell) line cell else Err wrong.Form)
 
+-- the front behind the line of a cell
 abbrev pub take_cell : Front → List ℕ → List (List ℕ) → Result Front Wrong
 take_cell front line ws = and_make (next_cell front line ws) (and_cell front)
 
@@ -154,6 +167,7 @@ next_irq front line ws =
     and_then (irq_row_at ws) (λ row. if may_add_irq front row.name then if_line (irq_line row) line row
     else Err wrong.Form)
 
+-- behind that of an interrupt
 abbrev pub take_irq : Front → List ℕ → List (List ℕ) → Result Front Wrong
 take_irq front line ws = and_make (next_irq front line ws) (and_irq front)
 
@@ -163,6 +177,7 @@ next_body front line ws =
     and_then (body_row_at (length front.image.names.tasks) ws) (λ body. if may_add_body front body.0
     then if_line (body_line (with_task front.image.names body.0) body.1) line body else Err wrong.Form)
 
+-- behind that of a body
 abbrev pub take_body : Front → List ℕ → List (List ℕ) → Result Front Wrong
 take_body front line ws = and_make (next_body front line ws) (λ body. and_body front body.0 body.1)
 
@@ -171,13 +186,16 @@ abbrev pub printed_line : Names → ℕ → List ℕ → List (List ℕ) → Res
 printed_line names address line ws =
     and_then (line_at names address ws) (λ code. if_line (code_line names address code) line code)
 
+-- that of a line, where an instruction may come next
 abbrev pub next_line : Front → List ℕ → List (List ℕ) → Result (Instr × Option Note) Wrong
 next_line front line ws =
     if may_add_line front then printed_line front.image.names (length front.image.code) line ws else Err wrong.Form
 
+-- behind that of an instruction
 abbrev pub take_code : Front → List ℕ → List (List ℕ) → Result Front Wrong
 take_code front line ws = and_make (next_line front line ws) (and_line front)
 
+-- behind a line of these words
 abbrev pub take_words : Front → List ℕ → List (List ℕ) → Result Front Wrong
 take_words front line [] = Err wrong.Form
 take_words front line (kind ∷ ws) =
