@@ -17,7 +17,7 @@ use rt_points::{Owner, Rule};
 use std::alloc::Global;
 
 /// The answer of the judge.
-#[derive(Clone, Copy, Debug, PartialEq, Eq)]
+#[derive(Clone, Copy, PartialEq, Eq)]
 pub enum Verified {
     /// The image keeps all rules.
     Yes,

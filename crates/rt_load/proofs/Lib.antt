@@ -20,3 +20,4 @@ pub mod Following
 pub mod Further
 pub mod Named
 pub mod OneWay
+pub mod Judged

@@ -2,3 +2,4 @@ pub mod Loadable
 pub mod Reading
 pub mod Laws
 pub mod Inside
+pub mod Verdict

@@ -11,7 +11,10 @@ mod operand;
 mod printed;
 pub mod refusal;
 mod rows;
+mod verifying;
 
 pub use laws::texts_are_read_one_way;
 pub use loading::load;
 pub use refusal::{IMAGE_BYTES, LoadRefused};
+pub use rt_judge::Verified;
+pub use verifying::verify;

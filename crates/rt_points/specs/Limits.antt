@@ -1,5 +1,5 @@
 -- The limits of an application that its image shows. Sizes of frames, entries and the stack are any numbers of 32 bits.
-use Rattle.std.specs.Prelude.{ℕ, ◌<◌, ◌≤◌, length}
+use Rattle.std.specs.Prelude.{◌<◌, ◌≤◌, length}
 use Rattle.std.specs.List.{AllByRecursion}
 use Rattle.rt_ids.specs.Names.{AreNames}
 use Rattle.rt_ids.specs.declared.limits.TheConstants.{IRQS, IRQ_NUMBERS, TASKS, ARGUMENTS, CODE_SIZE, LEAST_BITS}

@@ -1,7 +1,7 @@
 use rt_ids::Section;
 
 /// Whose code runs.
-#[derive(Clone, Copy, Debug, PartialEq, Eq)]
+#[derive(Clone, Copy, PartialEq, Eq)]
 pub enum Owner {
     /// `init`.
     Starting,
@@ -12,7 +12,7 @@ pub enum Owner {
 }
 
 /// How an open section holds others off.
-#[derive(Clone, Copy, Debug, PartialEq, Eq)]
+#[derive(Clone, Copy, PartialEq, Eq)]
 pub enum Kind {
     /// By nothing: what runs does already.
     Mark,
@@ -23,7 +23,7 @@ pub enum Kind {
 }
 
 /// An open section.
-#[derive(Clone, Copy, Debug, PartialEq, Eq)]
+#[derive(Clone, Copy, PartialEq, Eq)]
 pub struct Opened {
     pub section: Section,
     pub kind: Kind,

@@ -8,7 +8,7 @@ pub const MOST_OPEN: usize = 16;
 pub const STACK_BYTES: u32 = 1_048_576;
 
 /// A rule for images, by what it is about.
-#[derive(Clone, Copy, Debug, PartialEq, Eq)]
+#[derive(Clone, Copy, PartialEq, Eq)]
 pub enum Rule {
     /// At each address one list of sections is open, whichever way the code came there, and it is not too long.
     Nesting,
