@@ -17,6 +17,8 @@ LEFT_UNSAID = {
     "rt_ids push_bytes", "rt_ids push_number", "rt_outside LineSink::take", "rt_gen_queue Lines::push",
     "rt_gen_queue Lines::append", "rt_gen_queue fill", "rt_work begin_body", "rt_work answer", "rt_work Store::effect",
     "rt_work settle", "rt_work Work::begin",
+    "rt_listing push_first_line", "rt_listing push_cell", "rt_listing push_irq", "rt_listing push_body",
+    "rt_listing push_line",
 }
 
 
