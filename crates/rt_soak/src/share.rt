@@ -78,6 +78,7 @@ fn runs_between(
 }
 
 /// The runs of a worker, in order.
+#[inline(never)]
 pub(crate) fn share(
     alloc: Global,
     core: &Core,
