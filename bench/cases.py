@@ -10,7 +10,7 @@ cases.txt beside this file, one for each way to miss a slot, and some made by ch
 An image of cases.txt is a line `= NAME`, lines of its parts, and a line `script:`. A part is `bits N`, `fpu` for a core
 with extended frames, `stack N` (bytes), `thread N` (words), `cell VALUE NAME`, `iN -` for an interrupt that is not
 enabled, or a block of code: `main:` for the thread, `iN VALUE FRAME:` for a handler, `tN FRAME ARGS:` for a body.
-Instructions and script lines stand between slashes. In a jump `.N` is the N-th instruction of its own block.
+Instructions and script lines are between slashes. In a jump `.N` is the N-th instruction of its own block.
 """
 
 import random

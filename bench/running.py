@@ -170,7 +170,7 @@ def rounds_of(program, folder, app):
 
 
 def trace_of(program, folder, app, items):
-    """A trace of so many items: such rounds, one behind the other."""
+    """A trace of so many items: such rounds, one after the other."""
     first, rounds = rounds_of(program, folder, app)
     lines, at = [first], 1
     while len(lines) < items:

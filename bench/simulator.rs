@@ -475,7 +475,7 @@ impl<'a> Core<'a> {
         })
     }
 
-    // One core step; behind a trap every step is silent.
+    // One core step; after a trap every step is silent.
     pub fn step(&mut self) -> Option<What> {
         self.steps += 1;
         if self.stopped {

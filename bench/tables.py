@@ -1,11 +1,11 @@
 #!/usr/bin/env python3
 """Writes tables of rules_cases whose answers are another implementation's: runs beside devices that leave nothing free,
-a text cut behind each of its bytes, and a trace without each of its lines.
+a text cut after each of its bytes, and a trace without each of its lines.
 
     python3 tables.py PROGRAM CRATE
 
 PROGRAM is an implementation of `rtic` with `check`, `audit` and `live`; CRATE, which is crates/rules_cases, takes
-data/alone, data/cuts and data/lines. Run messages.py behind it, which writes the names of all cases to stdout.
+data/alone, data/cuts and data/lines. Run messages.py after it, which writes the names of all cases to stdout.
 """
 
 import os
@@ -148,7 +148,7 @@ def answer(program, app):
 
 
 def cuts(program):
-    """An application cut behind each byte, from none on."""
+    """An application cut after each byte, from none on."""
     answers = "".join(answer(program, STATION[:cut]) for cut in range(len(STATION) + 1))
     head = HEAD.format("what `check` answers where a text ends behind each of its bytes, from none on.")
     return head + "= a text that ends behind each of its bytes\n" + part("app", STATION) + part("answers", answers)

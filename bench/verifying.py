@@ -4,7 +4,7 @@
     python3 verifying.py PROGRAM FOLDER
 
 PROGRAM is rtic, FOLDER takes the listings. All handlers of a listing have one entry, so each comes to all of the code
-behind it; the listing itself grows with the code alone. A point is an address with one handler that comes to it. What
+after it; the listing itself grows with the code alone. A point is an address with one handler that comes to it. What
 a listing takes with one handler is taken off, so that the nanoseconds of a point are those of the judge and not of the
 reader. Times are the least of three runs, from start to end of the process.
 """

@@ -21,7 +21,7 @@ DEVICES = b"device 0 pend UART0 20\ndevice 1 pend GPIOA 20\ndevice 2 pend QEI0 2
 # In place of a text: what `build` writes of an application.
 IMAGES = {"image": TANK}
 
-# `texts` are what the words in `files` hold, `numbers` the words behind them. `free` says that the trace is free: which
+# `texts` are what the words in `files` hold, `numbers` the words after them. `free` says that the trace is free: which
 # pends meet, and at which step they come. `whole` is the status of the whole answer.
 Command = namedtuple("Command", "word files texts numbers free whole", defaults=((), False, 0))
 

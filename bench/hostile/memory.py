@@ -3,7 +3,7 @@ from commands import LARGE, built
 from starting import Growths
 
 MEMORY, USAGE = 7, 2
-# kibibytes: the steps of the sweep where memory decides, how far behind the first whole answer they go on, and how much
+# kibibytes: the steps of the sweep where memory decides, how far after the first whole answer they go on, and how much
 # the coarse steps reach, in which the stacks of threads find room or none
 STEP, BEHIND, COARSE, LAST = 8, 256, 512, 24 << 10
 MOST_GROWTHS = 200_000

@@ -34,7 +34,7 @@ def reads(reader, count, kept):
 
 
 def closed_later(commands, starter, told):
-    """A pipe that is closed behind so many bytes of a long run: what was taken is a beginning of the output."""
+    """A pipe that is closed after so many bytes of a long run: what was taken is a beginning of the output."""
     run = next(ready for ready in commands if ready.command.word == "run")
     words = ["run", run.words[1], starter.write("long", LONG)]
     whole = starter.ended(words)

@@ -24,7 +24,7 @@ class Reference:
         self.said = "refusals are compared with those of rticref"
 
     def answer(self, words):
-        """The status and the bytes of a command whose words behind the first are the texts themselves."""
+        """The status and the bytes of a command whose words after the first are the texts themselves."""
         if not self.folder:
             return None
         return self.cli.rtic([words[0]] + ["text"] * (len(words) - 1), lambda word, limit: words[word - 1][: limit + 1])

@@ -22,7 +22,7 @@ def unescaped(text, copy):
 
 
 def pieces(rest):
-    """What a line adds to a part: a line as it stands, or copies of a quoted text."""
+    """What a line adds to a part: a line as it is, or copies of a quoted text."""
     if rest.startswith("|"):
         return rest[2:] + "\n"
     count, quoted = rest.split('"', 1)

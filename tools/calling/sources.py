@@ -25,7 +25,7 @@ def dependencies():
 
 
 def below(program):
-    """The crates that a program stands on, lowest first."""
+    """The crates below a program, lowest first."""
     uses, found = dependencies(), []
 
     def visit(name):
@@ -43,7 +43,7 @@ def without_comments(text):
 
 
 def braced(text, start):
-    """The place behind the bracket that closes the one at a place."""
+    """The place after the bracket that closes the one at a place."""
     closes = {"{": "}", "(": ")", "[": "]", "<": ">"}
     opening, closing = text[start], closes[text[start]]
     depth = 0
@@ -113,7 +113,7 @@ def functions(text):
 
 
 def body_start(text, place):
-    """Where the body of an impl may begin: behind its type parameters."""
+    """Where the body of an impl may begin: after its type parameters."""
     while text[place].isspace():
         place += 1
     return braced(text, place) if text[place] == "<" else place
@@ -121,7 +121,7 @@ def body_start(text, place):
 
 def owner_of(head):
     """The type or trait of an impl's or trait's head, and whether its functions need the word `pub`. Of impls of traits
-    those of iterators count; what another has to promise stands in its trait."""
+    those of iterators count; what another has to promise is in its trait."""
     trait = re.match(r"pub trait (\w+)", head)
     if trait:
         return trait[1], "trait"
@@ -177,6 +177,6 @@ def split(text):
 
 
 def calls(program=PROGRAM):
-    """The public calls of all crates that a program stands on."""
+    """The public calls of all crates below a program."""
     for crate in below(program):
         yield from Source(crate).calls()

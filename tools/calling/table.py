@@ -128,7 +128,7 @@ def table():
 
 
 def written():
-    """The document, and its table as it stands there."""
+    """The document, and its table as it is there."""
     text = DOCUMENT.read_text(encoding="utf8")
     front, rest = text.split(BEGIN)
     old, behind = rest.split(END)

@@ -1,4 +1,4 @@
-"""Runs the commands that a document shows, and compares what they write with what stands below each."""
+"""Runs the commands that a document shows, and compares what they write with what is below each."""
 import os
 import pathlib
 import re

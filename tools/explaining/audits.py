@@ -22,7 +22,7 @@ class Trace:
                     break
 
     def item(self, number, line, wrong):
-        """Takes a line behind the listing, and says whether it is the last one that is looked at."""
+        """Takes a line after the listing, and says whether it is the last one that is looked at."""
         if line.startswith("total "):
             self.total = (number, int(line[6:]))
             return True
@@ -37,7 +37,7 @@ class Trace:
 
 
 class Audit:
-    """Asks of lines behind the items that are right."""
+    """Asks about lines after the items that are right."""
 
     def __init__(self, program, app_file, trace, wrong):
         self.program, self.app_file = program, app_file
@@ -47,7 +47,7 @@ class Audit:
         self.kept = os.path.getsize(self.path)
 
     def takes(self, *lines):
-        """Whether `audit` takes these lines behind them."""
+        """Whether `audit` takes these lines after them."""
         os.truncate(self.path, self.kept)
         with open(self.path, "a", encoding="latin-1") as file:
             file.writelines(line + "\n" for line in lines)
@@ -70,7 +70,7 @@ class Audit:
 
 
 class Asked:
-    """What may stand behind the right items of a trace."""
+    """What may come after the right items of a trace."""
 
     def __init__(self, app, audit, trace, wrong, bound):
         self.app, self.audit, self.trace, self.wrong, self.bound = app, audit, trace, wrong, bound
@@ -82,7 +82,7 @@ class Asked:
             self.lost = True
 
     def running(self):
-        """Who runs behind the right items."""
+        """Who runs after the right items."""
         jobs = [("", 0)]
         ended = False
         for number, line in self.trace.items[: self.wrong]:
@@ -106,7 +106,7 @@ class Asked:
         return next(((line, told) for line, told in rows if self.audit.takes(f"{step} {line}")), (None, None))
 
     def latest(self, first, step):
-        """The last step before another at which an item of a job may stand, or the last that may pass without one."""
+        """The last step before another at which an item of a job may come, or the last that may pass without one."""
         last = step if self.audit.takes(f"total {step}") else self.audit.last_step(first, step)
         if self.item_at(last)[0]:
             return last

@@ -1,4 +1,4 @@
-"""What may stand at the place of an E03: found by asking `fmt` of the good front and one token more.
+"""What may come at the place of an E03: found by asking `fmt` of the good front and one token more.
 
 That the place of E03 is exact is proved of the program: the tokens before it begin some text of the grammar, and with
 one token more they are refused at this token just where they begin none. So each answer here is the program's.
@@ -27,7 +27,7 @@ NAMED = {
 
 
 def may_stand(program, front):
-    """The tokens that may stand behind the good front, and the end of the text where it may; None if it is too long."""
+    """The tokens that may come after the good front, and the end of the text where it may; None if it is too long."""
     if len(front) > ROOM:
         front = " ".join(token.text for token in tokens_of(front))
     texts = {NAME: "x", NUMBER: "1", **{text: text for text in CANDIDATES}}
@@ -48,7 +48,7 @@ def joined(parts):
 
 
 def told(found, before):
-    """What may stand, as a person says it; `before` are the tokens of the front."""
+    """What may come, as a person says it; `before` are the tokens of the front."""
     rest, first, last = set(found), [], []
     if STATEMENT <= rest:
         rest -= STATEMENT
@@ -76,6 +76,6 @@ def named(text, rest, before):
 
 
 def met(token):
-    """The token that stands there."""
+    """The token that is there."""
     kinds = {"word": "the word ", "name": "the name ", "number": "the number "}
     return END if token.kind == "end" else f"{kinds.get(token.kind, '')}`{token.text}`"

@@ -1,8 +1,8 @@
-"""Habits of Rust, C and RTIC: what people write at the place of a refusal, and what stands for it here.
+"""Habits of Rust, C and RTIC: what people write at the place of a refusal, and what is written for it here.
 
 Each row: the tokens before the place, the tokens from the place on, what is said. Tokens are joined by one space; the
 first pattern ends at the place, the second begins there. `<x>` is the group x of either, `@` in the first the sign
-behind which a statement begins.
+after which a statement begins.
 """
 import re
 

@@ -116,7 +116,7 @@ class Explained:
             self.rule(which, text, at, number)
 
     def syntax(self, syntax):
-        """What may stand there, what does, and how to mend it."""
+        """What may come there, what is there, and how to mend it."""
         found = may_stand(self.program, syntax.text[: syntax.at]) if self.program.answers else None
         label = f"found {met(syntax.token)}"
         if found:

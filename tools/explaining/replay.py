@@ -1,6 +1,6 @@
 """What the running job does next, by the meaning of its body and the items of a trace that are right so far.
 
-This only proposes lines: whether one of them may stand, `audit` says. The actions of spawns, dispatchers and the timer
+This only proposes lines: `audit` says whether one of them may come. The actions of spawns, dispatchers and the timer
 are those of docs/MESSAGES.md and docs/LANGUAGE.md.
 """
 from .tokens import Token
@@ -34,7 +34,7 @@ class Job:
 
 
 class Replay:
-    """The contents of resources and queues, and the jobs, behind the items so far."""
+    """The contents of resources and queues, and the jobs, after the items so far."""
 
     def __init__(self, app):
         self.app = app

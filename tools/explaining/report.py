@@ -63,11 +63,11 @@ class Report:
         self.line(f"{file}:{line}:{column}: {words}")
 
     def say(self, kind, sentence):
-        """A sentence behind a picture; its kind is cause, help or note."""
+        """A sentence after a picture; its kind is cause, help or note."""
         self.line(f"  = {kind}: {sentence_shown(sentence)}")
 
     def picture(self, text, offset, length, label="", lead=None):
-        """The source line with a caret under so many bytes from an offset on, behind the line of an offset before."""
+        """The source line with a caret under so many bytes from an offset on, after the line of an earlier offset."""
         lines = [line_at(text, offset)]
         if lead is not None and not text[text.rfind("\n", 0, offset) + 1 : offset].strip():
             before = line_at(text, lead)

@@ -1,4 +1,4 @@
-"""E05 to E18: which cause it is, where the first one stands, and how to mend it."""
+"""E05 to E18: which cause it is, where the first one is, and how to mend it."""
 import difflib
 
 from .costs import MOST_CODE, MOST_STEPS, Costs, armed_tasks, sizes_before
@@ -43,7 +43,7 @@ class Rules:
     def help(self, sentence):
         self.helps.append(sentence)
 
-    # What stands at the place.
+    # What is at the place.
 
     def use(self):
         """The body and the use at the place, or None twice; the scopes are those of the place."""

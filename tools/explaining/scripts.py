@@ -95,7 +95,7 @@ def bad_line(app, said, words, table):
 
 
 def short_words(app, said, words):
-    """What is wrong behind the first word."""
+    """What is wrong after the first word."""
     if words[0] in ("step", "tick"):
         if len(words) != 2:
             return said.at(words[-1] if len(words) == 1 else words[2], f"`{words[0]}` wants one number behind it")
@@ -177,7 +177,7 @@ def bad_item(app, said, lines, line, table):
 
 
 def bad_words(app, said, words):
-    """What is wrong behind the step number."""
+    """What is wrong after the step number."""
     if len(words) > 1 and words[1] not in FORMS:
         said.at(words[1], f"no item is called `{words[1]}`")
         names = [f"`{name}`" for name in FORMS]

@@ -1,4 +1,4 @@
-"""The table of causes and mending in docs/LANGUAGE.md, which is read here and stands nowhere else."""
+"""The table of causes and mending in docs/LANGUAGE.md, which is read here and is nowhere else."""
 import pathlib
 import re
 
@@ -20,7 +20,7 @@ def rows_of(page):
 
 
 def filled(cell, values):
-    """A cell with values in place of its letters, which stand in backticks."""
+    """A cell with values in place of its letters, which are in backticks."""
 
     def span(found):
         inner = found.group(1)

@@ -111,7 +111,7 @@ def form(syntax):
 
 
 def returns(syntax, found):
-    """A comment that goes on behind a carriage return, since that alone ends no line."""
+    """A comment that goes on after a carriage return, because that alone ends no line."""
     if re.search(r"//[^\n]*\r[^\n]", syntax.text[: syntax.at]):
         return "a carriage return alone ends no comment: save the file with line feeds"
     return None
@@ -140,7 +140,7 @@ def declared(syntax, found):
 
 
 def twice(syntax, found):
-    """An option that stands a second time."""
+    """An option that comes a second time."""
     opened = syntax.before.rfind("(")
     options = ("binds", "priority", "capacity", "shared", "local")
     if syntax.token.text in options and ")" in found and f" {syntax.token.text} =" in syntax.before[opened:]:

@@ -17,7 +17,7 @@ TOKEN = re.compile(
 
 @dataclass(frozen=True)
 class Token:
-    """One token: its kind is name, word, number, sign, foreign or end; it stands at an offset of the text."""
+    """One token: its kind is name, word, number, sign, foreign or end; it begins at an offset of the text."""
 
     kind: str
     text: str
@@ -29,7 +29,7 @@ class Token:
 
     @property
     def value(self):
-        """A number's value; zeros may stand before it without end."""
+        """A number's value; any number of zeros may come before it."""
         return int(self.text, 16) if self.text.startswith("0x") else int(self.text.lstrip("0") or "0")
 
 

@@ -142,7 +142,7 @@ class Parser:
                 raise ValueError(text)
 
     def has(self, text):
-        """Takes a token where it stands, and says whether."""
+        """Takes a token where it is there, and says whether it was."""
         if self.front.text != text:
             return False
         self.next += 1
@@ -175,7 +175,7 @@ class Parser:
         return app
 
     def declarations(self, app):
-        """All that stands behind the interrupts."""
+        """All that comes after the interrupts."""
         while self.front.kind != "end":
             word = self.take()
             if word.text == "monotonic":
@@ -284,7 +284,7 @@ class Parser:
         return found
 
     def value(self):
-        """What stands behind `let x =`: an expression, the token `now`, or a call."""
+        """What comes after `let x =`: an expression, the token `now`, or a call."""
         if self.front.text == "now":
             return self.take()
         return self.call(self.take()) if self.front.text in CALLS else self.expr()

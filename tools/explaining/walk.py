@@ -89,7 +89,7 @@ def value_uses(value, around, dropped=False):
 
 
 def statements_of(block):
-    """All statements of a block, inner ones behind those that they stand in."""
+    """All statements of a block, inner ones after those that they are in."""
     for statement in block:
         yield statement
         yield from statements_of(statement.block)

@@ -20,12 +20,12 @@ BUILT = f"the commands are {', '.join(LISTED[:-1])} and {LISTED[-1]}"
 
 
 def files_of(words):
-    """Those of the words behind a command that name its files."""
+    """Those of the words after a command that name its files."""
     return [word for word, kind in zip(words[1:], COMMANDS.get(words[0] if words else "", ())) if kind not in RANGES]
 
 
 def is_in_range(word, kind):
-    """Whether a word can stand where one of this kind is wanted."""
+    """Whether a word can be where one of this kind is wanted."""
     if kind not in RANGES:
         return True
     least, most = RANGES[kind]
@@ -33,7 +33,7 @@ def is_in_range(word, kind):
 
 
 def wrong_word(words):
-    """The position of the word that is wrong, or behind the last where one is missing."""
+    """The position of the word that is wrong, or after the last where one is missing."""
     if not words or words[0] not in COMMANDS:
         return 0
     wanted = COMMANDS[words[0]]

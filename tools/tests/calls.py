@@ -1,4 +1,4 @@
-"""Tries tools/calls: the table stands as the sources have it, and a call that lacks a row or a clause is told."""
+"""Tries tools/calls: the table is as the sources have it, and a call that lacks a row or a clause is told."""
 import pathlib
 import subprocess
 import sys

@@ -5,7 +5,7 @@ A row: `== NAME`, the first file, perhaps `-- second` and the second file, then 
 sentences that must come, each on a line (one that begins with two blanks goes on with the line before). ANSWER is the
 beginning of what the program writes. `-- words W..` are other words, `-- warns` is an accepted application. In a file
 `%repeat N TEXT` is N lines, a `%` in them their number; `%join N TEXT` N times the text; `%bytes HEX` bytes, and the
-line's end behind it is none; `%none`, `%folder` and `%closed` are no file, a folder, and a file that may not be read.
+line's end after it is none; `%none`, `%folder` and `%closed` are no file, a folder, and a file that may not be read.
 With a word only rows whose names have it are tried, and what is said is printed.
 """
 import concurrent.futures
@@ -88,7 +88,7 @@ def plain(line):
 
 
 def caret_is_right(lines, answer, text):
-    """Whether the first caret stands under the byte of the place."""
+    """Whether the first caret is under the byte of the place."""
     place = re.match(r"(\d+):(\d+) E", answer)
     carets = [number for number, line in enumerate(lines) if re.match(r"\s*\|\s*\^", line)]
     if not place or not carets or answer.endswith("E01"):

@@ -35,7 +35,7 @@ def expect(what, is_right):
 
 
 def items_of(name):
-    """The items of an output: step and words; and how many lines stand before them."""
+    """The items of an output: step and words; and how many lines come before them."""
     with open(os.path.join(DATA, name + ".run"), encoding="ascii") as file:
         lines = file.read().split("\n")
     first = lines.index("trace") + 1
@@ -70,7 +70,7 @@ def sections_of(items):
 
 
 def compare_depths(view, items, depths):
-    """The stack that is drawn just behind a take is the depth of its item, to a pixel."""
+    """The stack that is drawn just after a take is the depth of its item, to a pixel."""
     taken = {step: int(words[2]) for step, words in items if words[0] == "take"}
     at_takes = [each for each in depths if each["step"] in taken]
     expect(f"{view}: depths {depths}", len(depths) >= 5 and at_takes)
@@ -80,7 +80,7 @@ def compare_depths(view, items, depths):
 
 
 def figures(browser, folder, name, width, is_dark):
-    """The figures that the page writes, and what stands on its console."""
+    """The figures that the page writes, and what is on its console."""
     own = tempfile.mkdtemp(dir=folder)
     words = [browser, "--headless=new", "--disable-gpu", "--hide-scrollbars", "--no-first-run",
              f"--user-data-dir={own}", "--enable-logging=stderr", f"--window-size={width},1000",

@@ -150,7 +150,7 @@ def compare_words():
 
 
 def compare_account():
-    """An output of `live` is shown as that of `run`: the lines of its account are passed over, behind a total alone."""
+    """An output of `live` is shown as that of `run`: the lines of its account are passed over, only after a total."""
     with open(os.path.join(DATA, "two.run"), encoding="utf-8") as file:
         run = file.read()
     account = "account A 1 0 1 0\naccount B 0 0 0 0\n"

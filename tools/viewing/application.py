@@ -69,7 +69,7 @@ class Application:
 
 
 class Image:
-    """The lines of a listing: sizes, interrupts as they stand, bodies of software tasks, capacities and code."""
+    """The lines of a listing: sizes, interrupts in their order, bodies of software tasks, capacities and code."""
 
     def __init__(self, lines):
         self.bits, self.stack, self.thread = (int(word) for word in lines[0].split()[2:5])
@@ -115,7 +115,7 @@ class Image:
         return next((note[1] for note in self.notes(entry) if note[0] == "enter"), "")
 
     def call(self, name):
-        """Steps behind a task's `leave free` in its dispatcher, up to the call of its body; None if not told."""
+        """Steps after a task's `leave free` in its dispatcher, up to the call of its body; None if not told."""
         number = [body for body, _ in self.bodies].index(name)
         for at, (words, _) in enumerate(self.code):
             if words[:2] == ["call", str(number)]:
@@ -123,7 +123,7 @@ class Image:
         return None
 
     def steps_before(self, at, name):
-        """Steps from the nearest `leave free` before an address to it, where no jump stands between."""
+        """Steps from the nearest `leave free` before an address to it, where no jump is between."""
         for back in range(at - 1, -1, -1):
             words, note = self.code[back]
             if note == ["leave", "free." + name]:
@@ -173,7 +173,7 @@ def agree(name, image, report):
 
 
 def of_image(application, image):
-    """Adds the tasks of an image, by priority; hardware tasks stand first in the code, in their order."""
+    """Adds the tasks of an image, by priority; hardware tasks come first in the code, in their order."""
     report = application.report
     application.listed = application.waits = True
     application.thread_bytes = WORD * image.thread

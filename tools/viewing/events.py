@@ -20,7 +20,7 @@ def named(history, shown):
 
 
 def spans_of(history, row):
-    """A row's jobs, and within them the sections and where it was preempted; what waits stands apart."""
+    """A row's jobs, and within them the sections and where it was preempted; what waits is apart."""
     number = row.number
     for begin, end in zip(row.jobs[::3], row.jobs[1::3]):
         yield event("X", row.task.name, number, begin, dur=end - begin)
@@ -37,7 +37,7 @@ def spans_of(history, row):
 
 
 def marks_of(history, shown):
-    """What stands at one step: emitted values, requests, refusals, ticks and alarms."""
+    """What happens at one step: emitted values, requests, refusals, ticks and alarms."""
     numbers = {row.number for row in shown}
     marks, lines = history.marks, history.output.lines
     for at in range(0, len(marks), 4):

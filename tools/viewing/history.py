@@ -9,7 +9,7 @@ from .told import NOT_A_RUN, Told
 
 
 class History(Messages):
-    """What happened in a run, by rows; `end` is the step behind the last.
+    """What happened in a run, by rows; `end` is the step after the last.
 
     Flat lists: `marks` has step, row, kind and line of each mark; `arrows` has row, step, row, step, line; `stack` has
     step and bytes in use from there on; `ticks` and `alarms` have steps. `item_rows` has the row of each item, and
@@ -62,7 +62,7 @@ class History(Messages):
         return job
 
     def row_of_interrupt(self, name):
-        """The row that an interrupt serves; in a trace without a listing it is made where the name first stands."""
+        """The row that an interrupt serves; in a trace without a listing it is made where the name first comes."""
         row = self.by_interrupt.get(name)
         if row is None and self.application.listed:
             self.misfit(f"the interrupt {name} is not declared")
@@ -190,7 +190,7 @@ class History(Messages):
             job.parts += (job.shown, step)
         job.shown = step
 
-    # Items, by the word behind the step.
+    # Items, by the word after the step.
 
     def see_pend(self, step, row, line):
         """A request arrives."""

@@ -82,7 +82,7 @@ def part(name):
 
 
 def page(history):
-    """The whole page as text. No line that was read has a sign of HTML in it, so the lines stand as they are."""
+    """The whole page as text. No line that was read has a sign of HTML in it, so the lines are put in as they are."""
     parts = {
         "TITLE": html.escape(history.output.title), "STYLE": part("style.css"),
         "SCRIPT": "\n".join(part(name) for name in SCRIPTS),

@@ -114,7 +114,7 @@ def bad_line(name, number, line):
 
 
 def words_of(what):
-    """The words of an item behind its step, or None where it is of no form."""
+    """The words of an item after its step, or None where it is of no form."""
     if WHAT.fullmatch(what) is None:
         return None
     words = what.split(" ")

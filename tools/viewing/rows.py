@@ -8,7 +8,7 @@ EMIT, FULL, TRAP, ARRIVAL, CANCEL, MOVE = range(6)
 class Row:
     """A row: its spans as flat lists `begin, end, begin, end, ..`, each in order, and the greatest numbers so far.
 
-    A span begins before its first step and ends behind its last. `running` is the task's own body, `serving` the
+    A span begins before its first step and ends after its last. `running` is the task's own body, `serving` the
     dispatcher that works for it, `preempted` a job that others interrupted, `pending` what waits to be served: the
     interrupt, or messages that are ready. `sections` has four numbers each: begin, end, the section's number, how many
     sections are outside it. `jobs` has three: begin, end, and the line of the item that begins it. The longest run,

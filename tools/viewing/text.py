@@ -42,7 +42,7 @@ class Strip:
         return at
 
     def put_signs(self, marks, begin):
-        """Puts the enters and leaves of sections, where a column stands for one step."""
+        """Puts the enters and leaves of sections, where a column is one step."""
         while self.sign < len(self.signs) and self.signs[self.sign][0] < begin + len(marks):
             step, mark = self.signs[self.sign]
             if step >= begin:

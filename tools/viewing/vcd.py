@@ -31,7 +31,7 @@ class Signals:
         return short
 
     def scope(self, name):
-        """What is added next stands in a scope."""
+        """What is added next is in a scope."""
         self.heads.append(f"$scope module {name} $end")
 
     def close(self):
@@ -45,7 +45,7 @@ class Signals:
 
 
 def letters(number):
-    """A number as signs that may stand in a short name."""
+    """A number as signs that may be in a short name."""
     signs = chr(33 + number % 94)
     return signs if number < 94 else signs + letters(number // 94)
 
@@ -99,7 +99,7 @@ def add_row(signals, row, unit):
 
 
 def add_sections(signals, history, unit):
-    """The sections: 1 while a job is inside. Those of queues stand in a scope of their own."""
+    """The sections: 1 while a job is inside. Those of queues are in a scope of their own."""
     spans = {name: [] for name in history.locks}
     names = list(history.locks)
     for row in history.rows:
