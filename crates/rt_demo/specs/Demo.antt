@@ -54,11 +54,13 @@ section k =
     numbered (codes "    lock r") (k % 4) ++ numbered (codes " {\n        r") (k % 4)
     ++ numbered (codes " = r") (k % 4) ++ numbered (codes " + ") k ++ codes ";\n    }\n"
 
+-- the messages of a task: one at once, and one after a delay, both with the task's number
 abbrev pub messages : ℕ → List ℕ
 messages k =
     numbered (codes "    spawn work(") k ++ numbered (codes ");\n    spawn_after(") k
     ++ numbered (codes ") later(") k ++ codes ");\n}\n"
 
+-- the whole text of a task
 abbrev pub task : ℕ → List ℕ
 task k = options k ++ section k ++ messages k
 

@@ -25,6 +25,7 @@ is_of_both Step = true
 abbrev pub first_events : List Line → List Event
 first_events script = events script
 
+-- the events of the second core under the same script: its ticks and steps
 abbrev pub second_events : List Line → List Event
 second_events script = filter is_of_both (events script)
 

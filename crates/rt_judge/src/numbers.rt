@@ -1,61 +1,14 @@
-ghost use Rattle.std.specs.Prelude.{◌≡◌, ◌==◌, ◌-◌, ◌≤◌, ◌<◌, ◌%◌, ◌^◌, ◌↔◌, IsTrue, Some, position};
+ghost use Rattle.std.specs.Prelude.{◌≡◌, ◌<◌, ◌^◌, ◌↔◌, IsTrue};
 ghost use Rattle.rt_code.specs.Image.{entry_words};
-ghost use Rattle.rt_code.specs.Runnable.{HaveImplementedValues, HaveNumbersApart};
-ghost use Rattle.rt_code.specs.declared.image.Handler.{Handler as Entry};
 ghost use Rattle.rt_points.specs.Limits.{IsWithinLimits};
 ghost use Rattle.rt_points.specs.Rules.{HasRightNumbers};
 ghost use Rattle.rt_points.specs.Stack as stack;
 ghost use Rattle.rt_judge.specs.Inside.Greatest as spec;
 
 use rt_code::{Image, IrqRow};
-use rt_ids::Irq;
 use rt_ids::limits::THREAD_VALUE;
 use rt_points::STACK_BYTES;
-
-/// The place of the first row of an interrupt.
-fn first_place(irqs: &[IrqRow], irq: Irq) -> Option<usize>
-    ensures { result ≡ position (λ row. row.number == irq) irqs.now }
-{
-    irqs.iter().position(|row| row.number == irq)
-}
-
-/// Whether no two rows have one number.
-fn numbers_differ(irqs: &[IrqRow]) -> bool
-    ensures { IsTrue result ↔ HaveNumbersApart irqs.now }
-{
-    for (place, row) in irqs.iter().enumerate() {
-        if first_place(irqs, row.number) != Some(place) {
-            return false;
-        }
-    }
-    true
-}
-
-/// Whether a row's priority value has only implemented bits.
-fn value_is_implemented(bits: u8, row: &IrqRow) -> bool
-    requires few { 3 ≤ bits }
-    requires many { bits ≤ 7 }
-    ensures { IsTrue result ↔ ((h : Entry) → row.now.handler ≡ Some h → h.value % 2 ^ (8 - bits) ≡ 0) }
-{
-    match row.handler {
-        Some(handler) => handler.value % (1 << (8 - bits)) == 0,
-        None => true,
-    }
-}
-
-/// Whether each priority value has only implemented bits.
-fn values_are_implemented(bits: u8, irqs: &[IrqRow]) -> bool
-    requires few { 3 ≤ bits }
-    requires many { bits ≤ 7 }
-    ensures { IsTrue result ↔ HaveImplementedValues bits irqs.now }
-{
-    for row in irqs {
-        if !value_is_implemented(bits, row) {
-            return false;
-        }
-    }
-    true
-}
+use rt_program::{numbers_differ, values_are_implemented};
 
 /// The frame of the handler of a row, where it has this priority value.
 fn frame_at(row: &IrqRow, value: u16) -> Option<u32>

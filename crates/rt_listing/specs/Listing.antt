@@ -23,6 +23,7 @@ first_line img code cells =
     form_text img.fpu ++ spaced img.bits ++ spaced img.stack_bytes ++ spaced img.thread_words
     ++ spaced code ++ spaced cells ++ 10 ∷ []
 
+-- the first line of an image's listing, with its own sizes
 abbrev pub sizes_line : Image → List ℕ
 sizes_line img = first_line img (length img.code) (length img.cells)
 
@@ -31,6 +32,7 @@ abbrev pub numbered : {A : Type 0} → (ℕ → A → List ℕ) → ℕ → List
 numbered line n [] = []
 numbered line n (x ∷ xs) = line n x ++ numbered line (suc n) xs
 
+-- the line of a cell: its number, its first value and its name
 abbrev pub cell_line : ℕ → CellRow → List ℕ
 cell_line n cell = codes "cell" ++ spaced n ++ spaced cell.first ++ 32 ∷ cell.name ++ 10 ∷ []
 

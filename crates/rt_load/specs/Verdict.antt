@@ -6,6 +6,7 @@ use Rattle.rt_judge.specs.declared.verdict.Verified.TheVariants as verified
 use Rattle.rt_points.specs.Checked.{IsChecked, IsLeastBroken}
 use Rattle.rt_safe.specs.Safe.{IsSafe}
 
+-- the verdict on an image is right
 abbrev pub IsVerdict : Image → Verified → Type 0
 IsVerdict img verified.Yes = IsChecked img × IsSafe img
 IsVerdict img (verified.No rule) = IsLeastBroken img rule

@@ -6,6 +6,7 @@ use Rattle.rt_points.specs.Rules.{GuardsCells}
 use Rattle.rt_points.specs.declared.rule.Rule.{Rule}
 use Rattle.rt_points.specs.declared.rule.Rule.TheVariants as rule
 
+-- the number of a rule, by which the least broken one is told
 abbrev pub rule_number : Rule → ℕ
 rule_number rule.Nesting = 1
 rule_number rule.Numbers = 2
@@ -15,6 +16,7 @@ rule_number rule.Notes = 5
 rule_number rule.Ceilings = 6
 rule_number rule.Guards = 7
 
+-- an image keeps one of the seven rules
 abbrev pub Keeps : Image → Rule → Type 0
 Keeps img rule.Nesting = NestsInOneWay img
 Keeps img rule.Numbers = HasRightNumbers img
@@ -24,6 +26,7 @@ Keeps img rule.Notes = NotesWell img
 Keeps img rule.Ceilings = EntersWell img
 Keeps img rule.Guards = GuardsCells img
 
+-- an image is checked: it keeps them all
 abbrev pub IsChecked : Image → Type 0
 IsChecked img = (r : Rule) → Keeps img r
 

@@ -43,6 +43,7 @@ inside_after i (Some (note.Enter x)) inside = record { section = x; kind = kind_
 inside_after i (Some (note.Leave x)) inside = drop 1 inside
 inside_after i told inside = inside
 
+-- a point leads to another by one line of the code
 pub record LeadsTo (img : Image) (p q : Point) : Type 0 where
   pub line : Instr × Option Note
   pub stands : slice_get img.code p.address ≡ Some line
@@ -54,6 +55,7 @@ pub record LeadsTo (img : Image) (p q : Point) : Type 0 where
 abbrev pub starts_at : ℕ → Owner → Point
 starts_at address owner = record { address = address; owner = owner; inside = [] }
 
+-- the points of an image
 pub data IsPoint (img : Image) : Point → Type 0 where
   -- `init` begins at the address 0
   Begins : IsPoint img (starts_at 0 Starting)

@@ -25,6 +25,7 @@ lowered Mark value = value
 lowered (Raise slot v) value = min v value
 lowered (Mask slot) value = 0
 
+-- the level value with these sections open, innermost first: no section raises it
 abbrev pub level_value : Image → Owner → List Opened → ℕ
 level_value img owner [] = owner_value img owner
 level_value img owner (o ∷ outer) = lowered o.kind (level_value img owner outer)

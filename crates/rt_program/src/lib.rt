@@ -7,4 +7,4 @@ pub mod runnable;
 mod tables;
 
 pub use program::Program;
-pub use runnable::is_runnable;
+pub use runnable::{is_runnable, numbers_differ, values_are_implemented};

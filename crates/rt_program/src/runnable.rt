@@ -30,8 +30,9 @@ fn value_is_implemented(bits: u8, row: &IrqRow) -> bool
     }
 }
 
-/// Whether each priority value has only implemented bits.
-fn values_are_implemented(bits: u8, irqs: &[IrqRow]) -> bool
+/// Whether each enabled interrupt's priority value has only implemented bits: with so many bits of priority the low
+/// 8 - bits of the byte are 0 (ARMv7-M Architecture Reference Manual, section B1.5.4).
+pub fn values_are_implemented(bits: u8, irqs: &[IrqRow]) -> bool
     requires few { 3 ≤ bits }
     requires many { bits ≤ 7 }
     ensures { IsTrue result ↔ HaveImplementedValues bits irqs.now }
@@ -51,8 +52,8 @@ fn first_place(irqs: &[IrqRow], irq: Irq) -> Option<usize>
     irqs.iter().position(|row| row.number == irq)
 }
 
-/// Whether no two rows have one number.
-fn numbers_differ(irqs: &[IrqRow]) -> bool
+/// Whether no two rows of interrupts have one number.
+pub fn numbers_differ(irqs: &[IrqRow]) -> bool
     ensures { IsTrue result ↔ HaveNumbersApart irqs.now }
 {
     for (place, row) in irqs.iter().enumerate() {
