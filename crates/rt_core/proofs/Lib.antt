@@ -14,6 +14,7 @@ mod RowsLocks
 mod RowsCalls
 pub mod Keeping
 pub mod Happening
+pub mod Reaching
 pub mod Storing
 pub mod Loading
 pub mod Showing

@@ -3,3 +3,4 @@ pub mod Parts
 pub mod Came
 pub mod Enabling
 pub mod Execution
+pub mod Begun

@@ -6,6 +6,7 @@ pub mod Transfer
 pub mod Stepping
 pub mod Trace
 pub mod Machine
+pub mod Reaching
 pub mod Taken
 pub mod Access
 pub mod Touching

@@ -1,14 +1,16 @@
-ghost use Rattle.std.specs.Prelude.{◌≡◌, ℕ, suc, ◌+◌, ◌<◌, ◌^◌, Some, None, false, IsTrue, option_map, slice_get};
+ghost use Rattle.std.specs.Prelude.{◌≡◌, ◌≢◌, ℕ, suc, ◌+◌, ◌-◌, ◌<◌, ◌≤◌, ◌^◌, Some, None, option_map, slice_get};
 ghost use Rattle.std.specs.Prelude.{Ok, IfOk, IfErr, OnErr};
 ghost use Rattle.rt_code.specs.Effect.{effect};
 ghost use Rattle.rt_code.specs.Processor.{Traps, Leads};
 ghost use Rattle.rt_code.specs.declared.processor.Request.TheVariants as request;
 ghost use Rattle.rt_core.specs.Core as spec;
 ghost use Rattle.rt_core.specs.Priority as priority;
-ghost use Rattle.rt_core.specs.Outcome.{Outcome, Trapped, Done, settle};
+ghost use Rattle.rt_core.specs.Outcome.{Outcome, Trapped, settle};
 ghost use Rattle.rt_core.specs.Note as notes;
 ghost use Rattle.rt_core.specs.Stepping as stepping;
-ghost use Rattle.rt_core.specs.Inside.Came.{Comes, effect_of, is_silent, note_at};
+ghost use Rattle.rt_core.specs.Reaching.{Reaches, StepsToItem};
+ghost use Rattle.rt_core.specs.Inside.Came.{Comes, effect_of, note_at};
+ghost use Rattle.rt_core.specs.Inside.Begun.{left_of};
 
 use crate::alarm::Alarm;
 use crate::execution::{changes_a_mask, execution_of};
@@ -20,11 +22,17 @@ use rt_trace::{Args, What};
 /// The number of the first external interrupt's exception.
 const FIRST_EXCEPTION: u32 = 16;
 
-/// Whether an instruction asked nothing of the core, and has no note.
-fn is_silent(came: &Result<Request, Trap>, note: &Option<Note>) -> bool
-    ensures { result ≡ is_silent came.now note.now }
-{
-    note.is_none() && matches!(came, Ok(Request::Nothing))
+/// How far a core step has come.
+#[derive(Clone, Copy)]
+enum Begun {
+    /// It is done, and gives nothing.
+    Silent,
+    /// An interrupt is to be entered.
+    Entry(Irq),
+    /// An instruction is done that asks nothing of the core; the item of its note is to be given.
+    Noted,
+    /// An instruction has had its own effect, or has trapped; what it asks is to be done.
+    Asked,
 }
 
 impl Core {
@@ -333,37 +341,129 @@ impl Core {
         self.settle(came)
     }
 
-    /// The instruction at the code address. It answers whether that is the whole step, since it asks nothing of the core
-    /// and has no note; where it is not, it writes what came of it.
-    fn go(&mut self, came: &mut Result<Request, Trap>) -> bool
-        ensures silent { IsTrue result → stepping.run self.old.image self.old.core
-            (slice_get self.old.image.code self.old.core.processor.address) ≡ Done self.new.core None }
-        ensures came { result ≡ false → stepping.run self.old.image self.old.core
+    /// The item of the note at a code address, where there is one, as a step.
+    #[inline(never)]
+    fn tell(&mut self, address: u32) -> Option<What>
+        ensures settled { settle (stepping.go_on self.old.image self.old.core (note_at self.old.image address)
+            (Leads self.old.core.processor request.Nothing)) ≡ (self.new.core, result) }
+        ensures rest { self.new ≡ record self.old { core = self.new.core } }
+    {
+        let Some(note) = self.note_at(address) else {
+            return None;
+        };
+        match self.shown_by(note) {
+            Some(what) => Some(what),
+            None => self.stop(Trap::Stack),
+        }
+    }
+
+    /// The instruction at the code address. Where what it asks is to be done, it writes what came of it.
+    #[inline(always)]
+    fn go(&mut self, came: &mut Result<Request, Trap>) -> Begun
+        ensures begun { stepping.run self.old.image self.old.core
             (slice_get self.old.image.code self.old.core.processor.address)
-            ≡ stepping.go_on self.old.image self.new.core
-            (note_at self.old.image self.old.core.processor.address)
-            (effect_of self.new.core.processor came.new) }
-        ensures next { result ≡ false → (row from : ℕ) → came.new ≡ Ok (request.Call row from)
+            ≡ left_of self.old.image self.new.core self.old.core.processor.address result came.new }
+        ensures inside { (irq : ℕ) → result ≢ Begun.Entry irq }
+        ensures next { result ≡ Begun.Asked → (row from : ℕ) → came.new ≡ Ok (request.Call row from)
             → self.new.core.processor.address + 1 < 2 ^ 32 }
         ensures rest { self.new ≡ record self.old { core = self.new.core } }
     {
         let Some((instr, note)) = self.program.line(self.registers.address) else {
             *came = Err(Trap::Jump);
-            return false;
+            return Begun::Asked;
         };
         let asked = self.execute(instr);
-        if is_silent(&asked, &note) {
-            return true;
+        match (asked, note) {
+            (Ok(Request::Nothing), None) => Begun::Silent,
+            (Ok(Request::Nothing), Some(_)) => Begun::Noted,
+            _ => {
+                *came = asked;
+                Begun::Asked
+            }
         }
-        *came = asked;
-        false
+    }
+
+    /// Begins a core step: what is left of it is to be completed.
+    #[inline(always)]
+    fn begin(&mut self, came: &mut Result<Request, Trap>) -> Begun
+        ensures begun { stepping.step self.old.image self.old.core
+            ≡ settle (left_of self.old.image self.new.core self.old.core.processor.address result came.new) }
+        ensures entry { (irq : ℕ) → result ≡ Begun.Entry irq
+            → option_map (λ row. row.number) (priority.pick self.new.image self.new.core) ≡ Some irq }
+        ensures next { result ≡ Begun.Asked → (row from : ℕ) → came.new ≡ Ok (request.Call row from)
+            → self.new.core.processor.address + 1 < 2 ^ 32 }
+        ensures rest { self.new ≡ record self.old { core = self.new.core } }
+    {
+        if self.stopped {
+            return Begun::Silent;
+        }
+        if let Some(irq) = self.picked() {
+            return Begun::Entry(irq);
+        }
+        self.go(came)
+    }
+
+    /// Completes a core step that began at a code address.
+    #[inline(always)]
+    fn complete(&mut self, begun: Begun, came: Result<Request, Trap>, address: u32) -> Option<What>
+        requires entry { (irq : ℕ) → begun ≡ Begun.Entry irq
+            → option_map (λ row. row.number) (priority.pick self.old.image self.old.core) ≡ Some irq }
+        requires next { begun ≡ Begun.Asked → (row from : ℕ) → came ≡ Ok (request.Call row from)
+            → self.old.core.processor.address + 1 < 2 ^ 32 }
+        ensures settled { settle (left_of self.old.image self.old.core address begun came)
+            ≡ (self.new.core, result) }
+        ensures rest { self.new ≡ record self.old { core = self.new.core } }
+    {
+        match begun {
+            Begun::Silent => None,
+            Begun::Entry(irq) => self.take(irq),
+            Begun::Noted => self.tell(address),
+            Begun::Asked => self.conclude(came, address),
+        }
+    }
+
+    /// Core steps up to the first that gives an item, at most as many as are left. It counts down those that are left,
+    /// and leaves their number in the core as it was.
+    #[inline(always)]
+    fn go_to_item(&mut self, left: &mut u32) -> Option<What>
+        ensures reached { Reaches self.old.image self.old.core self.new.core (left.old - left.new) result }
+        ensures within { left.new ≤ left.old }
+        ensures all { result ≡ None → left.new ≡ 0 }
+        ensures rest { self.new ≡ record self.old { core = self.new.core } }
+    {
+        let mut came = Ok(Request::Nothing);
+        while *left > 0 {
+            let address = self.registers.address;
+            match self.begin(&mut came) {
+                Begun::Silent => *left -= 1,
+                begun => {
+                    *left -= 1;
+                    let shown = self.complete(begun, came, address);
+                    if shown.is_some() {
+                        return shown;
+                    }
+                }
+            }
+        }
+        None
+    }
+
+    /// Core steps up to the first that gives an item, at most so many. It answers the item, and None where none of so
+    /// many gives one.
+    #[inline(never)]
+    pub fn steps_to_item(&mut self, most: u32) -> Option<What>
+        requires { self.old.steps + most ≤ 2 ^ 31 }
+        ensures { StepsToItem most self.old self.new result }
+    {
+        let mut left = most;
+        let shown = self.go_to_item(&mut left);
+        self.steps += u64::from(most - left);
+        shown
     }
 
     /// One core step: the entry of the interrupt that is to be taken, else one instruction. It answers the item that
     /// the step gives, and None where it gives none. A trap gives its item and stops the core, and every later step is
     /// silent.
-    #[inline(always)]
-    #[tactic(auto, unfolding(crate::specs::Stepping::step))]
     pub fn step(&mut self) -> Option<What>
         requires { self.old.steps < 2 ^ 31 }
         ensures item { result ≡ (stepping.step self.old.image self.old.core).1 }
@@ -372,18 +472,6 @@ impl Core {
           steps = suc self.old.steps;
         } }
     {
-        self.steps += 1;
-        if self.stopped {
-            return None;
-        }
-        if let Some(irq) = self.picked() {
-            return self.take(irq);
-        }
-        let address = self.registers.address;
-        let mut came = Ok(Request::Nothing);
-        if self.go(&mut came) {
-            return None;
-        }
-        self.conclude(came, address)
+        self.steps_to_item(1)
     }
 }

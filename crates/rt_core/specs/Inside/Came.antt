@@ -1,11 +1,10 @@
 -- What the code says came of a step.
-use Rattle.std.specs.Prelude.{◌≡◌, ℕ, Bool, true, false, Result, Ok, Err, Option, Some, None, slice_get}
+use Rattle.std.specs.Prelude.{◌≡◌, ℕ, Result, Ok, Err, Option, Some, None, slice_get}
 use Rattle.rt_code.specs.Image.{Image}
 use Rattle.rt_code.specs.Processor.{Processor, Effect, Traps, Leads}
 use Rattle.rt_code.specs.declared.instr.Instr.{Instr}
 use Rattle.rt_code.specs.declared.instr.Note.{Note}
 use Rattle.rt_code.specs.declared.processor.Request.{Request}
-use Rattle.rt_code.specs.declared.processor.Request.TheVariants as request
 use Rattle.rt_code.specs.declared.processor.Trap.{Trap}
 use Rattle.rt_trace.specs.declared.item.What.{What}
 use Rattle.rt_core.specs.Core.{Core}
@@ -19,11 +18,6 @@ Comes (Err trap) after outcome = outcome ≡ Trapped after trap
 abbrev pub effect_of : Processor → Result Request Trap → Effect
 effect_of after (Ok asked) = Leads after asked
 effect_of after (Err trap) = Traps trap
-
--- nothing is asked, and there is no note
-abbrev pub is_silent : Result Request Trap → Option Note → Bool
-is_silent (Ok request.Nothing) None = true
-is_silent came told = false
 
 -- the note of a line
 abbrev pub note_of : Option (Instr × Option Note) → Option Note
