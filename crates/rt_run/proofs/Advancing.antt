@@ -1,5 +1,5 @@
 -- Runs that go on where others ended, or where a fault came.
-use Rattle.std.proofs.Common.{◌≡◌, ℕ, suc, ◌+◌, ◌-◌, ◌<◌, List, [], ◌∷◌, ◌++◌, flat_map, replicate, Option, Some}
+use Rattle.std.proofs.Common.{◌≡◌, ℕ, suc, ◌+◌, ◌-◌, ◌<◌, ◌≤◌, List, [], ◌∷◌, ◌++◌, flat_map, replicate, Option, Some}
 use Rattle.std.proofs.Common.{None, Bool, true, false, if◌then◌else◌, nat_le, refl, ap, sym, subst, ◌∙◌, append_assoc}
 use Rattle.std.proofs.Common.{arith}
 use Rattle.std.specs.List.{AllByRecursion}
@@ -14,6 +14,7 @@ use Rattle.rt_core.specs.Trace.{ring, tick, happen, core_after, labels}
 use Rattle.rt_core.specs.Stepping.{step}
 use Rattle.rt_core.specs.Transfer.{pended}
 use Rattle.rt_core.specs.declared.alarm.Alarm.{Alarm}
+use Rattle.rt_core.proofs.Happening.{core_after-append, labels-append}
 use Rattle.rt_outside.specs.Bytes.{TookPrefix}
 use Rattle.rt_trace.specs.Label.{Label, Arrived, Ticked, Rang, Stepped, items_of, steps_of}
 use Rattle.rt_trace.specs.Lined.{HasLine}
@@ -25,23 +26,6 @@ use Rattle.rt_run.specs.Done.{Leads}
 use Rattle.rt_run.specs.Sending.{shown_items, lines_of}
 use Rattle.rt_run.specs.Inside.Writing.{Wrote, Writes, Cut}
 use Rattle.rt_run.proofs.Taking.{wrote_none, wrote_on, wrote_cut}
-
--- the core after more events
-pub core_after-append : (img : Image) (c : Core) (es fs : List Event)
-    → core_after img c (es ++ fs) ≡ core_after img (core_after img c es) fs
-unfolding core_after
-core_after-append img c [] fs = refl
-core_after-append img c (e ∷ es) fs = core_after-append img (happen img c e).0 es fs
-
--- the labels of more events
-pub labels-append : (img : Image) (c : Core) (es fs : List Event)
-    → labels img c (es ++ fs) ≡ labels img c es ++ labels img (core_after img c es) fs
-unfolding labels core_after
-labels-append img c [] fs = refl
-labels-append img c (e ∷ es) fs =
-    ap (λ ls. (happen img c e).1 ++ ls) (labels-append img (happen img c e).0 es fs)
-    ∙ sym (append_assoc (happen img c e).1 (labels img (happen img c e).0 es)
-    (labels img (core_after img (happen img c e).0 es) fs))
 
 abbrev numbered : ℕ → What → Item
 numbered n w = record { step = n; what = w }
@@ -198,6 +182,33 @@ more_cut n count e a b c x y z held mid within first cut =
     (cut_before (replicate (n + 1) e) (replicate rest e) a c x z held
     (subst (λ es. Cut es a c x z held) (replicate_more n e)
     (cut_behind (replicate n e) (e ∷ []) a b c x y z held mid first cut)))
+
+-- equal events, some more of those that are left
+pub some_more : (count left now : ℕ) (e : Event) (a b c : Machine) (x y z : Option (List ℕ)) (held mid kept : List ℕ) → left ≤ count → now ≤ left
+    → Writes (replicate (count - left) e) a b x y held mid → Writes (replicate (left - now) e) b c y z mid kept
+    → Writes (replicate (count - now) e) a c x z held kept
+some_more count left now e a b c x y z held mid kept within fewer first second =
+    subst (λ es. Writes es a c x z held kept)
+    (replicate-append-replicate (count - left) (left - now) e
+    ∙ ap (λ n. replicate n e) (let same : count - left + (left - now) ≡ count - now = omega (arith, within, fewer) in same))
+    (goes_on (replicate (count - left) e) (replicate (left - now) e) a b c x y z held mid kept first second)
+
+-- and a fault among those that are left
+pub left_cut : (count left : ℕ) (e : Event) (a b c : Machine) (x y z : Option (List ℕ)) (held mid : List ℕ) → left ≤ count
+    → Writes (replicate (count - left) e) a b x y held mid → Cut (replicate left e) b c y z mid → Cut (replicate count e) a c x z held
+left_cut count left e a b c x y z held mid within first cut =
+    subst (λ es. Cut es a c x z held)
+    (replicate-append-replicate (count - left) left e
+    ∙ ap (λ n. replicate n e) (let same : count - left + left ≡ count = omega (arith, within) in same))
+    (cut_behind (replicate (count - left) e) (replicate left e) a b c x y z held mid first cut)
+
+-- a fault among the first of equal events
+pub cut_more : (n count : ℕ) (e : Event) (a b : Machine) (x y : Option (List ℕ)) (held : List ℕ) → n ≤ count → Cut (replicate n e) a b x y held
+    → Cut (replicate count e) a b x y held
+cut_more n count e a b x y held within cut =
+    subst (λ es. Cut es a b x y held)
+    (replicate-append-replicate n (count - n) e ∙ ap (λ k. replicate k e) (let same : n + (count - n) ≡ count = omega (arith, within) in same))
+    (cut_before (replicate n e) (replicate (count - n) e) a b x y held cut)
 
 -- events that came, with these lines
 pub written : (es : List Event) (a b : Machine) (x y : Option (List ℕ)) (held kept bytes : List ℕ) → Leads es a b

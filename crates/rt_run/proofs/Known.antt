@@ -1,5 +1,5 @@
 -- What can be written on stays so, whatever happens, and how the time rises.
-use Rattle.std.proofs.Common.{◌≡◌, ℕ, zero, suc, ◌+◌, ◌<◌, ◌≤◌, ◌^◌, List, [], ◌∷◌, length, replicate, Option, Some}
+use Rattle.std.proofs.Common.{◌≡◌, ℕ, zero, suc, ◌+◌, ◌-◌, ◌<◌, ◌≤◌, ◌^◌, List, [], ◌∷◌, length, replicate, Option, Some}
 use Rattle.std.proofs.Common.{None, Bool, true, false, if◌then◌else◌, nat_le, ap, sym, subst, ◌∙◌, arith}
 use Rattle.std.proofs.lemmas.List.{length-map, length-replicate}
 use Rattle.rt_ids.specs.Event.{Event, Arrive, Tick, Step, steps}
@@ -83,6 +83,12 @@ pub few_after : (n count : ℕ) (e : Event) (a b : Machine) → Leads (replicate
     → a.steps + count < 2 ^ 31 → b.steps < 2 ^ 31
 few_after n count e a b run within few =
     omega (arith, run.steps, steps_below (replicate n e), length-replicate n e, within, few)
+
+-- with those that are left the steps stay few
+pub room_for_left : (count left : ℕ) (e : Event) (a b : Machine) → Leads (replicate (count - left) e) a b → left ≤ count → a.steps + count < 2 ^ 31
+    → b.steps + left < 2 ^ 31
+room_for_left count left e a b run within few =
+    omega (arith, run.steps, steps_below (replicate (count - left) e), length-replicate (count - left) e, within, few)
 
 -- and it is early
 pub early_after : (n count : ℕ) (e : Event) (a b : Machine) → Leads (replicate n e) a b → n < count

@@ -5,5 +5,6 @@ pub mod Known
 pub mod Advancing
 pub mod Sent
 pub mod Happened
+pub mod Reached
 pub mod Scripted
 pub mod Brief

@@ -1,4 +1,4 @@
-ghost use Rattle.std.specs.Prelude.{◌≡◌, ◌<◌, ◌^◌, [], ◌∷◌, OnOk, OnErr};
+ghost use Rattle.std.specs.Prelude.{◌≡◌, ◌<◌, ◌+◌, ◌-◌, ◌^◌, [], ◌∷◌, replicate, IfOk, OnOk, OnErr};
 ghost use Rattle.rt_ids.specs.Event.{Arrive, Tick, Step};
 ghost use Rattle.rt_outside.specs.Faults.{HasCause};
 ghost use Rattle.rt_trace.specs.Lined.{IsDeclared};
@@ -31,6 +31,36 @@ pub(crate) fn run_step<K: Sink>(
     };
     let step = core.steps() - 1;
     put_shown(out, held, step, what, &core.image().names)
+}
+
+/// Core steps up to the first that shows an item, at most so many, with its line. It answers how many of so many are
+/// left.
+#[inline(always)]
+pub(crate) fn run_to_item<K: Sink>(
+    core: &mut Core,
+    most: u32,
+    out: &mut K,
+    held: &mut LineBuffer,
+) -> Result<u32, Failed>
+    requires writable { IsWritable core.old }
+    requires few { core.old.steps + most < 2 ^ 31 }
+    requires some { 0 < most }
+    ensures fewer { IfOk result (λ left. left < most) }
+    ensures ok { IfOk result (λ left.
+        Writes (replicate (most - left) Step) core.old core.new (K.taken out.old) (K.taken out.new)
+        held.old held.new) }
+    ensures err { OnErr result
+        (Cut (replicate most Step) core.old core.new (K.taken out.old) (K.taken out.new) held.old) }
+    ensures cause { HasCause (K.faults out.old) (K.faults out.new) result }
+    ensures quiet { OnOk result (K.faults out.new ≡ K.faults out.old) }
+{
+    let before = core.steps();
+    let Some(what) = core.steps_to_item(most) else {
+        return Ok(0);
+    };
+    let behind = core.steps();
+    put_shown(out, held, behind - 1, what, &core.image().names)?;
+    Ok(most - (behind - before) as u32)
 }
 
 /// One tick, with its line, and that of the alarm where it comes.

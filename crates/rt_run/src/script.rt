@@ -12,7 +12,7 @@ ghost use Rattle.rt_run.specs.Written.{text_of};
 ghost use Rattle.rt_run.specs.Writable.{IsWritable};
 ghost use Rattle.rt_run.specs.Inside.Writing.{Writes, Cut};
 
-use crate::event::{run_pend, run_step, run_tick};
+use crate::event::{run_pend, run_tick, run_to_item};
 use crate::writing::put_end;
 use rt_core::Core;
 use rt_ids::Irq;
@@ -36,8 +36,9 @@ fn run_steps<K: Sink>(
     ensures cause { HasCause (K.faults out.old) (K.faults out.new) result }
     ensures quiet { OnOk result (K.faults out.new ≡ K.faults out.old) }
 {
-    for _done in 0..count {
-        run_step(core, out, held)?;
+    let mut left = count;
+    while left > 0 {
+        left = run_to_item(core, left, out, held)?;
     }
     Ok(())
 }

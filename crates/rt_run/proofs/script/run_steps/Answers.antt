@@ -1,44 +1,45 @@
-use Rattle.std.proofs.Common.{◌≡◌, replicate, refl, arith, subst, ◌∙◌}
+use Rattle.std.proofs.Common.{◌≡◌, ◌-◌, replicate, refl, arith, subst, ◌∙◌}
 use Rattle.rt_lemmas.proofs.Results.{on_err_from}
 use Rattle.rt_ids.specs.Event.{Step}
 use Rattle.rt_run.specs.Inside.Writing.{Writes}
-use Rattle.rt_run.proofs.Known.{still_writable, few_after}
-use Rattle.rt_run.proofs.Advancing.{nothing_yet, more, more_cut}
+use Rattle.rt_run.proofs.Known.{still_writable, room_for_left}
+use Rattle.rt_run.proofs.Advancing.{nothing_yet, some_more, left_cut}
 use Rattle.rt_run.proofs.script.run_steps.Goals as goal
 
-pub loop-done-init : goal.loop-done-init
-loop-done-init g c = record {
-  run = nothing_yet c.args.core.now _ c.args.held.now;
-  quiet = refl;
-}
+pub loop-left-init : goal.loop-left-init
+loop-left-init g c =
+    let none : 0 ≡ c.args.count - c.args.count = omega arith in
+    record {
+      run =
+          subst (λ n. Writes (replicate n Step) c.args.core.now c.args.core.now
+          (g.K.Sink.taken c.args.out.now) (g.K.Sink.taken c.args.out.now) c.args.held.now c.args.held.now) none
+          (nothing_yet c.args.core.now _ c.args.held.now);
+      within = omega arith;
+      quiet = refl;
+    }
 
-pub run_step-requires-clause-writable : goal.run_step-requires-clause-writable
-run_step-requires-clause-writable g c =
-    still_writable (replicate c.loop-done._done Step) c.args.core.now _ c.loop-done.invariant.run.leads
+pub run_to_item-requires-clause-writable : goal.run_to_item-requires-clause-writable
+run_to_item-requires-clause-writable g c =
+    still_writable (replicate (c.args.count - c.loop-left.left) Step) c.args.core.now _ c.loop-left.invariant.run.leads
     c.requires.writable
 
-pub run_step-requires-clause-few : goal.run_step-requires-clause-few
-run_step-requires-clause-few g c =
-    few_after c.loop-done._done c.args.count Step c.args.core.now _ c.loop-done.invariant.run.leads (omega arith)
-    c.requires.few
+pub run_to_item-requires-clause-few : goal.run_to_item-requires-clause-few
+run_to_item-requires-clause-few g c =
+    room_for_left c.args.count c.loop-left.left Step c.args.core.now _ c.loop-left.invariant.run.leads
+    c.loop-left.invariant.within c.requires.few
 
-pub returns-in_err-run_step-clause-err : goal.returns-in_err-run_step-clause-err
-returns-in_err-run_step-clause-err g c =
+pub returns-in_err-left-clause-err : goal.returns-in_err-left-clause-err
+returns-in_err-left-clause-err g c =
     on_err_from c.from_residual.result
-    (more_cut c.loop-done._done c.args.count Step c.args.core.now _ c.run_step.new.core _ _ _ c.args.held.now _
-    (omega arith) c.loop-done.invariant.run c.in_err-run_step.ensures.err)
+    (left_cut c.args.count c.loop-left.left Step c.args.core.now _ c.run_to_item.new.core _ _ _ c.args.held.now _
+    c.loop-left.invariant.within c.loop-left.invariant.run c.in_err-left.ensures.err)
 
-pub loop-done-preserved : goal.loop-done-preserved
-loop-done-preserved g c = record {
+pub loop-left-preserved : goal.loop-left-preserved
+loop-left-preserved g c = record {
   run =
-      more c.loop-done._done Step c.args.core.now _ c.run_step.new.core _ _ _ c.args.held.now _ c.run_step.new.held
-      c.loop-done.invariant.run c.in_ok-run_step.ensures.ok;
-  quiet = c.in_ok-run_step.ensures.quiet ∙ c.loop-done.invariant.quiet;
+      some_more c.args.count c.loop-left.left _ Step c.args.core.now _ c.run_to_item.new.core _ _ _ c.args.held.now _
+      c.run_to_item.new.held c.loop-left.invariant.within (omega (arith, c.in_ok-left.ensures.fewer))
+      c.loop-left.invariant.run c.in_ok-left.ensures.ok;
+  within = omega (arith, c.in_ok-left.ensures.fewer, c.loop-left.invariant.within);
+  quiet = c.in_ok-left.ensures.quiet ∙ c.loop-left.invariant.quiet;
 }
-
-pub returns-clause-ok : goal.returns-clause-ok
-returns-clause-ok g c =
-    let all : c.loop-done._done ≡ c.args.count = omega arith in
-    subst (λ n. Writes (replicate n Step) c.args.core.now c.loop-done.core
-    (g.K.Sink.taken c.args.out.now) (g.K.Sink.taken c.loop-done.out) c.args.held.now c.loop-done.held)
-    all c.loop-done.invariant.run
