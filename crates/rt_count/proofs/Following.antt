@@ -1,11 +1,11 @@
 -- Runs that are counted on where others ended.
-use Rattle.std.proofs.Common.{◌≡◌, ℕ, ◌+◌, ◌<◌, ◌≤◌, List, [], ◌∷◌, ◌++◌, length, take, replicate, Option, Some, None}
+use Rattle.std.proofs.Common.{◌≡◌, ℕ, ◌+◌, ◌-◌, ◌<◌, ◌≤◌, List, [], ◌∷◌, ◌++◌, length, take, replicate, Option, Some, None}
 use Rattle.std.proofs.Common.{Bool, true, false, if◌then◌else◌, get_or, refl, ap, sym, subst, ◌∙◌, append_assoc, arith}
-use Rattle.std.proofs.lemmas.List.{append-nil, replicate_more}
+use Rattle.std.proofs.lemmas.List.{append-nil, replicate_more, replicate-append-replicate}
 use Rattle.rt_ids.specs.Event.{Event, Arrive, Tick, Step}
 use Rattle.rt_core.specs.Core.{reset}
 use Rattle.rt_core.specs.Machine.{Machine, IsFresh}
-use Rattle.rt_core.specs.Stepping.{step}
+use Rattle.rt_core.specs.Reaching.{StepsToItem}
 use Rattle.rt_core.specs.Trace.{happen, labels, trace}
 use Rattle.rt_script.specs.Script.{events, line_events, count_of}
 use Rattle.rt_script.specs.declared.line.Line.{Line}
@@ -18,10 +18,11 @@ use Rattle.rt_run.specs.Done.{Leads}
 use Rattle.rt_run.specs.Sending.{shown_items}
 use Rattle.rt_run.proofs.Advancing.{stands_still, leads_on, items_split}
 use Rattle.rt_run.proofs.Scripted.{events_more}
+use Rattle.rt_run.proofs.Reached.{reached_leads, reached_nothing, reached_item}
 use Rattle.rt_count.specs.Summary.{summary_of}
 use Rattle.rt_count.specs.Joining.{IsWithin}
 use Rattle.rt_count.specs.Inside.Adding.{counted}
-use Rattle.rt_count.specs.Inside.Counting.{Counted, event_of}
+use Rattle.rt_count.specs.Inside.Counting.{Counted}
 use Rattle.rt_count.specs.declared.summary.Summary.{Summary}
 use Rattle.rt_count.proofs.Items.{summary_push}
 
@@ -49,13 +50,6 @@ pub more : (n : ℕ) (e : Event) (a b c : Machine) (x y z : Summary) → Counted
 more n e a b c x y z first second =
     subst (λ es. Counted es a c x z) (replicate_more n e) (goes_on (replicate n e) (e ∷ []) a b c x y z first second)
 
--- the events of a line are equal
-pub line_is : (line : Line) → replicate (count_of line) (event_of line) ≡ line_events line
-line_is (Steps n) = refl
-line_is (Ticks n) = refl
-line_is (Pends irq n) = refl
-line_is (Device d irq n) = refl
-
 -- lines, one more behind some
 pub line_more : (script : List Line) (i : ℕ) (line : Line) → i < length script → line ≡ get_or script i line
     → (a b c : Machine) (x y z : Summary) → Counted (events (take i script)) a b x y
@@ -64,27 +58,34 @@ line_more script i line below is a b c x y z first second =
     subst (λ es. Counted es a c x z) (sym (events_more script i line below is))
     (goes_on (events (take i script)) (line_events line) a b c x y z first second)
 
--- a silent step
-pub step_silent : (a b : Machine) (s : Summary) (shown : Option What) → Leads (Step ∷ []) a b
-    → shown ≡ (step a.image a.core).1 → shown ≡ None → Counted (Step ∷ []) a b s s
-unfolding labels happen
-step_silent a b s shown run item none = record {
-  leads = run;
-  counts = λ runs items is.
-      is
-      ∙ ap (summary_of runs) (sym (append-nil items)
-      ∙ ap (λ (w : Option What). items ++ items_of a.steps (Stepped w ∷ [])) (sym (sym item ∙ none)));
-}
+-- equal events, some more of those that are left
+pub some_more : (count left now : ℕ) (e : Event) (a b c : Machine) (x y z : Summary) → left ≤ count → now ≤ left → Counted (replicate (count - left) e) a b x y
+    → Counted (replicate (left - now) e) b c y z → Counted (replicate (count - now) e) a c x z
+some_more count left now e a b c x y z within fewer first second =
+    subst (λ es. Counted es a c x z)
+    (replicate-append-replicate (count - left) (left - now) e
+    ∙ ap (λ n. replicate n e) (let same : count - left + (left - now) ≡ count - now = omega (arith, within, fewer) in same))
+    (goes_on (replicate (count - left) e) (replicate (left - now) e) a b c x y z first second)
 
--- and another, which shows an item
-pub step_shown : (a b : Machine) (s t : Summary) (shown : Option What) (w : What) → Leads (Step ∷ []) a b
-    → shown ≡ (step a.image a.core).1 → shown ≡ Some w → t ≡ counted s w → Counted (Step ∷ []) a b s t
-unfolding labels happen
-step_shown a b s t shown w run item some more = record {
-  leads = run;
+-- steps that show nothing
+pub steps_silent : (most : ℕ) (a b : Machine) (s : Summary) (shown : Option What) (goes : StepsToItem most a b shown) → shown ≡ None
+    → Counted (replicate (most - 0) Step) a b s s
+steps_silent most a b s shown goes none =
+    subst (λ n. Counted (replicate n Step) a b s s) (let all : goes.done ≡ most - 0 = omega (arith, goes.all none) in all)
+    (record {
+      leads = reached_leads most a b shown goes;
+      counts = λ runs items is.
+          is ∙ ap (summary_of runs) (sym (append-nil items) ∙ ap (λ more. items ++ more) (sym (reached_nothing most a b shown goes none)));
+    })
+
+-- and others, of which the last shows an item
+pub steps_shown : (most : ℕ) (a b : Machine) (s t : Summary) (shown : Option What) (w : What) (goes : StepsToItem most a b shown) → shown ≡ Some w
+    → t ≡ counted s w → Counted (replicate goes.done Step) a b s t
+steps_shown most a b s t shown w goes some more = record {
+  leads = reached_leads most a b shown goes;
   counts = λ runs items is.
-      more ∙ ap (λ (before : Summary). counted before w) is ∙ summary_push a.steps w items runs
-      ∙ ap (λ (v : Option What). summary_of runs (items ++ items_of a.steps (Stepped v ∷ []))) (sym (sym item ∙ some));
+      more ∙ ap (λ (before : Summary). counted before w) is ∙ summary_push (b.steps - 1) w items runs
+      ∙ ap (λ behind. summary_of runs (items ++ behind)) (sym (reached_item most a b shown w goes some));
 }
 
 -- a tick, and the alarm where it comes, count as nothing

@@ -1,12 +1,13 @@
-ghost use Rattle.std.specs.Prelude.{◌≡◌, ◌<◌, ◌+◌, ◌^◌, [], ◌∷◌};
-ghost use Rattle.rt_ids.specs.Event.{Arrive, Step};
+ghost use Rattle.std.specs.Prelude.{◌≡◌, ◌<◌, ◌+◌, ◌-◌, ◌^◌, [], ◌∷◌, replicate};
+ghost use Rattle.rt_ids.specs.Event.{Arrive, Tick, Step};
 ghost use Rattle.rt_ids.specs.declared.limits.TheConstants.{SCRIPT_EVENTS};
 ghost use Rattle.rt_core.specs.Machine.{IsFresh};
 ghost use Rattle.rt_core.specs.Trace.{trace};
 ghost use Rattle.rt_script.specs.Script.{IsScript, count_of, events, line_events};
 ghost use Rattle.rt_run.specs.Done.{Leads};
 ghost use Rattle.rt_count.specs.Summary.{summary_of};
-ghost use Rattle.rt_count.specs.Inside.Counting.{Counted, event_of};
+ghost use Rattle.rt_count.specs.declared.summary.Summary.{Summary as Counts};
+ghost use Rattle.rt_count.specs.Inside.Counting.{Counted};
 ghost use Rattle.rt_count.specs.Joining.{IsWithin};
 
 use crate::summary::Summary;
@@ -14,18 +15,36 @@ use rt_core::Core;
 use rt_ids::Irq;
 use rt_script::{Line, Script};
 
-/// One core step, and what it shows.
+/// Core steps up to the first that shows an item, at most so many, and what it shows. It answers how many of so many are
+/// left.
 #[inline(always)]
-fn count_step(core: &mut Core, summary: &mut Summary)
-    requires few { core.old.steps < 2 ^ 31 }
+fn count_to_item(core: &mut Core, most: u32, summary: &mut Summary) -> u32
+    requires few { core.old.steps + most < 2 ^ 31 }
+    requires some { 0 < most }
     requires within { IsWithin core.old.steps summary.old }
-    ensures counted { Counted (Step ∷ []) core.old core.new summary.old summary.new }
+    ensures fewer { result < most }
+    ensures counted { Counted (replicate (most - result) Step) core.old core.new summary.old summary.new }
     ensures within { IsWithin core.new.steps summary.new }
 {
-    let Some(what) = core.step() else {
-        return;
+    let before = core.steps();
+    let Some(what) = core.steps_to_item(most) else {
+        return 0;
     };
     summary.count(&what);
+    most - (core.steps() - before) as u32
+}
+
+/// So many core steps.
+fn count_steps(core: &mut Core, count: u32, summary: &mut Summary)
+    requires few { core.old.steps + count < 2 ^ 31 }
+    requires within { IsWithin core.old.steps summary.old }
+    ensures counted { Counted (replicate count Step) core.old core.new summary.old summary.new }
+    ensures within { IsWithin core.new.steps summary.new }
+{
+    let mut left = count;
+    while left > 0 {
+        left = count_to_item(core, left, summary);
+    }
 }
 
 /// One request of an interrupt, which is counted as nothing.
@@ -36,22 +55,25 @@ fn arrive(core: &mut Core, irq: Irq)
     core.arrive((number / 32) as u8, 1 << (number % 32));
 }
 
-/// One event of those that a line asks for.
-#[inline(always)]
-fn count_event(core: &mut Core, line: &Line, summary: &mut Summary)
-    requires few { core.old.steps < 2 ^ 31 }
-    requires early { core.old.core.time < 2 ^ 31 }
-    requires within { IsWithin core.old.steps summary.old }
-    ensures counted { Counted (event_of line.now ∷ []) core.old core.new summary.old summary.new }
-    ensures within { IsWithin core.new.steps summary.new }
+/// So many ticks, which are counted as nothing.
+fn tick_on(core: &mut Core, count: u32)
+    requires early { core.old.core.time + count < 2 ^ 31 }
+    ensures steps { core.new.steps ≡ core.old.steps }
+    ensures counted { (summary : Counts) → Counted (replicate count Tick) core.old core.new summary summary }
 {
-    match line {
-        Line::Steps(_) => count_step(core, summary),
-        Line::Ticks(_) => {
-            core.tick();
-        }
-        Line::Pends(irq, _) => arrive(core, *irq),
-        Line::Device(_, irq, _) => arrive(core, *irq),
+    for _done in 0..count {
+        core.tick();
+    }
+}
+
+/// So many requests of an interrupt, which are counted as nothing.
+fn arrive_on(core: &mut Core, irq: Irq, count: u32)
+    ensures steps { core.new.steps ≡ core.old.steps }
+    ensures counted { (summary : Counts)
+        → Counted (replicate count (Arrive irq)) core.old core.new summary summary }
+{
+    for _done in 0..count {
+        arrive(core, irq);
     }
 }
 
@@ -63,8 +85,11 @@ fn count_line(core: &mut Core, line: &Line, summary: &mut Summary)
     ensures counted { Counted (line_events line.now) core.old core.new summary.old summary.new }
     ensures within { IsWithin core.new.steps summary.new }
 {
-    for _done in 0..line.count() {
-        count_event(core, line, summary);
+    match line {
+        Line::Steps(count) => count_steps(core, *count, summary),
+        Line::Ticks(count) => tick_on(core, *count),
+        Line::Pends(irq, count) => arrive_on(core, *irq, *count),
+        Line::Device(_, irq, count) => arrive_on(core, *irq, *count),
     }
 }
 
