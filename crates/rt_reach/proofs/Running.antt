@@ -14,7 +14,7 @@ use Rattle.rt_core.specs.Core.{Core, reset}
 use Rattle.rt_core.specs.Stepping.{step}
 use Rattle.rt_core.specs.Trace.{core_after, labels}
 use Rattle.rt_core.specs.Transfer.{pended}
-use Rattle.rt_core.proofs.Happening.{happens_by_event}
+use Rattle.rt_core.proofs.Happening.{happens_by_event, core_after-append, labels-append}
 use Rattle.rt_laws.specs.State.{State, first}
 use Rattle.rt_laws.specs.Allowed.{May, after}
 use Rattle.rt_laws.specs.Run.{RunsOn}
@@ -24,7 +24,6 @@ use Rattle.rt_laws.proofs.Armings.{armings, first_armings}
 use Rattle.rt_laws.proofs.ByItems.{after_append}
 use Rattle.rt_laws.proofs.Fine.{Queued}
 use Rattle.rt_laws.proofs.Happens.{first_well}
-use Rattle.rt_run.proofs.Advancing.{core_after-append, labels-append}
 use Rattle.rt_sim.specs.Good.{AreDeclared}
 use Rattle.rt_sim.specs.Inside.Moment.{Moment}
 use Rattle.rt_sim.specs.Inside.States.{core_of, state_of}
