@@ -403,25 +403,6 @@ impl Core {
         self.go(came)
     }
 
-    /// Completes a core step that began at a code address.
-    #[inline(always)]
-    fn complete(&mut self, begun: Begun, came: Result<Request, Trap>, address: u32) -> Option<What>
-        requires entry { (irq : ℕ) → begun ≡ Begun.Entry irq
-            → option_map (λ row. row.number) (priority.pick self.old.image self.old.core) ≡ Some irq }
-        requires next { begun ≡ Begun.Asked → (row from : ℕ) → came ≡ Ok (request.Call row from)
-            → self.old.core.processor.address + 1 < 2 ^ 32 }
-        ensures settled { settle (left_of self.old.image self.old.core address begun came)
-            ≡ (self.new.core, result) }
-        ensures rest { self.new ≡ record self.old { core = self.new.core } }
-    {
-        match begun {
-            Begun::Silent => None,
-            Begun::Entry(irq) => self.take(irq),
-            Begun::Noted => self.tell(address),
-            Begun::Asked => self.conclude(came, address),
-        }
-    }
-
     /// Core steps up to the first that gives an item, at most as many as are left. It counts down those that are left,
     /// and leaves their number in the core as it was.
     #[inline(always)]
@@ -431,14 +412,28 @@ impl Core {
         ensures all { result ≡ None → left.new ≡ 0 }
         ensures rest { self.new ≡ record self.old { core = self.new.core } }
     {
-        let mut came = Ok(Request::Nothing);
         while *left > 0 {
             let address = self.registers.address;
+            let mut came = Ok(Request::Nothing);
             match self.begin(&mut came) {
                 Begun::Silent => *left -= 1,
-                begun => {
+                Begun::Entry(irq) => {
                     *left -= 1;
-                    let shown = self.complete(begun, came, address);
+                    let shown = self.take(irq);
+                    if shown.is_some() {
+                        return shown;
+                    }
+                }
+                Begun::Noted => {
+                    *left -= 1;
+                    let shown = self.tell(address);
+                    if shown.is_some() {
+                        return shown;
+                    }
+                }
+                Begun::Asked => {
+                    *left -= 1;
+                    let shown = self.conclude(came, address);
                     if shown.is_some() {
                         return shown;
                     }
