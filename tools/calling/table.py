@@ -11,7 +11,7 @@ HEAD = "| Call | Needs | Other answers, and their cause | Left |\n|---|---|---|-
 TELLING = ("Status", "Verdict", "Verified", "Pended", "Measure")
 FAILS = re.compile(r"\b(OnErr|IfErr|IsErr|IsErrOf|Err|Gives|HasCause|MatchResult)\b")
 SUCCEEDS = re.compile(r"^(OnOk|IfOk|OnSome|IfSome)\b")
-DECIDES = re.compile(r"\bresult\b.*(≡|↔)|(≡|↔).*\bresult\b|MatchOption|IsTrue result|IsFalse result|^YieldsFirst")
+DECIDES = re.compile(r"\bresult\b.*(≡|↔)|(≡|↔).*\bresult\b|MatchOption|IsTrue result|IsFalse result|^(YieldsFirst|StepsToItem)")
 # Calls of which no clause says what is left where memory is used up: each appends to what its caller then lets go.
 LEFT_UNSAID = {
     "rt_ids push_bytes", "rt_ids push_number", "rt_outside LineSink::take", "rt_gen_queue Lines::push",
