@@ -202,6 +202,7 @@ impl Core {
     }
 
     /// The item of a note, and None where a slot that it names is not in the frame.
+    #[inline(always)]
     fn shown_by(&self, note: Note) -> Option<What>
         ensures { result ≡ notes.shown_by self.now.image self.now.core note }
     {
