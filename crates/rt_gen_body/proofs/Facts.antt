@@ -1,6 +1,5 @@
 -- What is known of a body and of what its code is generated with.
-use Rattle.std.proofs.Common.{◌≡◌, ℕ, ◌^◌, ◌<◌, ◌≤◌, max, true, List, ◌∷◌, length, map}
-use Rattle.std.proofs.Common.{slice_index, subst, arith}
+use Rattle.std.proofs.Common.{◌≡◌, ℕ, ◌^◌, ◌<◌, ◌≤◌, max, true, List, ◌∷◌, length, map, slice_index, arith}
 use Rattle.rt_ids.specs.Lists.{greatest, or_zero}
 use Rattle.rt_ids.specs.Holder.{Guarded, Own}
 use Rattle.rt_ids.specs.Storage.{Storage, Runner, Starting, AtLevel}
@@ -13,8 +12,8 @@ use Rattle.rt_app.specs.Accepted.{IsAccepted}
 use Rattle.rt_app.specs.Bodies.{Member}
 use Rattle.rt_app.specs.Handlers.{irq_number}
 use Rattle.rt_app.specs.Sound.{IsReached, IsChangeable, IsSoundLock}
-use Rattle.rt_code.specs.Masking.{IsMask, IsKindFor, IsWithin, NobodyKeeps}
-use Rattle.rt_code.specs.Owning.{Kind, Held, owns, reads}
+use Rattle.rt_code.specs.Masking.{IsWithin, NobodyKeeps}
+use Rattle.rt_code.specs.Owning.{Held, owns, reads}
 use Rattle.rt_gen_body.specs.Inside.Values.{Context}
 use Rattle.rt_gen_body.specs.Inside.Blocks.{guard_at}
 use Rattle.rt_gen_body.proofs.Values.{OpenAre}
@@ -34,13 +33,6 @@ pub level_inside : (bits : ℕ) (st : Storage) (who : Runner) (held : List Held)
 level_inside bits st Starting held level h is = omega (arith, is)
 level_inside bits st (AtLevel p) held level h is = omega (arith, is)
 
-pub kind_asked : (bits : ℕ) (st : Storage) (who runner : Runner) (held : List Held) (level : ℕ) (x : Section)
-    (kind : Kind) → LevelIs bits st runner held level → IsNoStart runner
-    → IsMask st who (st.ceiling x) level kind → IsKindFor st who runner held x kind
-kind_asked bits st who Starting held level x kind is starts mask = absurd starts
-kind_asked bits st who (AtLevel p) held level x kind is starts mask =
-    subst (λ (l : ℕ). IsMask st who (st.ceiling x) l kind) is mask
-
 -- what a body may do, and what its code is generated with
 pub record Facts (st : Storage) (who : Runner) (app : App) (m : Member) (c : Context) : Type 0 where
   pub locals : c.locals ≡ length app.shared
@@ -49,15 +41,12 @@ pub record Facts (st : Storage) (who : Runner) (app : App) (m : Member) (c : Con
   pub numbers : (i : ℕ) → i < length app.irqs → slice_index c.numbers i ≡ or_zero (irq_number app i)
   pub resource_read : (held : List Held) (locked : List ℕ) (r : ℕ) → OpenAre held locked
       → IsReached app m locked (atom.Shared r) → reads st who held (Guarded (section.Res r)) ≡ true
-  pub local_read : (held : List Held) (locked : List ℕ) (n : ℕ) → IsReached app m locked (atom.Local n)
-      → reads st who held (Own n) ≡ true
   pub resource_owned : (held : List Held) (locked fixed : List ℕ) (r : ℕ) → OpenAre held locked
       → IsReached app m locked (atom.Shared r) → IsChangeable app m fixed (atom.Shared r)
       → owns st who held (Guarded (section.Res r)) ≡ true
   pub local_owned : (held : List Held) (locked : List ℕ) (n : ℕ) → IsReached app m locked (atom.Local n)
       → owns st who held (Own n) ≡ true
   pub starts_not : (locked : List ℕ) (r : ℕ) → IsSoundLock app m locked r → IsNoStart who
-  pub within : (locked : List ℕ) (r : ℕ) → IsSoundLock app m locked r → IsWithin st who who (section.Res r)
   pub shared : (locked : List ℕ) (r : ℕ) → IsSoundLock app m locked r → NobodyKeeps st who who (section.Res r)
   -- sections whose ceilings are at least the body's priority may be entered
   pub enters : (x : Section) → m.priority ≤ ceiling app x → IsWithin st who who x

@@ -1,4 +1,5 @@
--- The code of a body ends as it is fixed, and that of one that emits literals and pends interrupts alone is fixed whole.
+-- The code of a body ends as it is fixed, and that of one that emits literals and pends interrupts alone is fixed
+-- whole.
 use Rattle.std.proofs.Common.{◌≡◌, ℕ, ◌+◌, ◌==◌, Bool, true, false, List, [], ◌∷◌, ◌++◌, slice_index, Some, None, refl}
 use Rattle.std.proofs.Common.{ap, ◌∙◌, Option, arith, if◌then◌else◌}
 use Rattle.std.proofs.lemmas.Bool.{eqb-true}
@@ -32,24 +33,24 @@ no_variables app (Then (Pend irq) rest) lines is =
     omega (arith, no_variables app rest one.0 one.1)
 no_variables app (Then other rest) lines is = absurd (none-some lines is)
 
-module _ (app : App) (c : Context) (first : c.expressions ≡ 0)
-    (numbers : (irq : ℕ) → slice_index c.numbers irq ≡ or_zero (irq_number app irq)) where
-  block_fixed : (level lock at : ℕ) (b : Block) (lines : List Line) → fixed_block app b ≡ Some lines
+module _ (app : App) (c : Context)
+    (known : (c.expressions ≡ 0) × ((irq : ℕ) → slice_index c.numbers irq ≡ or_zero (irq_number app irq))) where
+  block_fixed : (level lock at : ℕ) (b : Block) {lines : List Line} → fixed_block app b ≡ Some lines
       → block_code c level lock at b ≡ lines
-  block_fixed level lock at Empty lines is = same_Some [] lines is
-  block_fixed level lock at (Then (Emit (Num value)) rest) lines is =
+  block_fixed level lock at Empty {lines = lines} is = same_Some [] lines is
+  block_fixed level lock at (Then (Emit (Num value)) rest) {lines = lines} is =
       let one = made_of (λ (more : List Line). plain (instr.Set 0 value) ∷ plain (instr.Emit 0) ∷ more)
       (fixed_block app rest) lines is in
-      ap (λ slot. plain (instr.Set slot value) ∷ plain (instr.Emit slot) ∷ block_code c level lock (at + 2) rest) first
+      ap (λ slot. plain (instr.Set slot value) ∷ plain (instr.Emit slot) ∷ block_code c level lock (at + 2) rest) known.0
       ∙ (ap (λ (more : List Line). plain (instr.Set 0 value) ∷ plain (instr.Emit 0) ∷ more)
-      (block_fixed level lock (at + 2) rest one.0 one.1) ∙ one.2)
-  block_fixed level lock at (Then (Pend irq) rest) lines is =
+      (block_fixed level lock (at + 2) rest one.1) ∙ one.2)
+  block_fixed level lock at (Then (Pend irq) rest) {lines = lines} is =
       let one = made_of (λ (more : List Line). plain (instr.Post (or_zero (irq_number app irq))) ∷ more)
       (fixed_block app rest) lines is in
-      ap (λ number. plain (instr.Post number) ∷ block_code c level lock (at + 1) rest) (numbers irq)
+      ap (λ number. plain (instr.Post number) ∷ block_code c level lock (at + 1) rest) (known.1 irq)
       ∙ (ap (λ (more : List Line). plain (instr.Post (or_zero (irq_number app irq))) ∷ more)
-      (block_fixed level lock (at + 1) rest one.0 one.1) ∙ one.2)
-  block_fixed level lock at (Then other rest) lines is = absurd (none-some lines is)
+      (block_fixed level lock (at + 1) rest one.1) ∙ one.2)
+  block_fixed level lock at (Then other rest) {lines = lines} is = absurd (none-some lines is)
 
 module _ (app : App) where
   blocks_fixed : (member : Option Member) (at : ℕ) (lines : List Line) → fixed_body app member ≡ Some lines
@@ -61,9 +62,8 @@ module _ (app : App) where
           → blocks_of app (Some m) at ≡ lines
       go true none fixed =
           let args : m.args ≡ 0 = eqb-true m.args 0 none in
-          block_fixed app (context_of app m) (omega (arith, args, no_variables app m.body.block lines fixed))
-          (λ irq. number_is app irq app.irqs) (level_of app m) (first_lock_slot m.args m.body) at m.body.block lines
-          fixed
+          block_fixed app (context_of app m) (omega (arith, args, no_variables app m.body.block lines fixed), λ irq. number_is app irq app.irqs)
+          (level_of app m) (first_lock_slot m.args m.body) at m.body.block fixed
       go false none fixed = absurd (none-some lines fixed)
 
   -- the code of each body

@@ -1,7 +1,6 @@
 -- How the code of a body comes about.
-use Rattle.std.proofs.Common.{zero, suc, ◌≡◌, refl, sym, ap, subst, ◌∙◌, ℕ, ◌+◌, ◌≤◌, ◌<◌}
-use Rattle.std.proofs.Common.{◌^◌, List, [], ◌++◌, length, map, slice_get, get_or, Option, Some, None, option_map}
-use Rattle.std.proofs.Common.{arith}
+use Rattle.std.proofs.Common.{zero, suc, ◌≡◌, refl, sym, ap, subst, ◌∙◌, ℕ, ◌+◌, ◌≤◌, ◌<◌, ◌^◌, List, [], ◌++◌, length}
+use Rattle.std.proofs.Common.{map, slice_get, get_or, Option, Some, None, option_map, arith}
 use Rattle.std.specs.List.{AllByRecursion, range_with_len}
 use Rattle.std.proofs.lemmas.List.{append-nil}
 use Rattle.std.proofs.lemmas.Simd.{map-map}
@@ -15,17 +14,8 @@ use Rattle.rt_app.specs.declared.app.Task as row
 use Rattle.rt_ids.specs.declared.ids.Section.TheVariants as section
 use Rattle.rt_app.specs.declared.plan.Plan.{Plan}
 use Rattle.rt_app.specs.Tree.{Task, App}
-use Rattle.rt_app.specs.BodyCost.{cost_measure, body_cost}
-use Rattle.rt_app.specs.Layout.{memory}
-use Rattle.rt_app.specs.Holding.{storage}
-use Rattle.rt_app.specs.Sending.{act}
-use Rattle.rt_app.specs.Doings.{nothing, task_doing}
-use Rattle.rt_ids.specs.Action.{Returns}
-use Rattle.rt_ids.specs.Storage.{AtLevel}
-use Rattle.rt_code.specs.Standing.{StandsFrom}
 use Rattle.rt_gen_queue.specs.Line.{Line}
 use Rattle.rt_gen_queue.specs.Guards.{guarded}
-use Rattle.rt_gen_queue.specs.Called.{row_for, CalledBodyStands}
 use Rattle.rt_gen_queue.specs.declared.guard.Guard.{Guard}
 use Rattle.rt_gen_body.specs.Bodies.{IsBodyOf, DeclaredStands, BodyStands}
 use Rattle.rt_gen_body.specs.Inside.Whole.{guards_of, blocks_of, code_of}
@@ -40,12 +30,8 @@ use Rattle.rt_app.specs.Limits.{KeepsTaskLimits}
 use Rattle.rt_app.specs.Accepted.{IsAccepted}
 use Rattle.rt_gen_body.specs.Inside.Lines.{Lines, Appends}
 use Rattle.rt_gen_body.specs.Inside.Generating.{slots_code}
-use Rattle.rt_gen_body.proofs.Promises.{init_stands, idle_stands, task_stands, called_stands}
-
--- what holds of each holds of the one at a place
-pub one_of : {X : Type 0} (P : X → Type 0) (xs : List X) (i : ℕ) (x : X) → AllByRecursion P xs → i < length xs
-    → x ≡ get_or xs i x → P x
-one_of P xs i x all within is = all_at P xs i x all (slice_get_read xs (length xs) i x refl within is)
+use Rattle.rt_gen_body.proofs.Promises.{BodyThere, of_task, between, init_stands, idle_stands, task_stands}
+use Rattle.rt_gen_body.proofs.Promises.{called_stands}
 
 -- a task of the code, as it stands among the tasks of the definitions
 pub task_there : (app : code.App) (items : List row.Task) (n : ℕ) (t : row.Task) → items ≡ app.tasks.items
@@ -58,11 +44,11 @@ pub task_limits : (app : code.App) → IsAccepted (app_of app) → (n : ℕ) (t 
     → slice_get (app_of app).tasks n ≡ Some (task_of t) → KeepsTaskLimits (task_of t)
 task_limits app accepted n t at = all_at KeepsTaskLimits (app_of app).tasks n (task_of t) accepted.limits.tasks at
 
-pub task_code : (app : code.App) (guards : List Guard) (id : BodyId) (n : ℕ) (t : row.Task) (at : ℕ)
+pub task_code : (app : code.App) (guards : List Guard) (id : BodyId) {n : ℕ} (t : row.Task) (at : ℕ)
     → guards ≡ guards_of (app_of app) → id ≡ body.Task n → slice_get (app_of app).tasks n ≡ Some (task_of t)
     → slots_code (app_of app) guards t.args t.priority (body_of t.body) at
     ≡ blocks_of (app_of app) (member_at (app_of app) id) at
-task_code app guards id n t at guarded is there =
+task_code app guards id {n = n} t at guarded is there =
     ap (λ (gs : List Guard). slots_code (app_of app) gs t.args t.priority (body_of t.body) at) guarded
     ∙ sym (ap (λ (o : Option Task). blocks_of (app_of app)
     (option_map (λ t. record { id = body.Task n; priority = t.priority; args = t.args; body = t.body }) o) at) there)
@@ -117,40 +103,31 @@ guards_are plan planned bits tops guards same is made =
     ∙ map-map (guarded app.bits) (λ r. ceiling app (section.Res r)) (range_with_len 0 (length app.shared))
 
 -- what is generated behind other code stands
-module _ (app : App) (accepted : IsAccepted app) (front : List Line) where
-  abbrev task_lines : ℕ → Option Task → List Line
-  task_lines n o =
-      front ++ code_of app (body.Task n)
-      (option_map (λ t. record { id = body.Task n; priority = t.priority; args = t.args; body = t.body }) o)
-      (length front)
-
+module _ {app : App} (accepted : IsAccepted app) (front : List Line) where
   task_of_code : (n : ℕ) (more : List Line)
-      → DeclaredStands app n (task_lines n (slice_get app.tasks n) ++ more) (length front)
+      → DeclaredStands app n ((front ++ code_of app (body.Task n) (member_at app (body.Task n)) (length front)) ++ more)
+      (length front)
   task_of_code n more = record {
-    bound = λ t at hardware bodies thread.
-        let short = frame_short t n at in
-        subst (λ (o : Option Task). StandsFrom (storage app) (task_lines n o ++ more) bodies thread (AtLevel t.priority)
-        (length (memory app)) (frame_words t.args t.body) (length front) (body_cost (cost_measure app) t.body)
-        (task_doing app n [] (act Returns nothing))) (sym at)
-        (task_stands app accepted (accepted_are_sound app accepted) front n t at hardware
-        (omega arith) more bodies thread);
-    called = λ t at software.
-        let short = frame_short t n at in
-        subst (λ (o : Option Task). CalledBodyStands app n (task_lines n o ++ more) (row_for (λ k. length front) n t))
-        (sym at)
-        (called_stands app accepted (accepted_are_sound app accepted) front n t at software
-        (omega arith) more);
+    bound = λ t is hardware.
+        task_stands accepted (accepted_are_sound app accepted) is (short t is) (there t is) hardware;
+    called = λ t is software.
+        called_stands accepted (accepted_are_sound app accepted) is (short t is) (there t is) software;
   }
     where
-      frame_short : (t : Task) (n : ℕ) → slice_get app.tasks n ≡ Some t → frame_words t.args t.body ≤ 1100
-      frame_short t n at =
-          let limits : KeepsTaskLimits t = all_at KeepsTaskLimits app.tasks n t accepted.limits.tasks at in
-          frame_few t.args t.body limits.body limits.args
+      short : (t : Task) → slice_get app.tasks n ≡ Some t → frame_words t.args t.body < 2 ^ 32
+      short t is =
+          let limits : KeepsTaskLimits t = all_at KeepsTaskLimits app.tasks n t accepted.limits.tasks is in
+          omega (arith, frame_few t.args t.body limits.body limits.args)
+
+      there : (t : Task) → slice_get app.tasks n ≡ Some t → BodyThere app (body.Task n) (Some (of_task n t))
+          ((front ++ code_of app (body.Task n) (member_at app (body.Task n)) (length front)) ++ more) (length front)
+      there t is =
+          subst (λ (o : Option Task). BodyThere app (body.Task n) (option_map (of_task n) o)
+          ((front ++ code_of app (body.Task n) (member_at app (body.Task n)) (length front)) ++ more) (length front)) is
+          (between app (body.Task n) (member_at app (body.Task n)) front more)
 
   pub generated_stands : (id : BodyId) → IsBodyOf app id
       → BodyStands app id (front ++ code_of app id (member_at app id) (length front)) (length front)
-  generated_stands body.Init of_app =
-      init_stands app accepted (accepted_are_sound app accepted) front app.init refl
-  generated_stands body.Idle of_app =
-      idle_stands app accepted (accepted_are_sound app accepted) front app.idle refl
+  generated_stands body.Init of_app = init_stands accepted (accepted_are_sound app accepted) front
+  generated_stands body.Idle of_app = idle_stands accepted (accepted_are_sound app accepted) front
   generated_stands (body.Task n) of_app = task_of_code n

@@ -1,12 +1,12 @@
 -- What goes once the values of a spawn are in its slots: the message, to the ready queue or to the timer queue, or what
 -- its handle takes back or puts to another instant. The code of each kind stands by the law of its kind.
-use Rattle.std.proofs.Common.{◌≡◌, ℕ, suc, ◌+◌, ◌*◌, ◌<◌, ◌≤◌, ◌&&◌, ◌||◌, true, false, Some, is_some, IsSome, List, []}
-use Rattle.std.proofs.Common.{◌∷◌, length, map, take, drop, slice_get, slice_index, refl, ap, sym, ◌∙◌, subst, inl}
-use Rattle.std.proofs.Common.{arith, if◌then◌else◌}
+use Rattle.std.proofs.Common.{◌≡◌, ℕ, suc, ◌+◌, ◌-◌, ◌*◌, ◌<◌, ◌≤◌, ◌&&◌, ◌||◌, true, false, Some, is_some, IsSome}
+use Rattle.std.proofs.Common.{List, [], ◌∷◌, length, map, take, drop, slice_get, slice_index, refl, ap, sym, ◌∙◌}
+use Rattle.std.proofs.Common.{subst, inl, inr, arith, if◌then◌else◌}
 use Rattle.std.specs.List.{AllByRecursion}
 use Rattle.std.proofs.lemmas.List.{drop_more}
 use Rattle.rt_lemmas.proofs.Membership.{all_weaker}
-use Rattle.rt_ids.specs.Lists.{greatest, is_some_and}
+use Rattle.rt_ids.specs.Lists.{is_some_and}
 use Rattle.rt_ids.specs.Holder.{Holder, is_same_section}
 use Rattle.rt_ids.specs.Content.{Values}
 use Rattle.rt_ids.specs.Entry.{Entry}
@@ -16,35 +16,35 @@ use Rattle.rt_ids.specs.declared.ids.Section.TheVariants as section
 use Rattle.rt_app.specs.declared.app.Mono.{Mono}
 use Rattle.rt_app.specs.declared.costs.TheConstants.{SPAWN_COST, SPAWN_AFTER_COST, MESSAGE_COST, HANDLE_COST}
 use Rattle.rt_app.specs.declared.costs.TheConstants.{HANDLE_MESSAGE_COST, TIMER_QUEUE_WORDS}
-use Rattle.rt_app.specs.Tree.{Expression, Spawn, Soon, After, Cancel, Move, Task, App}
-use Rattle.rt_app.specs.Bodies.{Member}
+use Rattle.rt_app.specs.Tree.{Spawn, Soon, After, Cancel, Move, Task, App}
 use Rattle.rt_app.specs.Ceiling.{ceiling}
 use Rattle.rt_app.specs.Level.{is_software, armed_messages}
-use Rattle.rt_app.specs.BodyCost.{cost_measure, timer_section_cost}
-use Rattle.rt_app.specs.Steps.{expressions_steps, spawn_steps}
-use Rattle.rt_app.specs.Frame.{depth, spawn_depth, spawn_words}
+use Rattle.rt_app.specs.BodyCost.{timer_section_cost}
+use Rattle.rt_app.specs.Frame.{spawn_depth, spawn_words}
+use Rattle.rt_app.specs.Meaning.{value_in}
 use Rattle.rt_app.specs.Sending.{Rest, spawn_actions}
-use Rattle.rt_app.specs.Layout.{memory}
 use Rattle.rt_app.specs.Holding.{storage}
-use Rattle.rt_app.specs.Accepted.{IsAccepted, AreMeant, IsSpawnPlaced}
-use Rattle.rt_app.specs.Sound.{AreReached, IsSoundSpawn}
-use Rattle.rt_code.specs.Owning.{Held, Spot, is_open, saved_slots, Agree, LeavesMine}
+use Rattle.rt_app.specs.Sound.{IsSoundSpawn}
+use Rattle.rt_app.specs.Accepted.{IsSpawnPlaced}
+use Rattle.rt_code.specs.Owning.{Held, is_open, saved_slots}
 use Rattle.rt_code.specs.Standing.{Stands}
-use Rattle.rt_code.specs.declared.image.BodyRow.{BodyRow}
+use Rattle.rt_code.specs.StandingLaws.{AreAtLeast}
+use Rattle.rt_code.proofs.Standing.{stands_with_more}
 use Rattle.rt_gen_queue.specs.Line.{Line, HasCode}
 use Rattle.rt_gen_queue.specs.SpawnCode.{spawn_code}
 use Rattle.rt_gen_queue.specs.Spawning.{HoldsOff, behind}
-use Rattle.rt_gen_queue.proofs.Facts.{few_arguments}
+use Rattle.rt_gen_queue.proofs.Layer.{Here, S, spot, left_at, lasts_left}
 use Rattle.rt_gen_queue.proofs.Whole.{spawn_stands}
 use Rattle.rt_gen_timer.specs.TimerCode.{after_code, cancel_code, move_code}
-use Rattle.rt_gen_timer.specs.TimerCalls.{MayUseTimer, MayUsePlaces, HasUsedTimer}
+use Rattle.rt_gen_timer.specs.TimerCalls.{MayUseTimer, MayUsePlaces, HasUsedTimer, StandsBefore}
 use Rattle.rt_gen_timer.proofs.Afters.{afters_stand}
 use Rattle.rt_gen_timer.proofs.Cancelling.{cancels_all_stand}
 use Rattle.rt_gen_timer.proofs.Moving.{moves_all_stand}
-use Rattle.rt_gen_body.specs.Inside.Values.{Context}
 use Rattle.rt_gen_body.specs.Inside.Simple.{values_of, is_timed, goes_code}
+use Rattle.rt_gen_body.proofs.Owning.{spelled_left}
 use Rattle.rt_gen_body.proofs.Values.{OpenAre}
-use Rattle.rt_gen_body.proofs.Facts.{LevelIs, Facts}
+use Rattle.rt_gen_body.proofs.Facts.{LevelIs}
+use Rattle.rt_gen_body.proofs.Places.{Body, Scope, listed_by, Begins, State, Settled, then_at}
 
 -- where resources alone are open, a queue is not
 not_open : (held : List Held) (locked : List ℕ) (x : Section) → ((r : ℕ) → is_same_section (section.Res r) x ≡ false)
@@ -56,7 +56,7 @@ not_open (h ∷ held) (r ∷ locked) x apart are =
     ap (λ y. is_same_section y x || is_open held x) are.0 ∙ ap (λ b. b || is_open held x) (apart r)
     ∙ not_open held locked x apart are.1
 
-pub holds_off : (app : App) (who : Runner) (held : List Held) (level : ℕ)
+holds_off : (app : App) (who : Runner) (held : List Held) (level : ℕ)
     → LevelIs app.bits (storage app) who held level
     → HoldsOff app who who held level
 unfolding storage
@@ -78,255 +78,215 @@ goes_steps app (After word delay n args place) = SPAWN_AFTER_COST + MESSAGE_COST
 goes_steps app (Cancel word n handle place) = HANDLE_COST + HANDLE_MESSAGE_COST * armed_messages app
 goes_steps app (Move word delay n handle place) = HANDLE_COST + HANDLE_MESSAGE_COST * armed_messages app
 
-pub steps_split : (app : App) (p : Spawn)
-    → spawn_steps (cost_measure app) p ≡ goes_steps app p + expressions_steps (values_of p)
-steps_split app (Soon n args place) = refl
-steps_split app (After word delay n args place) = omega arith
-steps_split app (Cancel word n handle place) = omega arith
-steps_split app (Move word delay n handle place) = omega arith
+-- What follows a spawn, by its answer, which is in the first slot of spawns.
+pub record Answered (b : Body) (p : Scope) (h : Here) (size cost : ℕ) (vars : List ℕ) (rest : ℕ → Rest) : Type 0 where
+  pub on : (answer : ℕ) (t : State) → t.done ≤ h.done + cost → slice_index t.slots b.c.spawns ≡ answer
+      → Settled b p.fixed p.visible h (record t { vars = vars })
+      → S b.z (then_at h (h.at + size) t (rest answer t.vs))
 
-pub values_deep : (p : Spawn) → greatest (map depth (values_of p)) ≤ spawn_depth p
-values_deep (Soon n args place) = omega arith
-values_deep (After word delay n args place) = omega arith
-values_deep (Cancel word n handle place) = omega arith
-values_deep (Move word delay n handle place) = omega arith
+-- what is left behind fewer steps is no less
+least_left : (done used steps : ℕ) (deadlines : List ℕ) → used ≤ steps
+    → AreAtLeast (left_at (done + steps) deadlines) (map (λ n. n - used) (left_at done deadlines))
+least_left done used steps [] less = tt
+least_left done used steps (d ∷ deadlines) less = (omega arith, least_left done used steps deadlines less)
 
-pub words_some : (p : Spawn) → 1 ≤ spawn_words p
-words_some (Soon n args place) = omega arith
-words_some (After word delay n args place) = omega arith
-words_some (Cancel word n handle place) = omega arith
-words_some (Move word delay n handle place) = omega arith
+-- a spawn that may go from here
+pub record SoundSpawn (b : Body) (p : Scope) (q : Spawn) : Type 0 where
+  pub deep : b.c.expressions + spawn_depth q ≤ b.top
+  pub words : b.c.spawns + spawn_words q ≤ b.words
+  pub sound : IsSoundSpawn b.z.app b.m p.locked q
+  pub placed : IsSpawnPlaced b.z.app (listed_by b.m) p.visible q
 
-module _ (app : App) (m : Member) (locked : List ℕ) where
-  pub values_reached : (p : Spawn) → IsSoundSpawn app m locked p
-      → AllByRecursion (AreReached app m locked) (values_of p)
-  values_reached (Soon n args place) sound = sound.1.reached
-  values_reached (After word delay n args place) sound = (sound.2, sound.1.reached)
-  values_reached (Cancel word n handle place) sound = (sound.1.reached, tt)
-  values_reached (Move word delay n handle place) sound = (sound.2, (sound.1.reached, tt))
+module _ {b : Body} {p : Scope} {h : Here} {vars : List ℕ} {vs : Values} (q : Spawn) (rest : ℕ → Rest)
+    (begins : Begins b p h (goes_code b.c p.level h.at q) (goes_steps b.z.app q) vars vs)
+    (on : Answered b p h (length (goes_code b.c p.level h.at q)) (goes_steps b.z.app q) vars rest) where
+  abbrev left : ℕ
+  left = h.until - h.done - goes_steps b.z.app q
 
-  pub values_few : IsAccepted app → (p : Spawn) → IsSoundSpawn app m locked p → length (values_of p) ≤ spawn_words p
-  values_few accepted (Soon n args place) sound =
-      let few = few_arguments app n sound.0
-      (record { accepted = accepted; at = sound.1.is_there; software = sound.1.software }) in
-      omega (arith, sound.1.arguments, few)
-  values_few accepted (After word delay n args place) sound =
-      let few = few_arguments app n sound.0
-      (record { accepted = accepted; at = sound.1.is_there; software = sound.1.software }) in
-      omega (arith, sound.1.arguments, few)
-  values_few accepted (Cancel word n handle place) sound = omega arith
-  values_few accepted (Move word delay n handle place) sound = omega arith
-
-pub values_meant : (app : App) (listed visible : List ℕ) (p : Spawn) → IsSpawnPlaced app listed visible p
-    → AllByRecursion (AreMeant app listed visible) (values_of p)
-values_meant app listed visible (Soon n args place) placed = placed.1
-values_meant app listed visible (After word delay n args place) placed = (placed.0, placed.2)
-values_meant app listed visible (Cancel word n handle place) placed = (placed.1, tt)
-values_meant app listed visible (Move word delay n handle place) placed = (placed.0, (placed.2, tt))
-
--- what goes may go from here: all memory is there, the slots from one on keep no mask, resources alone are open, and
--- there are the steps
-pub record MayGo (app : App) (who : Runner) (locked : List ℕ) (p : Spawn) (level slot : ℕ) (s : Spot) : Type 0 where
-  pub cells : length s.cells ≡ length (memory app)
-  pub frame : slot + spawn_words p ≤ length s.slots
-  pub masks : AllByRecursion (λ d. d < slot) (saved_slots s.held)
-  pub are : OpenAre s.held locked
-  pub off : HoldsOff app who who s.held level
-  pub enough : AllByRecursion (λ n. goes_steps app p ≤ n) s.lefts
-
--- Behind it the answer is in the first slot, the slots below, what the job may read, and its cells and queues are as
--- they were.
-pub record HasGone (app : App) (who : Runner) (p : Spawn) (slot : ℕ) (s : Spot) (vs : Values) (answer used : ℕ)
-    (slots cells : List ℕ) (queues : Holder → List Entry) (ws : Values) : Type 0 where
-  pub answered : slice_index slots slot ≡ answer
-  pub frame : length slots ≡ length s.slots
-  pub kept : (d : ℕ) → d < slot → slice_index slots d ≡ slice_index s.slots d
-  pub in_time : used ≤ goes_steps app p
-  pub own : LeavesMine (storage app) who s cells queues
-  pub agree : Agree (storage app) who s.held ws vs
-
-module _ (code : List Line) (bodies : List BodyRow) (thread : ℕ) (who : Runner) (app : App) (m : Member) (c : Context)
-    (facts : Facts (storage app) who app m c) where
-  abbrev GoesOn : Spawn → ℕ → ℕ → Spot → (ℕ → Rest) → Values → Type 0
-  GoesOn p level n s rest vs =
-      (answer used i : ℕ) (slots cells : List ℕ) (queues : Holder → List Entry) (ws : Values) → n ≤ i
-      → HasGone app who p c.spawns s vs answer used slots cells queues ws
-      → Stands (storage app) code bodies thread who i
-      (behind app who s (goes_code c level s.address p) used slots cells queues (rest answer) ws)
-
-  -- the code of what goes stands for its actions, where the code behind it stands for the rest
-  abbrev Goes : Spawn → Type 0
-  Goes p =
-      (locked : List ℕ) (level n k : ℕ) (s : Spot) (value : Expression → ℕ) (rest : ℕ → Rest) (vs : Values)
-      → IsSoundSpawn app m locked p → HasCode code s.address (goes_code c level s.address p)
-      → MayGo app who locked p level c.spawns s
-      → take (length (values_of p)) (drop c.spawns s.slots) ≡ map value (values_of p)
-      → s.rest ≡ spawn_actions app value p rest vs → GoesOn p level n s rest vs → goes_steps app p + n ≤ k
-      → Stands (storage app) code bodies thread who k s
-
-  -- other lines that are the same ones
-  same_behind : (i used : ℕ) (s : Spot) (these those : List Line) (slots cells : List ℕ) (queues : Holder → List Entry)
-      (rest : Rest) (ws : Values) → these ≡ those
-      → Stands (storage app) code bodies thread who i (behind app who s these used slots cells queues rest ws)
-      → Stands (storage app) code bodies thread who i (behind app who s those used slots cells queues rest ws)
-  same_behind i used s these those slots cells queues rest ws is stands =
-      subst (λ (lines : List Line). Stands (storage app) code bodies thread who i
-      (behind app who s lines used slots cells queues rest ws)) is stands
-
-  soon_goes : (task : ℕ) (args : List Expression) (place : ℕ) → Goes (Soon task args place)
-  soon_goes task args place locked level n k s value rest vs sound has may come is on fuel =
-      let t : Task = sound.0 in
-      let one = sound.1 in
-      let lines : List Line = spawn_code app task level c.spawns s.address in
-      let lines_are : goes_code c level s.address (Soon task args place) ≡ lines =
-      ap (λ (b : App). if is_some_and is_software (slice_get b.tasks task)
-      then spawn_code b task level c.spawns s.address else []) facts.of_app
-      ∙ ap (λ o. if is_some_and is_software o then lines else []) one.is_there
-      ∙ ap (λ b. if b then lines else []) one.software in
-      spawn_stands app task t code bodies thread who level c.spawns n k s value args place rest vs facts.accepted
-      one.is_there one.software (subst (λ (ls : List Line). HasCode code s.address ls) lines_are has)
+  -- what is behind a call stands, in as many steps as are left
+  went : {lines : List Line} {answer used i : ℕ} {slots cells : List ℕ} {queues : Holder → List Entry} {ws : Values}
+      → goes_code b.c p.level h.at q ≡ lines → left ≤ i
+      → HasUsedTimer b.z.app b.z.who (goes_steps b.z.app q) b.c.spawns (spot b.z h) vs answer used slots cells queues ws
+      → Stands (storage b.z.app) b.z.code b.z.bodies b.z.thread b.z.who i
+      (behind b.z.app b.z.who (spot b.z h) lines used slots cells queues (rest answer) ws)
+  went {answer = answer} {used = used} {i = i} {slots = slots} {cells = cells} {queues = queues} {ws = ws} lines_are
+      less gone =
+      let steps : ℕ = goes_steps b.z.app q in
+      let t : State = record {
+        done = h.done + steps;
+        slots = slots;
+        cells = cells;
+        vars = vars;
+        queues = queues;
+        vs = ws;
+      } in
+      let h2 : Here = then_at h (h.at + length (goes_code b.c p.level h.at q)) t (rest answer ws) in
+      let same : (x : ℕ) → x < p.count → slice_index slots x ≡ slice_index h.slots x =
+      λ x low. gone.kept x (inl (omega (arith, begins.inside.room, b.floor, b.masks))) in
+      subst (λ (ls : List Line). Stands (storage b.z.app) b.z.code b.z.bodies b.z.thread b.z.who i
+      (behind b.z.app b.z.who (spot b.z h) ls used slots cells queues (rest answer) ws)) lines_are
+      (stands_with_more (storage b.z.app) b.z.bodies b.z.thread b.z.who b.z.code (h.until - (h.done + steps)) i
+      (spot b.z h2) (map (λ n. n - used) (left_at h.done h.deadlines)) (omega arith)
+      (least_left h.done used steps h.deadlines gone.in_time)
+      (on.on answer t (omega arith) gone.answered.1
       (record {
-        cells = may.cells;
-        frame = may.frame;
-        masks = may.masks;
-        closed = (
-          not_open s.held locked (section.Free task) (λ r. refl) may.are,
-          not_open s.held locked (section.Ready t.priority) (λ r. refl) may.are,
-        );
-        within = (facts.enters (section.Free task) one.within, facts.enters (section.Ready t.priority) sound.2);
-        off = may.off;
-        steps = may.enough;
-      }) fuel (ap (λ count. take count (drop c.spawns s.slots)) (sym one.arguments) ∙ come) is
-      (λ granted used i slots cells queues ws less spawned.
-      same_behind i used s (goes_code c level s.address (Soon task args place)) lines slots cells queues (rest granted)
-      ws lines_are
-      (on granted used i slots cells queues ws less
-      (record {
-        answered = spawned.answer.1;
-        frame = spawned.frame;
-        kept = λ d below. spawned.kept d (inl below);
-        in_time = spawned.steps;
-        own = spawned.own;
-        agree = spawned.agree;
-      })))
+        known = record {
+          in_slots = λ x here. same x (begins.inside.below x here) ∙ begins.known.in_slots x here;
+          in_cells = spelled_left (spot b.z h) gone.own gone.agree begins.known.in_cells;
+          long = gone.own.long ∙ begins.known.long;
+          frame = gone.frame ∙ begins.known.frame;
+          variables = begins.known.variables;
+        };
+        kept = λ x here. same x (begins.inside.fixed x here);
+      })).stands)
 
-  -- there is code for the timer queue of a software task, where there is a monotonic
-  timed_code : (lines : App → List Line) (n : ℕ) (t : Task) (mono : Mono) → app.mono ≡ Some mono
-      → slice_get app.tasks n ≡ Some t → is_software t ≡ true → (if is_timed c n then lines c.app else []) ≡ lines app
-  timed_code lines n t mono timed there software =
-      ap (λ (b : App). if is_some b.mono && is_some_and is_software (slice_get b.tasks n) then lines b else [])
-      facts.of_app
-      ∙ ap (λ o. if is_some o && is_some_and is_software (slice_get app.tasks n) then lines app else []) timed
-      ∙ ap (λ o. if is_some_and is_software o then lines app else []) there
-      ∙ ap (λ b. if b then lines app else []) software
+  -- no slot of a spawn keeps a mask
+  below_spawns : AllByRecursion (λ d. d < b.c.spawns) (saved_slots h.held)
+  below_spawns =
+      all_weaker (λ d. (b.top ≤ d) × (d < p.lock)) (λ d. d < b.c.spawns)
+      (λ d between. omega (arith, between.1, begins.inside.high)) (saved_slots h.held) begins.inside.saved
 
-  timed_is : (mono : Mono) → app.mono ≡ Some mono → IsSome app.mono
-  timed_is mono timed = subst (λ o. IsSome o) (sym timed) refl
+  off : HoldsOff b.z.app b.z.who b.z.who h.held p.level
+  off = holds_off b.z.app b.z.who h.held p.level begins.inside.level_is
 
-  -- what is behind a use of the timer queue
-  used_gone : (p : Spawn) (steps : ℕ) (s : Spot) (vs : Values) (answer used : ℕ) (slots cells : List ℕ)
-      (queues : Holder → List Entry) (ws : Values) → steps ≤ goes_steps app p
-      → HasUsedTimer app who steps c.spawns s vs answer used slots cells queues ws
-      → HasGone app who p c.spawns s vs answer used slots cells queues ws
-  used_gone p steps s vs answer used slots cells queues ws within done = record {
-    answered = done.answered.1;
-    frame = done.frame;
-    kept = λ d below. done.kept d (inl below);
-    in_time = omega (arith, done.in_time);
-    own = done.own;
-    agree = done.agree;
-  }
+  -- its lines are in the code
+  lines_there : {lines : List Line} → goes_code b.c p.level h.at q ≡ lines → HasCode b.z.code h.at lines
+  lines_there lines_are = subst (λ (ls : List Line). HasCode b.z.code h.at ls) lines_are begins.has
 
   -- it may use the timer queue, and the places of a task
-  may_use : (steps : ℕ) (p : Spawn) (locked : List ℕ) (level : ℕ) (s : Spot) → steps ≤ goes_steps app p
-      → spawn_words p ≡ TIMER_QUEUE_WORDS → m.priority ≤ ceiling app section.Timer
-      → MayGo app who locked p level c.spawns s → MayUseTimer app who steps level c.spawns s
-  may_use steps p locked level s few words within may = record {
-    cells = may.cells;
-    frame = omega (arith, may.frame, words);
-    masks = may.masks;
-    closed = not_open s.held locked section.Timer (λ r. refl) may.are;
-    within = facts.enters section.Timer within;
-    off = may.off;
-    enough = all_weaker (λ n. goes_steps app p ≤ n) (λ n. steps ≤ n) (λ n enough. omega arith) s.lefts may.enough;
+  may_use : b.c.spawns + TIMER_QUEUE_WORDS ≤ b.words → b.m.priority ≤ ceiling b.z.app section.Timer
+      → MayUseTimer b.z.app b.z.who (goes_steps b.z.app q) p.level b.c.spawns (spot b.z h)
+  may_use words within = record {
+    cells = begins.known.long;
+    frame = omega (arith, begins.known.frame);
+    masks = below_spawns;
+    closed = not_open h.held p.locked section.Timer (λ r. refl) begins.inside.are;
+    within = b.facts.enters section.Timer within;
+    off = off;
+    enough = lasts_left h.done (goes_steps b.z.app q) h.deadlines begins.time.1;
   }
 
-  may_take : (task : ℕ) (locked : List ℕ) (s : Spot) → m.priority ≤ ceiling app (section.Free task)
-      → OpenAre s.held locked → MayUsePlaces app who task s
-  may_take task locked s within are = record {
-    closed = not_open s.held locked (section.Free task) (λ r. refl) are;
-    within = facts.enters (section.Free task) within;
+  may_take : (task : ℕ) → b.m.priority ≤ ceiling b.z.app (section.Free task)
+      → MayUsePlaces b.z.app b.z.who task (spot b.z h)
+  may_take task within = record {
+    closed = not_open h.held p.locked (section.Free task) (λ r. refl) begins.inside.are;
+    within = b.facts.enters (section.Free task) within;
   }
 
-  after_goes : (word : ℕ) (delay : Expression) (task : ℕ) (args : List Expression) (place : ℕ)
-      → Goes (After word delay task args place)
-  after_goes word delay task args place locked level n k s value rest vs sound has may come is on fuel =
-      let p : Spawn = After word delay task args place in
-      let t : Task = sound.0 in
-      let one = sound.1 in
-      let steps : ℕ = SPAWN_AFTER_COST + MESSAGE_COST * armed_messages app in
-      let lines : List Line = after_code app task level c.spawns s.address in
-      let lines_are : goes_code c level s.address p ≡ lines =
-      timed_code (λ b. after_code b task level c.spawns s.address) task t sound.4.0 sound.4.1 one.is_there
-      one.software in
-      let values = first_value (length args) c.spawns (value delay) s.slots (map value args) (omega (arith, may.frame))
-      come in
-      afters_stand app task t code bodies thread who level c.spawns n (timer_section_cost app) (value delay) s
-      (map value args) rest vs facts.accepted (timed_is sound.4.0 sound.4.1) one.is_there one.software sound.3
-      (inl refl) (subst (λ (ls : List Line). HasCode code s.address ls) lines_are has)
-      (may_use steps p locked level s (omega arith) refl sound.5 may)
-      (may_take task locked s one.within may.are) values.0
-      (ap (λ count. take count (drop (c.spawns + 1) s.slots)) (sym one.arguments) ∙ values.1) is
-      (λ answer used i slots cells queues ws less done.
-      same_behind i used s (goes_code c level s.address p) lines slots cells queues (rest answer) ws lines_are
-      (on answer used i slots cells queues ws less
-      (used_gone p steps s vs answer used slots cells queues ws (omega arith) done))) k fuel
+  -- so it goes, where its code stands before what is behind it
+  by_law : {lines : List Line} → goes_code b.c p.level h.at q ≡ lines
+      → StandsBefore b.z.app b.z.who b.z.code b.z.bodies b.z.thread (goes_steps b.z.app q) b.c.spawns lines rest left
+      (spot b.z h) vs → S b.z h
+  by_law lines_are law = record {
+    stands = law (λ answer used i slots cells queues ws less gone. went lines_are less gone) (h.until - h.done)
+        (omega (arith, begins.time.0));
+  }
 
-  cancel_goes : (word task : ℕ) (handle : Expression) (place : ℕ) → Goes (Cancel word task handle place)
-  cancel_goes word task handle place locked level n k s value rest vs sound has may come is on fuel =
-      let p : Spawn = Cancel word task handle place in
-      let t : Task = sound.0 in
-      let one = sound.1 in
-      let steps : ℕ = HANDLE_COST + HANDLE_MESSAGE_COST * armed_messages app in
-      let lines : List Line = cancel_code app task level c.spawns s.address in
-      let lines_are : goes_code c level s.address p ≡ lines =
-      timed_code (λ b. cancel_code b task level c.spawns s.address) task t one.timed.0 one.timed.1 one.is_there
-      one.software in
-      let values = first_value 0 c.spawns (value handle) s.slots [] (omega (arith, may.frame)) come in
-      cancels_all_stand app task t code bodies thread who level c.spawns n (value handle) s rest vs facts.accepted
-      (timed_is one.timed.0 one.timed.1) one.is_there one.software
-      (subst (λ (ls : List Line). HasCode code s.address ls) lines_are has)
-      (may_use steps p locked level s (omega arith) refl one.within may)
-      (may_take task locked s sound.2 may.are) values.0 is
-      (λ answer used i slots cells queues ws less done.
-      same_behind i used s (goes_code c level s.address p) lines slots cells queues (rest answer) ws lines_are
-      (on answer used i slots cells queues ws less
-      (used_gone p steps s vs answer used slots cells queues ws (omega arith) done))) k fuel
+-- there is code for the timer queue of a software task, where there is a monotonic
+timed_code : (b : Body) (lines : App → List Line) (n : ℕ) (t : Task) (mono : Mono) → b.z.app.mono ≡ Some mono
+    → slice_get b.z.app.tasks n ≡ Some t → is_software t ≡ true
+    → (if is_timed b.c n then lines b.c.app else []) ≡ lines b.z.app
+timed_code b lines n t mono timed there software =
+    ap (λ (a : App). if is_some a.mono && is_some_and is_software (slice_get a.tasks n) then lines a else [])
+    b.facts.of_app
+    ∙ ap (λ o. if is_some o && is_some_and is_software (slice_get b.z.app.tasks n) then lines b.z.app else []) timed
+    ∙ ap (λ o. if is_some_and is_software o then lines b.z.app else []) there
+    ∙ ap (λ c. if c then lines b.z.app else []) software
 
-  move_goes : (word : ℕ) (delay : Expression) (task : ℕ) (handle : Expression) (place : ℕ)
-      → Goes (Move word delay task handle place)
-  move_goes word delay task handle place locked level n k s value rest vs sound has may come is on fuel =
-      let p : Spawn = Move word delay task handle place in
-      let t : Task = sound.0 in
-      let one = sound.1 in
-      let steps : ℕ = HANDLE_COST + HANDLE_MESSAGE_COST * armed_messages app in
-      let lines : List Line = move_code app task level c.spawns s.address in
-      let lines_are : goes_code c level s.address p ≡ lines =
-      timed_code (λ b. move_code b task level c.spawns s.address) task t one.timed.0 one.timed.1 one.is_there
-      one.software in
-      let values = first_value 1 c.spawns (value delay) s.slots (value handle ∷ []) (omega (arith, may.frame)) come in
-      let second = first_value 0 (c.spawns + 1) (value handle) s.slots [] (omega (arith, may.frame)) values.1 in
-      moves_all_stand app task t code bodies thread who level c.spawns n (value delay) (value handle) s rest vs
-      facts.accepted (timed_is one.timed.0 one.timed.1) one.is_there one.software
-      (subst (λ (ls : List Line). HasCode code s.address ls) lines_are has)
-      (may_use steps p locked level s (omega arith) refl one.within may) values.0 second.0 is
-      (λ answer used i slots cells queues ws less done.
-      same_behind i used s (goes_code c level s.address p) lines slots cells queues (rest answer) ws lines_are
-      (on answer used i slots cells queues ws less
-      (used_gone p steps s vs answer used slots cells queues ws (omega arith) done))) k fuel
+timed_is : (app : App) (mono : Mono) → app.mono ≡ Some mono → IsSome app.mono
+timed_is app mono timed = subst (λ o. IsSome o) (sym timed) refl
 
-  pub goes : (p : Spawn) → Goes p
-  goes (Soon task args place) = soon_goes task args place
-  goes (After word delay task args place) = after_goes word delay task args place
-  goes (Cancel word task handle place) = cancel_goes word task handle place
-  goes (Move word delay task handle place) = move_goes word delay task handle place
+-- the code of what goes does its actions, once the values are in their slots
+pub goes_on : {b : Body} {p : Scope} {h : Here} {vars : List ℕ} {vs : Values} (q : Spawn) (rest : ℕ → Rest)
+    → SoundSpawn b p q → Begins b p h (goes_code b.c p.level h.at q) (goes_steps b.z.app q) vars vs
+    → take (length (values_of q)) (drop b.c.spawns h.slots) ≡ map (value_in vars vs) (values_of q)
+    → h.rest ≡ spawn_actions b.z.app (value_in vars vs) q rest vs
+    → Answered b p h (length (goes_code b.c p.level h.at q)) (goes_steps b.z.app q) vars rest → S b.z h
+goes_on {b = b} {p = p} {h = h} {vars = vars} {vs = vs} (Soon task args place) rest sound begins come is on =
+    let q : Spawn = Soon task args place in
+    let t : Task = sound.sound.0 in
+    let one = sound.sound.1 in
+    let lines : List Line = spawn_code b.z.app task p.level b.c.spawns h.at in
+    let lines_are : goes_code b.c p.level h.at q ≡ lines =
+    ap (λ (a : App). if is_some_and is_software (slice_get a.tasks task)
+    then spawn_code a task p.level b.c.spawns h.at else []) b.facts.of_app
+    ∙ ap (λ o. if is_some_and is_software o then lines else []) one.is_there
+    ∙ ap (λ c. if c then lines else []) one.software in
+    by_law q rest begins on lines_are
+    (λ behind k fuel.
+    spawn_stands b.z.app task t b.z.code b.z.bodies b.z.thread b.z.who p.level b.c.spawns (left q rest begins on) k
+    (spot b.z h) (value_in vars vs) args place rest vs b.facts.accepted one.is_there one.software
+    (lines_there q rest begins on lines_are)
+    (record {
+      cells = begins.known.long;
+      frame = omega (arith, sound.words, begins.known.frame);
+      masks = below_spawns q rest begins on;
+      closed = (
+        not_open h.held p.locked (section.Free task) (λ r. refl) begins.inside.are,
+        not_open h.held p.locked (section.Ready t.priority) (λ r. refl) begins.inside.are,
+      );
+      within = (
+        b.facts.enters (section.Free task) one.within,
+        b.facts.enters (section.Ready t.priority) sound.sound.2,
+      );
+      off = off q rest begins on;
+      steps = lasts_left h.done SPAWN_COST h.deadlines begins.time.1;
+    }) fuel (ap (λ count. take count (drop b.c.spawns h.slots)) (sym one.arguments) ∙ come) is
+    (λ granted used i slots cells queues ws less gone.
+    behind granted used i slots cells queues ws less
+    (record {
+      answered = (omega (arith, gone.answer.0), gone.answer.1);
+      frame = gone.frame;
+      kept = λ d. elim [
+        | inl below ↦ gone.kept d (inl below)
+        | inr above ↦ gone.kept d (inr (omega arith))
+      ];
+      in_time = gone.steps;
+      own = gone.own;
+      agree = gone.agree;
+    })))
+goes_on {b = b} {p = p} {h = h} {vars = vars} {vs = vs} (After word delay task args place) rest sound begins come is
+    on =
+    let q : Spawn = After word delay task args place in
+    let s = sound.sound in
+    let one = s.1 in
+    let lines_are = timed_code b (λ a. after_code a task p.level b.c.spawns h.at) task s.0 s.4.0 s.4.1 one.is_there
+    one.software in
+    let values = first_value (length args) b.c.spawns (value_in vars vs delay) h.slots (map (value_in vars vs) args)
+    (omega (arith, sound.words, begins.known.frame)) come in
+    by_law q rest begins on lines_are
+    (afters_stand b.z.app task s.0 b.z.code b.z.bodies b.z.thread b.z.who p.level b.c.spawns (left q rest begins on)
+    (timer_section_cost b.z.app) (value_in vars vs delay) (spot b.z h) (map (value_in vars vs) args) rest vs
+    b.facts.accepted (timed_is b.z.app s.4.0 s.4.1) one.is_there one.software s.3 (inl refl)
+    (lines_there q rest begins on lines_are) (may_use q rest begins on sound.words s.5)
+    (may_take q rest begins on task one.within) values.0
+    (ap (λ count. take count (drop (b.c.spawns + 1) h.slots)) (sym one.arguments) ∙ values.1) is)
+goes_on {b = b} {p = p} {h = h} {vars = vars} {vs = vs} (Cancel word task handle place) rest sound begins come is on =
+    let q : Spawn = Cancel word task handle place in
+    let s = sound.sound in
+    let one = s.1 in
+    let lines_are = timed_code b (λ a. cancel_code a task p.level b.c.spawns h.at) task s.0 one.timed.0 one.timed.1
+    one.is_there one.software in
+    let values = first_value 0 b.c.spawns (value_in vars vs handle) h.slots []
+    (omega (arith, sound.words, begins.known.frame)) come in
+    by_law q rest begins on lines_are
+    (cancels_all_stand b.z.app task s.0 b.z.code b.z.bodies b.z.thread b.z.who p.level b.c.spawns
+    (left q rest begins on) (value_in vars vs handle) (spot b.z h) rest vs b.facts.accepted
+    (timed_is b.z.app one.timed.0 one.timed.1) one.is_there one.software (lines_there q rest begins on lines_are)
+    (may_use q rest begins on sound.words one.within) (may_take q rest begins on task s.2) values.0 is)
+goes_on {b = b} {p = p} {h = h} {vars = vars} {vs = vs} (Move word delay task handle place) rest sound begins come is
+    on =
+    let q : Spawn = Move word delay task handle place in
+    let s = sound.sound in
+    let one = s.1 in
+    let lines_are = timed_code b (λ a. move_code a task p.level b.c.spawns h.at) task s.0 one.timed.0 one.timed.1
+    one.is_there one.software in
+    let values = first_value 1 b.c.spawns (value_in vars vs delay) h.slots (value_in vars vs handle ∷ [])
+    (omega (arith, sound.words, begins.known.frame)) come in
+    let second = first_value 0 (b.c.spawns + 1) (value_in vars vs handle) h.slots []
+    (omega (arith, sound.words, begins.known.frame)) values.1 in
+    by_law q rest begins on lines_are
+    (moves_all_stand b.z.app task s.0 b.z.code b.z.bodies b.z.thread b.z.who p.level b.c.spawns
+    (left q rest begins on) (value_in vars vs delay) (value_in vars vs handle) (spot b.z h) rest vs b.facts.accepted
+    (timed_is b.z.app one.timed.0 one.timed.1) one.is_there one.software (lines_there q rest begins on lines_are)
+    (may_use q rest begins on sound.words one.within) values.0 second.0 is)

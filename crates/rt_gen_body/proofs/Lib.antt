@@ -1,12 +1,10 @@
-pub mod Spots
-pub mod Steps
-pub mod Instructions
 pub mod Ends
 pub mod Owning
 pub mod Expressions
 pub mod Values
 pub mod Facts
-pub mod Settled
+pub mod Places
+pub mod Rooms
 pub mod Simple
 pub mod Loops
 pub mod Sections
@@ -15,6 +13,7 @@ pub mod Sending
 pub mod Branches
 pub mod Blocks
 pub mod Storing
+pub mod Keeping
 pub mod Whole
 pub mod Promises
 pub mod Stored
@@ -23,4 +22,3 @@ pub mod Generated
 pub mod Nameable
 pub mod Forms
 pub mod Sizes
-pub mod Appended

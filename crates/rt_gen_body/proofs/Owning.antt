@@ -1,49 +1,164 @@
--- How a storage keeps resources: each in a cell of its own, which spells its value.
-use Rattle.std.proofs.Common.{◌≡◌, ℕ, ◌+◌, ◌<◌, ◌≤◌, true, List, slice_index, Contains}
-use Rattle.rt_ids.specs.Holder.{Guarded, Own}
-use Rattle.rt_ids.specs.Content.{Content, Number, Values}
+-- How an application keeps resources, each in a cell of its own that spells its value, and what is known of values as
+-- code goes on: a resource that may be read has the value that is in its cell.
+use Rattle.std.proofs.Common.{◌≡◌, ◌≢◌, ℕ, ◌+◌, ◌<◌, ◌||◌, Bool, true, false, if◌then◌else◌, List, [], ◌∷◌, length}
+use Rattle.std.proofs.Common.{slice_index, slice_set, refl, ap, sym, ◌∙◌, subst, arith, get_or-set_same}
+use Rattle.std.proofs.Common.{get_or-set_other, ◌⊎◌, inl, inr}
+use Rattle.std.proofs.lemmas.Bool.{eqb-true, eq-eqb}
+use Rattle.rt_ids.specs.Holder.{Holder, Guarded, Own, is_same_holder}
+use Rattle.rt_ids.specs.Content.{Content, Number, number, Values, put_at}
 use Rattle.rt_ids.specs.Entry.{Entry}
-use Rattle.rt_ids.specs.Storage.{Storage, Runner, At}
+use Rattle.rt_ids.specs.Storage.{Home, At}
 use Rattle.rt_ids.specs.declared.ids.Section.TheVariants as section
-use Rattle.rt_code.specs.Owning.{Held, reads}
-use Rattle.rt_app.specs.declared.expr.Atom.{Atom}
-use Rattle.rt_app.specs.declared.expr.Atom.TheVariants as atom
-use Rattle.rt_app.specs.Tree.{Expression, Num, Read, Oper}
+use Rattle.rt_app.specs.Tree.{App}
+use Rattle.rt_app.specs.Layout.{memory}
+use Rattle.rt_app.specs.Holding.{storage}
+use Rattle.rt_app.proofs.Laid.{long_enough, resource_is_home, local_is_home}
+use Rattle.rt_code.specs.Masking.{TakesOver}
+use Rattle.rt_code.specs.Owning.{Held, Spot, is_open, owns, reads, MayLoad, MayStore, Agree, LeavesMine}
+use Rattle.rt_code.proofs.Mine.{one_section, same_section, reads_more}
+use Rattle.rt_gen_queue.proofs.Layer.{Setting, Here, spot, Reads, Writes}
 
--- so many shared resources, and behind them so many local ones, of so many cells
-pub record LaysOut (st : Storage) (shared locals memory : ℕ) : Type 0 where
-  pub room : shared + locals ≤ memory
-  pub resource_home : (r : ℕ) → r < shared → st.home r ≡ At (Guarded (section.Res r))
-  pub local_home : (n : ℕ) → n < locals → st.home (shared + n) ≡ At (Own n)
-  pub of_resource : (r : ℕ) (cells : ℕ → ℕ) (entries : List Entry) (content : Content)
-      → st.Spells (Guarded (section.Res r)) cells entries content → content ≡ Number (cells r)
-  pub for_resource : (r : ℕ) (cells : ℕ → ℕ) (entries : List Entry) (content : Content) → r < shared
-      → content ≡ Number (cells r) → st.Spells (Guarded (section.Res r)) cells entries content
-  pub of_local : (n : ℕ) (cells : ℕ → ℕ) (entries : List Entry) (content : Content)
-      → st.Spells (Own n) cells entries content → content ≡ Number (cells (shared + n))
-  pub for_local : (n : ℕ) (cells : ℕ → ℕ) (entries : List Entry) (content : Content) → n < locals
-      → content ≡ Number (cells (shared + n)) → st.Spells (Own n) cells entries content
+-- what holds something has a cell that spells it
+pub record HasCell (app : App) (holder : Holder) (cell : ℕ) : Type 0 where
+  pub home : (storage app).home cell ≡ At holder
+  pub there : cell < length (memory app)
+  pub of : (cells : ℕ → ℕ) (entries : List Entry) (content : Content)
+      → (storage app).Spells holder cells entries content → content ≡ Number (cells cell)
+  pub for : (cells : ℕ → ℕ) (entries : List Entry) (content : Content) → content ≡ Number (cells cell)
+      → (storage app).Spells holder cells entries content
 
-module _ (st : Storage) (who : Runner) (shared locals : ℕ) where
-  -- with these sections open, each resource that may be read has the value that is in its cell
-  pub record IsSpelled (held : List Held) (cells : List ℕ) (vs : Values) : Type 0 where
-    pub resource : (r : ℕ) → r < shared → reads st who held (Guarded (section.Res r)) ≡ true
-        → vs (Guarded (section.Res r)) ≡ Number (slice_index cells r)
-    pub own : (n : ℕ) → n < locals → reads st who held (Own n) ≡ true
-        → vs (Own n) ≡ Number (slice_index cells (shared + n))
+pub resource_cell : (app : App) (r : ℕ) → r < length app.shared → HasCell app (Guarded (section.Res r)) r
+unfolding storage
+resource_cell app r within = record {
+  home = resource_is_home app r within;
+  there = omega (arith, long_enough app);
+  of = λ cells entries content spells. spells.1;
+  for = λ cells entries content is. (within, is);
+}
 
-  -- a name may be read: a variable in scope, below a slot, or a resource
-  abbrev pub IsReadable : List Held → List ℕ → ℕ → Atom → Type 0
-  IsReadable held visible floor (atom.Var x) = Contains visible x × (x < floor)
-  IsReadable held visible floor (atom.Shared r) = (r < shared) × (reads st who held (Guarded (section.Res r)) ≡ true)
-  IsReadable held visible floor (atom.Local n) = (n < locals) × (reads st who held (Own n) ≡ true)
+pub local_cell : (app : App) (n : ℕ) → n < length app.locals → HasCell app (Own n) (length app.shared + n)
+unfolding storage
+local_cell app n within = record {
+  home = local_is_home app n within;
+  there = omega (arith, long_enough app);
+  of = λ cells entries content spells. spells.1;
+  for = λ cells entries content is. (within, is);
+}
 
-  abbrev pub AreReadable : List Held → List ℕ → ℕ → Expression → Type 0
-  AreReadable held visible floor (Num n) = Unit {0}
-  AreReadable held visible floor (Read x at) = IsReadable held visible floor x
-  AreReadable held visible floor (Oper o left right) =
-      AreReadable held visible floor left × AreReadable held visible floor right
+one_holder : (a b : Holder) → is_same_holder a b ≡ true → a ≡ b
+one_holder (Guarded a) (Guarded b) is = ap Guarded (one_section a b is)
+one_holder (Own a) (Own b) is = ap Own (eqb-true a b is)
+one_holder a b is = absurd cc
 
--- variables in scope have the values that are in their slots
-abbrev pub InSlots : List ℕ → List ℕ → List ℕ → Type 0
-InSlots visible slots vars = (x : ℕ) → Contains visible x → slice_index slots x ≡ slice_index vars x
+same_holder : (a : Holder) → is_same_holder a a ≡ true
+same_holder (Guarded x) = same_section x
+same_holder (Own n) = eq-eqb n n refl
+
+same_or_other : (a b : Holder) → ((a ≡ b) × (is_same_holder a b ≡ true)) ⊎ (is_same_holder a b ≡ false)
+same_or_other a b = go (is_same_holder a b) refl
+  where
+    go : (c : Bool) → is_same_holder a b ≡ c → ((a ≡ b) × (is_same_holder a b ≡ true)) ⊎ (is_same_holder a b ≡ false)
+    go true is = inl (one_holder a b is, is)
+    go false is = inr is
+
+-- each holder has one cell, and another holder has another
+one_cell : {app : App} {holder : Holder} {cell other : ℕ} → HasCell app holder cell → HasCell app holder other
+    → cell ≡ other
+one_cell {cell = cell} one two =
+    ap number (two.of (λ k. k) [] (Number cell) (one.for (λ k. k) [] (Number cell) refl))
+
+abbrev holder_of : Holder → Home → Holder
+holder_of none (At h) = h
+holder_of none home = none
+
+other_cell : {app : App} {one two : Holder} {cell other : ℕ} → HasCell app one cell → HasCell app two other
+    → is_same_holder one two ≡ false → other ≢ cell
+other_cell {app = app} {one = one} {two = two} first second differ same =
+    let e : At two ≡ At one = sym second.home ∙ ap (storage app).home same ∙ first.home in
+    let holder : two ≡ one = ap (holder_of one) e in
+    cc (ap (is_same_holder one) holder ∙ same_holder one, differ)
+
+-- With these sections open, what may be read has the value that is in its cell.
+pub record IsSpelled (z : Setting) (held : List Held) (cells : List ℕ) (vs : Values) : Type 0 where
+  pub has : {holder : Holder} {cell : ℕ} → HasCell z.app holder cell
+      → reads (storage z.app) z.who held holder ≡ true → vs holder ≡ Number (slice_index cells cell)
+
+may_load : (z : Setting) {holder : Holder} {cell : ℕ} (s : Spot) → HasCell z.app holder cell
+    → reads (storage z.app) z.who s.held holder ≡ true → MayLoad (storage z.app) z.who s ((storage z.app).home cell)
+may_load z s has may = subst (λ (home : Home). MayLoad (storage z.app) z.who s home) (sym has.home) may
+
+reads_fewer : (z : Setting) (h : Held) (held : List Held) (holder : Holder)
+    → is_same_holder (Guarded h.section) holder ≡ false
+    → reads (storage z.app) z.who (h ∷ held) holder ≡ true → reads (storage z.app) z.who held holder ≡ true
+reads_fewer z h held (Guarded y) other may =
+    sym (ap (λ b. ((b || is_open held y) || (storage z.app).is_kept z.who (Guarded y))
+    || (storage z.app).is_constant z.who (Guarded y)) other) ∙ may
+reads_fewer z h held (Own n) other may = may
+
+module _ {z : Setting} where
+  pub reads_cell : {h : Here} {holder : Holder} {cell : ℕ} {vs : Values} → HasCell z.app holder cell
+      → reads (storage z.app) z.who h.held holder ≡ true → length h.cells ≡ length (memory z.app)
+      → IsSpelled z h.held h.cells vs → Reads z h cell (number (vs holder))
+  reads_cell {h = h} has may long known = record {
+    may = may_load z (spot z h) has may;
+    there = omega (arith, has.there);
+    is = sym (ap number (known.has has may));
+  }
+
+  pub writes_cell : {h : Here} {holder : Holder} {cell : ℕ} → HasCell z.app holder cell
+      → owns (storage z.app) z.who h.held holder ≡ true → length h.cells ≡ length (memory z.app) → Writes z h cell
+  writes_cell {h = h} has may long = record {
+    may = subst (λ (home : Home). MayStore (storage z.app) z.who (spot z h) home) (sym has.home) may;
+    there = omega (arith, has.there);
+  }
+
+  -- values that agree in what may be read
+  pub spelled_agreed : {held : List Held} {cells : List ℕ} {vs ws : Values}
+      → Agree (storage z.app) z.who held vs ws → IsSpelled z held cells ws → IsSpelled z held cells vs
+  spelled_agreed agree known = record { has = λ {holder} has may. agree holder may ∙ known.has has may }
+
+  -- with fewer sections open less is known
+  pub spelled_outside : {held : List Held} {cells : List ℕ} {vs : Values} (h : Held)
+      → IsSpelled z (h ∷ held) cells vs → IsSpelled z held cells vs
+  spelled_outside {held = held} h known = record {
+    has = λ {holder} has may. known.has has (reads_more (storage z.app) z.who h held holder may);
+  }
+
+  -- memory and queues as others left them spell what they spelled, where the job may read
+  pub spelled_left : (s : Spot) {vs ws : Values} {cells : List ℕ} {queues : Holder → List Entry}
+      → LeavesMine (storage z.app) z.who s cells queues → Agree (storage z.app) z.who s.held ws vs
+      → IsSpelled z s.held s.cells vs → IsSpelled z s.held cells ws
+  spelled_left s left agree known = record {
+    has = λ {holder} {cell} has may. agree holder may ∙ known.has has may
+        ∙ ap Number (sym (left.touched cell (may_load z s has may)));
+  }
+
+  -- a section that is entered adds what it guards
+  pub spelled_inside : (h : Held) (s : Spot) {values vs : Values} {cells : List ℕ} {queues : Holder → List Entry}
+      → TakesOver (storage z.app) z.who h.section s values vs cells queues → IsSpelled z s.held s.cells values
+      → IsSpelled z (h ∷ s.held) cells vs
+  spelled_inside h s {vs = vs} {cells = cells} {queues = queues} taken known = record {
+    has = λ {holder} {cell} has may.
+        elim (same_or_other (Guarded h.section) holder) [
+          | inl same ↦ has.of (slice_index cells) (queues holder) (vs holder)
+              (subst (λ (k : Holder). (storage z.app).Spells k (slice_index cells) (queues k) (vs k)) same.0 taken.spelled)
+          | inr other ↦
+              (spelled_left s taken.same taken.agree known).has has (reads_fewer z h s.held holder other may)
+        ];
+  }
+
+  -- what is kept in a cell gets a new value
+  pub spelled_put : {held : List Held} {cells : List ℕ} {vs : Values} {holder : Holder} {cell : ℕ} (v : ℕ)
+      → HasCell z.app holder cell → length cells ≡ length (memory z.app) → IsSpelled z held cells vs
+      → IsSpelled z held (slice_set cells cell v) (put_at vs holder (Number v))
+  spelled_put {cells = cells} {vs = vs} {holder = holder} {cell = cell} v has long known = record {
+    has = λ {holder = other} {cell = place} at may.
+        elim (same_or_other holder other) [
+          | inl same ↦ ap (λ b. if b then Number v else vs other) same.1
+              ∙ ap Number (sym (get_or-set_same cells cell v 0 (omega (arith, has.there))))
+              ∙ ap (λ k. Number (slice_index (slice_set cells cell v) k))
+              (one_cell has (subst (λ (k : Holder). HasCell z.app k place) (sym same.0) at))
+          | inr apart ↦ ap (λ b. if b then Number v else vs other) apart ∙ known.has at may
+              ∙ ap Number (sym (get_or-set_other cells cell place v 0 (other_cell has at apart)))
+        ];
+  }

@@ -1,18 +1,16 @@
 -- The code of a body is no longer than the rule on sizes counts for it.
 use Rattle.std.proofs.Common.{◌≡◌, ℕ, zero, suc, ◌+◌, ◌≤◌, max, Bool, true, false, if◌then◌else◌, Option, Some, None}
-use Rattle.std.proofs.Common.{option_map, is_some, List, [], ◌∷◌, ◌++◌}
-use Rattle.std.proofs.Common.{length, slice_get, sum_by, refl, ap, subst, arith, length-append}
-use Rattle.std.proofs.lemmas.List.Sums.{sum_by-cons, sum_by-append}
+use Rattle.std.proofs.Common.{option_map, is_some, List, [], ◌∷◌, ◌++◌, length, slice_get, sum_by, refl, ap, subst}
+use Rattle.std.proofs.Common.{arith, length-append}
+use Rattle.std.proofs.lemmas.List.Sums.{sum_by-cons}
 use Rattle.std.proofs.lemmas.Option.{none-some, same_Some}
-use Rattle.rt_ids.specs.declared.limits.TheConstants.{CODE_SIZE}
 use Rattle.rt_ids.specs.declared.ids.BodyId.{BodyId}
 use Rattle.rt_ids.specs.declared.ids.BodyId.TheVariants as body
-use Rattle.rt_ids.specs.declared.ids.Section.TheVariants as section
 use Rattle.rt_app.specs.Tree.{Expression, Num, Read, Oper, Spawn, Soon, After, Cancel, Move, Calc, Now, Call, Body}
 use Rattle.rt_app.specs.Tree.{Task, App}
 use Rattle.rt_app.specs.Tree.{Statement, Bind, Assign, Branch, Repeat, Locked, Emit, Pend, Spawns, Block, Empty, Then}
 use Rattle.rt_app.specs.Accepted.{IsAccepted}
-use Rattle.rt_app.specs.Bodies.{Member, thread_members, task_members, members, member_at, body_at}
+use Rattle.rt_app.specs.Bodies.{Member, members, member_at, body_at}
 use Rattle.rt_app.specs.BodyCost.{size_measure, body_cost, cost_of}
 use Rattle.rt_app.specs.Frame.{first_lock_slot, first_spawn_slot}
 use Rattle.rt_app.specs.Steps.{expression_steps, expressions_steps, spawn_steps, statement_steps, block_steps}
@@ -25,17 +23,16 @@ use Rattle.rt_app.proofs.Members.{has_body}
 use Rattle.rt_app.proofs.Sound.{accepted_are_sound}
 use Rattle.rt_code.specs.declared.instr.Instr.TheVariants as instr
 use Rattle.rt_gen_queue.specs.Line.{Line, plain}
-use Rattle.rt_gen_queue.specs.Guards.{leave_line}
 use Rattle.rt_gen_queue.specs.SpawnCode.{spawn_code}
 use Rattle.rt_gen_body.specs.Inside.Values.{Context, next_slot, expression_code, value_code, arguments_code}
 use Rattle.rt_gen_timer.specs.TimerCode.{after_code, cancel_code, move_code}
-use Rattle.rt_gen_timer.proofs.Generated.{spawned, after_short}
+use Rattle.rt_gen_queue.proofs.Named.{spawned}
+use Rattle.rt_gen_timer.proofs.Generated.{after_short}
 use Rattle.rt_gen_body.specs.Inside.Simple.{is_timed, message_code, delayed_code, cancelled_code, moved_code}
-use Rattle.rt_gen_body.specs.Inside.Simple.{values_of, goes_code, send_code}
-use Rattle.rt_gen_body.specs.Inside.Blocks.{guard_at, branch_code, loop_back, statement_code, block_code}
-use Rattle.rt_gen_body.specs.Form.{end_line}
-use Rattle.rt_gen_body.specs.Inside.Whole.{context_of, level_of, blocks_of, code_of}
-use Rattle.rt_gen_queue.proofs.Facts.{Spawned, arguments, few_arguments}
+use Rattle.rt_gen_body.specs.Inside.Simple.{values_of, values_code, goes_code, send_code}
+use Rattle.rt_gen_body.specs.Inside.Blocks.{guard_at, branch_code, statement_code, block_code}
+use Rattle.rt_gen_body.specs.Inside.Whole.{context_of, level_of, code_of}
+use Rattle.rt_gen_queue.proofs.Facts.{arguments, few_arguments}
 use Rattle.rt_gen_queue.proofs.Placing.{spawn_long}
 
 -- a spawn's own lines are few, and so are those of a `spawn_after`, a `cancel` and a `reschedule_after`
@@ -63,25 +60,17 @@ few_delayed app m accepted level at task =
 
 few_messages : (app : App) (m : Member) → IsAccepted app → (level at task : ℕ)
     → length (message_code (context_of app m) level at task) ≤ SPAWN_COST
-few_messages app m accepted level at task = go (slice_get app.tasks task) refl
-  where
-    go : (o : Option Task) → slice_get app.tasks task ≡ o
-        → length (if is_some_and is_software o
-        then spawn_code app task level (first_spawn_slot m.args m.body) at else []) ≤ SPAWN_COST
-    go None is = omega arith
-    go (Some t) is = one (is_software t) refl
-      where
-        one : (b : Bool) → is_software t ≡ b
-            → length (if b then spawn_code app task level (first_spawn_slot m.args m.body) at else []) ≤ SPAWN_COST
-        one false software = omega arith
-        one true software =
-            let spawned : Spawned app task t = record { accepted = accepted; at = is; software = software } in
-            omega (
-              arith,
-              spawn_long app task level (first_spawn_slot m.args m.body) at,
-              arguments app task t spawned,
-              few_arguments app task t spawned,
-            )
+few_messages app m accepted level at task =
+    length_if (is_some_and is_software (slice_get app.tasks task))
+    (spawn_code app task level (first_spawn_slot m.args m.body) at) SPAWN_COST
+    (λ software.
+    let one = spawned app task accepted software in
+    omega (
+      arith,
+      spawn_long app task level (first_spawn_slot m.args m.body) at,
+      arguments app task one.0 one.1,
+      few_arguments app task one.0 one.1,
+    ))
 
 pub has_few : (app : App) (m : Member) → IsAccepted app → HasFewLines (context_of app m)
 has_few app m accepted = record {
@@ -93,6 +82,13 @@ has_few app m accepted = record {
       (move_code app task level (first_spawn_slot m.args m.body) at) HANDLE_COST (λ timed. omega arith);
 }
 
+branch_size : (c : Context) (at : ℕ) (first second : ℕ → List Line) (b : Block) {m n : ℕ} → ((a : ℕ) → length (first a) ≤ m)
+    → ((a : ℕ) → length (second a) ≤ n)
+    → length (branch_code c at first second b) ≤ 2 + (m + n)
+branch_size c at first second Empty {m = m} {n = n} one two = let few = one (at + 1) in omega arith
+branch_size c at first second (Then s rest) {m = m} {n = n} one two =
+    simp length-append (omega (arith, one (at + 1), two (at + 1 + length (first (at + 1)) + 1)))
+
 module _ (app : App) (c : Context) (few_lines : HasFewLines c) where
   abbrev size : Block → ℕ
   size b = block_steps (size_measure app) b
@@ -101,15 +97,8 @@ module _ (app : App) (c : Context) (few_lines : HasFewLines c) where
   expression_size (Num n) slot free = refl
   expression_size (Read x at) slot free = refl
   expression_size (Oper o left right) slot free =
-      let second : List Line = expression_code c right free (next_slot free) in
-      let last : List Line = plain (instr.Calc o slot slot free) ∷ [] in
-      omega (
-        arith,
-        length-append (expression_code c left slot free) (second ++ last),
-        length-append second last,
-        expression_size left slot free,
-        expression_size right free (next_slot free),
-      )
+      simp length-append
+      (omega (arith, expression_size left slot free, expression_size right free (next_slot free)))
 
   value_size : (e : Expression) → length (value_code c e) ≡ expression_steps e
   value_size e = expression_size e c.expressions (next_slot c.expressions)
@@ -120,13 +109,8 @@ module _ (app : App) (c : Context) (few_lines : HasFewLines c) where
   arguments_size : (es : List Expression) (slot : ℕ) → length (arguments_code c es slot) ≡ expressions_steps es
   arguments_size [] slot = refl
   arguments_size (e ∷ es) slot =
-      let rest : List Line = arguments_code c es (next_slot slot) in
-      omega (
-        arith,
-        length-append (expression_code c e slot c.expressions) rest,
-        expression_size e slot c.expressions,
-        arguments_size es (next_slot slot),
-      )
+      simp length-append
+      (omega (arith, expression_size e slot c.expressions, arguments_size es (next_slot slot)))
 
   -- what goes behind the values
   goes_size : (s : Spawn) (level at : ℕ)
@@ -138,23 +122,8 @@ module _ (app : App) (c : Context) (few_lines : HasFewLines c) where
 
   send_size : (s : Spawn) (level at : ℕ) → length (send_code c level at s) ≤ spawn_steps (size_measure app) s
   send_size s level at =
-      let front : List Line = arguments_code c (values_of s) c.spawns in
-      omega (
-        arith,
-        length-append front (goes_code c level (at + length front) s),
-        arguments_size (values_of s) c.spawns,
-        goes_size s level (at + length front),
-      )
-
-  branch_size : (at : ℕ) (first second : ℕ → List Line) (b : Block) (m n : ℕ) → ((a : ℕ) → length (first a) ≤ m)
-      → ((a : ℕ) → length (second a) ≤ n)
-      → length (branch_code c at first second b) ≤ 2 + (m + n)
-  branch_size at first second Empty m n one two = let few = one (at + 1) in omega arith
-  branch_size at first second (Then s rest) m n one two =
-      let then_code : List Line = first (at + 1) in
-      let else_at : ℕ = at + 1 + length then_code + 1 in
-      let over : Line = plain (instr.Jump (else_at + length (second else_at))) in
-      omega (arith, length-append then_code (over ∷ second else_at), one (at + 1), two else_at)
+      simp length-append
+      (omega (arith, arguments_size (values_of s) c.spawns, goes_size s level (at + length (values_code c s))))
 
   mutual
     statement_size : (s : Statement) (level lock at : ℕ)
@@ -165,29 +134,16 @@ module _ (app : App) (c : Context) (few_lines : HasFewLines c) where
         omega (arith, length-append (send_code c level at s) (plain (instr.Copy x c.spawns) ∷ []), send_size s level at)
     statement_size (Assign x e place) level lock at = valued e _
     statement_size (Branch e first second) level lock at =
-        let test : List Line = value_code c e in
-        let choice : List Line =
-        branch_code c (at + length test) (λ a. block_code c level lock a first)
-        (λ a. block_code c level lock a second) second in
-        let few : length choice ≤ 2 + (size first + size second) =
-        branch_size (at + length test) (λ a. block_code c level lock a first)
-        (λ a. block_code c level lock a second) second (size first) (size second)
+        let few =
+        branch_size c (at + length (value_code c e)) (λ a. block_code c level lock a first)
+        (λ a. block_code c level lock a second) second
         (λ a. block_size first level lock a) (λ a. block_size second level lock a) in
-        omega (arith, length-append test choice, value_size e)
+        simp length-append (omega (arith, few, value_size e))
     statement_size (Repeat x first last turn) level lock at =
-        omega (
-          arith,
-          length-append (block_code c level lock (at + 4) turn) (loop_back c x (at + 1)),
-          block_size turn level lock (at + 4),
-        )
+        simp length-append (omega (arith, block_size turn level lock (at + 4)))
     statement_size (Locked r inner place) level lock at =
-        let inside : ℕ = max level (guard_at c r).ceiling in
-        let last : List Line = leave_line (section.Res r) (guard_at c r) level lock ∷ [] in
-        omega (
-          arith,
-          length-append (block_code c inside (next_slot lock) (at + 1) inner) last,
-          block_size inner inside (next_slot lock) (at + 1),
-        )
+        simp length-append
+        (omega (arith, block_size inner (max level (guard_at c r).ceiling) (next_slot lock) (at + 1)))
     statement_size (Emit e) level lock at = valued e _
     statement_size (Pend i) level lock at = omega arith
     statement_size (Spawns s) level lock at = send_size s level at
@@ -196,13 +152,11 @@ module _ (app : App) (c : Context) (few_lines : HasFewLines c) where
         → length (block_code c level lock at b) ≤ block_steps (size_measure app) b
     block_size Empty level lock at = omega arith
     block_size (Then s rest) level lock at =
-        let first : List Line = statement_code c level lock at s in
-        omega (
+        simp length-append (omega (
           arith,
-          length-append first (block_code c level lock (at + length first) rest),
           statement_size s level lock at,
-          block_size rest level lock (at + length first),
-        )
+          block_size rest level lock (at + length (statement_code c level lock at s)),
+        ))
 
 -- one of some numbers is at most their sum
 sum_has : {X : Type 0} (f : X → ℕ) (xs : List X) (i : ℕ) (x : X) → slice_get xs i ≡ Some x → f x ≤ sum_by f xs
@@ -225,14 +179,12 @@ module _ (app : App) (accepted : IsAccepted app) where
       → length (code_of app id o entry) ≤ cost_of (size_measure app) (option_map (λ m. m.body) o)
   short id None entry is = omega arith
   short id (Some m) entry is =
-      let blocks : List Line = blocks_of app (Some m) entry in
-      omega (
+      simp length-append (omega (
         arith,
-        length-append blocks (end_line app id entry ∷ []),
         block_size app (context_of app m) (has_few app m accepted) m.body.block (level_of app m)
             (first_lock_slot m.args m.body) entry,
         uncapped id m is,
-      )
+      ))
 
   -- the body of a member is the body
   thread_body : (id : BodyId) (o : Option Body)
@@ -258,40 +210,3 @@ module _ (app : App) (accepted : IsAccepted app) where
   code_short id entry =
       subst (λ (o : Option Body). length (code_of app id (member_at app id) entry) ≤ cost_of (size_measure app) o)
       (body_is id) (short id (member_at app id) entry refl)
-
-  abbrev size_of : Member → ℕ
-  size_of m = body_cost (size_measure app) m.body
-
-  -- what `init` and `idle` take, of which one that is not declared is no member
-  thread_size : (id : BodyId) (o : Option Body)
-      → cost_of (size_measure app) o ≤ sum_by size_of (thread_members id o) + 1
-  thread_size id None = omega arith
-  thread_size id (Some b) = omega arith
-
-  tasks_size : (n : ℕ) (ts : List Task)
-      → sum_by size_of (task_members n ts) ≡ sum_by (λ t. body_cost (size_measure app) t.body) ts
-  tasks_size n [] = refl
-  tasks_size n (t ∷ ts) =
-      let m : Member = record { id = body.Task n; priority = t.priority; args = t.args; body = t.body } in
-      omega (
-        arith,
-        sum_by-cons size_of m (task_members (n + 1) ts),
-        sum_by-cons (λ (t : Task). body_cost (size_measure app) t.body) t ts,
-        tasks_size (n + 1) ts,
-      )
-
-  -- the code of all bodies, of `init` and `idle` whether they are declared or not, is within the limit
-  pub all_fit : cost_of (size_measure app) app.init + cost_of (size_measure app) app.idle
-      + sum_by (λ t. body_cost (size_measure app) t.body) app.tasks ≤ CODE_SIZE
-  all_fit =
-      let idle : List Member = thread_members body.Idle app.idle in
-      let tasks : List Member = task_members 0 app.tasks in
-      let all = (accepted_are_sound app accepted).size in
-      omega (
-        arith,
-        sum_by-append size_of (thread_members body.Init app.init) (idle ++ tasks),
-        sum_by-append size_of idle tasks,
-        thread_size body.Init app.init,
-        thread_size body.Idle app.idle,
-        tasks_size 0 app.tasks,
-      )

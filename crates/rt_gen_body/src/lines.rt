@@ -109,7 +109,8 @@ impl Lines {
             generator.spawns,
             entry,
             &mut self.lines,
-        )
+        )?;
+        Ok(())
     }
 
     /// The lines of the `spawn_after` of a software task, whose delay and arguments stand in the slots from one on, at a
@@ -135,7 +136,8 @@ impl Lines {
             generator.spawns,
             entry,
             &mut self.lines,
-        )
+        )?;
+        Ok(())
     }
 
     /// The lines of the `cancel` of a message of a software task, whose handle stands in a slot, at a static level.
@@ -160,7 +162,8 @@ impl Lines {
             generator.spawns,
             entry,
             &mut self.lines,
-        )
+        )?;
+        Ok(())
     }
 
     /// The lines of the `reschedule_after` of a message of a software task, whose delay and handle stand in the slots
@@ -186,6 +189,7 @@ impl Lines {
             generator.spawns,
             entry,
             &mut self.lines,
-        )
+        )?;
+        Ok(())
     }
 }

@@ -144,6 +144,7 @@ impl<'a> Generator<'a> {
             (simple.send_code (context self.now) level (next_address code.old) (spawn_of spawn.now))) }
     {
         self.values(spawn, code)?;
-        self.goes(level, spawn, code)
+        self.goes(level, spawn, code)?;
+        Ok(())
     }
 }

@@ -139,7 +139,8 @@ impl<'a> Generator<'a> {
         code.push_noted(
             guard.closing(level, lock),
             Note::Leave(Section::Res(resource)),
-        )
+        )?;
+        Ok(())
     }
 
     /// The lines before a loop's turns, up to the jump that ends it.

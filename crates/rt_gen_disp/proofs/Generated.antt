@@ -1,15 +1,13 @@
 -- How the code of a dispatcher comes about.
-use Rattle.std.proofs.Common.{◌≡◌, ℕ, zero, suc, ◌+◌, ◌<◌, ◌≤◌, ◌==◌, Bool, true, false, Option, Some, None, List}
-use Rattle.std.proofs.Common.{[], ◌∷◌, ◌++◌, length, map, slice_get, slice_index, get_or, refl, ap}
-use Rattle.std.proofs.Common.{sym, ◌∙◌, subst, arith, append_assoc, length-append, if◌then◌else◌}
-use Rattle.std.specs.Prelude.{count_by, cond}
+use Rattle.std.proofs.Common.{◌≡◌, ℕ, zero, suc, ◌+◌, ◌<◌, ◌≤◌, ◌==◌, Bool, true, false, Some, None, List, [], ◌∷◌}
+use Rattle.std.proofs.Common.{◌++◌, length, map, slice_get, get_or, refl, ap, sym, ◌∙◌, subst, arith, append_assoc}
+use Rattle.std.proofs.Common.{length-append, if◌then◌else◌, drop}
 use Rattle.std.proofs.lemmas.Option.{slice_get_read, slice_get_past, same_Some, none-some}
 use Rattle.std.proofs.lemmas.List.{append-nil, length-map}
-use Rattle.std.proofs.lemmas.List.Sums.{sum_by-cons}
 use Rattle.std.proofs.lemmas.List.FromFn.{map-range_with_len_more}
 use Rattle.rt_lemmas.proofs.Bools.{and_left}
-use Rattle.rt_lemmas.proofs.Lists.{mapped_at}
-use Rattle.rt_ids.specs.Lists.{or_zero, then_from}
+use Rattle.rt_lemmas.proofs.Lists.{mapped_at, drop_as_cons}
+use Rattle.std.specs.Int.{from_bool}
 use Rattle.rt_app.specs.declared.app.App as code
 use Rattle.rt_app.specs.declared.app.Task as row
 use Rattle.rt_app.specs.declared.plan.Plan.{Plan}
@@ -20,15 +18,11 @@ use Rattle.rt_app.specs.Accepted.{IsAccepted}
 use Rattle.rt_app.specs.View.{task_of, app_of}
 use Rattle.rt_code.specs.declared.instr.Instr.TheVariants as instr
 use Rattle.rt_gen_queue.specs.Line.{Line, plain}
-use Rattle.rt_gen_queue.specs.Guards.{guarded}
 use Rattle.rt_gen_queue.specs.Queue.{queue_at}
-use Rattle.rt_gen_queue.specs.declared.guard.Guard.{Guard}
-use Rattle.rt_gen_queue.specs.declared.queue.ReadyQueue.{ReadyQueue}
 use Rattle.rt_gen_queue.specs.declared.target.Target.{Target}
-use Rattle.rt_gen_queue.proofs.Planned.{target_made}
+use Rattle.rt_gen_queue.proofs.Planned.{target_read, target_made}
 use Rattle.rt_gen_disp.specs.declared.called.Called.{Called}
-use Rattle.rt_gen_disp.specs.Code.{argument_lines, choice_lines, choice_code, choices_code, called_at, next_for}
-use Rattle.rt_gen_disp.specs.Code.{last_from}
+use Rattle.rt_gen_disp.specs.Code.{argument_lines, choice_code, choices_code, called_at, next_for, last_from}
 use Rattle.rt_gen_disp.specs.declared.lines.Exit.{Exit}
 use Rattle.rt_gen_disp.specs.Inside.Generating.{task_code}
 use Rattle.rt_gen_disp.proofs.Sizes.{choice_long}
@@ -42,82 +36,53 @@ arguments_more old lines new inputs k before pushed =
     pushed ∙ ap (λ ls. ls ++ load k ∷ []) before ∙ append_assoc old (argument_lines inputs k) (load k ∷ [])
     ∙ ap (λ ls. old ++ ls) (sym (map-range_with_len_more load 0 k k (omega arith)))
 
--- one task more
-pub choices_more : (app : App) (level : ℕ) (exit : Exit) (ts : List Task) (t : Task) (at n row : ℕ)
-    → choices_code app level exit at n row (ts ++ t ∷ [])
-    ≡ choices_code app level exit at n row ts
-    ++ task_code app level exit (at + length (choices_code app level exit at n row ts)) (n + length ts)
-    (row + count_by is_software ts) (Some t)
-choices_more app level exit [] t at n row =
-    let a : at ≡ at + 0 = omega arith in
-    let b : n ≡ n + 0 = omega arith in
-    let c : row ≡ row + 0 = omega arith in
-    alone (is_of_level level t)
-    ∙ ap (λ x. task_code app level exit x n row (Some t)) a ∙ ap (λ x. task_code app level exit (at + 0) x row (Some t))
-    b
-    ∙ ap (λ x. task_code app level exit (at + 0) (n + 0) x (Some t)) c
+-- the tasks from one on, where there is one
+pub tasks_left : (items : List row.Task) (n : ℕ) (t : row.Task) → n < length items → t ≡ get_or items n t
+    → map task_of (drop n items) ≡ task_of t ∷ map task_of (drop (n + 1) items)
+tasks_left items n t within at = ap (map task_of) (drop_as_cons items n t within at)
+
+-- where the lines of a level's tasks are to stand
+pub record Site : Type 0 where
+  pub app : App
+  pub level : ℕ
+  pub exit : Exit
+  pub entry : ℕ
+
+-- lines, and those of the tasks from a number on, with the rows of software tasks from another on
+abbrev pub with_rest : Site → List Line → ℕ → ℕ → List Task → List Line
+with_rest s lines n r ts = lines ++ choices_code s.app s.level s.exit (s.entry + length lines) n r ts
+
+-- what is left behind the lines of a task
+rest_next : (s : Site) (lines : List Line) (n r : ℕ) (t : Task) (ts : List Task)
+    → with_rest s lines n r (t ∷ ts)
+    ≡ with_rest s (lines ++ task_code s.app s.level s.exit (s.entry + length lines) n r (Some t)) (n + 1)
+    (r + from_bool (is_software t)) ts
+rest_next s lines n r t ts =
+    go (is_of_level s.level t) (is_software t) (and_left (is_software t) (t.priority == s.level))
   where
-    alone : (b : Bool) → (if b
-        then choice_code app level exit at n row t ++ []
-        else []) ≡ (if b then choice_code app level exit at n row t else [])
-    alone true = append-nil (choice_code app level exit at n row t)
-    alone false = refl
-choices_more app level exit (u ∷ ts) t at n row =
-    go (is_of_level level u) (is_software u) (λ level_too. and_left (is_software u) (u.priority == level) level_too)
-    (sum_by-cons (λ v. cond (is_software v) 1 0) u ts) (λ a r. choices_more app level exit ts t a (n + 1) r)
-  where
-    alike : (a b i j r s : ℕ) → a ≡ b → i ≡ j → r ≡ s
-        → task_code app level exit a i r (Some t) ≡ task_code app level exit b j s (Some t)
-    alike a b i j r s x y z =
-        ap (λ k. task_code app level exit k i r (Some t)) x ∙ ap (λ k. task_code app level exit b k r (Some t)) y
-        ∙ ap (λ k. task_code app level exit b j k (Some t)) z
+    at : ℕ
+    at = s.entry + length lines
+
+    own : List Line
+    own = choice_code s.app s.level s.exit at n r t
+
+    more : ℕ → ℕ → List Line
+    more a k = choices_code s.app s.level s.exit a (n + 1) k ts
 
     go : (b z : Bool) → (b ≡ true → z ≡ true)
-        → count_by is_software (u ∷ ts) ≡ cond z 1 0 + count_by is_software ts
-        → ((a r : ℕ) → choices_code app level exit a (n + 1) r (ts ++ t ∷ [])
-        ≡ choices_code app level exit a (n + 1) r ts
-        ++ task_code app level exit (a + length (choices_code app level exit a (n + 1) r ts)) (n + 1 + length ts)
-        (r + count_by is_software ts) (Some t))
-        → (if b then choice_code app level exit at n row u
-        ++ choices_code app level exit (at + (17 + u.args)) (n + 1) (row + 1) (ts ++ t ∷ [])
-        else choices_code app level exit at (n + 1) (if z then row + 1 else row) (ts ++ t ∷ []))
-        ≡ (if b then choice_code app level exit at n row u
-        ++ choices_code app level exit (at + (17 + u.args)) (n + 1) (row + 1) ts
-        else choices_code app level exit at (n + 1) (if z then row + 1 else row) ts)
-        ++ task_code app level exit (at + length (if b then choice_code app level exit at n row u
-        ++ choices_code app level exit (at + (17 + u.args)) (n + 1) (row + 1) ts
-        else choices_code app level exit at (n + 1) (if z then row + 1 else row) ts)) (n + length (u ∷ ts))
-        (row + count_by is_software (u ∷ ts)) (Some t)
-    go true z both counted others =
-        let own : List Line = choice_code app level exit at n row u in
-        let more : List Line = choices_code app level exit (at + (17 + u.args)) (n + 1) (row + 1) ts in
-        let z_is : z ≡ true = both refl in
-        let counts : row + 1 + count_by is_software ts ≡ row + count_by is_software (u ∷ ts) =
-        omega (arith, counted, ap {B = ℕ} (λ b. cond b 1 0) z_is) in
-        let places : at + (17 + u.args) + length more ≡ at + length (own ++ more) =
-        omega (
-          arith,
-          length-append own more,
-          choice_long (queue_at app level) (called_at app n row u)
-              (next_for exit n (at + (17 + u.args))) at,
-        ) in
-        let numbers : n + 1 + length ts ≡ n + length (u ∷ ts) = omega arith in
-        ap (λ ls. own ++ ls) (others (at + (17 + u.args)) (row + 1))
-        ∙ ap (λ ls. own ++ (more ++ ls)) (alike _ _ _ _ _ _ places numbers counts)
-        ∙ sym (append_assoc own more (task_code app level exit (at + length (own ++ more)) (n + length (u ∷ ts))
-        (row + count_by is_software (u ∷ ts)) (Some t)))
-    go false true both counted others =
-        let numbers : n + 1 + length ts ≡ n + length (u ∷ ts) = omega arith in
-        let counts : row + 1 + count_by is_software ts ≡ row + count_by is_software (u ∷ ts) = omega (arith, counted) in
-        let more : List Line = choices_code app level exit at (n + 1) (row + 1) ts in
-        others at (row + 1)
-        ∙ ap (λ ls. more ++ ls) (alike (at + length more) (at + length more) _ _ _ _ refl numbers counts)
-    go false false both counted others =
-        let numbers : n + 1 + length ts ≡ n + length (u ∷ ts) = omega arith in
-        let counts : row + count_by is_software ts ≡ row + count_by is_software (u ∷ ts) = omega (arith, counted) in
-        let more : List Line = choices_code app level exit at (n + 1) row ts in
-        others at row
-        ∙ ap (λ ls. more ++ ls) (alike (at + length more) (at + length more) _ _ _ _ refl numbers counts)
+        → lines ++ (if b then own ++ more (at + (17 + t.args)) (r + 1) else more at (if z then r + 1 else r))
+        ≡ with_rest s (lines ++ (if b then own else [])) (n + 1) (r + from_bool z) ts
+    go true true both =
+        let long =
+        choice_long (queue_at s.app s.level) (called_at s.app n r t) (next_for s.exit n (at + (17 + t.args))) at in
+        let behind : at + (17 + t.args) ≡ s.entry + length (lines ++ own) =
+        omega (arith, length-append lines own, long) in
+        ap (λ a. lines ++ (own ++ more a (r + 1))) behind
+        ∙ sym (append_assoc lines own (more (s.entry + length (lines ++ own)) (r + 1)))
+    go true false both = absurd (cc (both refl))
+    go false true both = rw append-nil refl
+    go false false both =
+        let same : r ≡ r + 0 = omega arith in ap (λ k. lines ++ more at k) same ∙ rw append-nil refl
 
 -- a task of the code, as it stands among the tasks of the definitions
 pub task_there : (app : code.App) (items : List row.Task) (n : ℕ) (t : row.Task) → items ≡ app.tasks.items
@@ -132,93 +97,60 @@ no_task app items n is beyond =
     slice_get_past (map task_of app.tasks.items) n (subst (λ k. k ≤ n)
     (ap (λ (xs : List row.Task). length xs) is ∙ sym (length-map app.tasks.items task_of)) beyond)
 
--- a task that is not of the level, or not there, adds nothing
-pub task_skipped : (app : App) (level : ℕ) (exit : Exit) (at n r : ℕ) (o : Option Task) (t : Task) (lines : List Line)
-    → o ≡ Some t
-    → is_of_level level t ≡ false → lines ≡ lines ++ task_code app level exit at n r o
-task_skipped app level exit at n r o t lines is other =
-    sym (append-nil lines) ∙ ap (λ ls. lines ++ ls)
-    (sym (ap (task_code app level exit at n r) is
-    ∙ ap (λ b. if b then choice_code app level exit at n r t else []) other))
+-- what is left behind the lines of a task of the code
+pub choices_next : (s : Site) (items : List row.Task) (lines : List Line) (r : ℕ) {n : ℕ} {t : row.Task}
+    → n < length items → t ≡ get_or items n t
+    → with_rest s lines n r (map task_of (drop n items))
+    ≡ with_rest s (lines
+    ++ task_code s.app s.level s.exit (s.entry + length lines) n r (slice_get (map task_of items) n)) (n + 1)
+    (r + from_bool (is_software (task_of t))) (map task_of (drop (n + 1) items))
+choices_next s items lines r {n = n} {t = t} within at =
+    let there : slice_get (map task_of items) n ≡ Some (task_of t) =
+    mapped_at task_of items n t (slice_get_read items (length items) n t refl within at) in
+    ap (with_rest s lines n r) (tasks_left items n t within at)
+    ∙ rest_next s lines n r (task_of t) (map task_of (drop (n + 1) items)) ∙ rw there refl
 
-pub task_absent : (app : App) (level : ℕ) (exit : Exit) (at n r : ℕ) (o : Option Task) (lines : List Line) → o ≡ None
-    → lines ≡ lines ++ task_code app level exit at n r o
-task_absent app level exit at n r o lines is =
-    sym (append-nil lines) ∙ ap (λ ls. lines ++ ls) (sym (ap (task_code app level exit at n r) is))
+pub at_most_one : (b : Bool) → from_bool b ≤ 1
+at_most_one true = omega arith
+at_most_one false = omega arith
 
-pub task_pushed : (app : App) (exit : Exit) (at entry next n r : ℕ) (o : Option Task) (t : Task) (q : ReadyQueue)
-    (c : Called) → o ≡ Some t → is_of_level q.level t ≡ true → at ≡ entry → next ≡ next_for exit n (at + (17 + t.args))
-    → q ≡ queue_at app q.level → c ≡ called_at app n r t
-    → choice_lines q c next at ≡ task_code app q.level exit entry n r o
-task_pushed app exit at entry next n r o t q c is level_is same next_is queue called =
-    let own : ReadyQueue = queue_at app q.level in
-    ap (λ (other : ReadyQueue). choice_lines other c next at) queue
-    ∙ ap (λ (other : Called). choice_lines own other next at) called
-    ∙ ap (λ to. choice_lines own (called_at app n r t) to at) next_is
-    ∙ ap (λ a. choice_lines own (called_at app n r t) (next_for exit n (a + (17 + t.args))) a) same
-    ∙ sym (ap (task_code app q.level exit entry n r) is
-    ∙ ap (λ b. if b then choice_code app q.level exit entry n r t else []) level_is)
+-- The number of the last task of a level is none before the one found so far, and none before a task of the level.
+chosen_between : (b : Bool) (found n : ℕ) → found ≤ n
+    → (found ≤ (if b then n else found)) × ((if b then n else found) ≤ n + 1)
+chosen_between true found n less = (less, omega arith)
+chosen_between false found n less = (omega arith, omega arith)
 
--- the last task of the level so far
-pub last_more : (level found n : ℕ) (ts : List Task) (t : Task)
-    → last_from level found n (ts ++ t ∷ [])
-    ≡ (if is_of_level level t then n + length ts else last_from level found n ts)
-last_more level found n [] t = ap (λ k. if is_of_level level t then k else found) (omega arith)
-last_more level found n (u ∷ ts) t =
-    last_more level (if is_of_level level u then n else found) (n + 1) ts t
-    ∙ ap (λ k. if is_of_level level t then k else last_from level found n (u ∷ ts)) (omega arith)
-
--- no task of the level is behind it
-pub found_first : (level found n : ℕ) (ts : List Task) → found ≤ n → found ≤ last_from level found n ts
+found_first : (level found n : ℕ) (ts : List Task) → found ≤ n → found ≤ last_from level found n ts
 found_first level found n [] less = omega arith
 found_first level found n (t ∷ ts) less =
-    by (is_of_level level t) (found_first level n (n + 1) ts (omega arith))
-    (found_first level found (n + 1) ts (omega (arith, less)))
-  where
-    by : (b : Bool) → n ≤ last_from level n (n + 1) ts → found ≤ last_from level found (n + 1) ts
-        → found ≤ last_from level (if b then n else found) (n + 1) ts
-    by true here before = omega (arith, less, here)
-    by false here before = before
+    let chosen = chosen_between (is_of_level level t) found n less in
+    omega (arith, chosen.0, found_first level (if is_of_level level t then n else found) (n + 1) ts chosen.1)
 
-pub none_behind : (level found n j : ℕ) (ts : List Task) (t : Task) → found ≤ n → slice_get ts j ≡ Some t
+pub none_behind : (level found n : ℕ) (ts : List Task) (j : ℕ) {t : Task} → found ≤ n → slice_get ts j ≡ Some t
     → is_of_level level t ≡ true → n + j ≤ last_from level found n ts
-none_behind level found n j [] t less there of = absurd (none-some t there)
-none_behind level found n zero (u ∷ ts) t less there of =
-    let level_too : is_of_level level u ≡ true = ap (is_of_level level) (same_Some u t there) ∙ of in
-    let more = found_first level n (n + 1) ts (omega arith) in
-    let is : last_from level found n (u ∷ ts) ≡ last_from level n (n + 1) ts =
-    ap (λ (b : Bool). last_from level (if b then n else found) (n + 1) ts) level_too in
-    omega (arith, more, is)
-none_behind level found n (suc j) (u ∷ ts) t less there of =
-    by (is_of_level level u) (none_behind level n (n + 1) j ts t (omega arith) there of)
-    (none_behind level found (n + 1) j ts t (omega (arith, less)) there of)
-  where
-    by : (b : Bool) → n + 1 + j ≤ last_from level n (n + 1) ts → n + 1 + j ≤ last_from level found (n + 1) ts
-        → n + suc j ≤ last_from level (if b then n else found) (n + 1) ts
-    by true here before = omega (arith, here)
-    by false here before = omega (arith, before)
+none_behind level found n [] j less there of = absurd (none-some _ there)
+none_behind level found n (u ∷ ts) zero less there of =
+    rw (ap (is_of_level level) (same_Some u _ there) ∙ of)
+    (omega (arith, found_first level n (n + 1) ts (omega arith)))
+none_behind level found n (u ∷ ts) (suc j) less there of =
+    let chosen = chosen_between (is_of_level level u) found n less in
+    omega (arith, none_behind level (if is_of_level level u then n else found) (n + 1) ts j chosen.1 there of)
+
+-- what a spawn is made of, as the dispatcher has it
+abbrev pub with_row : ℕ → ℕ → Target → Called
+with_row r args c = record {
+  task = c.task;
+  row = r;
+  args = args;
+  free = c.free;
+  inputs = c.inputs;
+  guard = c.guard;
+}
 
 -- what is read of the plan's tables makes what the dispatcher has of a task
-pub called_made : (plan : Plan) (n r : ℕ) (t : Task) → IsAccepted (app_of plan.app.now) → IsPlan plan
-    → slice_get (app_of plan.app.now).tasks n ≡ Some t → is_software t ≡ true
-    → (bits : ℕ) (cells starts : List ℕ) (tops : List (Option ℕ)) (free inputs top : ℕ) (guard : Guard)
-    → bits ≡ plan.app.now.bits → cells ≡ plan.lay.free → starts ≡ plan.lay.inputs → tops ≡ plan.ceil.free
-    → free ≡ slice_index cells n → inputs ≡ slice_index starts n
-    → top ≡ or_zero (then_from (slice_get tops n) (λ c. c)) → guard ≡ guarded bits top
-    → record { task = n; row = r; args = t.args; free = free; inputs = inputs; guard = guard }
+pub called_made : (plan : Plan) (n r : ℕ) (t : Task) (accepted : IsAccepted (app_of plan.app.now))
+    (planned : IsPlan plan) (there : slice_get (app_of plan.app.now).tasks n ≡ Some t) (software : is_software t ≡ true)
+    → with_row r t.args (target_read plan n t accepted planned there software)
     ≡ called_at (app_of plan.app.now) n r t
-called_made plan n r t accepted planned there software bits cells starts tops free inputs top guard bits_is cells_is
-    starts_is tops_is free_is inputs_is top_is guard_is =
-    let app : App = app_of plan.app.now in
-    let made =
-    target_made plan n t accepted planned there software bits cells starts tops n free inputs top guard
-    (queue_at app t.priority) bits_is cells_is starts_is tops_is refl free_is inputs_is top_is guard_is refl in
-    let with_args : ℕ → Target → Called = λ args c. record {
-      task = n;
-      row = r;
-      args = args;
-      free = c.free;
-      inputs = c.inputs;
-      guard = c.guard;
-    } in
-    ap (with_args t.args) made
+called_made plan n r t accepted planned there software =
+    ap (with_row r t.args) (target_made plan n t accepted planned there software)

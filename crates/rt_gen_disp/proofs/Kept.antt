@@ -1,85 +1,144 @@
--- What a level keeps, or may read at any time, while its dispatcher runs: no action of a dispatcher changes it.
-use Rattle.std.proofs.Common.{◌≡◌, ℕ, ◌||◌, Bool, true, false, List, [], ◌∷◌, refl, ap, sym, ◌∙◌, subst}
-use Rattle.std.proofs.Common.{if◌then◌else◌}
+-- What a level keeps, or may read at any time, while its dispatcher runs, which no action of a dispatcher changes; and
+-- how a dispatcher opens the section of a queue.
+use Rattle.std.proofs.Common.{◌≡◌, ℕ, ◌+◌, ◌^◌, ◌≤◌, ◌||◌, Bool, true, false, if◌then◌else◌, List, [], length}
+use Rattle.std.proofs.Common.{slice_index, refl, ap, sym, ◌∙◌, subst, arith}
 use Rattle.rt_ids.specs.Holder.{Holder, Guarded, Own, is_same_holder}
-use Rattle.rt_ids.specs.Content.{Content, Values, put_at}
+use Rattle.rt_ids.specs.Content.{Content, Number, Values, put_at}
 use Rattle.rt_ids.specs.Entry.{Entry}
 use Rattle.rt_ids.specs.Storage.{Home, At, AtLevel}
 use Rattle.rt_ids.specs.declared.ids.Section.{Section}
+use Rattle.rt_ids.specs.declared.ids.Section.TheVariants as section
 use Rattle.rt_app.specs.Tree.{App}
-use Rattle.rt_app.specs.Holding.{storage}
+use Rattle.rt_app.specs.Ceiling.{ceiling}
+use Rattle.rt_app.specs.Holding.{SpellsReady, storage}
+use Rattle.rt_app.specs.Layout.{home_of}
+use Rattle.rt_app.proofs.Laid.{resource_is_home, local_is_home}
 use Rattle.rt_code.specs.Masking.{TakesOver}
-use Rattle.rt_code.specs.Owning.{Kind, Held, Spot, is_open, reads, MayLoad, Agree}
-use Rattle.rt_code.proofs.Mine.{same_section, owns_open, owns_reads}
+use Rattle.rt_code.specs.Owning.{Held, Spot, is_open, reads, MayLoad, Agree}
+use Rattle.rt_code.proofs.Mine.{owns_open, owns_reads, same_section}
 use Rattle.rt_gen_queue.specs.Called.{AreSpelled}
-use Rattle.rt_gen_queue.proofs.Owning.{IsQueue, home_as, unread, is_inside, other_holder}
-use Rattle.rt_gen_disp.proofs.Stored.{MayRead, spelled_on}
+use Rattle.rt_gen_queue.specs.Guards.{kind_at}
+use Rattle.rt_gen_queue.proofs.Layer.{Here}
+use Rattle.rt_gen_queue.proofs.Entering.{MayEnter}
+use Rattle.rt_gen_disp.proofs.Words.{own}
+use Rattle.rt_gen_queue.proofs.Owning.{IsQueue, home_as, unread, is_inside, other_holder, nobody_keeps}
+use Rattle.rt_gen_disp.proofs.Dispatchers.{Dispatcher, job, alone}
 
--- a section that is open alone is open
-pub open_here : (app : App) (level : ℕ) (x : Section) (kind : Kind)
-    → is_open (record { section = x; kind = kind } ∷ []) x ≡ true
-open_here app level x kind = is_inside app (AtLevel level) [] (record { section = x; kind = kind }) x refl
+module _ (d : Dispatcher) where
+  -- a section that is open alone is open, and what it guards may be read
+  pub open_here : (x : Section) → is_open (alone d x) x ≡ true
+  open_here x = is_inside d.app (AtLevel d.level) [] (record { section = x; kind = kind_at d.app x d.level 14 }) x refl
 
-module _ (app : App) (level : ℕ) where
-  -- what the one open section guards may be read
-  pub reads_here : (x : Section) (kind : Kind)
-      → reads (storage app) (AtLevel level) (record { section = x; kind = kind } ∷ []) (Guarded x) ≡ true
-  reads_here x kind =
-      let held : List Held = record { section = x; kind = kind } ∷ [] in
-      owns_reads (storage app) (AtLevel level) held (Guarded x)
-      (owns_open (storage app) (AtLevel level) held x (open_here app level x kind))
+  pub reads_here : (x : Section) → reads (storage d.app) (AtLevel d.level) (alone d x) (Guarded x) ≡ true
+  reads_here x =
+      owns_reads (storage d.app) (AtLevel d.level) (alone d x) (Guarded x)
+      (owns_open (storage d.app) (AtLevel d.level) (alone d x) x (open_here x))
 
-  -- with any sections open it may read the same and more
-  pub reads_kept : (held : List Held) (h : Holder) → MayRead app level h
-      → reads (storage app) (AtLevel level) held h ≡ true
-  reads_kept held (Guarded x) may =
-      merged (is_open held x) ((storage app).is_kept (AtLevel level) (Guarded x))
-      ((storage app).is_constant (AtLevel level) (Guarded x)) may
+  -- the section of a queue may be opened where none is
+  pub may_enter : {h : Here} (x : Section) → h.held ≡ [] → IsQueue x → ceiling d.app x ≤ 2 ^ d.app.bits
+      → d.level ≤ ceiling d.app x → MayEnter (job d) own h x d.level
+  unfolding storage
+  may_enter x none queue top within = record {
+    room = omega arith;
+    masks = rw none tt;
+    off = rw none (omega arith);
+    top = top;
+    within = within;
+    closed = ap (λ held. is_open held x) none;
+    nobody = nobody_keeps d.app (AtLevel d.level) (AtLevel d.level) x queue;
+  }
+
+-- the ready queue of the level is given back, by what its cells spell
+pub for_ready : (d : Dispatcher) (cells : ℕ → ℕ) (entries : List Entry) (content : Content)
+    → SpellsReady d.app cells d.level entries content
+    → (storage d.app).Spells (Guarded (section.Ready d.level)) cells entries content
+unfolding storage
+for_ready d cells entries content spells = (d.is, spells)
+
+abbrev MayRead : App → ℕ → Holder → Type 0
+MayRead app level h = ((storage app).is_kept (AtLevel level) h || (storage app).is_constant (AtLevel level) h) ≡ true
+
+-- with any sections open it may read the same and more
+reads_kept : (app : App) (level : ℕ) (held : List Held) (h : Holder) → MayRead app level h
+    → reads (storage app) (AtLevel level) held h ≡ true
+reads_kept app level held (Guarded x) may =
+    merged (is_open held x) ((storage app).is_kept (AtLevel level) (Guarded x))
+    ((storage app).is_constant (AtLevel level) (Guarded x)) may
+  where
+    merged : (a b c : Bool) → (b || c) ≡ true → ((a || b) || c) ≡ true
+    merged true b c e = refl
+    merged false b c e = e
+reads_kept app level held (Own n) may = may
+
+-- no queue is among it
+not_queue : (app : App) (level : ℕ) (h : Holder) (x : Section) → MayRead app level h → IsQueue x
+    → is_same_holder (Guarded x) h ≡ false
+not_queue app level h x may queue =
+    other_holder app (AtLevel level) [] x h (unread app (AtLevel level) [] x queue refl)
+    (reads_kept app level [] h may)
+
+module _ {app : App} {level : ℕ} {cells : List ℕ} {queues : Holder → List Entry} {vs : Values} where
+  -- it is spelled by cells of its own alone
+  spelled_on : {after : List ℕ} {later : Holder → List Entry} {ws : Values} → AreSpelled app level cells queues vs
+      → length after ≡ length cells → ((h : Holder) → MayRead app level h → ws h ≡ vs h)
+      → ((c : ℕ) (h : Holder) → MayRead app level h → home_of app c ≡ At h → slice_index after c ≡ slice_index cells c)
+      → AreSpelled app level after later ws
+  unfolding storage
+  spelled_on {after = after} {later = later} {ws = ws} spelled long same left =
+      record { long = long ∙ spelled.long; each = each }
     where
-      merged : (a b c : Bool) → (b || c) ≡ true → ((a || b) || c) ≡ true
-      merged true b c e = refl
-      merged false b c e = e
-  reads_kept held (Own n) may = may
+      each : (h : Holder) → MayRead app level h → (storage app).Spells h (slice_index after) (later h) (ws h)
+      each (Guarded (section.Res r)) may =
+          let one = spelled.each (Guarded (section.Res r)) may in (
+            one.0,
+            same (Guarded (section.Res r)) may ∙ one.1
+                ∙ ap Number (sym (left r (Guarded (section.Res r)) may (resource_is_home app r one.0))),
+          )
+      each (Guarded (section.Free n)) may = absurd cc
+      each (Guarded (section.Ready p)) may = absurd cc
+      each (Guarded section.Timer) may = absurd cc
+      each (Own n) may =
+          let one = spelled.each (Own n) may in (
+            one.0,
+            same (Own n) may ∙ one.1
+                ∙ ap Number (sym (left (length app.shared + n) (Own n) may (local_is_home app n one.0))),
+          )
 
-  -- no queue is among it
-  not_queue : (h : Holder) (x : Section) → MayRead app level h → IsQueue x → is_same_holder (Guarded x) h ≡ false
-  not_queue h x may queue =
-      other_holder app (AtLevel level) [] x h (unread app (AtLevel level) [] x queue refl) (reads_kept [] h may)
+  -- values that agree are spelled too
+  pub spelled_agreed : {ws : Values} (held : List Held) → AreSpelled app level cells queues vs
+      → Agree (storage app) (AtLevel level) held ws vs → AreSpelled app level cells queues ws
+  spelled_agreed held spelled agree =
+      spelled_on spelled refl (λ h may. agree h (reads_kept app level held h may)) (λ c h may of. refl)
 
-  pub no_queue : (h : Holder) (x : Section) → MayRead app level h → IsQueue x → ¬ (At h ≡ At (Guarded x))
-  no_queue h x may queue same =
-      let is : h ≡ Guarded x = cc in
-      let found : is_same_holder (Guarded x) h ≡ true = ap (is_same_holder (Guarded x)) is ∙ same_section x in
-      cc (found, not_queue h x may queue)
-
-  pub put_kept : (vs : Values) (x : Section) (content : Content) (h : Holder) → IsQueue x → MayRead app level h
-      → put_at vs (Guarded x) content h ≡ vs h
-  put_kept vs x content h queue may =
-      ap (λ (b : Bool). if b then content else vs h) (not_queue h x may queue)
-
-  -- values that agree, with what is put for a queue: the same is spelled
-  pub spelled_agreed : (cells : List ℕ) (queues : Holder → List Entry) (vs ws : Values) (held : List Held)
-      → AreSpelled app level cells queues vs → Agree (storage app) (AtLevel level) held ws vs
-      → AreSpelled app level cells queues ws
-  spelled_agreed cells queues vs ws held spelled agree =
-      spelled_on app level cells cells queues queues vs ws spelled refl (λ h may. agree h (reads_kept held h may))
+  -- and so are those with another content of a queue
+  pub spelled_put : {later : Holder → List Entry} (x : Section) (content : Content) → IsQueue x
+      → AreSpelled app level cells queues vs → AreSpelled app level cells later (put_at vs (Guarded x) content)
+  spelled_put x content queue spelled =
+      spelled_on spelled refl
+      (λ h may. ap (λ (b : Bool). if b then content else vs h) (not_queue app level h x may queue))
       (λ c h may of. refl)
 
-  pub spelled_put : (cells : List ℕ) (queues later : Holder → List Entry) (vs : Values) (x : Section)
-      (content : Content)
-      → IsQueue x → AreSpelled app level cells queues vs
-      → AreSpelled app level cells later (put_at vs (Guarded x) content)
-  spelled_put cells queues later vs x content queue spelled =
-      spelled_on app level cells cells queues later vs (put_at vs (Guarded x) content) spelled refl
-      (λ h may. put_kept vs x content h queue may) (λ c h may of. refl)
+  -- and where only cells of a queue are others
+  pub spelled_written : {after : List ℕ} (x : Section) → IsQueue x → AreSpelled app level cells queues vs
+      → length after ≡ length cells
+      → ((c : ℕ) → ¬ (home_of app c ≡ At (Guarded x)) → slice_index after c ≡ slice_index cells c)
+      → AreSpelled app level after queues vs
+  spelled_written x queue spelled long elsewhere =
+      spelled_on spelled long (λ h may. refl) (λ c h may of. elsewhere c (λ is. other h may (sym of ∙ is)))
+    where
+      other : (h : Holder) → MayRead app level h → ¬ (At h ≡ At (Guarded x))
+      other h may same =
+          let is : h ≡ Guarded x = cc in
+          let found : is_same_holder (Guarded x) h ≡ true = ap (is_same_holder (Guarded x)) is ∙ same_section x in
+          cc (found, not_queue app level h x may queue)
 
-  -- others leave it as it is
-  pub spelled_taken : (x : Section) (s : Spot) (values vs : Values) (cells : List ℕ) (queues : Holder → List Entry)
-      → TakesOver (storage app) (AtLevel level) x s values vs cells queues
-      → AreSpelled app level s.cells s.queues values → AreSpelled app level cells queues vs
-  spelled_taken x s values vs cells queues taken spelled =
-      spelled_on app level s.cells cells s.queues queues values vs spelled taken.same.long
-      (λ h may. taken.agree h (reads_kept s.held h may))
-      (λ c h may of. taken.same.touched c
-      (subst (λ (home : Home). MayLoad (storage app) (AtLevel level) s home) (sym (home_as app c ∙ of))
-      (reads_kept s.held h may)))
+-- others leave it as it is
+pub spelled_taken : {app : App} {level : ℕ} {s : Spot} {values vs : Values} {cells : List ℕ}
+    {queues : Holder → List Entry} (x : Section)
+    → TakesOver (storage app) (AtLevel level) x s values vs cells queues
+    → AreSpelled app level s.cells s.queues values → AreSpelled app level cells queues vs
+spelled_taken {app = app} {level = level} {s = s} x taken spelled =
+    spelled_on spelled taken.same.long (λ h may. taken.agree h (reads_kept app level s.held h may))
+    (λ c h may of. taken.same.touched c
+    (subst (λ (home : Home). MayLoad (storage app) (AtLevel level) s home) (sym (home_as app c ∙ of))
+    (reads_kept app level s.held h may)))

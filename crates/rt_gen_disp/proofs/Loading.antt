@@ -1,192 +1,111 @@
 -- The arguments of a message come into the first slots, up to four of them.
-use Rattle.std.proofs.Common.{◌≡◌, ℕ, zero, suc, ◌+◌, ◌-◌, ◌<◌, ◌≤◌, Some, List, [], ◌∷◌, ◌++◌, length, map, take}
-use Rattle.std.proofs.Common.{true, slice_get, slice_index, refl, ap, sym, ◌∙◌, subst, arith}
+use Rattle.std.proofs.Common.{◌≡◌, ℕ, zero, suc, ◌+◌, ◌<◌, ◌≤◌, List, [], ◌∷◌, ◌++◌, length, map, take, slice_index}
+use Rattle.std.proofs.Common.{slice_set, refl, ap, sym, ◌∙◌, subst, arith, get_or-set_other, length-set, append_assoc}
 use Rattle.std.specs.List.{range_with_len}
-use Rattle.rt_ids.specs.Holder.{Holder, Guarded}
-use Rattle.rt_ids.specs.Content.{Values}
-use Rattle.rt_ids.specs.Entry.{Entry, count}
-use Rattle.rt_ids.specs.Doing.{Doing}
+use Rattle.std.proofs.lemmas.List.{append-nil}
+use Rattle.std.proofs.Math.Seq.{take-suc-set}
+use Rattle.rt_ids.specs.Entry.{Entry}
 use Rattle.rt_ids.specs.Storage.{Home, In}
-use Rattle.rt_ids.specs.declared.ids.Section.{Section}
 use Rattle.rt_app.specs.Layout.{memory, inputs_at, home_of}
 use Rattle.rt_app.specs.Holding.{storage}
-use Rattle.rt_code.specs.Owning.{Held, Spot, mine, MayLoad, is_open}
+use Rattle.rt_code.specs.Owning.{mine, MayLoad}
 use Rattle.rt_code.specs.declared.instr.Instr.TheVariants as instr
-use Rattle.rt_code.proofs.Mine.{queue_counts}
 use Rattle.rt_gen_queue.specs.Line.{Line, plain, HasCode}
+use Rattle.rt_gen_queue.proofs.Layer.{Here, InTime, S, spot, Reads, IsFree, goes, load_at_gives, lasts_less}
 use Rattle.rt_gen_queue.proofs.Owning.{home_as, place_in_memory}
-use Rattle.rt_app.proofs.Counting.{count_more, one_itself}
-use Rattle.rt_gen_queue.proofs.Spots.{Setting, Here, spot}
-use Rattle.rt_gen_queue.proofs.Steps.{S}
-use Rattle.rt_gen_disp.specs.Code.{argument_lines}
-use Rattle.rt_gen_disp.proofs.Spots.{SavedApart, frame}
-use Rattle.rt_gen_disp.proofs.Steps.{loads_at}
-use Rattle.rt_gen_queue.proofs.Giving.{entry_at}
+use Rattle.rt_gen_disp.proofs.Dispatchers.{Dispatcher, job}
 
--- an entry in the queue of an open section is the job's own
-pub mine_queued : (s : Spot) (x : Section) (e : Entry) (es : List Entry) → is_open s.held x ≡ true
-    → s.queues (Guarded x) ≡ e ∷ es → 0 < mine s e
-mine_queued s x e es inside queue =
-    let here : count e (s.queues (Guarded x)) ≡ count e (e ∷ es) = ap (count e) queue in
-    omega (arith, queue_counts s.queues e x s.held inside, here, count_more e e es, one_itself e)
+-- how far the arguments of a place are from its task's first, and how many there are
+pub record Spread : Type 0 where
+  pub entry : Entry
+  pub behind : ℕ
+  pub count : ℕ
 
-module _ (z : Setting) (n place : ℕ) (x : Section)
-    (held : List Held) (deadline cost : ℕ) (cells : List ℕ) (queues : Holder → List Entry) (rest : Doing Values)
-    (es : List Entry) (apart : SavedApart held) (inside : is_open held x ≡ true)
-    (queue : queues (Guarded x) ≡ entry_at n place ∷ es) (long : length cells ≡ length (memory z.app))
-    (e f g h i j k l m r kept : ℕ) where
-  abbrev pub loading : (done at a b c d behind : ℕ) → Here
-  loading done at a b c d behind = record {
-    held = held;
-    done = done;
-    deadlines = deadline ∷ cost ∷ [];
-    places = [];
-    slots = frame a b c d e f g behind h i j k l m kept r;
-    at = at;
-    cells = cells;
-    queues = queues;
-    rest = rest;
-  }
+abbrev pub first_of : Dispatcher → Spread → ℕ
+first_of d s = inputs_at d.app s.entry.task + s.behind
 
-  -- one of them, from the cell of a place
-  abbrev line : ℕ → Line
-  line j = plain (instr.LoadAt j (inputs_at z.app n + j) 7)
+-- the job has the place, whose arguments lie in these cells, and so many of them are left from one on
+pub record MayLoadAll (d : Dispatcher) (s : Spread) (h : Here) (more from : ℕ) : Type 0 where
+  pub few : s.count ≤ 4
+  pub homes : (j : ℕ) → j < s.count → home_of d.app (first_of d s + j) ≡ In s.entry
+  pub long : length h.cells ≡ length (memory d.app)
+  pub own : 0 < mine (spot (job d) h) s.entry
+  pub all : from + more ≡ s.count
+  pub free : (k : ℕ) → k < 4 → IsFree h.held k
+  pub slots : 7 < length h.slots
+  pub behind : slice_index h.slots 7 ≡ s.behind
+  pub time : InTime (h.done + more) h
 
-  module _ (behind first count : ℕ) (first_is : first ≡ inputs_at z.app n + behind)
-      (homes : (j : ℕ) → j < count → home_of z.app (first + j) ≡ In (entry_at n place)) where
-    cell_is : (j : ℕ) → inputs_at z.app n + j + behind ≡ first + j
-    cell_is j = omega (arith, first_is)
+-- slots in which they are, behind some that were there before, and which are as before from there on
+pub record AreLoaded (d : Dispatcher) (s : Spread) (cells begin before after : List ℕ) (from more : ℕ) : Type 0 where
+  pub begins : take s.count after ≡ begin ++ map (slice_index cells) (range_with_len (first_of d s + from) more)
+  pub late : (k : ℕ) → s.count ≤ k → slice_index after k ≡ slice_index before k
+  pub long : length after ≡ length before
 
-    may : (h : Here) (j : ℕ) → j < count → h.held ≡ held → h.queues ≡ queues
-        → MayLoad (storage z.app) z.who (spot z h) ((storage z.app).home (inputs_at z.app n + j + behind))
-    may h j less same_held same_queues =
-        subst (λ (home : Home). MayLoad (storage z.app) z.who (spot z h) home)
-        (sym (home_as z.app (inputs_at z.app n + j + behind) ∙ ap (home_of z.app) (cell_is j) ∙ homes j less))
-        (mine_queued (spot z h) x (entry_at n place) es (ap (λ hs. is_open hs x) same_held ∙ inside)
-        (ap (λ (qs : Holder → List Entry). qs (Guarded x)) same_queues ∙ queue))
+-- the lines for some of them, from the one of a number on
+abbrev pub load_lines : Dispatcher → Spread → ℕ → ℕ → List Line
+load_lines d s from count =
+    map (λ j. plain (instr.LoadAt j (inputs_at d.app s.entry.task + j) 7)) (range_with_len from count)
 
-    within : (j : ℕ) → j < count → inputs_at z.app n + j + behind < length cells
-    within j less = let there = place_in_memory z.app (first + j) (entry_at n place) (homes j less) in
-        omega (arith, cell_is j, long)
+-- and then it goes on
+abbrev pub GoesOn : Dispatcher → Spread → Here → List Line → ℕ → ℕ → Type 0
+GoesOn d s h lines from more =
+    (done to : ℕ) (after : List ℕ) → done ≡ h.done + more → to ≡ h.at + more → HasCode d.code to lines
+    → AreLoaded d s h.cells (take from h.slots) h.slots after from more
+    → S (job d) (record h { done = done; at = to; slots = after })
 
-    value : (j v : ℕ) → v ≡ first + j → slice_index cells (inputs_at z.app n + j + behind) ≡ slice_index cells v
-    value j v same = ap (slice_index cells) (cell_is j ∙ sym same)
+module _ (d : Dispatcher) (s : Spread) where
+  read : {h : Here} {more : ℕ} (from : ℕ) → MayLoadAll d s h more from → from < s.count
+      → Reads (job d) h (inputs_at d.app s.entry.task + from + s.behind) (slice_index h.cells (first_of d s + from))
+  read {h = h} from may less =
+      let is : inputs_at d.app s.entry.task + from + s.behind ≡ first_of d s + from = omega arith in
+      let there = place_in_memory d.app (first_of d s + from) s.entry (may.homes from less) in
+      record {
+        may =
+            subst (λ (home : Home). MayLoad (storage d.app) (job d).who (spot (job d) h) home)
+            (sym (home_as d.app _ ∙ ap (home_of d.app) is ∙ may.homes from less)) may.own;
+        there = omega (arith, may.long);
+        is = ap (slice_index h.cells) is;
+      }
 
-    module _ (steps done at a b c d : ℕ) (in_time : suc done ≤ deadline) (in_cost : suc done ≤ cost) where
-      load_0 : 0 < count → (v : ℕ) → v ≡ first + 0 → slice_get z.code at ≡ Some (line 0)
-          → S z steps (loading (suc done) (suc at) (slice_index cells v) b c d behind)
-          → S z (suc steps) (loading done at a b c d behind)
-      load_0 less v same has stands =
-          loads_at z steps (loading done at a b c d behind) 0
-          (inputs_at z.app n + 0) 7 behind (slice_index cells v) has (in_time, (in_cost, tt)) refl refl
-          (may (loading done at a b c d behind) 0 less refl refl) (within 0 less) refl refl refl apart (value 0 v same)
-          stands
-
-      load_1 : 1 < count → (v : ℕ) → v ≡ first + 1 → slice_get z.code at ≡ Some (line 1)
-          → S z steps (loading (suc done) (suc at) a (slice_index cells v) c d behind)
-          → S z (suc steps) (loading done at a b c d behind)
-      load_1 less v same has stands =
-          loads_at z steps (loading done at a b c d behind) 1
-          (inputs_at z.app n + 1) 7 behind (slice_index cells v) has (in_time, (in_cost, tt)) refl refl
-          (may (loading done at a b c d behind) 1 less refl refl) (within 1 less) refl refl refl apart (value 1 v same)
-          stands
-
-      load_2 : 2 < count → (v : ℕ) → v ≡ first + 2 → slice_get z.code at ≡ Some (line 2)
-          → S z steps (loading (suc done) (suc at) a b (slice_index cells v) d behind)
-          → S z (suc steps) (loading done at a b c d behind)
-      load_2 less v same has stands =
-          loads_at z steps (loading done at a b c d behind) 2
-          (inputs_at z.app n + 2) 7 behind (slice_index cells v) has (in_time, (in_cost, tt)) refl refl
-          (may (loading done at a b c d behind) 2 less refl refl) (within 2 less) refl refl refl apart (value 2 v same)
-          stands
-
-      load_3 : 3 < count → (v : ℕ) → v ≡ first + 3 → slice_get z.code at ≡ Some (line 3)
-          → S z steps (loading (suc done) (suc at) a b c (slice_index cells v) behind)
-          → S z (suc steps) (loading done at a b c d behind)
-      load_3 less v same has stands =
-          loads_at z steps (loading done at a b c d behind) 3
-          (inputs_at z.app n + 3) 7 behind (slice_index cells v) has (in_time, (in_cost, tt)) refl refl
-          (may (loading done at a b c d behind) 3 less refl refl) (within 3 less) refl refl refl apart (value 3 v same)
-          stands
-
-  -- all of them, and what follows
-  abbrev pub GoesOn : (behind first count steps done at : ℕ) → List Line → Type 0
-  GoesOn behind first count steps done at more =
-      (fin to a b c d : ℕ) → fin + count ≡ steps → to ≡ at + count → HasCode z.code to more
-      → ((f g kept : ℕ) → map (slice_index cells) (range_with_len first count)
-      ≡ take count (frame a b c d e f g behind h i j k l m kept r))
-      → S z fin (loading (done + count) to a b c d behind)
-
-  pub all_load : (count behind first steps done at : ℕ) (more : List Line) (a b c d : ℕ) → count ≤ 4
-      → first ≡ inputs_at z.app n + behind
-      → ((j : ℕ) → j < count → home_of z.app (first + j) ≡ In (entry_at n place))
-      → HasCode z.code at (argument_lines (inputs_at z.app n) count ++ more)
-      → count ≤ steps → done + count ≤ deadline → done + count ≤ cost
-      → GoesOn behind first count steps done at more
-      → S z steps (loading done at a b c d behind)
-  all_load zero behind first steps done at more a b c d few first_is homes has fuel in_time in_cost on =
-      let same : done + 0 ≡ done = omega arith in
-      subst (λ (k : ℕ). S z steps (loading k at a b c d behind)) same
-      (on steps at a b c d (omega arith) (omega arith) has (λ f g kept. refl))
-  all_load (suc zero) behind first steps done at more a b c d few first_is homes has fuel in_time in_cost on =
-      let steps_are : suc (steps - 1) ≡ steps = omega arith in
-      let same : done + 1 ≡ suc done = omega arith in
-      subst (λ (k : ℕ). S z k (loading done at a b c d behind)) steps_are
-      (load_0 behind first 1 first_is homes (steps - 1) done at a b c d (omega arith) (omega arith) (omega arith)
-      first (omega arith) has.0
-      (subst (λ (k : ℕ). S z (steps - 1)
-      (loading k (suc at) (slice_index cells first) b c d behind)) same
-      (on (steps - 1) (suc at) (slice_index cells first) b c d (omega arith) (omega arith) has.1 (λ f g kept. refl))))
-  all_load (suc (suc zero)) behind first steps done at more a b c d few first_is homes has fuel in_time in_cost on =
-      let steps_are : suc (suc (steps - 2)) ≡ steps = omega arith in
-      let same : done + 2 ≡ suc (suc done) = omega arith in
-      subst (λ (k : ℕ). S z k (loading done at a b c d behind)) steps_are
-      (load_0 behind first 2 first_is homes (suc (steps - 2)) done at a b c d (omega arith) (omega arith) (omega arith)
-      first (omega arith) has.0
-      (load_1 behind first 2 first_is homes (steps - 2) (suc done) (suc at) (slice_index cells first) b c d
-      (omega arith)
-      (omega arith) (omega arith) (first + 1) refl has.1.0
-      (subst (λ (k : ℕ). S z (steps - 2)
-      (loading k (suc (suc at)) (slice_index cells first) (slice_index cells (first + 1)) c d behind)) same
-      (on (steps - 2) (suc (suc at)) (slice_index cells first) (slice_index cells (first + 1)) c d (omega arith)
-      (omega arith) has.1.1 (λ f g kept. refl)))))
-  all_load (suc (suc (suc zero))) behind first steps done at more a b c d few first_is homes has fuel in_time in_cost
-      on =
-      let steps_are : suc (suc (suc (steps - 3))) ≡ steps = omega arith in
-      let same : done + 3 ≡ suc (suc (suc done)) = omega arith in
-      let v1 : ℕ = slice_index cells (first + 1) in
-      let v2 : ℕ = slice_index cells (first + 1 + 1) in
-      subst (λ (k : ℕ). S z k (loading done at a b c d behind)) steps_are
-      (load_0 behind first 3 first_is homes (suc (suc (steps - 3))) done at a b c d (omega arith) (omega arith)
-      (omega arith) first (omega arith) has.0
-      (load_1 behind first 3 first_is homes (suc (steps - 3)) (suc done) (suc at) (slice_index cells first) b c d
-      (omega arith) (omega arith) (omega arith) (first + 1) refl has.1.0
-      (load_2 behind first 3 first_is homes (steps - 3) (suc (suc done)) (suc (suc at)) (slice_index cells first) v1 c d
-      (omega arith) (omega arith) (omega arith) (first + 1 + 1) (omega arith) has.1.1.0
-      (subst (λ (k : ℕ). S z (steps - 3)
-      (loading k (suc (suc (suc at))) (slice_index cells first) v1 v2 d behind)) same
-      (on (steps - 3) (suc (suc (suc at))) (slice_index cells first) v1 v2 d (omega arith)
-      (omega arith) has.1.1.1 (λ f g kept. refl))))))
-  all_load (suc (suc (suc (suc zero)))) behind first steps done at more a b c d few first_is homes has fuel in_time
-      in_cost on =
-      let steps_are : suc (suc (suc (suc (steps - 4)))) ≡ steps = omega arith in
-      let same : done + 4 ≡ suc (suc (suc (suc done))) = omega arith in
-      let v1 : ℕ = slice_index cells (first + 1) in
-      let v2 : ℕ = slice_index cells (first + 1 + 1) in
-      let v3 : ℕ = slice_index cells (first + 1 + 1 + 1) in
-      subst (λ (k : ℕ). S z k (loading done at a b c d behind)) steps_are
-      (load_0 behind first 4 first_is homes (suc (suc (suc (steps - 4)))) done at a b c d (omega arith) (omega arith)
-      (omega arith) first (omega arith) has.0
-      (load_1 behind first 4 first_is homes (suc (suc (steps - 4))) (suc done) (suc at) (slice_index cells first) b c d
-      (omega arith) (omega arith) (omega arith) (first + 1) refl has.1.0
-      (load_2 behind first 4 first_is homes (suc (steps - 4)) (suc (suc done)) (suc (suc at)) (slice_index cells first)
-      v1 c d (omega arith) (omega arith) (omega arith) (first + 1 + 1) (omega arith) has.1.1.0
-      (load_3 behind first 4 first_is homes (steps - 4) (suc (suc (suc done))) (suc (suc (suc at)))
-      (slice_index cells first) v1 v2 d (omega arith) (omega arith) (omega arith) (first + 1 + 1 + 1) (omega arith)
-      has.1.1.1.0
-      (subst (λ (k : ℕ). S z (steps - 4)
-      (loading k (suc (suc (suc (suc at)))) (slice_index cells first) v1 v2 v3 behind)) same
-      (on (steps - 4) (suc (suc (suc (suc at)))) (slice_index cells first) v1 v2 v3 (omega arith)
-      (omega arith) has.1.1.1.1 (λ f g kept. refl)))))))
-  all_load (suc (suc (suc (suc (suc count))))) behind first steps done at more a b c d few first_is homes has fuel
-      in_time in_cost on = absurd (omega arith)
+  pub all_load : (lines : List Line) (more from : ℕ) {h : Here} → MayLoadAll d s h more from
+      → HasCode d.code h.at (load_lines d s from more ++ lines) → GoesOn d s h lines from more → S (job d) h
+  all_load lines zero from {h = h} may has on =
+      let is : s.count ≡ from = omega (arith, may.all) in
+      on h.done h.at h.slots (omega arith) (omega arith) has (record {
+        begins = ap (λ k. take k h.slots) is ∙ sym (append-nil (take from h.slots));
+        late = λ k late. refl;
+        long = refl;
+      })
+  all_load lines (suc more) from {h = h} may has on =
+      let v : ℕ = slice_index h.cells (first_of d s + from) in
+      let less : from < s.count = omega (arith, may.all) in
+      let small : from < 4 = omega (arith, may.few) in
+      let slots = may.slots in
+      let same : suc from ≡ from + 1 = omega arith in
+      let next : first_of d s + (from + 1) ≡ first_of d s + from + 1 = omega arith in
+      let rest : ℕ → List ℕ = λ a. map (slice_index h.cells) (range_with_len a more) in
+      let begin : take (from + 1) (slice_set h.slots from v) ≡ take from h.slots ++ v ∷ [] =
+      ap (λ k. take k (slice_set h.slots from v)) (sym same) ∙ take-suc-set h.slots from v (omega arith) in
+      goes has.0 (lasts_less (suc h.done) (h.done + suc more) (h.until ∷ h.deadlines) (omega arith) may.time)
+      (load_at_gives s.behind v (omega arith) slots (may.free from small) may.behind (read from may less))
+      (all_load lines more (from + 1)
+      (record {
+        few = may.few;
+        homes = may.homes;
+        long = may.long;
+        own = may.own;
+        all = omega (arith, may.all);
+        free = may.free;
+        slots = omega (arith, length-set h.slots from v);
+        behind = get_or-set_other h.slots from 7 v 0 (omega arith) ∙ may.behind;
+        time = lasts_less (suc h.done + more) (h.done + suc more) (h.until ∷ h.deadlines) (omega arith) may.time;
+      }) has.1
+      (λ done to after done_is to_is behind loaded. on done to after (omega arith) (omega arith) behind (record {
+        begins =
+            loaded.begins ∙ ap (λ xs. xs ++ rest (first_of d s + (from + 1))) begin
+            ∙ append_assoc (take from h.slots) (v ∷ []) (rest (first_of d s + (from + 1)))
+            ∙ ap (λ a. take from h.slots ++ (v ∷ rest a)) next;
+        late = λ k late. loaded.late k late ∙ get_or-set_other h.slots from k v 0 (omega arith);
+        long = loaded.long ∙ length-set h.slots from v;
+      })))

@@ -1,521 +1,331 @@
 -- What a dispatcher does once the oldest message is that of one of its tasks: it starts the message, gives its place
 -- back, calls the body and returns.
-use Rattle.std.proofs.Common.{◌≡◌, ℕ, suc, ◌+◌, ◌-◌, ◌<◌, ◌≤◌, ◌==◌, true}
-use Rattle.std.proofs.Common.{Some, None, option_map, List, [], ◌∷◌, length, map, take, drop, slice_get, slice_index}
-use Rattle.std.proofs.Common.{slice_set, Contains, refl, ap, sym, ◌∙◌, subst, arith, length-set}
-use Rattle.std.proofs.lemmas.Bool.{eqb-true}
+use Rattle.std.proofs.Common.{zero, Bool, false, ◌++◌, if◌then◌else◌, ◌≡◌, ℕ, suc, ◌+◌, ◌-◌, ◌<◌, ◌≤◌, ◌==◌, true, Some}
+use Rattle.std.proofs.Common.{Option, List, [], ◌∷◌, length, map, take, drop, slice_get, slice_index, refl, ap, sym}
+use Rattle.std.proofs.Common.{◌∙◌, subst, arith, zero-add, None}
+use Rattle.std.proofs.lemmas.Bool.{eq-eqb, eqb-true}
+use Rattle.std.proofs.lemmas.Bool.Decides.{nat_tests}
+use Rattle.std.proofs.lemmas.Option.{same_Some, none-some}
+use Rattle.rt_gen_queue.specs.Called.{rows_for, AreSpelled, CalledAtLevel, CalledTaskStands, calm, row_for}
+use Rattle.std.proofs.lemmas.List.{take-append-le}
 use Rattle.rt_lemmas.proofs.Bools.{and_left, and_right, or_left}
-use Rattle.rt_lemmas.proofs.Membership.{all_at}
-use Rattle.rt_ids.specs.Lists.{or_zero}
+use Rattle.rt_ids.specs.Operation.{operate}
 use Rattle.rt_ids.specs.Holder.{Holder, Guarded}
-use Rattle.rt_ids.specs.Content.{Content, Message, Messages, Number, Values, messages, number}
+use Rattle.rt_ids.specs.Content.{Message, Messages, Number, Values, messages, number}
 use Rattle.rt_ids.specs.Entry.{Entry, count}
 use Rattle.rt_ids.specs.Action.{Enters, Leaves, Posts, Starts, Frees, Ends, Returns}
 use Rattle.rt_ids.specs.Action.{effect as action_effect}
-use Rattle.rt_ids.specs.Doing.{Doing}
-use Rattle.rt_ids.specs.Storage.{At, AtLevel}
+use Rattle.rt_ids.specs.Storage.{AtLevel}
 use Rattle.rt_ids.specs.declared.ids.BodyId.TheVariants as body
+use Rattle.rt_ids.specs.declared.ids.Section.{Section}
 use Rattle.rt_ids.specs.declared.ids.Section.TheVariants as section
 use Rattle.rt_ids.specs.declared.op.Op.TheVariants as op
 use Rattle.rt_app.specs.declared.costs.TheConstants.{FREE_COST}
-use Rattle.rt_app.specs.Tree.{Task, App}
-use Rattle.rt_app.specs.Level.{is_software, is_of_level, levels}
-use Rattle.rt_app.specs.Ceiling.{ceiling}
-use Rattle.rt_app.specs.Bodies.{task_priority}
+use Rattle.rt_app.specs.Tree.{Task}
+use Rattle.rt_app.specs.Level.{is_software, is_of_level}
 use Rattle.rt_app.specs.BodyCost.{cost_measure, body_cost}
-use Rattle.rt_app.specs.Layout.{free_at}
-use Rattle.rt_app.specs.Limits.{KeepsTaskLimits}
 use Rattle.rt_app.specs.Holding.{SpellsFree, SpellsReady, message_at, storage}
+use Rattle.rt_app.specs.Layout.{free_at}
 use Rattle.rt_app.specs.Sending.{Rest, act, act_all, dispatcher_number}
 use Rattle.rt_app.specs.Doings.{nothing, task_doing, start_doing}
-use Rattle.rt_app.specs.Accepted.{IsAccepted}
 use Rattle.rt_code.specs.Acting.{with_queue}
-use Rattle.rt_code.specs.Owning.{Kind, Marked, Agree}
+use Rattle.rt_code.specs.Owning.{Marked}
 use Rattle.rt_code.specs.Stack.{caller_frame, body_frame}
-use Rattle.rt_code.specs.Standing.{passed}
+use Rattle.rt_code.specs.Standing.{Stands}
 use Rattle.rt_code.specs.Tables.{arguments_in}
 use Rattle.rt_code.specs.declared.image.BodyRow.{BodyRow}
 use Rattle.rt_code.specs.declared.instr.Instr.TheVariants as instr
+use Rattle.rt_code.specs.declared.instr.Note.TheVariants as note
 use Rattle.rt_code.proofs.Mine.{queued_more}
-use Rattle.rt_gen_queue.specs.Line.{Line, plain, HasCode}
-use Rattle.rt_gen_queue.specs.Guards.{guard_of, kind_at, leave}
+use Rattle.rt_gen_queue.specs.Line.{Line, noted}
 use Rattle.rt_gen_queue.specs.Queue.{queue_at}
-use Rattle.rt_gen_queue.specs.Called.{AreSpelled, CalledAtLevel, calm, row_for}
-use Rattle.rt_gen_queue.specs.declared.guard.Guard.{Guard}
-use Rattle.rt_gen_queue.proofs.Facts.{Spawned, free_top}
-use Rattle.rt_gen_queue.proofs.Numbers.{added, not_zero}
-use Rattle.rt_gen_queue.proofs.Owning.{nobody_keeps, free_spelled, loads_open, stores_open, put_here, queue_here}
-use Rattle.rt_gen_queue.proofs.Sections.{leaves}
-use Rattle.rt_gen_queue.proofs.Spots.{Setting, Here, spot}
-use Rattle.rt_gen_queue.proofs.Steps.{S, Later, posts}
+use Rattle.rt_gen_queue.proofs.Entering.{enters, leaves}
+use Rattle.rt_gen_queue.proofs.Facts.{Spawned, capacity, free_top, few_free, few_arguments}
+use Rattle.rt_gen_queue.proofs.Facts.{priority as own_priority}
+use Rattle.rt_gen_queue.proofs.Places.{entry_at, IsPlaceOf}
+use Rattle.rt_gen_queue.proofs.Layer.{Here, Straight, loads, stores_at, calculates, stays, posts, reads_open}
+use Rattle.rt_gen_queue.proofs.Layer.{writes_open, by_noted, goes_later, mark_gives, calls_here, returns_here}
+use Rattle.rt_gen_queue.proofs.Layer.{next_in_time, skips_off, begins}
+use Rattle.rt_gen_queue.proofs.Layer.Correct.{does as asks}
+use Rattle.rt_gen_queue.proofs.Numbers.{added}
+use Rattle.rt_gen_queue.proofs.Owning.{free_spelled, free_back, put_here, queue_here}
+use Rattle.rt_gen_queue.proofs.Returning.{frees, Returned, room_left, free_home, given_back}
 use Rattle.rt_gen_disp.specs.Code.{start_lines, called_at}
-use Rattle.rt_gen_disp.proofs.Spots.{dispatching, alone, frame}
-use Rattle.rt_gen_disp.proofs.Steps.{calculates, loads, stores_at, goes_on, jumps_at_zero, starts, gives_back, calls}
-use Rattle.rt_gen_disp.proofs.Steps.{enters, returns}
-use Rattle.rt_gen_disp.proofs.Stored.{slot_there, saved_apart, frame_saves, opens_as, mask_is, within_free}
-use Rattle.rt_gen_disp.proofs.Stored.{for_free, for_ready, spelled_on}
-use Rattle.rt_gen_queue.proofs.Giving as places
-use Rattle.rt_gen_queue.proofs.Giving.{entry_at, Returned}
-use Rattle.rt_gen_disp.proofs.Kept.{open_here, reads_here, no_queue}
-use Rattle.rt_gen_disp.proofs.Kept.{spelled_agreed, spelled_put, spelled_taken}
-use Rattle.rt_gen_disp.proofs.Frames.{frame_fits, frame_long, frame_begins, words_enough}
+use Rattle.rt_gen_disp.proofs.Dispatchers.{Dispatcher, rows, job, alone, Moment, outside, within}
+use Rattle.rt_gen_disp.proofs.Kept.{open_here, reads_here, may_enter, spelled_agreed, spelled_put, spelled_written}
+use Rattle.rt_gen_disp.proofs.Kept.{spelled_taken, for_ready}
+use Rattle.rt_gen_disp.proofs.Words.{Words, firsts, words, own, frame_fits, frame_long, frame_begins}
 
-module _ (app : App) (accepted : IsAccepted app) (p : ℕ) (code : List Line) (bodies : List BodyRow)
-    (thread cost : ℕ) where
-  abbrev z : Setting
-  z = dispatching app p code bodies thread
+-- how many arguments a software task takes, as the rows of bodies tell it
+arguments_from : (entry : ℕ → ℕ) (n k : ℕ) (ts : List Task) (t : Task) → slice_get ts k ≡ Some t → is_software t ≡ true
+    → arguments_in (rows_for entry n ts) (n + k) ≡ t.args
+arguments_from entry n k [] t at software = absurd (none-some t at)
+arguments_from entry n zero (u ∷ ts) t at software =
+    let here : (n == n + 0) ≡ true = eq-eqb n (n + 0) (omega arith) in rw (same_Some u t at, software, here) refl
+arguments_from entry n (suc k) (u ∷ ts) t at software =
+    go (is_software u)
+    (subst (λ i. arguments_in (rows_for entry (n + 1) ts) i ≡ t.args) next
+    (arguments_from entry (n + 1) k ts t at software))
+  where
+    next : n + 1 + k ≡ n + suc k
+    next = omega arith
 
-  module _ (n : ℕ) (t : Task) (at_task : slice_get app.tasks n ≡ Some t) (of : is_of_level p t ≡ true)
-      (row : ℕ) (entry : ℕ → ℕ) (there : slice_get bodies row ≡ Some (row_for entry n t))
-      (stands : CalledAtLevel app n p t code (row_for entry n t)) where
-    software : is_software t ≡ true
-    software = and_left (is_software t) (t.priority == p) of
+    go : (b : Bool) → arguments_in (rows_for entry (n + 1) ts) (n + suc k) ≡ t.args
+        → arguments_in ((if b then row_for entry n u ∷ [] else []) ++ rows_for entry (n + 1) ts) (n + suc k) ≡ t.args
+    go true rest = let other : (n == n + suc k) ≡ false = grind (arith, nat_tests) in rw other rest
+    go false rest = rest
 
-    facts : Spawned app n t
-    facts = record { accepted = accepted; at = at_task; software = software }
+-- the oldest message of a level as memory has it
+pub record IsOldest (d : Dispatcher) (cells : List ℕ) (queues : Holder → List Entry) (vs : Values) (o : Entry)
+    (es : List Entry) : Type 0 where
+  pub spelled : AreSpelled d.app d.level cells queues vs
+  pub queue : queues (Guarded (section.Ready d.level)) ≡ o ∷ es
+  pub content : vs (Guarded (section.Ready d.level)) ≡ Messages (map (message_at d.app (slice_index cells)) (o ∷ es))
+  pub rest : SpellsReady d.app (slice_index cells) d.level es (Messages (map (message_at d.app (slice_index cells)) es))
+  pub placed : IsPlaceOf d.app d.level o
 
-    priority : t.priority ≡ p
-    priority = eqb-true t.priority p (and_right (is_software t) (t.priority == p) of)
+-- the task of the oldest message, and the message's place and arguments
+pub record Chosen (d : Dispatcher) : Type 0 where
+  pub number : ℕ
+  pub task : Task
+  pub at : slice_get d.app.tasks number ≡ Some task
+  pub of : is_of_level d.level task ≡ true
+  pub row : ℕ
+  pub there : slice_get (rows d) row ≡ Some (row_for d.entry number task)
+  pub place : ℕ
+  pub less : place < task.capacity
+  pub args : List ℕ
 
-    limits : KeepsTaskLimits t
-    limits = all_at KeepsTaskLimits app.tasks n t accepted.limits.tasks at_task
+-- the message is what the words of the frame tell
+pub record Holds {d : Dispatcher} (c : Chosen d) (begin : List ℕ) (unit number : ℕ) : Type 0 where
+  pub arguments : c.args ≡ take c.task.args begin
+  pub one : unit ≡ 1
+  pub place : number ≡ c.place
 
-    few : t.args ≤ 4
-    few = limits.args
+module _ {d : Dispatcher} (c : Chosen d) where
+  abbrev pub HoldsIn : Words → Type 0
+  HoldsIn w = Holds c (firsts w) w.one w.place
 
-    abbrev pub cost_of_body : ℕ
-    cost_of_body = body_cost (cost_measure app) t.body
+  abbrev pub entry_of : Entry
+  entry_of = entry_at c.number c.place
 
-    -- what is left to do behind the start of a message
-    abbrev pub behind : Rest
-    behind = act_all (Returns ∷ []) nothing
+  abbrev pub message_of : Message
+  message_of = record { task = c.number; args = c.args }
 
-    abbrev pub body_rest : List ℕ → Rest
-    body_rest args = task_doing app n args (act (Ends (body.Task n)) behind)
+  abbrev pub cost_of_body : ℕ
+  cost_of_body = body_cost (cost_measure d.app) c.task.body
 
-    abbrev pub free_rest : List ℕ → Rest
-    free_rest args =
-        act_all (Enters (section.Free n) FREE_COST ∷ Frees n ∷ Leaves (section.Free n) ∷ []) (body_rest args)
+  -- its lines from its start on
+  abbrev pub own_lines : ℕ → List Line
+  own_lines at = start_lines (queue_at d.app d.level) (called_at d.app c.number c.row c.task) at
 
-    -- the code from the section of the free places on
-    abbrev pub free_code : List Line
-    free_code = drop 4 (start_lines (queue_at app p) (called_at app n row t) 0)
+  abbrev Kept : Moment → Values → Type 0
+  Kept m vs = AreSpelled d.app d.level m.cells m.queues vs
 
-    -- the last instruction
-    ends : (steps left : ℕ) (frame cells : List ℕ) (queues : Holder → List Entry) (vs : Values) (at : ℕ)
-        → slice_get code at ≡ Some (plain instr.Ret) → 1 ≤ steps → steps ≤ left → AreSpelled app p cells queues vs
-        → Later z steps (calm left frame None at cells queues (behind vs))
-    ends steps left frame cells queues vs at has some less spelled =
-        let same : left - 0 ≡ left = omega arith in
-        let one : suc (steps - 1) ≡ steps = omega arith in
-        let h : Here = record {
-          held = [];
-          done = 0;
-          deadlines = left ∷ [];
-          places = [];
-          slots = frame;
-          at = at;
-          cells = cells;
-          queues = queues;
-          rest = behind vs;
-        } in
-        subst (λ (l : ℕ). Later z steps
-        (calm l frame None at cells queues (behind vs))) same
-        (subst (λ (m : ℕ). S z m h) one
-        (returns z (steps - 1) h nothing vs has (omega arith, tt) refl refl refl
-        refl (λ holder kept. spelled.each holder (or_left _ ((storage app).is_constant (AtLevel p) holder) kept))))
+  -- what is left to do behind the start of a message
+  abbrev behind : Rest
+  behind = act_all (Returns ∷ []) nothing
 
-    -- the body runs, and the dispatcher returns
-    module _ (a b c d w i x place task e f g r : ℕ) (args : List ℕ) where
-      abbrev slots_of : ℕ → ℕ → ℕ → List ℕ
-      slots_of left six kept = frame a b c d w left six x 1 place task e f g kept r
+  abbrev body_rest : Rest
+  body_rest = task_doing d.app c.number c.args (act (Ends (body.Task c.number)) behind)
 
-      call_runs : (m k left six kept at : ℕ) (cells : List ℕ) (queues : Holder → List Entry) (vs : Values)
-          → k + m ≡ cost → 2 + cost_of_body ≤ m
-          → slice_get code at ≡ Some (plain (instr.Call row 0)) → slice_get code (suc at) ≡ Some (plain instr.Ret)
-          → args ≡ take t.args (slots_of left six kept) → AreSpelled app p cells queues vs
-          → S z m (record {
-            held = [];
-            done = k;
-            deadlines = cost ∷ [];
-            places = [];
-            slots = slots_of left six kept;
-            at = at;
-            cells = cells;
-            queues = queues;
-            rest = body_rest args vs;
-          })
-      call_runs m k left six kept at cells queues vs fuel enough call ret shown spelled =
-          let steps : ℕ = m - 1 - cost_of_body in
-          let m_is : suc (cost_of_body + steps) ≡ m = omega arith in
-          let h : Here = record {
-            held = [];
-            done = k;
-            deadlines = cost ∷ [];
-            places = [];
-            slots = slots_of left six kept;
-            at = at;
-            cells = cells;
-            queues = queues;
-            rest = body_rest args vs;
-          } in
-          let called : BodyRow = row_for entry n t in
-          let own : List ℕ = caller_frame h.slots (suc at) in
-          let inner : List ℕ = body_frame own called 0 in
-          let enough_words : t.args ≤ called.frame = words_enough t.args t.body in
-          let same_args : take t.args inner ≡ args =
-          frame_begins a b c d w left six x 1 place task e f g kept r called few enough_words (suc at) ∙ sym shown in
-          let left_body : ℕ = (cost - k) - 1 in
-          subst (λ (m : ℕ). S z m h) m_is
-          (calls z (cost_of_body + steps) h row called call
-          (omega arith, tt) refl there refl (omega arith)
-          (frame_fits a b c d w left six x 1 place task e f g kept r called few enough_words)
-          (subst (λ (given : List ℕ). Later z (cost_of_body + steps)
-          (calm left_body inner (Some own) called.entry cells queues (body_rest given vs))) same_args
-          (stands bodies thread steps own behind
-          (λ left cells queues vs less spelled. ends steps left own cells queues vs (suc at) ret (omega arith) less
-          spelled) left_body inner cells queues vs (omega arith)
-          (frame_long a b c d w left six x 1 place task e f g kept r called few enough_words (suc at)) spelled)))
+  abbrev give_rest : Rest
+  give_rest = act_all (Frees c.number ∷ Leaves (section.Free c.number) ∷ []) body_rest
 
-      -- in the section of the free places the place is given back
-      abbrev inside_free : (k left six kept at : ℕ) → List Entry → List ℕ → (Holder → List Entry) → Doing Values → ℕ
-          → Here
-      inside_free k left six kept at hands cells queues rest from = record {
-        held = alone app p (section.Free n);
-        done = k;
-        deadlines = (from + FREE_COST) ∷ cost ∷ [];
-        places = hands;
-        slots = slots_of left six kept;
-        at = at;
-        cells = cells;
-        queues = queues;
-        rest = rest;
-      }
+  abbrev leave_rest : Rest
+  leave_rest = act (Leaves (section.Ready d.level)) (act (Enters (section.Free c.number) FREE_COST) give_rest)
 
-      given_runs : (m k left kept at : ℕ) (cells : List ℕ) (queues : Holder → List Entry) (vs : Values)
-          → suc k + m ≡ cost → 7 + cost_of_body ≤ m → place < t.capacity
-          → HasCode code at (drop 1 free_code)
-          → ((y : ℕ) → args ≡ take t.args (slots_of left y kept)) → AreSpelled app p cells queues vs
-          → SpellsFree app (slice_index cells) n (queues (Guarded (section.Free n))) (vs (Guarded (section.Free n)))
-          → ((y : Entry) → count y (entry_at n place ∷ []) + count y (queues (Guarded (section.Free n))) ≤ 1)
-          → S z m (inside_free (suc k) left i kept at (entry_at n place ∷ []) cells queues
-          (act_all (Frees n ∷ Leaves (section.Free n) ∷ []) (body_rest args) vs) k)
-      given_runs m k left kept at cells queues vs fuel enough less has shown spelled spells once =
-          let fin : ℕ = m - 5 in
-          let m_is : suc (suc (suc (suc (suc fin)))) ≡ m = omega arith in
-          let entries : List Entry = queues (Guarded (section.Free n)) in
-          let content : Content = vs (Guarded (section.Free n)) in
-          let e : Entry = entry_at n place in
-          let kind : Kind = kind_at app (section.Free n) p 14 in
-          let opens = open_here app p (section.Free n) kind in
-          let apart = saved_apart app p (section.Free n) in
-          let rest : Values → Doing Values = act_all (Frees n ∷ Leaves (section.Free n) ∷ []) (body_rest args) in
-          let start : Here = inside_free (suc k) left i kept at (e ∷ []) cells queues (rest vs) k in
-          let known : Returned app n t cells entries content place =
-          record { task = facts; long = spelled.long; spells = spells; less = less; once = once } in
-          let room = places.room_left app n t cells entries content place known in
-          let capacity = limits.most_capacity in
-          let few_entries : length entries ≤ 16 = omega arith in
-          let count_home = places.count_home app n t cells entries content place known in
-          let place_home = places.place_home app n t cells entries content place known in
-          let count_in = places.count_within app n t cells entries content place known in
-          let place_in = places.place_within app n t cells entries content place known in
-          let placed : List ℕ = slice_set cells (free_at app n + 1 + length entries) place in
-          let given : List ℕ = slice_set placed (free_at app n) (suc (length entries)) in
-          let count_placed : free_at app n < length placed =
-          omega (arith, count_in, length-set cells (free_at app n + 1 + length entries) place) in
-          let later : Holder → List Entry = with_queue queues (section.Free n) (e ∷ entries) in
-          let given_spelled : (ws : Values) → Agree (storage app) (AtLevel p) (alone app p (section.Free n)) ws vs
-          → AreSpelled app p given later (action_effect (Frees n) ws) =
-          λ ws agree.
-          spelled_put app p given queues later ws (section.Free n)
-          (Number (number (ws (Guarded (section.Free n))) - 1)) tt
-          (spelled_agreed app p given queues vs ws (alone app p (section.Free n))
-          (spelled_on app p cells given queues queues vs vs spelled
-          (places.given_long app n t cells entries content place known) (λ h may. refl)
-          (λ c h may of. places.given_elsewhere app n t cells entries content place known c (At h) of
-          (no_queue app p h (section.Free n) may tt))) agree) in
-          subst (λ (m : ℕ). S z m start) m_is
-          (loads z _ start 6 (free_at app n) (length entries) has.0 (omega arith, (omega arith, tt))
-          (loads_open app (AtLevel p) (spot z start) (free_at app n) (section.Free n) count_home opens) count_in refl
-          refl apart spells.count
-          (let h1 : Here =
-          inside_free (suc (suc k)) left (length entries) kept (suc at) (e ∷ []) cells queues (rest vs) k in
-          stores_at z _ h1 (free_at app n + 1) 6 9 (length entries) place has.1.0 (omega arith, (omega arith, tt)) refl
-          refl
-          (stores_open app (AtLevel p) (spot z h1) (free_at app n + 1 + length entries) (section.Free n) place_home
-          opens) place_in refl refl refl
-          (let h2 : Here =
-          inside_free (suc (suc (suc k))) left (length entries) kept (suc (suc at)) (e ∷ []) placed queues (rest vs)
-          k in
-          calculates z _ h2 op.Add 6 6 8 (suc (length entries)) has.1.1.0 (omega arith, (omega arith, tt)) refl refl
-          refl refl apart
-          (added (length entries) 1 (suc (length entries)) (omega arith) (omega arith))
-          (let h3 : Here =
-          inside_free (suc (suc (suc (suc k)))) left (suc (length entries)) kept (suc (suc (suc at))) (e ∷ []) placed
-          queues (rest vs) k in
-          gives_back z (suc fin) h3 (free_at app n) 6 (suc (length entries)) n e []
-          (act_all (Leaves (section.Free n) ∷ []) (body_rest args)) vs has.1.1.1.0 (omega arith, (omega arith, tt))
-          (stores_open app (AtLevel p) (spot z h3) (free_at app n) (section.Free n) count_home opens) count_placed refl
-          refl refl opens refl refl
-          (λ ws agree.
-          let us : Values = action_effect (Frees n) ws in
-          let h4 : Here =
-          inside_free (suc (suc (suc (suc (suc k))))) left (suc (length entries)) kept (suc (suc (suc (suc at)))) []
-          given later (act_all (Leaves (section.Free n) ∷ []) (body_rest args) us) k in
-          let content_is : us (Guarded (section.Free n)) ≡ Number (number content - 1) =
-          put_here app (AtLevel p) ws (section.Free n) (Number (number (ws (Guarded (section.Free n))) - 1))
-          ∙ ap (λ c. Number (number c - 1)) (agree (Guarded (section.Free n))
-          (reads_here app p (section.Free n) kind)) in
-          let queue_is : later (Guarded (section.Free n)) ≡ e ∷ entries =
-          queue_here app (AtLevel p) queues (section.Free n) (e ∷ entries) in
-          let back : SpellsFree app (slice_index given) n (later (Guarded (section.Free n)))
-          (us (Guarded (section.Free n))) =
-          subst (λ (es : List Entry). SpellsFree app (slice_index given) n es (us (Guarded (section.Free n))))
-          (sym queue_is)
-          (subst (λ (c : Content). SpellsFree app (slice_index given) n (e ∷ entries) c) (sym content_is)
-          (places.given_back app n t cells entries content place known)) in
-          leaves z fin (suc h4.done) h4 (section.Free n) p 6 [] (k + FREE_COST) (cost ∷ []) (body_rest args) us
-          has.1.1.1.1.0 (omega arith) (omega arith, (omega arith, tt)) refl refl refl
-          (for_free app n t (slice_index given) (later (Guarded (section.Free n))) (us (Guarded (section.Free n)))
-          at_task software back)
-          (λ zs agree_too. call_runs fin (suc (suc (suc (suc (suc (suc k)))))) left (suc (length entries)) kept
-          (suc (suc (suc (suc (suc at))))) given later zs (omega arith) (omega arith) has.1.1.1.1.1.0 has.1.1.1.1.1.1.0
-          (shown (suc (length entries)))
-          (spelled_agreed app p given later us zs [] (given_spelled ws agree) agree_too)))))))
+  facts : Spawned d.app c.number c.task
+  facts = record {
+    accepted = d.accepted;
+    at = c.at;
+    software = and_left (is_software c.task) (c.task.priority == d.level) c.of;
+  }
 
-      free_runs : (m k left kept at : ℕ) (cells : List ℕ) (queues : Holder → List Entry) (vs : Values)
-          → k + m ≡ cost → 8 + cost_of_body ≤ m → place < t.capacity → HasCode code at free_code
-          → ((y z : ℕ) → args ≡ take t.args (slots_of left y z)) → AreSpelled app p cells queues vs
-          → S z m (record {
-            held = [];
-            done = k;
-            deadlines = cost ∷ [];
-            places = entry_at n place ∷ [];
-            slots = slots_of left i kept;
-            at = at;
-            cells = cells;
-            queues = queues;
-            rest = free_rest args vs;
-          })
-      free_runs m k left kept at cells queues vs fuel enough less has shown spelled =
-          let m_is : suc (m - 1) ≡ m = omega arith in
-          let guard : Guard = guard_of app (section.Free n) in
-          let h : Here = record {
-            held = [];
-            done = k;
-            deadlines = cost ∷ [];
-            places = entry_at n place ∷ [];
-            slots = slots_of left i kept;
-            at = at;
-            cells = cells;
-            queues = queues;
-            rest = free_rest args vs;
-          } in
-          let within : p ≤ ceiling app (section.Free n) = within_ceiling in
-          subst (λ (m : ℕ). S z m h) m_is
-          (enters z (m - 1) h (section.Free n)
-          (kind_at app (section.Free n) p 14)
-          FREE_COST (act_all (Frees n ∷ Leaves (section.Free n) ∷ []) (body_rest args)) vs _ has.0
-          (opens_as app p (section.Free n)) (omega arith, tt) refl
-          (mask_is app p (section.Free n) (free_top app n t facts))
-          (slot_there guard p)
-          (within_free app p n within) refl (nobody_keeps app (AtLevel p) (AtLevel p) (section.Free n) tt)
-          (λ saved ws others queues_too taken.
-          let inside_it : List ℕ → Here = λ slots. record {
-            held = alone app p (section.Free n);
-            done = suc k;
-            deadlines = (k + FREE_COST) ∷ cost ∷ [];
-            places = entry_at n place ∷ [];
-            slots = slots;
-            at = suc at;
-            cells = others;
-            queues = queues_too;
-            rest = act_all (Frees n ∷ Leaves (section.Free n) ∷ []) (body_rest args) ws;
-          } in
-          frame_saves (λ (slots : List ℕ). S z (m - 1) (inside_it slots)) guard p saved
-          a b c d w left i x 1 place task e f g kept r
-          (λ v. given_runs (m - 1) k left v (suc at) others queues_too ws (omega arith) (omega arith) less has.1
-          (λ y. shown y v)
-          (spelled_taken app p (section.Free n) (passed (spot z h)) vs ws others queues_too taken spelled)
-          (free_spelled app n (slice_index others) (queues_too (Guarded (section.Free n)))
-          (ws (Guarded (section.Free n))) taken.spelled)
-          (λ y. omega (
-            arith,
-            taken.once y,
-            queued_more queues_too y (record { section = section.Free n; kind = Marked }) [],
-          )))))
-        where
-          within_ceiling : p ≤ ceiling app (section.Free n)
-          within_ceiling =
-              let own : task_priority app n ≡ t.priority = ap (λ o. or_zero (option_map (λ t. t.priority) o)) at_task in
-              omega (arith, own, priority)
+  level_is : c.task.priority ≡ d.level
+  level_is = eqb-true c.task.priority d.level (and_right (is_software c.task) (c.task.priority == d.level) c.of)
 
-      -- out of the section of the ready queue
-      leave_runs : (m k deadline left kept at : ℕ) (cells : List ℕ) (queues : Holder → List Entry) (vs : Values)
-          → k + m ≡ cost → 9 + cost_of_body ≤ m → suc k ≤ deadline → place < t.capacity
-          → HasCode code at (leave app (section.Ready p) p 14 ∷ free_code)
-          → ((y z : ℕ) → args ≡ take t.args (slots_of left y z)) → AreSpelled app p cells queues vs
-          → (storage app).Spells (Guarded (section.Ready p)) (slice_index cells) (queues (Guarded (section.Ready p)))
-          (vs (Guarded (section.Ready p)))
-          → S z m (record {
-            held = alone app p (section.Ready p);
-            done = k;
-            deadlines = deadline ∷ cost ∷ [];
-            places = entry_at n place ∷ [];
-            slots = slots_of left i kept;
-            at = at;
-            cells = cells;
-            queues = queues;
-            rest = act (Leaves (section.Ready p)) (free_rest args) vs;
-          })
-      leave_runs m k deadline left kept at cells queues vs fuel enough in_time less has shown spelled ready =
-          let m_is : suc (m - 1) ≡ m = omega arith in
-          let h : Here = record {
-            held = alone app p (section.Ready p);
-            done = k;
-            deadlines = deadline ∷ cost ∷ [];
-            places = entry_at n place ∷ [];
-            slots = slots_of left i kept;
-            at = at;
-            cells = cells;
-            queues = queues;
-            rest = act (Leaves (section.Ready p)) (free_rest args) vs;
-          } in
-          subst (λ (m : ℕ). S z m h) m_is
-          (leaves z (m - 1) (suc k) h (section.Ready p) p 6 [] deadline (cost ∷ []) (free_rest args) vs has.0
-          (omega arith) (omega arith, (omega arith, tt)) refl refl refl ready
-          (λ ws agree. free_runs (m - 1) (suc k) left kept (suc at) cells queues ws (omega arith) (omega arith) less
-          has.1 shown (spelled_agreed app p cells queues vs ws [] spelled agree)))
+  body_stands : CalledAtLevel d.app c.number d.level c.task d.code (row_for d.entry c.number c.task)
+  body_stands =
+      subst (λ (q : ℕ). CalledAtLevel d.app c.number q c.task d.code (row_for d.entry c.number c.task)) level_is
+      (subst (λ (o : Option Task). CalledTaskStands d.app c.number o d.code (row_for d.entry c.number c.task)) c.at
+      (d.bodies c.number c.task c.at c.of))
 
-      -- the message starts, and where more are ready the dispatcher is pended again
-      module _ (level_is : Contains (levels app) p) (known : arguments_in bodies n ≡ t.args) where
-        abbrev message_of : Message
-        message_of = record { task = n; args = args }
+  -- the body runs, and the dispatcher returns
+  call_run : {m : Moment} {w : Words} {vs : Values} {slots : List ℕ} → 2 + cost_of_body + m.done ≤ m.until
+      → HoldsIn w → Kept m vs
+      → Straight (job d) own (drop 10 (own_lines 0)) (outside m [] slots (body_rest vs)) (words w)
+  call_run {m = m} {w = w} {vs = vs} enough holds spelled = record {
+    runs = λ run has.
+        let called : BodyRow = row_for d.entry c.number c.task in
+        let back : List ℕ = caller_frame (words w) (suc m.at) in
+        let few : c.task.args ≤ 4 = few_arguments d.app c.number c.task facts in
+        let fits : c.task.args ≤ called.frame = omega arith in
+        let left : ℕ = (m.until - m.done) - 1 in
+        let steps : ℕ = m.until - suc m.done - cost_of_body in
+        let steps_are : cost_of_body + steps ≡ m.until - suc m.done = omega arith in
+        let inner : List ℕ = body_frame back called 0 in
+        let args_are : take c.task.args inner ≡ c.args =
+        frame_begins w called few fits (suc m.at) ∙ sym holds.arguments in
+        calls_here called has.0 (next_in_time run) refl c.there refl (omega arith) (frame_fits w called few fits)
+        (subst (λ k. Stands (storage d.app) d.code (rows d) d.thread (AtLevel d.level) k
+        (calm left inner (Some back) called.entry m.cells m.queues (body_rest vs))) steps_are
+        (subst (λ given. Stands (storage d.app) d.code (rows d) d.thread (AtLevel d.level) (cost_of_body + steps)
+        (calm left inner (Some back) called.entry m.cells m.queues
+        (task_doing d.app c.number given (act (Ends (body.Task c.number)) behind) vs))) args_are
+        (body_stands (rows d) d.thread steps back behind
+        (λ left cells queues vs less spelled.
+        begins (calm left back None (suc m.at) cells queues (behind vs)) steps
+        (returns_here has.1.0 (omega arith, (omega arith, tt)) refl refl refl refl
+        (λ holder kept. spelled.each holder (or_left _ _ kept))))
+        left inner m.cells m.queues vs (omega arith) (frame_long w called few fits (suc m.at)) spelled)));
+  }
 
-        abbrev messages_of : List ℕ → List Entry → List Message
-        messages_of cells es = map (message_at app (slice_index cells)) es
+  -- in the section of the free places the place is given back
+  give_run : {m : Moment} {w : Words} {vs : Values} {slots : List ℕ} {deadline : ℕ}
+      → 7 + cost_of_body + m.done ≤ m.until → HoldsIn w → Kept m vs
+      → (storage d.app).Spells (Guarded (section.Free c.number)) (slice_index m.cells)
+      (m.queues (Guarded (section.Free c.number))) (vs (Guarded (section.Free c.number)))
+      → ((y : Entry) → count y (entry_of ∷ []) + count y (m.queues (Guarded (section.Free c.number))) ≤ 1)
+      → Straight (job d) own (drop 5 (own_lines 0))
+      (within d (section.Free c.number) deadline m (entry_of ∷ []) slots (give_rest vs)) (words w)
+  give_run {m = m} {w = w} {vs = vs} enough holds spelled spells once =
+      let x : Section = section.Free c.number in
+      let entries : List Entry = m.queues (Guarded x) in
+      let known : Returned d.app c.number c.task m.cells entries c.place = record {
+        task = facts;
+        long = spelled.long;
+        content = vs (Guarded x);
+        spells = free_spelled d.app c.number (slice_index m.cells) entries (vs (Guarded x)) spells;
+        less = c.less;
+        once = once;
+      } in
+      let room = room_left known in
+      let few = few_free d.app c.number c.task facts in
+      let count_home = free_home known (free_at d.app c.number) 0 (omega arith) (omega arith) in
+      let place_home =
+      free_home known (free_at d.app c.number + 1 + length entries) (suc (length entries)) (omega arith) room in
+      let few_entries : suc (length entries) ≤ 16 = omega (arith, capacity d.app c.number c.task facts) in
+      loads (length entries)
+      (reads_open (record { opens = open_here d x; long = spelled.long; home = count_home }) known.spells.count)
+      (stores_at (length entries) c.place refl holds.place
+      (writes_open (record { opens = open_here d x; long = spelled.long; home = place_home }))
+      (λ placed first.
+      calculates (suc (length entries))
+      (ap (operate op.Add (length entries)) holds.one ∙ added (length entries) 1 (suc (length entries)) (omega arith)
+      (omega arith))
+      (frees (suc (length entries)) refl
+      (writes_open (record { opens = open_here d x; long = first.long ∙ spelled.long; home = count_home }))
+      (record { opens = open_here d x; hands = refl; of_task = refl; doing = refl })
+      (λ given ws second agree.
+      let is = given_back known placed given first second in
+      let later : Holder → List Entry = with_queue m.queues x (entry_of ∷ entries) in
+      let us : Values = action_effect (Frees c.number) ws in
+      let content : us (Guarded x) ≡ Number (number (vs (Guarded x)) - 1) =
+      put_here d.app (AtLevel d.level) ws x (Number (number (ws (Guarded x)) - 1))
+      ∙ ap (λ c. Number (number c - 1)) (agree (Guarded x) (reads_here d x)) in
+      let kept : AreSpelled d.app d.level given later us =
+      spelled_put x (Number (number (ws (Guarded x)) - 1)) tt
+      (spelled_agreed (alone d x) (spelled_written x tt spelled is.long is.elsewhere) agree) in
+      leaves d.level refl refl refl
+      (subst (λ es. (storage d.app).Spells (Guarded x) (slice_index given) es (us (Guarded x)))
+      (sym (queue_here d.app (AtLevel d.level) m.queues x (entry_of ∷ entries)))
+      (free_back (slice_index m.cells) entries (vs (Guarded x)) spells
+      (subst (λ c'. SpellsFree d.app (slice_index given) c.number (entry_of ∷ entries) c') (sym content) is.spells)))
+      (λ zs agree_too. call_run (omega arith) holds (spelled_agreed [] kept agree_too))))))
 
-        abbrev ready_to_start : (k deadline kept at : ℕ) → List ℕ → (Holder → List Entry) → Values → List Entry → Here
-        ready_to_start k deadline kept at cells queues vs es = record {
-          held = alone app p (section.Ready p);
-          done = k;
-          deadlines = deadline ∷ cost ∷ [];
-          places = [];
-          slots = slots_of (length es) i kept;
-          at = at;
-          cells = cells;
-          queues = queues;
-          rest = start_doing app p (message_of ∷ messages_of cells es) vs;
-        }
+  free_run : {m : Moment} {w : Words} {vs : Values} {slots : List ℕ} → 8 + cost_of_body + m.done ≤ m.until → HoldsIn w
+      → Kept m vs
+      → Straight (job d) own (drop 4 (own_lines 0))
+      (outside m (entry_of ∷ []) slots (act (Enters (section.Free c.number) FREE_COST) give_rest vs)) (words w)
+  free_run enough holds spelled =
+      let x : Section = section.Free c.number in
+      enters
+      (may_enter d x refl tt (free_top d.app c.number c.task facts)
+      (omega (arith, own_priority d.app c.number c.task facts, level_is)))
+      (omega arith) refl
+      (λ v ws others queues taken.
+      give_run (omega arith) holds (spelled_taken x taken spelled) taken.spelled
+      (λ y. omega (arith, taken.once y, queued_more queues y (record { section = x; kind = Marked }) [])))
 
-        started_spells : (cells : List ℕ) (queues : Holder → List Entry) (vs ws : Values) (es : List Entry)
-            → vs (Guarded (section.Ready p)) ≡ Messages (message_of ∷ messages_of cells es)
-            → SpellsReady app (slice_index cells) p es (Messages (messages_of cells es))
-            → Agree (storage app) (AtLevel p) (alone app p (section.Ready p)) ws vs
-            → (storage app).Spells (Guarded (section.Ready p)) (slice_index cells)
-            (with_queue queues (section.Ready p) es (Guarded (section.Ready p)))
-            (action_effect (Starts p message_of) ws (Guarded (section.Ready p)))
-        started_spells cells queues vs ws es content spells agree =
-            let kind : Kind = kind_at app (section.Ready p) p 14 in
-            let is : action_effect (Starts p message_of) ws (Guarded (section.Ready p)) ≡ Messages
-            (messages_of cells es) =
-            put_here app (AtLevel p) ws (section.Ready p)
-            (Messages (drop 1 (messages (ws (Guarded (section.Ready p))))))
-            ∙ ap (λ c. Messages (drop 1 (messages c)))
-            (agree (Guarded (section.Ready p)) (reads_here app p (section.Ready p) kind) ∙ content) in
-            subst (λ (entries : List Entry). (storage app).Spells (Guarded (section.Ready p)) (slice_index cells)
-            entries (action_effect (Starts p message_of) ws (Guarded (section.Ready p))))
-            (sym (queue_here app (AtLevel p) queues (section.Ready p) es))
-            (subst (λ (c : Content). (storage app).Spells (Guarded (section.Ready p)) (slice_index cells) es c) (sym is)
-            (for_ready app p (slice_index cells) es (Messages (messages_of cells es)) level_is spells))
+  -- out of the section of the ready queue
+  leave_run : {m : Moment} {w : Words} {vs : Values} {slots : List ℕ} {deadline : ℕ}
+      → 9 + cost_of_body + m.done ≤ m.until → HoldsIn w → Kept m vs
+      → (storage d.app).Spells (Guarded (section.Ready d.level)) (slice_index m.cells)
+      (m.queues (Guarded (section.Ready d.level))) (vs (Guarded (section.Ready d.level)))
+      → Straight (job d) own (drop 3 (own_lines 0))
+      (within d (section.Ready d.level) deadline m (entry_of ∷ []) slots (leave_rest vs)) (words w)
+  leave_run enough holds spelled spells =
+      leaves d.level refl refl refl spells
+      (λ ws agree. free_run (omega arith) holds (spelled_agreed [] spelled agree))
 
-        started_spelled : (cells : List ℕ) (queues : Holder → List Entry) (vs ws : Values) (es : List Entry)
-            → AreSpelled app p cells queues vs → Agree (storage app) (AtLevel p) (alone app p (section.Ready p)) ws vs
-            → AreSpelled app p cells (with_queue queues (section.Ready p) es) (action_effect (Starts p message_of) ws)
-        started_spelled cells queues vs ws es spelled agree =
-            spelled_put app p cells queues (with_queue queues (section.Ready p) es) ws (section.Ready p)
-            (Messages (drop 1 (messages (ws (Guarded (section.Ready p)))))) tt
-            (spelled_agreed app p cells queues vs ws (alone app p (section.Ready p)) spelled agree)
+  -- it starts, and the lines behind go on with its place in the hands
+  started : {m : Moment} {w : Words} {vs : Values} {slots : List ℕ} {deadline : ℕ} {es : List Entry} {lines : List Line}
+      (rest : Rest) → IsOldest d m.cells m.queues vs entry_of es → HoldsIn w
+      → ((ws : Values) (queues : Holder → List Entry) → AreSpelled d.app d.level m.cells queues ws
+      → (storage d.app).Spells (Guarded (section.Ready d.level)) (slice_index m.cells)
+      (queues (Guarded (section.Ready d.level))) (ws (Guarded (section.Ready d.level)))
+      → Straight (job d) own lines
+      (within d (section.Ready d.level) deadline (record m { done = suc m.done; at = suc m.at; queues = queues })
+      (entry_of ∷ []) slots (rest ws)) (words w))
+      → Straight (job d) own (noted instr.Mark (note.Start c.number 0) ∷ lines)
+      (within d (section.Ready d.level) deadline m [] slots (act (Starts d.level message_of) rest vs)) (words w)
+  started {m = m} {w = w} {vs = vs} {deadline = deadline} {es = es} rest ready holds on =
+      let x : Section = section.Ready d.level in
+      let h : Here = within d x deadline m [] (words w) (act (Starts d.level message_of) rest vs) in
+      let few : c.task.args ≤ 4 = few_arguments d.app c.number c.task facts in
+      let known : arguments_in (rows d) c.number ≡ c.task.args =
+      rw zero-add at (arguments_from d.entry 0 c.number d.app.tasks c.task c.at facts.software) in
+      let later : Holder → List Entry = with_queue m.queues x es in
+      by_noted (λ run has. asks {h = h} (Some (note.Start c.number 0)) mark_gives (record {
+        level = d.level;
+        message = message_of;
+        entry = entry_of;
+        others = es;
+        inside = open_here d x;
+        first = ready.queue;
+        of_task = (refl, refl);
+        fits = omega (arith, known, few);
+        shown =
+            subst (λ k. c.args ≡ take k (words w)) (sym known)
+            (holds.arguments ∙ sym (take-append-le c.task.args (firsts w) (drop 4 (words w)) few));
+        acts = record {
+          values = vs;
+          follows = λ answer. rest;
+          is = refl;
+          on = λ ws agree.
+              let us : Values = action_effect (Starts d.level message_of) ws in
+              let content : us (Guarded x) ≡ Messages (map (message_at d.app (slice_index m.cells)) es) =
+              put_here d.app (AtLevel d.level) ws x (Messages (drop 1 (messages (ws (Guarded x)))))
+              ∙ ap (λ c. Messages (drop 1 (messages c))) (agree (Guarded x) (reads_here d x) ∙ ready.content) in
+              goes_later (entry_of ∷ []) m.cells later (rest us) (words w) refl run has
+              (on us later
+              (spelled_put x (Messages (drop 1 (messages (ws (Guarded x))))) tt
+              (spelled_agreed (alone d x) ready.spelled agree))
+              (subst (λ entries. (storage d.app).Spells (Guarded x) (slice_index m.cells) entries (us (Guarded x)))
+              (sym (queue_here d.app (AtLevel d.level) m.queues x es))
+              (for_ready d (slice_index m.cells) es (us (Guarded x))
+              (subst (λ c'. SpellsReady d.app (slice_index m.cells) d.level es c') (sym content) ready.rest))));
+        };
+      }))
 
-        pub start_runs : (m k deadline kept at : ℕ) (cells : List ℕ) (queues : Holder → List Entry) (vs : Values)
-            (es : List Entry)
-            → k + m ≡ cost → 12 + cost_of_body ≤ m → k + 4 ≤ deadline → place < t.capacity
-            → HasCode code at (start_lines (queue_at app p) (called_at app n row t) at)
-            → ((left y z : ℕ) → args ≡ take t.args (slots_of left y z)) → AreSpelled app p cells queues vs
-            → queues (Guarded (section.Ready p)) ≡ entry_at n place ∷ es
-            → vs (Guarded (section.Ready p)) ≡ Messages (message_of ∷ messages_of cells es)
-            → SpellsReady app (slice_index cells) p es (Messages (messages_of cells es))
-            → S z m (ready_to_start k deadline kept at cells queues vs es)
-        start_runs m k deadline kept at cells queues vs [] fuel enough in_time less has shown spelled queue content
-            spells =
-            let fin : ℕ = m - 2 in
-            let m_is : suc (suc fin) ≡ m = omega arith in
-            let start : Here = ready_to_start k deadline kept at cells queues vs [] in
-            let kind : Kind = kind_at app (section.Ready p) p 14 in
-            let later : Holder → List Entry = with_queue queues (section.Ready p) [] in
-            subst (λ (m : ℕ). S z m start) m_is
-            (starts z (suc fin) start n p message_of (entry_at n place) []
-            (act (Leaves (section.Ready p)) (free_rest args)) vs has.0 (omega arith, (omega arith, tt)) refl
-            (open_here app p (section.Ready p) kind) queue (refl, refl) (omega (arith, known, few))
-            (subst (λ (count : ℕ). args ≡ take count start.slots) (sym known) (shown 0 i kept))
-            (λ ws agree.
-            let us : Values = action_effect (Starts p message_of) ws in
-            let h1 : Here = record {
-              held = alone app p (section.Ready p);
-              done = suc k;
-              deadlines = deadline ∷ cost ∷ [];
-              places = entry_at n place ∷ [];
-              slots = slots_of 0 i kept;
-              at = suc at;
-              cells = cells;
-              queues = later;
-              rest = act (Leaves (section.Ready p)) (free_rest args) us;
-            } in
-            jumps_at_zero z fin h1 5 (at + 3) (suc (suc (suc at))) has.1.0
-            (omega arith, (omega arith, tt)) refl refl (omega arith)
-            (leave_runs fin (suc (suc k)) deadline 0 kept (suc (suc (suc at))) cells later us (omega arith)
-            (omega arith) (omega arith) less has.1.1.1 (λ y z. shown 0 y z)
-            (started_spelled cells queues vs ws [] spelled agree)
-            (started_spells cells queues vs ws [] content spells agree))))
-        start_runs m k deadline kept at cells queues vs (o ∷ es) fuel enough in_time less has shown spelled queue
-            content spells =
-            let fin : ℕ = m - 3 in
-            let m_is : suc (suc (suc fin)) ≡ m = omega arith in
-            let start : Here = ready_to_start k deadline kept at cells queues vs (o ∷ es) in
-            let kind : Kind = kind_at app (section.Ready p) p 14 in
-            let left : ℕ = length (o ∷ es) in
-            let later : Holder → List Entry = with_queue queues (section.Ready p) (o ∷ es) in
-            let rest : Rest = act (Leaves (section.Ready p)) (free_rest args) in
-            subst (λ (m : ℕ). S z m start) m_is
-            (starts z (suc (suc fin)) start n p message_of (entry_at n place)
-            (o ∷ es) (act (Posts (dispatcher_number app p)) rest) vs has.0 (omega arith, (omega arith, tt)) refl
-            (open_here app p (section.Ready p) kind) queue (refl, refl) (omega (arith, known, few))
-            (subst (λ (count : ℕ). args ≡ take count start.slots) (sym known) (shown left i kept))
-            (λ ws agree.
-            let us : Values = action_effect (Starts p message_of) ws in
-            let h1 : Here = record {
-              held = alone app p (section.Ready p);
-              done = suc k;
-              deadlines = deadline ∷ cost ∷ [];
-              places = entry_at n place ∷ [];
-              slots = slots_of left i kept;
-              at = suc at;
-              cells = cells;
-              queues = later;
-              rest = act (Posts (dispatcher_number app p)) rest us;
-            } in
-            goes_on z (suc fin) h1 5 (at + 3) has.1.0
-            (omega arith, (omega arith, tt)) refl (not_zero (length es))
-            (let h2 : Here = record h1 { done = suc (suc k); at = suc (suc at) } in
-            posts z fin (suc h2.done) h2 (dispatcher_number app p) rest us has.1.1.0 (omega arith)
-            (omega arith, (omega arith, tt)) refl
-            (λ zs agree_too.
-            leave_runs fin (suc (suc (suc k))) deadline left kept (suc (suc (suc at))) cells later zs (omega arith)
-            (omega arith) (omega arith) less has.1.1.1 (λ y z. shown left y z)
-            (spelled_agreed app p cells later us zs (alone app p (section.Ready p))
-            (started_spelled cells queues vs ws (o ∷ es) spelled agree) agree_too)
-            (subst (λ (c : Content). (storage app).Spells (Guarded (section.Ready p)) (slice_index cells)
-            (later (Guarded (section.Ready p))) c)
-            (sym (agree_too (Guarded (section.Ready p)) (reads_here app p (section.Ready p) kind)))
-            (started_spells cells queues vs ws (o ∷ es) content spells agree))))))
+  -- and where more are ready the dispatcher is pended again
+  pub start_run : {m : Moment} {w : Words} {vs : Values} {slots : List ℕ} {deadline : ℕ} (es : List Entry)
+      → 12 + cost_of_body + m.done ≤ m.until → IsOldest d m.cells m.queues vs entry_of es → HoldsIn w
+      → w.left ≡ length es
+      → Straight (job d) own (own_lines m.at)
+      (within d (section.Ready d.level) deadline m [] slots
+      (start_doing d.app d.level (message_of ∷ map (message_at d.app (slice_index m.cells)) es) vs)) (words w)
+  start_run [] enough ready holds left =
+      started leave_rest ready holds
+      (λ ws queues spelled spells. skips_off 1 (omega arith) left (leave_run (omega arith) holds spelled spells))
+  start_run {m = m} (o ∷ es) enough ready holds left =
+      started (act (Posts (dispatcher_number d.app d.level)) leave_rest) ready holds
+      (λ ws queues spelled spells.
+      stays (omega (arith, left))
+      (posts refl
+      (λ zs agree.
+      leave_run (omega arith) holds (spelled_agreed (alone d (section.Ready d.level)) spelled agree)
+      (subst (λ content. (storage d.app).Spells (Guarded (section.Ready d.level)) (slice_index m.cells)
+      (queues (Guarded (section.Ready d.level))) content)
+      (sym (agree (Guarded (section.Ready d.level)) (reads_here d (section.Ready d.level)))) spells))))

@@ -1,14 +1,14 @@
 -- What is known of a software task of an accepted application.
 use Rattle.std.proofs.Common.{◌≡◌, ℕ, zero, suc, ◌^◌, ◌<◌, ◌≤◌, ◌==◌, Bool, true, if◌then◌else◌, List, [], ◌∷◌}
-use Rattle.std.proofs.Common.{◌++◌, length, Some, option_map, slice_get, Contains, sym, ap, subst, ◌∙◌, arith, inl, inr}
+use Rattle.std.proofs.Common.{length, Some, option_map, slice_get, Contains, sym, ap, subst, ◌∙◌, arith, inl, inr}
 use Rattle.std.specs.List.{list_any}
 use Rattle.std.proofs.lemmas.Bool.{cases_lt}
 use Rattle.std.proofs.lemmas.Bool.Decides.{nat_tests}
+use Rattle.std.proofs.lemmas.List.Elements.{Contains-append_left, Contains-append_right}
 use Rattle.std.proofs.lemmas.Nat.{pow_below}
 use Rattle.std.proofs.lemmas.Option.{slice_get_within}
 use Rattle.rt_lemmas.proofs.Bools.{and_both}
-use Rattle.rt_lemmas.proofs.Membership.{all_at, any_passes, contains_here, contains_there, contains_none}
-use Rattle.rt_lemmas.proofs.Membership.{contains_cases}
+use Rattle.rt_lemmas.proofs.Membership.{all_at, any_passes, contains_here}
 use Rattle.rt_ids.specs.Lists.{or_zero, is_some_and, those_below}
 use Rattle.rt_ids.specs.Entry.{Entry}
 use Rattle.rt_ids.specs.declared.ids.Section.TheVariants as section
@@ -28,30 +28,18 @@ use Rattle.rt_app.proofs.Sound.{accepted_are_sound}
 use Rattle.rt_app.proofs.SoundCeilings.{tasks_in_range}
 use Rattle.rt_gen_queue.proofs.Places.{IsPlaceOf, few_places}
 
-contains_front : (xs ys : List ℕ) (n : ℕ) → Contains xs n → Contains (xs ++ ys) n
-contains_front [] ys n is = absurd (contains_none n is)
-contains_front (x ∷ xs) ys n is =
-    elim (contains_cases x xs n is) [
-      | inl same ↦ subst (λ (y : ℕ). Contains (y ∷ (xs ++ ys)) n) (sym same) (contains_here n (xs ++ ys))
-      | inr behind ↦ contains_there x (xs ++ ys) n (contains_front xs ys n behind)
-    ]
-
-contains_back : (xs ys : List ℕ) (n : ℕ) → Contains ys n → Contains (xs ++ ys) n
-contains_back [] ys n is = is
-contains_back (x ∷ xs) ys n is = contains_there x (xs ++ ys) n (contains_back xs ys n is)
-
 -- a number that passes is among those that pass
 pub among_those : (test : ℕ → Bool) (n p : ℕ) → p < n → test p ≡ true → Contains (those_below test n) p
 unfolding those_below
 among_those test zero p below is = absurd (omega arith)
 among_those test (suc n) p below is =
     elim (cases_lt p n) [
-      | inl less ↦ contains_front (those_below test n) (if test n then n ∷ [] else []) p (among_those test n p less is)
+      | inl less ↦ Contains-append_left (those_below test n) _ p (among_those test n p less is)
       | inr least ↦
           (let same : n ≡ p = omega arith in
           let last : (if test n then n ∷ [] else []) ≡ n ∷ [] =
           ap (λ (b : Bool). if b then n ∷ [] else []) (ap test same ∙ is) in
-          contains_back (those_below test n) (if test n then n ∷ [] else []) p
+          Contains-append_right (those_below test n) _ p
           (subst (λ (xs : List ℕ). Contains xs p) (sym last)
           (subst (λ (k : ℕ). Contains (n ∷ []) k) same (contains_here n []))))
     ]

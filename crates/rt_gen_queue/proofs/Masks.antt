@@ -1,6 +1,6 @@
 -- What the guard of a section masks, at any level, and what its lines write and name.
 use Rattle.std.proofs.Common.{◌≡◌, ◌≢◌, ℕ, ◌<◌, ◌==◌, nat_le, Bool, true, false, if◌then◌else◌, List, length}
-use Rattle.std.proofs.Common.{slice_index, refl, sym, ◌∙◌, arith, get_or-set_other, length-set}
+use Rattle.std.proofs.Common.{slice_index, slice_set, refl, sym, ◌∙◌, arith, get_or-set_other, length-set}
 use Rattle.std.specs.List.{AllByRecursion}
 use Rattle.std.proofs.lemmas.Bool.Decides.{nat_tests}
 use Rattle.rt_ids.specs.Names.{Names}
@@ -17,6 +17,16 @@ use Rattle.rt_gen_queue.specs.declared.guard.Guard.{Guard}
 abbrev kind_by : Bool → Bool → ℕ → Kind
 kind_by low all slot = if low then Marked else if all then Masked slot else Raised slot
 
+-- what holds of each kind of section
+pub of_kinds : (g : Guard) (level : ℕ) (P : (ℕ → Kind) → Type 0) → P (λ slot. Marked) → P (λ slot. Masked slot)
+    → P (λ slot. Raised slot) → P (λ slot. kind_of g level slot)
+of_kinds g level P low all some = go (nat_le g.ceiling level) (g.value == 0)
+  where
+    go : (b c : Bool) → P (λ slot. kind_by b c slot)
+    go true c = low
+    go false true = all
+    go false false = some
+
 -- the mask that is asked for
 pub mask_of : (st : Storage) (who : Runner) (g : Guard) (level slot : ℕ) → g.value ≡ st.value g.ceiling
     → IsMask st who g.ceiling level (kind_of g level slot)
@@ -30,12 +40,8 @@ mask_of st who g level slot is = go (nat_le g.ceiling level) (g.value == 0) refl
 
 -- the slot that keeps the mask, where one does
 pub saves_in : (g : Guard) (level slot : ℕ) → AllByRecursion (λ d. d ≡ slot) (saved_slot (kind_of g level slot))
-saves_in g level slot = go (nat_le g.ceiling level) (g.value == 0)
-  where
-    go : (low all : Bool) → AllByRecursion (λ d. d ≡ slot) (saved_slot (kind_by low all slot))
-    go true all = tt
-    go false true = (refl, tt)
-    go false false = (refl, tt)
+saves_in g level slot =
+    of_kinds g level (λ kind. AllByRecursion (λ d. d ≡ slot) (saved_slot (kind slot))) tt (refl, tt) (refl, tt)
 
 -- what a section saves is written there, and other slots are as before
 pub record Beside (mask : ℕ) (before after : List ℕ) : Type 0 where
@@ -44,30 +50,20 @@ pub record Beside (mask : ℕ) (before after : List ℕ) : Type 0 where
 
 pub saved_beside : (g : Guard) (level mask saved : ℕ) (slots : List ℕ)
     → Beside mask slots (saving (kind_of g level mask) saved slots)
-saved_beside g level mask saved slots = go (nat_le g.ceiling level) (g.value == 0)
+saved_beside g level mask saved slots =
+    of_kinds g level (λ kind. Beside mask slots (saving (kind mask) saved slots))
+    (record { others = λ d other. refl; long = refl }) wrote wrote
   where
-    go : (low all : Bool) → Beside mask slots (saving (kind_by low all mask) saved slots)
-    go true all = record { others = λ d other. refl; long = refl }
-    go false true =
-        record { others = λ d other. get_or-set_other slots mask d saved 0 other; long = length-set slots mask saved }
-    go false false =
-        record { others = λ d other. get_or-set_other slots mask d saved 0 other; long = length-set slots mask saved }
+    wrote : Beside mask slots (slice_set slots mask saved)
+    wrote = record { others = λ d other. get_or-set_other slots mask d saved 0 other; long = length-set slots mask saved }
 
 -- the lines that open and close a section of what is declared name nothing else
 pub enter_named : (names : Names) (x : Section) (g : Guard) (level slot : ℕ) → HasSection names x
     → IsNameable names (enter_line x g level slot)
-enter_named names x g level slot has = record { instr = go (nat_le g.ceiling level) (g.value == 0); note = has }
-  where
-    go : (low all : Bool) → HasInstr names (opening g.value (kind_by low all slot))
-    go true all = tt
-    go false true = tt
-    go false false = tt
+enter_named names x g level slot has =
+    record { instr = of_kinds g level (λ kind. HasInstr names (opening g.value (kind slot))) tt tt tt; note = has }
 
 pub leave_named : (names : Names) (x : Section) (g : Guard) (level slot : ℕ) → HasSection names x
     → IsNameable names (leave_line x g level slot)
-leave_named names x g level slot has = record { instr = go (nat_le g.ceiling level) (g.value == 0); note = has }
-  where
-    go : (low all : Bool) → HasInstr names (closing (kind_by low all slot))
-    go true all = tt
-    go false true = tt
-    go false false = tt
+leave_named names x g level slot has =
+    record { instr = of_kinds g level (λ kind. HasInstr names (closing (kind slot))) tt tt tt; note = has }

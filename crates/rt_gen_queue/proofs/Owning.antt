@@ -16,6 +16,7 @@ use Rattle.rt_app.specs.Holding.{storage, SpellsFree, SpellsReady, SpellsTimer}
 use Rattle.rt_code.specs.Acting.{with_queue}
 use Rattle.rt_code.specs.Masking.{NobodyKeeps}
 use Rattle.rt_code.specs.Owning.{Held, Spot, is_open, reads, MayLoad, MayStore, Agree, LeavesMine}
+use Rattle.rt_gen_queue.proofs.Layer.Jobs.{Setting}
 use Rattle.rt_code.proofs.Mine.{one_section, same_section, owns_reads, owns_open, reads_more}
 
 -- the sections of queues
@@ -25,32 +26,22 @@ IsQueue (section.Free n) = Unit {0}
 IsQueue (section.Ready p) = Unit {0}
 IsQueue section.Timer = Unit {0}
 
-kept_none : (app : App) (who : Runner) (x : Section) → IsQueue x → (storage app).is_kept who (Guarded x) ≡ false
+-- nobody keeps what a queue has, or may read it without the section
+no_ones : (app : App) (who : Runner) (x : Section) → IsQueue x → ((storage app).is_kept who (Guarded x) ≡ false)
+    × ((storage app).is_constant who (Guarded x) ≡ false)
 unfolding storage
-kept_none app who (section.Res r) queue = absurd queue
-kept_none app Starting (section.Free n) queue = refl
-kept_none app (AtLevel p) (section.Free n) queue = refl
-kept_none app Starting (section.Ready p) queue = refl
-kept_none app (AtLevel q) (section.Ready p) queue = refl
-kept_none app Starting section.Timer queue = refl
-kept_none app (AtLevel q) section.Timer queue = refl
-
-constant_none : (app : App) (who : Runner) (x : Section) → IsQueue x
-    → (storage app).is_constant who (Guarded x) ≡ false
-unfolding storage
-constant_none app who (section.Res r) queue = absurd queue
-constant_none app Starting (section.Free n) queue = refl
-constant_none app (AtLevel p) (section.Free n) queue = refl
-constant_none app Starting (section.Ready p) queue = refl
-constant_none app (AtLevel q) (section.Ready p) queue = refl
-constant_none app Starting section.Timer queue = refl
-constant_none app (AtLevel q) section.Timer queue = refl
+no_ones app who (section.Res r) queue = absurd queue
+no_ones app Starting (section.Free n) queue = (refl, refl)
+no_ones app (AtLevel p) (section.Free n) queue = (refl, refl)
+no_ones app Starting (section.Ready p) queue = (refl, refl)
+no_ones app (AtLevel q) (section.Ready p) queue = (refl, refl)
+no_ones app Starting section.Timer queue = (refl, refl)
+no_ones app (AtLevel q) section.Timer queue = (refl, refl)
 
 pub nobody_keeps : (app : App) (who runner : Runner) (x : Section) → IsQueue x
     → NobodyKeeps (storage app) who runner x
-nobody_keeps app who Starting x queue = kept_none app Starting x queue
-nobody_keeps app who (AtLevel p) x queue =
-    λ q. (kept_none app (AtLevel q) x queue, constant_none app (AtLevel q) x queue)
+nobody_keeps app who Starting x queue = (no_ones app Starting x queue).0
+nobody_keeps app who (AtLevel p) x queue = λ q. no_ones app (AtLevel q) x queue
 
 pub home_as : (app : App) (c : ℕ) → (storage app).home c ≡ home_of app c
 unfolding storage
@@ -61,33 +52,36 @@ pub free_spelled : (app : App) (n : ℕ) (cells : ℕ → ℕ) (entries : List E
 unfolding storage
 free_spelled app n cells entries content spells = spells.1
 
-pub free_given : (app : App) (n : ℕ) (cells other : ℕ → ℕ) (entries more : List Entry) (content before : Content)
+pub free_back : {app : App} {n : ℕ} {cells : ℕ → ℕ} {entries : List Entry} {content : Content}
+    (other : ℕ → ℕ) (more : List Entry) (before : Content)
     → (storage app).Spells (Guarded (section.Free n)) other more before → SpellsFree app cells n entries content
     → (storage app).Spells (Guarded (section.Free n)) cells entries content
 unfolding storage
-free_given app n cells other entries more content before old spells = (old.0, spells)
+free_back other more before old spells = (old.0, spells)
 
 pub ready_spelled : (app : App) (p : ℕ) (cells : ℕ → ℕ) (entries : List Entry) (content : Content)
     → (storage app).Spells (Guarded (section.Ready p)) cells entries content → SpellsReady app cells p entries content
 unfolding storage
 ready_spelled app p cells entries content spells = spells.1
 
-pub ready_given : (app : App) (p : ℕ) (cells other : ℕ → ℕ) (entries more : List Entry) (content before : Content)
+pub ready_back : {app : App} {p : ℕ} {cells : ℕ → ℕ} {entries : List Entry} {content : Content}
+    (other : ℕ → ℕ) (more : List Entry) (before : Content)
     → (storage app).Spells (Guarded (section.Ready p)) other more before → SpellsReady app cells p entries content
     → (storage app).Spells (Guarded (section.Ready p)) cells entries content
 unfolding storage
-ready_given app p cells other entries more content before old spells = (old.0, spells)
+ready_back other more before old spells = (old.0, spells)
 
 pub timer_spelled : (app : App) (cells : ℕ → ℕ) (entries : List Entry) (content : Content)
     → (storage app).Spells (Guarded section.Timer) cells entries content → SpellsTimer app cells entries content
 unfolding storage
 timer_spelled app cells entries content spells = spells.1
 
-pub timer_given : (app : App) (cells other : ℕ → ℕ) (entries more : List Entry) (content before : Content)
+pub timer_back : {app : App} {cells : ℕ → ℕ} {entries : List Entry} {content : Content}
+    (other : ℕ → ℕ) (more : List Entry) (before : Content)
     → (storage app).Spells (Guarded section.Timer) other more before → SpellsTimer app cells entries content
     → (storage app).Spells (Guarded section.Timer) cells entries content
 unfolding storage
-timer_given app cells other entries more content before old spells = (old.0, spells)
+timer_back other more before old spells = (old.0, spells)
 
 -- cells that belong to different things are different
 pub apart : (app : App) (a b : ℕ) (x y : Home) → home_of app a ≡ x → home_of app b ≡ y → ¬ (x ≡ y) → a ≢ b
@@ -129,13 +123,19 @@ module _ (app : App) (who : Runner) where
       → reads (storage app) who held (Guarded x) ≡ false
   unread held x queue closed =
       or_neither (is_open held x || (storage app).is_kept who (Guarded x)) ((storage app).is_constant who (Guarded x))
-      (or_neither (is_open held x) ((storage app).is_kept who (Guarded x)) closed (kept_none app who x queue))
-      (constant_none app who x queue)
+      (or_neither (is_open held x) ((storage app).is_kept who (Guarded x)) closed (no_ones app who x queue).0)
+      (no_ones app who x queue).1
 
   pub is_inside : (held : List Held) (h : Held) (x : Section) → h.section ≡ x → is_open (h ∷ held) x ≡ true
   is_inside held h x is =
       or_left (is_same_section h.section x) (is_open held x)
       (ap (λ y. is_same_section y x) is ∙ same_section x)
+
+  pub reads_inside : (held : List Held) (h : Held) (x : Section) → h.section ≡ x
+      → reads (storage app) who (h ∷ held) (Guarded x) ≡ true
+  reads_inside held h x is =
+      owns_reads (storage app) who (h ∷ held) (Guarded x)
+      (owns_open (storage app) who (h ∷ held) x (is_inside held h x is))
 
   same_holder : (x : Section) (h : Holder) → is_same_holder (Guarded x) h ≡ true → h ≡ Guarded x
   same_holder x (Guarded y) is = ap Guarded (sym (one_section x y is))
@@ -160,32 +160,44 @@ module _ (app : App) (who : Runner) where
       → with_queue queues x entries (Guarded x) ≡ entries
   queue_here queues x entries = ap (λ (b : Bool). if b then entries else queues (Guarded x)) (same_section x)
 
+-- what is spelled, in the values and queues that have it
+pub spelled_put : (app : App) (cells : ℕ → ℕ) (entries : List Entry) (content : Content) (queues : Holder → List Entry)
+    (us : Values) (x : Section) → (storage app).Spells (Guarded x) cells entries content
+    → (storage app).Spells (Guarded x) cells (with_queue queues x entries (Guarded x))
+    (put_at us (Guarded x) content (Guarded x))
+spelled_put app cells entries content queues us x spells =
+    subst (λ (es : List Entry). (storage app).Spells (Guarded x) cells es (put_at us (Guarded x) content (Guarded x)))
+    (sym (queue_here app Starting queues x entries))
+    (subst (λ (c : Content). (storage app).Spells (Guarded x) cells entries c)
+    (sym (put_here app Starting us x content)) spells)
+
+module _ (z : Setting) where
   -- values behind a section: what may be read without it is as it was
-  pub agree_out : (held : List Held) (h : Held) (x : Section) (content : Content) (after us ws vs : Values)
-      → reads (storage app) who held (Guarded x) ≡ false
-      → Agree (storage app) who held after (put_at us (Guarded x) content) → Agree (storage app) who (h ∷ held) us ws
-      → Agree (storage app) who held ws vs → Agree (storage app) who held after vs
-  agree_out held h x content after us ws vs none last inner first holder may =
+  pub agree_out : {after us ws : Values} (held : List Held) (h : Held) (x : Section) (content : Content)
+      → reads (storage z.app) z.who held (Guarded x) ≡ false
+      → Agree (storage z.app) z.who held after (put_at us (Guarded x) content)
+      → Agree (storage z.app) z.who (h ∷ held) us ws → Agree (storage z.app) z.who held after ws
+  agree_out {us = us} held h x content none last inner holder may =
       last holder may
-      ∙ ap (λ (b : Bool). if b then content else us holder) (other_holder held x holder none may)
-      ∙ inner holder (reads_more (storage app) who h held holder may) ∙ first holder may
+      ∙ ap (λ (b : Bool). if b then content else us holder) (other_holder z.app z.who held x holder none may)
+      ∙ inner holder (reads_more (storage z.app) z.who h held holder may)
 
   -- what is the job's own behind a section: only cells and the queue of the section are others
-  pub leaves_out : (s : Spot) (x : Section) (cells after : List ℕ) (queues : Holder → List Entry) (entries : List Entry)
-      → reads (storage app) who s.held (Guarded x) ≡ false → LeavesMine (storage app) who s cells queues
-      → length after ≡ length cells
-      → ((c : ℕ) → ¬ (home_of app c ≡ At (Guarded x)) → slice_index after c ≡ slice_index cells c)
-      → LeavesMine (storage app) who s after (with_queue queues x entries)
-  leaves_out s x cells after queues entries none over long kept = record {
+  pub leaves_out : {cells after : List ℕ} {queues : Holder → List Entry} (s : Spot) (x : Section)
+      (entries : List Entry) → reads (storage z.app) z.who s.held (Guarded x) ≡ false
+      → LeavesMine (storage z.app) z.who s cells queues → length after ≡ length cells
+      → ((c : ℕ) → ¬ (home_of z.app c ≡ At (Guarded x)) → slice_index after c ≡ slice_index cells c)
+      → LeavesMine (storage z.app) z.who s after (with_queue queues x entries)
+  leaves_out {queues = queues} s x entries none over long kept = record {
     long = long ∙ over.long;
     touched = λ c may.
-        kept c (λ is. closed (subst (λ (home : Home). MayLoad (storage app) who s home) (home_as app c ∙ is) may))
+        kept c (λ is. closed (subst (λ (home : Home). MayLoad (storage z.app) z.who s home) (home_as z.app c ∙ is) may))
         ∙ over.touched c may;
     queued = λ holder own.
         ap (λ (b : Bool). if b then entries else queues holder)
-        (other_holder s.held x holder none (owns_reads (storage app) who s.held holder own))
+        (other_holder z.app z.who s.held x holder none (owns_reads (storage z.app) z.who s.held holder own))
         ∙ over.queued holder own;
   }
     where
-      closed : reads (storage app) who s.held (Guarded x) ≡ true → ⊥
+      closed : reads (storage z.app) z.who s.held (Guarded x) ≡ true → ⊥
       closed may = cc (may, none)

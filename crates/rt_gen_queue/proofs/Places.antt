@@ -57,15 +57,26 @@ fits (x ∷ xs) all least =
 -- a list of different ones of another list is no longer
 pub fits_once : (xs all : List Entry) → ((y : Entry) → count y xs ≤ 1)
     → ((y : Entry) → 0 < count y xs → 0 < count y all) → length xs ≤ length all
-fits_once xs all once found = fits xs all (λ y. least (count y xs) (count y all) (once y) (found y))
-  where
-    least : (a b : ℕ) → a ≤ 1 → (0 < a → 0 < b) → a ≤ b
-    least zero b few more = omega arith
-    least (suc a) b few more = let some = more (omega arith) in omega arith
+fits_once xs all once found = fits xs all (λ y. grind (arith, once y, found y))
+
+-- a place of a task
+abbrev pub entry_at : ℕ → ℕ → Entry
+entry_at n place = record { task = n; place = place }
 
 -- all places of a task, and of the tasks that pass, of those from a number on
 abbrev pub places_of : ℕ → ℕ → List Entry
-places_of n capacity = map (λ k. record { task = n; place = k }) (range_with_len 0 capacity)
+places_of n capacity = map (entry_at n) (range_with_len 0 capacity)
+
+-- different places of a task are no more than it has
+pub places_few : (n c : ℕ) (es : List Entry) → AllByRecursion (λ e. (e.task ≡ n) × (e.place < c)) es
+    → ((y : Entry) → count y es ≤ 1) → length es ≤ c
+places_few n c es all once =
+    let found : (y : Entry) → 0 < count y es → 0 < count y (places_of n c) =
+    (λ y some.
+    let place = all_counted (λ (e : Entry). (e.task ≡ n) × (e.place < c)) es y all some in
+    let is : entry_at n y.place ≡ y = ap (λ task. entry_at task y.place) (sym place.0) in
+    counted (places_of n c) y.place y (mapped (entry_at n) c y.place place.1 ∙ ap Some is)) in
+    omega (arith, fits_once es (places_of n c) once found, many (entry_at n) c)
 
 abbrev pub places_from : (ℕ → Task → Bool) → ℕ → List Task → List Entry
 places_from test n [] = []
@@ -90,33 +101,33 @@ places_long test n (t ∷ ts) = go (test t) (places_long test (n + 1) ts)
     go false rest = rest
 
 -- a place of a task that passes is among them
-pub stands_in : (test : ℕ → Task → Bool) (n : ℕ) (ts : List Task) (i : ℕ) (t : Task) (e : Entry)
-    → slice_get ts i ≡ Some t → test (n + i) t ≡ true → e.task ≡ n + i → e.place < t.capacity
+pub stands_in : (test : ℕ → Task → Bool) (n : ℕ) (ts : List Task) (i : ℕ) (e : Entry) {t : Task}
+    → slice_get ts i ≡ Some t → test (n + i) t ≡ true → (e.task ≡ n + i) × (e.place < t.capacity)
     → 0 < count e (places_from test n ts)
-stands_in test n [] i t e at passes task place = absurd (none-some t at)
-stands_in test n (u ∷ ts) zero t e at passes task place =
+stands_in test n [] i e {t = t} at passes place = absurd (none-some t at)
+stands_in test n (u ∷ ts) zero e {t = t} at passes (task, place) =
     let same : u ≡ t = same_Some u t at in
-    let first : n ≡ n + 0 = omega arith in
-    let chosen : (if test n u then places_of n u.capacity else []) ≡ places_of n t.capacity =
-    ap (λ u. if test n u then places_of n u.capacity else []) same
-    ∙ ap (λ (b : Bool). if b then places_of n t.capacity else []) (ap (λ k. test k t) first ∙ passes) in
-    let is : e ≡ record { task = n; place = e.place } =
-    (let k : e.task ≡ n = omega arith in ap (λ n. record { task = n; place = e.place }) k) in
+    let first : n + 0 ≡ n = omega arith in
+    let own : e.task ≡ n = omega arith in
+    let is : e ≡ record { task = n; place = e.place } = ap (λ n. record { task = n; place = e.place }) own in
     let stands : slice_get (places_of n t.capacity) e.place ≡ Some e =
     mapped (λ k. record { task = n; place = k }) t.capacity e.place place ∙ ap Some (sym is) in
+    let chosen : test n u ≡ true = ap (test n) same ∙ ap (λ k. test k t) (sym first) ∙ passes in
     let some = counted (places_of n t.capacity) e.place e stands in
-    let two : count e (places_from test n (u ∷ ts))
-    ≡ count e (if test n u then places_of n u.capacity else []) + count e (places_from test (n + 1) ts) =
-    sum_by-append (one e) (if test n u then places_of n u.capacity else []) (places_from test (n + 1) ts) in
-    omega (arith, two, ap (count e) chosen, some)
-stands_in test n (u ∷ ts) (suc i) t e at passes task place =
+    omega (
+      arith,
+      sum_by-append (one e) (if test n u then places_of n u.capacity else []) (places_from test (n + 1) ts),
+      ap (λ (b : Bool). count e (if b then places_of n u.capacity else [])) chosen,
+      ap (λ u. count e (places_of n u.capacity)) same,
+      some,
+    )
+stands_in test n (u ∷ ts) (suc i) e {t = t} at passes (task, place) =
     let next : n + 1 + i ≡ n + suc i = omega arith in
-    let some =
-    stands_in test (n + 1) ts i t e at (ap (λ k. test k t) next ∙ passes) (omega arith) place in
-    let two : count e (places_from test n (u ∷ ts))
-    ≡ count e (if test n u then places_of n u.capacity else []) + count e (places_from test (n + 1) ts) =
-    sum_by-append (one e) (if test n u then places_of n u.capacity else []) (places_from test (n + 1) ts) in
-    omega (arith, two, some)
+    omega (
+      arith,
+      sum_by-append (one e) (if test n u then places_of n u.capacity else []) (places_from test (n + 1) ts),
+      stands_in test (n + 1) ts i e at (ap (λ k. test k t) next ∙ passes) (omega arith, place),
+    )
 
 -- a place of a task of a level
 abbrev pub IsPlaceOf : App → ℕ → Entry → Type 0
@@ -133,8 +144,8 @@ ring_room app p entries e all is once =
     let place : IsPlaceOf app p y = all_counted (IsPlaceOf app p) (e ∷ entries) y (is, all) some in
     let task = the_task (is_of_level p) app y.task place.0 in
     let capacity = capacity_is app y.task task.0 task.1 in
-    stands_in (λ n t. is_of_level p t) 0 app.tasks y.task task.0 y task.1 task.2 (omega arith)
-    (omega (arith, place.1, capacity))) in
+    stands_in (λ n t. is_of_level p t) 0 app.tasks y.task y task.1 task.2
+    (omega arith, omega (arith, place.1, capacity))) in
     omega (arith, fits_once (e ∷ entries) places once found, places_long (is_of_level p) 0 app.tasks)
 
 -- a level has no more than 1,024

@@ -1,8 +1,9 @@
 -- Where lines stand in code, and how many there are.
-use Rattle.std.proofs.Common.{◌≡◌, ℕ, zero, suc, ◌+◌, ◌*◌, ◌++◌, Some, List, [], ◌∷◌, length, slice_get, slice_index}
-use Rattle.std.proofs.Common.{refl, ap}
+use Rattle.std.proofs.Common.{◌≡◌, ℕ, suc, ◌+◌, ◌*◌, ◌++◌, Some, List, [], ◌∷◌, length, slice_get, slice_index}
+use Rattle.std.proofs.Common.{refl}
 use Rattle.std.proofs.Common.{subst, arith, append_assoc}
 use Rattle.std.proofs.lemmas.List.{length-append}
+use Rattle.std.proofs.lemmas.List.FromFn.{length-map-range_with_len}
 use Rattle.rt_ids.specs.declared.op.Op.TheVariants as op
 use Rattle.rt_app.specs.Tree.{App}
 use Rattle.rt_app.specs.Bodies.{task_priority}
@@ -50,8 +51,7 @@ code_there front lines behind = go front lines behind front refl
         )
 
 pub stores_long : (count cell slot from : ℕ) → length (store_code count cell slot from) ≡ count
-stores_long zero cell slot from = refl
-stores_long (suc count) cell slot from = ap suc (stores_long count cell slot (from + 1))
+stores_long count cell slot from = length-map-range_with_len _ from count
 
 pub fill_long : (app : App) (task slot : ℕ) → length (fill_code app task slot) ≡ 4 + arguments_of app task
 fill_long app task slot =

@@ -4,13 +4,14 @@ use Rattle.std.proofs.Common.{map, Some, option_map, slice_get, slice_index, Con
 use Rattle.std.proofs.Common.{inl, inr}
 use Rattle.std.specs.List.{AllByRecursion, range_with_len}
 use Rattle.std.proofs.lemmas.Option.{none-some, same_Some, slice_get_within}
-use Rattle.std.proofs.lemmas.List.{length-append}
+use Rattle.std.proofs.lemmas.List.{length-append, ext_get_or}
+use Rattle.std.proofs.lemmas.List.FromFn.{length-map-range_with_len, get_or-map-range_with_len}
 use Rattle.rt_lemmas.proofs.Bools.{and_left}
 use Rattle.rt_lemmas.proofs.Membership.{all_append}
 use Rattle.rt_lemmas.proofs.Places.{at_either}
 use Rattle.rt_ids.specs.Lists.{or_zero}
 use Rattle.rt_ids.specs.Holder.{Guarded}
-use Rattle.rt_ids.specs.Content.{Content, Message, Number, Messages, number, messages}
+use Rattle.rt_ids.specs.Content.{Content, Number, Messages, number, messages}
 use Rattle.rt_ids.specs.Entry.{Entry}
 use Rattle.rt_ids.specs.Storage.{At, In}
 use Rattle.rt_ids.specs.declared.ids.Section.TheVariants as section
@@ -23,13 +24,13 @@ use Rattle.rt_app.proofs.LaidQueues.{capacity_is, input_is_home, ready_is_home}
 use Rattle.rt_app.proofs.Spelling.{the_task}
 use Rattle.rt_gen_queue.proofs.Numbers.{apart}
 use Rattle.rt_gen_queue.proofs.Places.{IsPlaceOf}
-use Rattle.rt_gen_queue.proofs.Spots.{Wrote}
+use Rattle.rt_gen_queue.proofs.Layer.Instructions.{Wrote}
 
 -- the first free place is taken, and the count is one less
-pub free_taken : (app : App) (n : ℕ) (e : Entry) (others : List Entry) (content : Content) (before after : List ℕ)
+pub free_taken : {app : App} {n : ℕ} {e : Entry} {others : List Entry} {content : Content} {before after : List ℕ}
     → SpellsFree app (slice_index before) n (e ∷ others) content → Wrote (free_at app n) (length others) before after
     → SpellsFree app (slice_index after) n others (Number (number content + 1))
-free_taken app n e others content before after spells wrote =
+free_taken {app = app} {n = n} {others = others} {before = before} spells wrote =
     let room = spells.room in
     let out : (capacity_of app n - suc (length others)) + 1 ≡ capacity_of app n - length others = omega arith in
     record {
@@ -48,13 +49,13 @@ free_taken app n e others content before after spells wrote =
 
 map_range_alike : (f g : ℕ → ℕ) (a n : ℕ) → ((k : ℕ) → k < n → f (a + k) ≡ g (a + k))
     → map f (range_with_len a n) ≡ map g (range_with_len a n)
-map_range_alike f g a zero same = refl
-map_range_alike f g a (suc n) same =
-    let e : a + 0 ≡ a = omega arith in
-    let here : f a ≡ g a = ap f (sym e) ∙ (same 0 (omega arith) ∙ ap g e) in
-    ap (λ x. x ∷ map f (range_with_len (a + 1) n)) here
-    ∙ ap (λ xs. g a ∷ xs) (map_range_alike f g (a + 1) n (λ k less.
-    (let d : a + 1 + k ≡ a + suc k = omega arith in ap f d ∙ (same (suc k) (omega arith) ∙ ap g (sym d)))))
+map_range_alike f g a n same =
+    ext_get_or 0 (map f (range_with_len a n)) (map g (range_with_len a n))
+    (length-map-range_with_len f a n ∙ sym (length-map-range_with_len g a n))
+    (λ i less.
+    let within : i < n = omega (arith, length-map-range_with_len f a n) in
+    get_or-map-range_with_len f a n i (a + i) 0 within refl ∙ same i within
+    ∙ sym (get_or-map-range_with_len g a n i (a + i) 0 within refl))
 
 -- a message goes by the cells of its place alone
 pub message_alike : (app : App) (p : ℕ) (before after : ℕ → ℕ) (e : Entry) → IsPlaceOf app p e
@@ -80,95 +81,108 @@ at_not_in app c d x e at in_ same =
     let clash : At x ≡ In e = sym at ∙ sym (ap (home_of app) same) ∙ in_ in absurd cc
 
 -- a message more in the ring
-module _ (app : App) (p : ℕ) (known : Contains (levels app) p) (entries : List Entry) (e : Entry) (content : Content)
-    (m : Message) (before mid after : List ℕ) where
-  abbrev pub ring_cell : ℕ
+pub record PutsReady (app : App) (p : ℕ) (after : List ℕ) : Type 0 where
+  pub entries : List Entry
+  pub entry : Entry
+  pub content : Content
+  pub before : List ℕ
+  pub mid : List ℕ
+  pub known : Contains (levels app) p
+  pub spells : SpellsReady app (slice_index before) p entries content
+  pub room : length entries < ready_room app p
+  pub place : IsPlaceOf app p entry
+  pub turn : (slice_index before (ready_at app p) + length entries) % ready_room app p < ready_room app p
+  pub ring : Wrote (ready_at app p + 2 + (slice_index before (ready_at app p) + length entries) % ready_room app p)
+      (message_word entry) before mid
+  pub counted : Wrote (ready_at app p + 1) (length entries + 1) mid after
+
+module _ {app : App} {p : ℕ} {after : List ℕ} (puts : PutsReady app p after) where
+  abbrev before : List ℕ
+  before = puts.before
+
+  abbrev entries : List Entry
+  entries = puts.entries
+
+  abbrev e : Entry
+  e = puts.entry
+
+  abbrev ring_cell : ℕ
   ring_cell = ready_at app p + 2 + (slice_index before (ready_at app p) + length entries) % ready_room app p
 
-  pub record PutsReady : Type 0 where
-    pub spells : SpellsReady app (slice_index before) p entries content
-    pub room : length entries < ready_room app p
-    pub place : IsPlaceOf app p e
-    pub turn : (slice_index before (ready_at app p) + length entries) % ready_room app p < ready_room app p
-    pub ring : Wrote ring_cell (message_word e) before mid
-    pub counted : Wrote (ready_at app p + 1) (length entries + 1) mid after
-    pub message : message_at app (slice_index before) e ≡ m
+  ring_home : home_of app ring_cell ≡ At (Guarded (section.Ready p))
+  ring_home =
+      let turn : ℕ = (slice_index before (ready_at app p) + length entries) % ready_room app p in
+      let d : ready_at app p + 2 + turn ≡ ready_at app p + (2 + turn) = omega arith in
+      let within : 2 + turn < 2 + ready_room app p = omega (arith, puts.turn) in
+      ap (home_of app) d ∙ ready_is_home app p puts.known (2 + turn) within
 
-  module _ (puts : PutsReady) where
-    ring_home : home_of app ring_cell ≡ At (Guarded (section.Ready p))
-    ring_home =
-        let turn : ℕ = (slice_index before (ready_at app p) + length entries) % ready_room app p in
-        let d : ready_at app p + 2 + turn ≡ ready_at app p + (2 + turn) = omega arith in
-        let within : 2 + turn < 2 + ready_room app p = omega (arith, puts.turn) in
-        ap (home_of app) d ∙ ready_is_home app p known (2 + turn) within
+  count_home : home_of app (ready_at app p + 1) ≡ At (Guarded (section.Ready p))
+  count_home = ready_is_home app p puts.known 1 (omega arith)
 
-    count_home : home_of app (ready_at app p + 1) ≡ At (Guarded (section.Ready p))
-    count_home = ready_is_home app p known 1 (omega arith)
+  left : (c : ℕ) (x : Entry) → home_of app c ≡ In x → slice_index before c ≡ slice_index after c
+  left c x is =
+      sym (puts.counted.others c (at_not_in app (ready_at app p + 1) c _ x count_home is)
+      ∙ puts.ring.others c (at_not_in app ring_cell c _ x ring_home is))
 
-    left : (c : ℕ) (x : Entry) → home_of app c ≡ In x → slice_index before c ≡ slice_index after c
-    left c x is =
-        sym (puts.counted.others c (at_not_in app (ready_at app p + 1) c _ x count_home is)
-        ∙ puts.ring.others c (at_not_in app ring_cell c _ x ring_home is))
+  messages_put : (xs : List Entry) → AllByRecursion (IsPlaceOf app p) xs
+      → map (message_at app (slice_index before)) xs ++ message_at app (slice_index before) e ∷ []
+      ≡ map (message_at app (slice_index after)) (xs ++ e ∷ [])
+  messages_put [] all =
+      ap (λ y. y ∷ [])
+      (message_alike app p (slice_index before) (slice_index after) e puts.place (λ c is. left c e is))
+  messages_put (x ∷ xs) all =
+      ap (λ y. y ∷ (map (message_at app (slice_index before)) xs ++ message_at app (slice_index before) e ∷ []))
+      (message_alike app p (slice_index before) (slice_index after) x all.0 (λ c is. left c x is))
+      ∙ ap (λ ys. message_at app (slice_index after) x ∷ ys) (messages_put xs all.1)
 
-    messages_put : (xs : List Entry) → AllByRecursion (IsPlaceOf app p) xs
-        → map (message_at app (slice_index before)) xs ++ m ∷ []
-        ≡ map (message_at app (slice_index after)) (xs ++ e ∷ [])
-    messages_put [] all =
-        ap (λ y. y ∷ [])
-        (sym puts.message
-        ∙ message_alike app p (slice_index before) (slice_index after) e puts.place (λ c is. left c e is))
-    messages_put (x ∷ xs) all =
-        ap (λ y. y ∷ (map (message_at app (slice_index before)) xs ++ m ∷ []))
-        (message_alike app p (slice_index before) (slice_index after) x all.0 (λ c is. left c x is))
-        ∙ ap (λ ys. message_at app (slice_index after) x ∷ ys) (messages_put xs all.1)
+  head_is : slice_index after (ready_at app p) ≡ slice_index before (ready_at app p)
+  head_is =
+      let one : ready_at app p ≢ ready_at app p + 1 = omega arith in
+      let two : ready_at app p ≢ ring_cell = omega arith in
+      puts.counted.others (ready_at app p) one ∙ puts.ring.others (ready_at app p) two
 
-    head_is : slice_index after (ready_at app p) ≡ slice_index before (ready_at app p)
-    head_is =
-        let one : ready_at app p ≢ ready_at app p + 1 = omega arith in
-        let two : ready_at app p ≢ ring_cell = omega arith in
-        puts.counted.others (ready_at app p) one ∙ puts.ring.others (ready_at app p) two
+  ring_is : (i : ℕ) (x : Entry) → slice_get (entries ++ e ∷ []) i ≡ Some x
+      → slice_index after (ready_at app p + 2 + (slice_index before (ready_at app p) + i) % ready_room app p)
+      ≡ message_word x
+  ring_is i x at =
+      let head : ℕ = slice_index before (ready_at app p) in
+      let size : ℕ = ready_room app p in
+      let c : ℕ = ready_at app p + 2 + (head + i) % size in
+      let no_count : c ≢ ready_at app p + 1 = omega arith in
+      let start : head < size = omega (arith, puts.spells.head, puts.room) in
+      puts.counted.others c no_count
+      ∙ elim (at_either entries (e ∷ []) i x at) [
+        | inl front ↦
+            (let differ : (head + i) % size ≢ (head + length entries) % size =
+            apart head i (length entries) size start front.0 puts.room in
+            let no_ring : c ≢ ring_cell =
+            (λ (same : c ≡ ring_cell). differ (omega (arith, same))) in
+            puts.ring.others c no_ring ∙ puts.spells.ring i x front.1)
+        | inr back ↦ last back.0 back.1 back.2
+      ]
+    where
+      last : (k : ℕ) → i ≡ length entries + k → slice_get (e ∷ []) k ≡ Some x
+          → slice_index puts.mid (ready_at app p + 2 + (slice_index before (ready_at app p) + i) % ready_room app p)
+          ≡ message_word x
+      last zero is here =
+          let same : i ≡ length entries = omega arith in
+          ap
+          (λ j. slice_index puts.mid (ready_at app p + 2 + (slice_index before (ready_at app p) + j) % ready_room app p))
+          same ∙ puts.ring.here ∙ ap message_word (same_Some e x here)
+      last (suc k) is here = absurd (none-some x here)
 
-    ring_is : (i : ℕ) (x : Entry) → slice_get (entries ++ e ∷ []) i ≡ Some x
-        → slice_index after (ready_at app p + 2 + (slice_index before (ready_at app p) + i) % ready_room app p)
-        ≡ message_word x
-    ring_is i x at =
-        let head : ℕ = slice_index before (ready_at app p) in
-        let size : ℕ = ready_room app p in
-        let c : ℕ = ready_at app p + 2 + (head + i) % size in
-        let no_count : c ≢ ready_at app p + 1 = omega arith in
-        let start : head < size = omega (arith, puts.spells.head, puts.room) in
-        puts.counted.others c no_count
-        ∙ elim (at_either entries (e ∷ []) i x at) [
-          | inl front ↦
-              (let differ : (head + i) % size ≢ (head + length entries) % size =
-              apart head i (length entries) size start front.0 puts.room in
-              let no_ring : c ≢ ring_cell =
-              (λ (same : c ≡ ring_cell). differ (omega (arith, same))) in
-              puts.ring.others c no_ring ∙ puts.spells.ring i x front.1)
-          | inr back ↦ last back.0 back.1 back.2
-        ]
-      where
-        last : (k : ℕ) → i ≡ length entries + k → slice_get (e ∷ []) k ≡ Some x
-            → slice_index mid (ready_at app p + 2 + (slice_index before (ready_at app p) + i) % ready_room app p)
-            ≡ message_word x
-        last zero is here =
-            let same : i ≡ length entries = omega arith in
-            ap
-            (λ j. slice_index mid (ready_at app p + 2 + (slice_index before (ready_at app p) + j) % ready_room app p))
-            same ∙ puts.ring.here ∙ ap message_word (same_Some e x here)
-        last (suc k) is here = absurd (none-some x here)
-
-    pub ready_put : SpellsReady app (slice_index after) p (entries ++ e ∷ []) (Messages (messages content ++ m ∷ []))
-    ready_put =
-        let long = length-append entries (e ∷ []) in
-        record {
-          messages =
-              ap (λ c. Messages (messages c ++ m ∷ [])) puts.spells.messages
-              ∙ ap Messages (messages_put entries puts.spells.places);
-          room = omega (arith, long, puts.room);
-          places = all_append (IsPlaceOf app p) entries (e ∷ []) puts.spells.places (puts.place, tt);
-          head = omega (arith, head_is, puts.spells.head);
-          count = puts.counted.here ∙ omega (arith, long);
-          ring = λ i x at.
-              ap (λ h. slice_index after (ready_at app p + 2 + (h + i) % ready_room app p)) head_is ∙ ring_is i x at;
-        }
+  pub ready_put : SpellsReady app (slice_index after) p (entries ++ e ∷ [])
+      (Messages (messages puts.content ++ message_at app (slice_index before) e ∷ []))
+  ready_put =
+      let long = length-append entries (e ∷ []) in
+      record {
+        messages =
+            ap (λ c. Messages (messages c ++ message_at app (slice_index before) e ∷ [])) puts.spells.messages
+            ∙ ap Messages (messages_put entries puts.spells.places);
+        room = omega (arith, long, puts.room);
+        places = all_append (IsPlaceOf app p) entries (e ∷ []) puts.spells.places (puts.place, tt);
+        head = omega (arith, head_is, puts.spells.head);
+        count = puts.counted.here ∙ omega (arith, long);
+        ring = λ i x at.
+            ap (λ h. slice_index after (ready_at app p + 2 + (h + i) % ready_room app p)) head_is ∙ ring_is i x at;
+      }

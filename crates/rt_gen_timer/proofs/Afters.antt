@@ -1,13 +1,10 @@
--- The code of a whole `spawn_after` stands: a place is taken, filled and armed, and the answer is the handle; or none
--- is left, and the answer is 0. It takes turns of the loop upwards for each binary digit of the number of messages, or
--- for each message, whichever are fewer: so the section is within both of its costs.
-use Rattle.std.proofs.Common.{◌≡◌, ◌⊎◌, ℕ, suc, ◌+◌, ◌-◌, ◌*◌, ◌<◌, ◌≤◌, true, List, [], ◌∷◌, ◌++◌}
-use Rattle.std.proofs.Common.{length, take, drop, Some, IsSome, slice_get, slice_index, slice_set, refl, sym, ap, subst}
-use Rattle.std.proofs.Common.{◌∙◌}
-use Rattle.std.proofs.Common.{arith, inl, inr}
-use Rattle.std.specs.List.{AllByRecursion}
+-- The code of a whole `spawn_after`: a place is taken, filled and armed, and the answer is the handle; or none is left,
+-- and the answer is 0. It takes turns of the loop upwards for each binary digit of the number of messages, or for each
+-- message, whichever are fewer: so the section is within both of its costs.
+use Rattle.std.proofs.Common.{◌≡◌, ℕ, suc, ◌+◌, ◌*◌, ◌<◌, ◌≤◌, ◌&&◌, true, Some, None, List, [], ◌∷◌, ◌++◌, length}
+use Rattle.std.proofs.Common.{take, drop, slice_get, slice_index, refl, sym, ap, subst, ◌∙◌, arith, inl, inr}
 use Rattle.std.proofs.lemmas.Bool.{cases_lt}
-use Rattle.std.proofs.lemmas.List.{length-append}
+use Rattle.std.proofs.lemmas.List.{length-append, take-append-le}
 use Rattle.std.proofs.Math.Nat.{pow-succ'}
 use Rattle.rt_lemmas.proofs.Membership.{all_weaker}
 use Rattle.rt_ids.specs.Lists.{is_some_and}
@@ -15,56 +12,55 @@ use Rattle.rt_ids.specs.Holder.{Holder, Guarded}
 use Rattle.rt_ids.specs.Content.{Content, Message, Values}
 use Rattle.rt_ids.specs.Entry.{Entry}
 use Rattle.rt_ids.specs.Action.{Refuses, Leaves}
-use Rattle.rt_ids.specs.Doing.{does}
+use Rattle.rt_ids.specs.declared.ids.Section.{Section}
 use Rattle.rt_ids.specs.declared.ids.Section.TheVariants as section
-use Rattle.rt_app.specs.declared.costs.TheConstants.{SPAWN_AFTER_COST, MESSAGE_COST, FREE_COST}
-use Rattle.rt_app.specs.Tree.{Task, App}
+use Rattle.rt_app.specs.declared.costs.TheConstants.{SPAWN_AFTER_COST, MESSAGE_COST}
+use Rattle.rt_app.specs.Tree.{App}
 use Rattle.rt_app.specs.Level.{is_software, is_armed, armed_messages}
-use Rattle.rt_app.specs.Sending.{Rest, capacity_of, act_all, arm_actions}
+use Rattle.rt_app.specs.Sending.{capacity_of, act_all, arm_actions, take_place}
 use Rattle.rt_app.specs.Holding.{storage, message_word, arguments_of}
 use Rattle.rt_app.proofs.Counting.{count_more, one_itself}
 use Rattle.rt_app.proofs.Spelling.{IsTimedPlace}
-use Rattle.rt_code.specs.Owning.{Spot, is_open, saved_slots, reads, Agree}
-use Rattle.rt_code.specs.Standing.{Stands}
-use Rattle.rt_code.specs.declared.image.BodyRow.{BodyRow}
-use Rattle.rt_ids.specs.Storage.{Runner}
-use Rattle.rt_gen_queue.specs.Spawning.{behind}
+use Rattle.rt_code.specs.Masking.{TakesOver}
+use Rattle.rt_code.specs.Owning.{Held}
+use Rattle.rt_code.specs.Standing.{passed}
 use Rattle.rt_code.specs.declared.instr.Instr.TheVariants as instr
-use Rattle.rt_code.specs.declared.instr.Note.TheVariants as note
-use Rattle.rt_code.proofs.Done.{effect_is_done}
-use Rattle.rt_code.specs.Standing.{processor_of}
-use Rattle.rt_code.proofs.Mine.{owns_open, owns_reads, reads_more}
-use Rattle.rt_gen_queue.specs.Line.{Line, noted, HasCode}
+use Rattle.rt_code.proofs.Mine.{reads_more}
+use Rattle.rt_gen_queue.specs.Guards.{guard_of, kind_at}
+use Rattle.rt_gen_queue.specs.Line.{Line, HasCode, plain}
 use Rattle.rt_gen_queue.specs.SpawnCode.{take_code, fill_code}
-use Rattle.rt_gen_queue.proofs.Facts.{Spawned, arguments, few_arguments, few_free, small, free_top}
-use Rattle.rt_gen_queue.proofs.Filling.{Filled, fill_stands}
+use Rattle.rt_gen_queue.proofs.Entering.{opened, MayEnter, leaves, saves_inside, saves_below, leave_placed, leave_fits}
+use Rattle.rt_gen_queue.proofs.Facts.{arguments, few_arguments, few_free, small, free_top}
+use Rattle.rt_gen_queue.proofs.Granting.{MayTake, HasTaken, at_full, take_begins}
+use Rattle.rt_gen_queue.proofs.Handing.{refuses}
+use Rattle.rt_gen_queue.proofs.Layer.{Setting, lasts_less, Here, ahead, InTime, spot, S, moved, Frame, Now, inner}
+use Rattle.rt_gen_queue.proofs.Layer.{inner_window, Straight, jumps, ends}
 use Rattle.rt_gen_queue.proofs.Numbers.{steps_and, steps_are}
-use Rattle.rt_gen_queue.proofs.Owning.{nobody_keeps, is_inside}
+use Rattle.rt_gen_queue.proofs.Owning.{nobody_keeps, is_inside, reads_inside}
 use Rattle.rt_gen_queue.proofs.Placing.{code_front, code_behind, fill_long}
-use Rattle.rt_gen_queue.proofs.Spots.{Lasts, lasts_less, Setting, Here, spot}
-use Rattle.rt_gen_queue.proofs.Steps.{S, at_passed, by_line, made, jumps, one_there}
-use Rattle.rt_gen_queue.proofs.Taking.{Kept, FindsNone, HasTaken, at_full, take_begins}
-use Rattle.rt_gen_queue.proofs.Whole.{message_is, own_filled, args_kept}
+use Rattle.rt_gen_queue.proofs.Storing.{Filled, fill_stands, message_is, own_filled}
+use Rattle.rt_gen_queue.proofs.Words.{Arguments, Scratch as Work, words as nine_words, listed}
 use Rattle.rt_gen_timer.specs.TimerCode.{queue_of, armed_task, after_code}
 use Rattle.rt_gen_timer.specs.TimerLines.{arm_lines, full_lines}
-use Rattle.rt_gen_timer.specs.TimerCalls.{IsSectionCost, MayUseTimer, MayUsePlaces, HasUsedTimer, AftersStand}
-use Rattle.rt_gen_timer.proofs.Window.{Words, words, Frame, window, window_set, window_there, window_kept}
-use Rattle.rt_gen_timer.proofs.Window.{window_of}
-use Rattle.rt_gen_timer.proofs.Acting.{Now, Runs}
-use Rattle.rt_gen_timer.proofs.Arming.{arm_stands}
-use Rattle.rt_gen_timer.proofs.Calling.{reach_enough, HasCalled, setting, framed, worded, started, call_begins}
-use Rattle.rt_gen_timer.proofs.Calling.{call_ends}
-use Rattle.rt_gen_timer.proofs.Opening.{open_at, saves_open, closes}
+use Rattle.rt_gen_timer.specs.TimerCalls.{IsSectionCost, MayUsePlaces, AftersStand}
+use Rattle.rt_gen_timer.proofs.Window.{Words, words, read_off}
+use Rattle.rt_gen_timer.proofs.Acting.{may_run}
+use Rattle.rt_gen_timer.proofs.Arming.{Arm, arm_steps, arm_stands}
+use Rattle.rt_gen_timer.proofs.Calling.{reach_enough, code_from, Call, MayCall, GoesBehind, f, w, on_window, call_ends}
+use Rattle.rt_gen_timer.proofs.Calling.{behind_call, call_of, may_call, stands_called}
 use Rattle.rt_gen_timer.proofs.Removing.{reach_is}
-use Rattle.rt_gen_timer.proofs.Renewing.{renewed, window_renewed}
 use Rattle.rt_gen_timer.proofs.Rising.{rise_reach}
+
+-- the steps of such a call
+abbrev pub after_steps : App → ℕ
+after_steps app = SPAWN_AFTER_COST + MESSAGE_COST * armed_messages app
 
 -- so many turns of the loop upwards are enough, and within a cost of the section
 pub record AreTurns (app : App) (cost : ℕ) : Type 0 where
   pub turns : ℕ
   pub reach : armed_messages app < rise_reach turns
   pub few : turns ≤ armed_messages app
-  pub enough : 42 + 15 * turns ≤ cost
+  pub enough : 43 + 15 * turns ≤ cost
 
 pub turns_for : (app : App) (cost : ℕ) → IsSectionCost app cost → AreTurns app cost
 turns_for app cost (inl is) = record {
@@ -91,383 +87,335 @@ turns_for app cost (inr (digits, below, is)) =
           }
     ]
 
-pub after_long : (app : App) (task level slot at : ℕ)
-    → length (after_code app task level slot at) ≡ 61 + arguments_of app task
-after_long app task level slot at =
-    let arming : List Line =
-    arm_lines (queue_of app) slot level (armed_task app task) (at + (12 + arguments_of app task)) in
-    let full : List Line =
-    full_lines (queue_of app) slot level (armed_task app task) (at + (59 + arguments_of app task) + 2) in
-    omega (arith, length-append (fill_code app task (slot + 1)) (arming ++ full), fill_long app task (slot + 1))
+-- the nine of the words that a spawn's code works in, and these with others in them
+abbrev arguments_in : Words → Arguments
+arguments_in v = record { first = v.first; second = v.second; third = v.third; fourth = v.hand }
 
-module _ (z : Setting) (f : Frame) where
-  -- the answer is 0, and a note says that no place is left
-  refuses : (n end : ℕ) (h : Here) (w : Words) (task : ℕ) (values : Values) (rest : Rest)
-      → slice_get z.code h.at ≡ Some (noted (instr.Set (f.slot + 0) 0) (note.Full task)) → h.done < end
-      → Runs f end h.held h.deadlines → is_open h.held (section.Free task) ≡ true
-      → h.rest ≡ does (Refuses task) values (λ answer. rest)
-      → ((us : Values) → Agree (storage z.app) z.who h.held us values
-      → S z n (record h {
-        done = suc h.done;
-        slots = window f (words (record w { answer = 0 }));
-        at = suc h.at;
-        rest = rest us;
-      }))
-      → S z (suc n) (Now f h w)
-  refuses n end h w task values rest here within runs opens doing on =
-      let told = Some (note.Full task) in
-      let slots : List ℕ = window f (words w) in
-      let after : List ℕ = slice_set slots (f.slot + 0) 0 in
-      by_line z n end (Now f h w) (instr.Set (f.slot + 0) 0) told here within runs.lasts
-      (made z n (Now f h w) (instr.Set (f.slot + 0) 0) told after (suc h.at) h.cells tt
-      (window_kept f h.held slots 0 0 refl runs.saves)
-      (λ time b m.
-      effect_is_done (instr.Set (f.slot + 0) 0) time (processor_of (spot z (Now f h w)) b m) refl
-      (one_there (f.slot + 0) (length slots) (window_there f (words w) 0 (omega arith))))
-      (record {
-        inside = opens;
-        acts = record {
-          values = values;
-          follows = λ answer. rest;
-          is = doing;
-          on = λ us agree.
-              at_passed z n (record (Now f h w) { slots = after; at = suc h.at; rest = rest us })
-              (subst (λ (ss : List ℕ). S z n (record h {
-                done = suc h.done;
-                slots = ss;
-                at = suc h.at;
-                rest = rest us;
-              })) (sym (window_set f (words w) 0 0 (omega arith))) (on us agree));
-        };
-      }))
+abbrev work_in : Words → Work
+work_in v = record { count = v.count; index = v.hole; word = v.place; number = v.work; mask = v.mask }
 
-module _ (app : App) (task : ℕ) (t : Task) (facts : Spawned app task t) (mono : IsSome app.mono)
-    (armed : is_armed app task ≡ true) (code : List Line) (bodies : List BodyRow) (thread : ℕ) (who : Runner)
-    (level slot : ℕ) (s : Spot) (has : HasCode code s.address (after_code app task level slot s.address))
-    (may : MayUseTimer app who (SPAWN_AFTER_COST + MESSAGE_COST * armed_messages app) level slot s)
-    (places : MayUsePlaces app who task s) where
-  abbrev z : Setting
-  z = setting app code bodies thread who slot s may.frame
+abbrev worked : Words → Work → Words
+worked v r = record v { count = r.count; hole = r.index; place = r.word; work = r.number; mask = r.mask }
+
+-- a message is to be sent later
+pub record AsksAfter (c : Call) (cost delay : ℕ) (args : List ℕ) (h : Here) : Type 0 where
+  pub armed : is_armed c.z.app c.task ≡ true
+  pub costs : IsSectionCost c.z.app cost
+  pub places : MayUsePlaces c.z.app c.z.who c.task (spot c.z h)
+  pub code : HasCode c.z.code h.at (after_code c.z.app c.task c.level c.slot h.at)
+  pub delay_is : slice_index h.slots c.slot ≡ delay
+  pub args_are : take c.t.args (drop (c.slot + 1) h.slots) ≡ args
+  pub is : h.rest
+      ≡ take_place c.z.app c.task (arm_actions c.z.app cost delay (record { task = c.task; args = args }) c.rest)
+      (c.rest 0) c.values
+
+module _ {c : Call} {cost delay : ℕ} {args : List ℕ} {h : Here} (may : MayCall c (after_steps c.z.app) h)
+    (asks : AsksAfter c cost delay args h)
+    (on : GoesBehind c (after_steps c.z.app) (after_code c.z.app c.task c.level c.slot h.at) h) where
+  abbrev lines : List Line
+  lines = after_code c.z.app c.task c.level c.slot h.at
 
   abbrev args_of : ℕ
-  args_of = arguments_of app task
+  args_of = arguments_of c.z.app c.task
 
-  abbrev full_at : ℕ
-  full_at = s.address + (59 + args_of)
+  abbrev full : ℕ
+  full = h.at + (59 + args_of)
 
-  abbrev most_steps : ℕ
-  most_steps = SPAWN_AFTER_COST + MESSAGE_COST * armed_messages app
+  abbrev place_section : Section
+  place_section = section.Free c.task
 
-  abbrev all_lines : List Line
-  all_lines = after_code app task level slot s.address
-
-  few_args : args_of ≤ 4
-  few_args = omega (arith, arguments app task t facts, few_arguments app task t facts)
-
-  -- where it begins, on the window
-  abbrev f : Frame
-  f = framed app code bodies thread who slot s may.frame
-
-  abbrev w : Words
-  w = worded app code bodies thread who slot s may.frame
-
-  abbrev begun : Here
-  begun = started app code bodies thread who slot s may.frame
-
-  abbrev h : Here
-  h = Now f begun w
-
-  slots_are : s.slots ≡ window f (words w)
-  slots_are = window_of slot s.slots may.frame
-
-  long : slot + 24 ≤ length (window f (words w))
-  long = omega (arith, may.frame, ap length slots_are)
-
-  masks_more : AllByRecursion (λ d. d < slot + 1) (saved_slots s.held)
-  masks_more = all_weaker (λ d. d < slot) (λ d. d < slot + 1) (λ d less. omega (arith, less)) _ may.masks
+  few_args : (c.t.args ≤ 4) × (args_of ≤ 4)
+  few_args =
+      let few = few_arguments c.z.app c.task c.t may.facts in
+      (few, omega (arith, arguments c.z.app c.task c.t may.facts, few))
 
   -- the lines by their parts
-  abbrev arming_lines : List Line
-  arming_lines = arm_lines (queue_of app) slot level (armed_task app task) (s.address + (12 + args_of))
+  abbrev filling : List Line
+  filling = fill_code c.z.app c.task (c.slot + 1)
 
-  abbrev ending_lines : List Line
-  ending_lines = full_lines (queue_of app) slot level (armed_task app task) (full_at + 2)
+  abbrev arming : List Line
+  arming = arm_lines (queue_of c.z.app) c.slot c.level (armed_task c.z.app c.task) (h.at + (12 + args_of))
 
-  has_take : HasCode code s.address (take_code app task level (slot + 1) full_at)
-  has_take =
-      code_front code s.address (take_code app task level (slot + 1) full_at)
-      (fill_code app task (slot + 1) ++ (arming_lines ++ ending_lines)) has
+  abbrev ending : List Line
+  ending = full_lines (queue_of c.z.app) c.slot c.level (armed_task c.z.app c.task) (full + 2)
 
-  has_fill : HasCode code (steps_and 8 s.address) (fill_code app task (slot + 1) ++ (arming_lines ++ ending_lines))
-  has_fill = has.1.1.1.1.1.1.1.1
+  has_fill : HasCode c.z.code (h.at + 8) (filling ++ (arming ++ ending))
+  has_fill = code_from c.z.code 8 h.at lines asks.code
 
-  has_arm : HasCode code (s.address + (12 + args_of)) (arming_lines ++ ending_lines)
+  has_arm : HasCode c.z.code (h.at + (12 + args_of)) (arming ++ ending)
   has_arm =
-      code_behind code (steps_and 8 s.address) (s.address + (12 + args_of)) (fill_code app task (slot + 1))
-      (arming_lines ++ ending_lines) (omega (arith, fill_long app task (slot + 1))) has_fill
+      code_behind c.z.code (h.at + 8) (h.at + (12 + args_of)) filling (arming ++ ending)
+      (omega (arith, fill_long c.z.app c.task (c.slot + 1))) has_fill
 
-  has_end : HasCode code (s.address + (12 + args_of) + 46) ending_lines
+  has_end : HasCode c.z.code (h.at + (12 + args_of) + 46) ending
   has_end =
-      code_behind code (s.address + (12 + args_of)) (s.address + (12 + args_of) + 46) arming_lines ending_lines
-      (omega arith) has_arm
+      code_behind c.z.code (h.at + (12 + args_of)) (h.at + (12 + args_of) + 46) arming ending (omega arith) has_arm
 
-  -- behind all lines
-  ends_at : full_at + 2 ≡ s.address + length all_lines
-  ends_at = omega (arith, after_long app task level slot s.address)
+  has_full : HasCode c.z.code full (drop 1 ending)
+  has_full =
+      code_behind c.z.code (h.at + (12 + args_of) + 46) full (take 1 ending) (drop 1 ending) (omega arith) has_end
 
-  -- what is told behind the code
-  abbrev GoesOn : ℕ → (ℕ → Rest) → Values → Type 0
-  GoesOn n rest vs =
-      (answer used m : ℕ) (slots cells : List ℕ) (queues : Holder → List Entry) (ws : Values) → n ≤ m
-      → HasUsedTimer app who most_steps slot s vs answer used slots cells queues ws
-      → Stands (storage app) code bodies thread who m
-      (behind app who s all_lines used slots cells queues (rest answer) ws)
+  ends_at : h.at + length lines ≡ full + 2
+  ends_at = omega (
+    arith,
+    length-append filling (arming ++ ending),
+    fill_long c.z.app c.task (c.slot + 1),
+  )
 
-  goes_on : (n m : ℕ) (rest : ℕ → Rest) (vs : Values) → n ≤ m → GoesOn n rest vs
-      → (answer used : ℕ) (v : Words) (cells : List ℕ) (queues : Holder → List Entry) (ws : Values)
-      → HasCalled z f most_steps begun w vs answer used v cells queues ws
-      → S z m (record h {
-        done = used;
-        slots = window f (words v);
-        at = s.address + length all_lines;
-        cells = cells;
-        queues = queues;
-        rest = rest answer ws;
-      })
-  goes_on n m rest vs less on =
-      call_ends app code bodies thread who slot s may.frame most_steps m all_lines rest vs
-      (λ answer used i slots cells queues ws more. on answer used i slots cells queues ws (omega (arith, more, less)))
+  lasts : (k : ℕ) → k ≤ after_steps c.z.app → InTime (h.done + k) h
+  lasts k less =
+      lasts_less (h.done + k) (h.done + after_steps c.z.app) (h.until ∷ h.deadlines) (omega (arith, less)) may.time
 
-  -- no place is left
-  none_stands : (n m : ℕ) (rest : ℕ → Rest) (vs ws : Values) (after left : List ℕ) (more : Holder → List Entry)
-      → n ≤ m → FindsNone z task t facts h level (slot + 1) after left more ws vs → GoesOn n rest vs
-      → S z (suc (suc m)) (at_full z task t facts h level (slot + 1) full_at after left more
-      (act_all (Refuses task ∷ Leaves (section.Free task) ∷ []) (rest 0) ws))
-  none_stands n m rest vs ws after left more less found on =
-      let x = section.Free task in
-      let w2 : Words = renewed f w after in
-      let v : Words = record w2 { answer = 0 } in
-      let is : after ≡ window f (words w2) =
-      window_renewed f w after found.kept in
-      let h3 : Here =
-      at_full z task t facts h level (slot + 1) full_at after left more
-      (act_all (Refuses task ∷ Leaves x ∷ []) (rest 0) ws) in
-      let lasts : Lasts 8 h3.deadlines = (omega arith, lasts_less 8 most_steps s.lefts (omega arith) may.enough) in
-      let opens : is_open h3.held x ≡ true = is_inside app who s.held (open_at z f x level) x refl in
-      let inside : reads (storage app) who h3.held (Guarded x) ≡ true =
-      owns_reads (storage app) who h3.held (Guarded x) (owns_open (storage app) who h3.held x opens) in
-      let there : suc (s.address + (12 + args_of) + 46) ≡ full_at = omega arith in
-      let code2 = subst (λ a. HasCode code a (drop 1 ending_lines)) there has_end.1 in
-      let to : suc (suc full_at) ≡ s.address + length all_lines = omega (arith, ends_at) in
-      subst (λ (ss : List ℕ). S z (suc (suc m)) (record h3 { slots = ss })) (sym is)
-      (refuses z f (suc m) 8 h3 w2 task ws (act_all (Leaves x ∷ []) (rest 0)) code2.0 (omega arith)
-      (record { lasts = lasts; saves = saves_open z f x level s.held may.masks }) opens refl
-      (λ us agree.
-      let h4 : Here =
-      record h3 {
-        done = suc h3.done;
-        slots = window f (words v);
-        at = suc full_at;
-        rest = act_all (Leaves x ∷ []) (rest 0) us;
-      } in
-      closes z f m 8 h4 x level s.held (0 + FREE_COST) s.lefts (rest 0) us code2.1.0 (omega arith) lasts refl refl
-      refl
-      (subst (λ (c : Content). (storage app).Spells (Guarded x) (slice_index left) (more (Guarded x)) c)
-      (sym (agree (Guarded x) inside)) found.taken.spelled)
-      (λ us4 agree4.
-      subst (λ a. S z m (record h4 {
-        held = s.held;
-        done = suc h4.done;
-        deadlines = s.lefts;
-        at = a;
-        rest = rest 0 us4;
-      })) (sym to)
-      (goes_on n m rest vs less on 0 (suc h4.done) v left more us4
+  -- the window of the nine
+  abbrev nine : Words → Frame 9 8
+  nine v = inner (f may) (v.answer ∷ []) (drop 10 (words v))
+
+  to_nine : (v : Words) (g : Here) → S c.z (Now (nine v) g (nine_words (arguments_in v) (work_in v)))
+      → S c.z (Now (f may) g (words v))
+  to_nine v g correct =
+      subst (λ (slots : List ℕ). S c.z (record g { slots = slots }))
+      (inner_window (f may) (v.answer ∷ []) (drop 10 (words v)) (nine_words (arguments_in v) (work_in v))) correct
+
+  from_nine : (v : Words) (r : Work) (g : Here) → S c.z (Now (f may) g (words (worked v r)))
+      → S c.z (Now (nine v) g (nine_words (arguments_in v) r))
+  from_nine v r g correct =
+      subst (λ (slots : List ℕ). S c.z (record g { slots = slots }))
+      (sym (inner_window (f may) (v.answer ∷ []) (drop 10 (words v)) (nine_words (arguments_in v) r))) correct
+
+  may_enter : {size mask : ℕ} (g : Frame size mask) → mask < size → c.slot ≤ g.slot
+      → MayEnter c.z g h place_section c.level
+  may_enter g room above = record {
+    room = room;
+    masks = all_weaker (λ d. d < c.slot) (λ d. d < g.slot) (λ d less. omega (arith, less)) _ may.masks;
+    off = may.off;
+    top = free_top c.z.app c.task c.t may.facts;
+    within = asks.places.within;
+    closed = asks.places.closed;
+    nobody = nobody_keeps c.z.app c.z.who c.z.who place_section tt;
+  }
+
+  abbrev may_take : MayTake c.z (nine (w may)) h c.task c.level full c.t
+  may_take = record {
+    facts = may.facts;
+    code = code_front c.z.code h.at (take_code c.z.app c.task c.level (c.slot + 1) full) (filling ++ (arming ++ ending))
+        asks.code;
+    time = lasts 8 (omega arith);
+    long = may.cells;
+    enter = may_enter (nine (w may)) (omega arith) (omega arith);
+  }
+
+  -- no place is left: the section closes, and the answer is 0
+  none_stands : (r : Work) (cells : List ℕ) (queues : Holder → List Entry) (us : Values)
+      → TakesOver (storage c.z.app) c.z.who place_section (passed (spot c.z h)) c.values us cells queues
+      → S c.z (Now (nine (w may)) (at_full h (opened c.z (nine (w may)) place_section c.level) full cells queues
+      (act_all (Refuses c.task ∷ Leaves place_section ∷ []) (c.rest 0) us)) (nine_words (arguments_in (w may)) r))
+  none_stands r cells queues us taken =
+      let o : Held = opened c.z (f may) place_section c.level in
+      let e : c.slot + 9 ≡ c.slot + 1 + 8 = omega arith in
+      let held : ℕ → Held = λ k. record { section = place_section; kind = kind_at c.z.app place_section c.level k } in
+      let rest = act_all (Refuses c.task ∷ Leaves place_section ∷ []) (c.rest 0) us in
+      let v : Words = worked (w may) r in
+      let g : Here = at_full h o full cells queues rest in
+      let refusing : Straight c.z (f may)
+      (drop 1 (full_lines (queue_of c.z.app) 0 c.level (armed_task c.z.app c.task) (full + 2))) g (words v) =
+      refuses (is_inside c.z.app c.z.who h.held o place_section refl) refl
+      (λ us2 agree.
+      leaves c.level refl refl refl
+      (subst (λ (k : Content). (storage c.z.app).Spells (Guarded place_section) (slice_index cells)
+      (queues (Guarded place_section)) k)
+      (sym (agree (Guarded place_section) (reads_inside c.z.app c.z.who h.held o place_section refl))) taken.spelled)
+      (λ us3 later.
+      ends
+      (moved (steps_and 5 h.done) (h.at + length lines) refl (omega (arith, ends_at))
+      (call_ends may lines on 0 _
       (record {
         small = omega arith;
         answered = refl;
         in_time = omega arith;
         own = record {
-          long = found.taken.same.long;
-          touched = found.taken.same.touched;
-          queued = found.taken.same.queued;
+          long = taken.same.long;
+          touched = taken.same.touched;
+          queued = taken.same.queued;
         };
         agree = λ holder read.
-            agree4 holder read
-            ∙ agree holder (reads_more (storage app) who (open_at z f x level) s.held holder read)
-            ∙ found.taken.agree holder read;
-      })))))
+            later holder read ∙ agree holder (reads_more (storage c.z.app) c.z.who o h.held holder read)
+            ∙ taken.agree holder read;
+      }))))) in
+      let all = lasts 8 (omega arith) in
+      subst (λ k. S c.z (Now (nine (w may)) (at_full h (held k) full cells queues rest)
+      (nine_words (arguments_in (w may)) r))) e
+      (from_nine (w may) r g
+      (refusing.runs
+      (may_run {k = h.done + 8}
+      (record {
+        time = (all.0, (omega arith, all.1));
+        saves = saves_inside (may_enter (f may) (omega arith) (omega arith));
+      }) (omega arith) refl
+      (ap (λ b. b && true) (leave_fits place_section (guard_of c.z.app place_section) c.level 9 24 9))) (
+        has_full.0,
+        (
+          has_full.1.0
+              ∙ ap Some (sym (leave_placed place_section (guard_of c.z.app place_section) c.level 9 c.slot)),
+          tt,
+        ),
+      )))
 
-  -- a place of the task is one of a task whose messages may be armed
-  timed_place : (e : Entry) → e.task ≡ task → e.place < capacity_of app task → IsTimedPlace app e
-  timed_place e of_task place = (
-    ap (is_armed app) of_task ∙ armed,
-    ap (λ n. is_some_and is_software (slice_get app.tasks n)) of_task ∙ ap (is_some_and is_software) facts.at
-        ∙ facts.software,
-    subst (λ n. e.place < capacity_of app n) (sym of_task) place,
-  )
-
-  module _ (cost delay : ℕ) (args : List ℕ) (turns : AreTurns app cost) (n m : ℕ) (rest : ℕ → Rest) (vs us : Values)
-      (e : Entry) (after left : List ℕ) (more : Holder → List Entry)
-      (taken : HasTaken z task t facts h (slot + 1) vs e after left more us) where
+  module _ {e : Entry} {cells : List ℕ} {queues : Holder → List Entry} {us : Values}
+      (taken : HasTaken c.z h c.task c.values e cells queues us) where
     abbrev message : Message
-    message = record { task = task; args = args }
+    message = record { task = c.task; args = args }
 
-    -- with the place in the hands
-    abbrev holding : Here
-    holding = record h {
-      done = 8;
-      places = e ∷ s.places;
-      slots = after;
-      at = steps_and 8 s.address;
+    abbrev turns : AreTurns c.z.app cost
+    turns = turns_for c.z.app cost asks.costs
+
+    -- a place of the task is one of a task whose messages may be armed
+    timed_place : IsTimedPlace c.z.app e
+    timed_place = (
+      ap (is_armed c.z.app) taken.of_task ∙ asks.armed,
+      ap (λ n. is_some_and is_software (slice_get c.z.app.tasks n)) taken.of_task
+          ∙ ap (is_some_and is_software) may.facts.at ∙ may.facts.software,
+      subst (λ n. e.place < capacity_of c.z.app n) (sym taken.of_task) taken.place,
+    )
+
+    args_stored : take c.t.args (listed (arguments_in (w may))) ≡ args
+    args_stored =
+        sym (take-append-le c.t.args (listed (arguments_in (w may))) (drop (c.slot + 1 + 4) h.slots) few_args.0)
+        ∙ ap (take c.t.args) (sym (read_off 4 1 c.slot h.slots (omega (arith, may.frame)))) ∙ asks.args_are
+
+    -- with the arguments of the message stored
+    abbrev filled_here : List ℕ → Here
+    filled_here left = record h {
+      done = h.done + (12 + args_of);
+      places = e ∷ h.places;
+      at = h.at + (12 + args_of);
       cells = left;
-      queues = more;
-      rest = arm_actions app cost delay message rest us;
+      queues = queues;
+      rest = arm_actions c.z.app cost delay message c.rest us;
     }
 
-    abbrev turned : ℕ
-    turned = 15 * turns.turns
-
-    -- the message is armed, and a jump leads behind all lines
-    armed_stands : (done at2 : ℕ) (after2 left2 : List ℕ) → done ≡ 8 + (4 + args_of)
-        → at2 ≡ steps_and 8 s.address + (4 + args_of)
-        → Kept (slot + 1) after after2 → slice_index after2 (slot + 1 + 6) ≡ message_word e
-        → Filled z task t facts e 0 args_of (slot + 1) after left left2
-        → slice_index s.slots slot ≡ delay → take t.args (drop (slot + 1) s.slots) ≡ args → n ≤ m → GoesOn n rest vs
-        → S z (steps_and 23 (turned + 12 + steps_and 7 (suc m)))
-        (record holding { done = done; slots = after2; at = at2; cells = left2 })
-    armed_stands done at2 after2 left2 done_is at_is kept word filled delay_is args_are less on =
-        let w2 : Words = renewed f w after2 in
-        let kept_all : Kept (slot + 1) (window f (words w)) after2 =
-        record { same = λ d far. kept.same d far ∙ taken.kept.same d far; long = kept.long ∙ taken.kept.long } in
-        let is : after2 ≡ window f (words w2) =
-        window_renewed f w after2 kept_all in
-        let h2 : Here = record holding { done = done; slots = after2; at = at2; cells = left2 } in
-        let first : slot + 0 ≡ slot = omega arith in
-        let seventh : slot + 7 ≡ slot + 1 + 6 = omega arith in
-        let here : s.address + (12 + args_of) ≡ at2 = omega (arith, at_is, steps_are 8 s.address) in
-        let few = few_free app task t facts in
-        subst (λ (ss : List ℕ). S z (steps_and 23 (turned + 12 + steps_and 7 (suc m))) (record h2 { slots = ss }))
-        (sym is)
-        (arm_stands z f task t facts level turns.turns cost (suc m) h2 w2 e s.places message rest us
+    -- it is armed, and a jump leads behind all lines
+    armed_stands : (r2 : Work) (left : List ℕ) → Filled c.z c.task e (listed (arguments_in (w may))) 0 cells left
+        → S c.z (Now (f may) (filled_here left) (words (worked (w may) (record r2 { word = message_word e }))))
+    armed_stands r2 left filled =
+        let a : Arm = record {
+          c = c;
+          f = f may;
+          turns = turns.turns;
+          cost = cost;
+          h = filled_here left;
+          w = worked (w may) (record r2 { word = message_word e });
+          e = e;
+          others = h.places;
+          m = message;
+          values = us;
+        } in
+        let first : c.slot + 0 ≡ c.slot = omega arith in
+        let few = few_free c.z.app c.task c.t may.facts in
+        arm_stands {a = a}
         (record {
-          code = subst (λ a. HasCode code a (arm_lines (queue_of app) slot level (armed_task app task) a)) here
-              (code_front code (s.address + (12 + args_of)) arming_lines ending_lines has_arm);
+          facts = may.facts;
           may = record {
-            accepted = facts.accepted;
-            timed = mono;
+            accepted = may.facts.accepted;
+            timed = may.timed;
             masks = may.masks;
             off = may.off;
             within = may.within;
             closed = may.closed;
           };
-          hands = record {
-            of_task = (taken.of_task, refl);
-            place = timed_place e taken.of_task taken.place;
-            hands = refl;
-            message = message_is z task t facts e (slot + 1) after left left2 args filled taken.of_task
-                (omega (arith, long, taken.kept.long))
-                (args_kept (slot + 1) (window f (words w)) after t.args (few_arguments app task t facts)
-                (omega (arith, long)) taken.kept
-                ∙ ap (λ (ss : List ℕ). take t.args (drop (slot + 1) ss)) (sym slots_are) ∙ args_are);
-            word = ap (slice_index after2) seventh ∙ word;
-            small = omega (arith, taken.of_task, taken.place, few, small app task t facts);
-            long = filled.long ∙ taken.own.long ∙ may.cells;
-          };
-          lasts = lasts_less (done + (42 + turned)) most_steps s.lefts (omega (arith, done_is, turns.few, few_args))
-              may.enough;
+          code = code_front c.z.code (h.at + (12 + args_of)) arming ending has_arm;
+          time = lasts_less (h.done + (12 + args_of) + arm_steps turns.turns) (h.done + after_steps c.z.app)
+              (h.until ∷ h.deadlines) (omega (arith, turns.few, few_args)) may.time;
           enough = turns.enough;
           reach = turns.reach;
+          of_task = (taken.of_task, refl);
+          place = timed_place;
+          hands = refl;
+          message = message_is may.facts taken.of_task (omega arith) filled
+              ∙ ap (λ ws. record { task = c.task; args = ws }) args_stored;
+          word = refl;
+          small = omega (arith, taken.of_task, taken.place, few, small c.z.app c.task c.t may.facts);
+          long = filled.long ∙ taken.own.long ∙ may.cells;
+          is = ap (λ d. arm_actions c.z.app cost d message c.rest us)
+              (sym (ap (slice_index h.slots) first ∙ asks.delay_is));
         })
-        (ap (λ d. arm_actions app cost d message rest us) (sym (ap (slice_index s.slots) first ∙ delay_is)))
-        (λ done3 handle v cells3 queues3 us3 armed.
-        let h3 : Here =
-        record h2 {
-          done = done3;
-          places = s.places;
-          slots = window f (words v);
-          at = at2 + 46;
-          cells = cells3;
-          queues = queues3;
-          rest = rest handle us3;
-        } in
-        let there : s.address + (12 + args_of) + 46 ≡ at2 + 46 = omega (arith, here) in
-        let in_time : suc done3 ≤ most_steps = omega (arith, armed.within, done_is, turns.few, few_args) in
-        jumps z m most_steps h3 (full_at + 2) (subst (λ a. HasCode code a ending_lines) there has_end).0
-        (omega (arith, in_time)) may.enough
-        (subst (λ a. S z m (record h3 { done = suc done3; at = a })) (sym ends_at)
-        (goes_on n m rest vs less on handle (suc done3) v cells3 queues3 us3
+        (λ handle b armed.
+        let jumping : Straight c.z (f may) (plain (instr.Jump (full + 2)) ∷ [])
+        (behind_call h (h.at + (12 + args_of) + 46) (c.rest handle) b) (words b.words) =
+        jumps
+        (moved (suc b.done) (h.at + length lines) refl (omega (arith, ends_at))
+        (call_ends may lines on handle _
         (record {
-          small = armed.answered.0;
-          answered = armed.answered.1;
-          in_time = in_time;
-          own = own_filled z task t facts h e left left2 cells3 more queues3 (Now f h2 w2) taken.none taken.own
-              filled.others filled.long refl refl refl refl armed.own;
+          small = armed.small;
+          answered = armed.answered;
+          in_time = omega (arith, armed.in_time, turns.few, few_args);
+          own = own_filled h taken.none taken.own filled
+              (record { long = armed.own.long; touched = armed.own.touched; queued = armed.own.queued });
           agree = λ holder read. armed.agree holder read ∙ taken.agree holder read;
-        })))))
+        }))) in
+        jumping.runs
+        (may_run {k = h.done + after_steps c.z.app}
+        (record { time = may.time; saves = saves_below (f may) h.held may.masks })
+        (omega (arith, armed.in_time, turns.few, few_args)) refl refl) (has_end.0, tt))
+
+    -- with the place in the hands
+    abbrev holding : Here
+    holding = record (ahead 8 h) {
+      places = e ∷ h.places;
+      cells = cells;
+      queues = queues;
+      rest = arm_actions c.z.app cost delay message c.rest us;
+    }
 
     -- its arguments are stored first
-    granted_stands : slice_index s.slots slot ≡ delay → take t.args (drop (slot + 1) s.slots) ≡ args → n ≤ m
-        → GoesOn n rest vs
-        → S z (suc (suc (steps_and args_of (suc (suc (steps_and 23 (turned + 12 + steps_and 7 (suc m))))))))
-        holding
-    granted_stands delay_is args_are less on =
-        fill_stands z task t facts (steps_and 23 (turned + 12 + steps_and 7 (suc m))) holding (slot + 1) e
-        (code_front code (steps_and 8 s.address) (fill_code app task (slot + 1)) (arming_lines ++ ending_lines)
-        has_fill)
-        (lasts_less 17 most_steps s.lefts (omega arith) may.enough)
+    granted_stands : (r : Work) → S c.z (Now (nine (w may)) holding
+        (nine_words (arguments_in (w may)) (record r { word = e.place })))
+    granted_stands r =
+        let eight : h.at + 8 ≡ steps_and 8 h.at = omega arith in
+        fill_stands {f = nine (w may)} {h = holding}
         (record {
-          long = omega (arith, long, taken.kept.long);
-          saves = all_weaker (λ d. d < slot + 1) (λ d. (d < slot + 1) ⊎ (d ≡ slot + 1 + 8)) (λ d low. inl low) _
-              masks_more;
-        }) taken.shown
-        (record {
-          of_task = taken.of_task;
-          place = taken.place;
-          some = omega (arith, count_more e e s.places, one_itself e);
-          long = taken.own.long ∙ may.cells;
-        })
-        (λ done at2 after2 left2 done_is at_is kept word room filled.
-        armed_stands done at2 after2 left2 done_is at_is kept word filled delay_is args_are less on)
+          facts = may.facts;
+          code = subst (λ a. HasCode c.z.code a filling) eight
+              (code_front c.z.code (h.at + 8) filling (arming ++ ending) has_fill);
+          time = lasts_less (steps_and 8 h.done + (4 + args_of)) (h.done + after_steps c.z.app) (h.until ∷ h.deadlines)
+              (omega (arith, few_args)) may.time;
+          saves = saves_below (nine (w may)) h.held
+              (all_weaker (λ d. d < c.slot) (λ d. d < c.slot + 1) (λ d less. omega (arith, less)) _ may.masks);
+          hands = record {
+            of_task = taken.of_task;
+            place = taken.place;
+            some = omega (arith, count_more e e h.places, one_itself e);
+            long = taken.own.long ∙ may.cells;
+          };
+        }) (arguments_in (w may)) r
+        (λ r2 left filled.
+        from_nine (w may) (record r2 { word = message_word e }) (record (ahead (4 + args_of) holding) { cells = left })
+        (moved (h.done + (12 + args_of)) (h.at + (12 + args_of))
+        (omega (arith, steps_are (4 + args_of) (steps_and 8 h.done)))
+        (omega (arith, steps_are (4 + args_of) (steps_and 8 h.at))) (armed_stands r2 left filled)))
 
+  -- The call is correct where it is correct behind it.
+  pub after_goes : S c.z h
+  after_goes =
+      on_window may
+      (to_nine (w may) h
+      (take_begins may_take (arguments_in (w may)) (work_in (w may)) asks.is
+      (λ e r cells queues us taken. granted_stands taken r) none_stands))
+
+-- the code of a `spawn_after` stands for its actions
 pub afters_stand : AftersStand
-afters_stand app task t code bodies thread who level slot n cost delay s args rest vs accepted mono at software armed
-    costs has may places delay_is args_are is on k fuel =
-    let facts : Spawned app task t = record { accepted = accepted; at = at; software = software } in
-    let turns : AreTurns app cost = turns_for app cost costs in
-    let turned : ℕ = 15 * turns.turns in
-    let count : ℕ = arguments_of app task in
-    let few : count ≤ 4 = omega (arith, arguments app task t facts, few_arguments app task t facts) in
-    let m : ℕ = k - (55 + count + turned) in
-    let less : n ≤ m = omega (arith, fuel, few, turns.few) in
-    let j : ℕ = suc (suc (steps_and count (suc (suc (steps_and 23 (turned + 12 + steps_and 7 (suc m))))))) in
-    let j_is : j ≡ 47 + count + turned + m =
-    omega (
-      arith,
-      steps_are count (suc (suc (steps_and 23 (turned + 12 + steps_and 7 (suc m))))),
-      steps_are 23 (turned + 12 + steps_and 7 (suc m)),
-      steps_are 7 (suc m),
-    ) in
-    let k_is : steps_and 8 j ≡ k = omega (arith, fuel, few, turns.few, j_is, steps_are 8 j) in
-    subst (λ i. Stands (storage app) code bodies thread who i s) k_is
-    (call_begins app code bodies thread who slot s may.frame (steps_and 8 j)
-    (take_begins (setting app code bodies thread who slot s may.frame) task t facts j
-    (h app task t facts mono armed code bodies thread who level slot s has may places) level (slot + 1)
-    (s.address + (59 + count)) (arm_actions app cost delay (record { task = task; args = args }) rest) (rest 0) vs
-    (has_take app task t facts mono armed code bodies thread who level slot s has may places) may.cells
-    (lasts_less 8 (SPAWN_AFTER_COST + MESSAGE_COST * armed_messages app) s.lefts (omega arith) may.enough)
+afters_stand app task t code bodies thread who level slot n cost delay s args rest vs accepted mono there software armed
+    costs has may places delay_is args_are is =
+    let z : Setting = record { app = app; code = code; bodies = bodies; thread = thread; who = who; caller = None } in
+    let c : Call = call_of z task t level slot rest vs in
+    stands_called c s (after_code app task level slot s.address)
+    (λ k enough on.
+    after_goes (may_call c (record { accepted = accepted; at = there; software = software }) mono may enough)
     (record {
-      frame = omega (arith, long app task t facts mono armed code bodies thread who level slot s has may places);
-      masks = masks_more app task t facts mono armed code bodies thread who level slot s has may places;
-      off = may.off;
-      top = free_top app task t facts;
-      within = places.within;
-      closed = places.closed;
-      nobody = nobody_keeps app who who (section.Free task) tt;
-    }) is
-    (λ e after left more us taken.
-    granted_stands app task t facts mono armed code bodies thread who level slot s has may places cost delay args turns
-    n m rest vs us e after left more taken delay_is args_are less on)
-    (λ after left more ws found.
-    none_stands app task t facts mono armed code bodies thread who level slot s has may places n (suc (suc (suc j)))
-    rest vs ws after left more (omega (arith, less, j_is)) found on)))
+      armed = armed;
+      costs = costs;
+      places = record { closed = places.closed; within = places.within };
+      code = has;
+      delay_is = delay_is;
+      args_are = args_are;
+      is = is;
+    }) on)

@@ -1,172 +1,366 @@
--- A call of the timer queue's code from its first line to its last, as a window on a job's slots: what is known where
--- it begins and where it ends.
-use Rattle.std.proofs.Common.{◌≡◌, ℕ, zero, suc, ◌+◌, ◌^◌, ◌<◌, ◌≤◌, List, ◌∷◌, ◌++◌, length, slice_index, sym, ap}
-use Rattle.std.proofs.Common.{subst, ◌∙◌, arith}
-use Rattle.std.proofs.lemmas.List.{length-append}
-use Rattle.rt_ids.specs.Content.{Values}
-use Rattle.rt_ids.specs.Doing.{Doing}
+-- A call of the timer queue's code in a body: where it begins, on a window of the job's slots, what is known inside its
+-- section, how that closes, and where the call ends.
+use Rattle.std.proofs.Common.{◌≡◌, ◌⊎◌, ℕ, zero, suc, ◌+◌, ◌-◌, ◌^◌, ◌<◌, ◌≤◌, true, false, List, [], ◌∷◌, ◌++◌, length}
+use Rattle.std.proofs.Common.{map, take, drop, IsSome, slice_index, refl, sym, ap, subst, ◌∙◌, arith}
+use Rattle.std.specs.List.{AllByRecursion}
+use Rattle.std.proofs.lemmas.List.{map-append}
+use Rattle.rt_lemmas.proofs.Bools.{and_both, and_left, and_right}
+use Rattle.rt_ids.specs.Content.{Content, Delays, Timed, Values, put_at, timed}
 use Rattle.rt_ids.specs.Entry.{Entry}
 use Rattle.rt_ids.specs.Holder.{Holder, Guarded}
-use Rattle.rt_ids.specs.Storage.{Storage, Runner}
-use Rattle.rt_app.specs.Tree.{App}
-use Rattle.rt_app.specs.Holding.{storage}
-use Rattle.rt_app.specs.Sending.{Rest}
+use Rattle.rt_ids.specs.Doing.{Doing}
+use Rattle.rt_ids.specs.declared.ids.Section.TheVariants as section
+use Rattle.rt_app.specs.declared.costs.TheConstants.{TIMER_QUEUE_WORDS}
+use Rattle.rt_app.specs.Tree.{Task, App}
+use Rattle.rt_app.specs.Holding.{storage, SpellsTimer}
+use Rattle.rt_app.specs.Layout.{memory}
+use Rattle.rt_app.specs.Sending.{Rest, leave_timer}
 use Rattle.rt_app.proofs.Counting.{count_more}
-use Rattle.rt_code.specs.Owning.{Spot, mine, Agree, LeavesMine}
-use Rattle.rt_code.specs.Standing.{Stands}
-use Rattle.rt_code.specs.declared.image.BodyRow.{BodyRow}
+use Rattle.rt_code.specs.Acting.{with_queue}
+use Rattle.rt_code.specs.Masking.{IsWithin, TakesOver}
+use Rattle.rt_code.specs.Owning.{Spot, is_open, reads, saved_slots, mine, Agree, LeavesMine}
+use Rattle.rt_code.specs.Standing.{passed}
 use Rattle.rt_code.proofs.Mine.{queued, queues_same, owns_open, may_load}
-use Rattle.rt_gen_queue.specs.Line.{Line}
-use Rattle.rt_gen_queue.specs.Spawning.{behind}
-use Rattle.rt_gen_queue.proofs.Spots.{left_none, Setting, Here, spot}
-use Rattle.rt_gen_queue.proofs.Steps.{S}
-use Rattle.rt_gen_timer.specs.TimerCalls.{HasUsedTimer}
-use Rattle.rt_gen_timer.proofs.Acting.{Now}
-use Rattle.rt_gen_timer.proofs.Opening.{window_outside}
+use Rattle.rt_gen_queue.specs.Guards.{guard_of, leave}
+use Rattle.rt_gen_queue.specs.Line.{Line, HasCode}
+use Rattle.rt_gen_queue.specs.Spawning.{HoldsOff}
+use Rattle.rt_gen_queue.proofs.Entering.{opened, within, leave_placed, leave_fits, reads_it, own_left, agree_left}
+use Rattle.rt_gen_queue.proofs.Facts.{Spawned}
+use Rattle.rt_gen_queue.proofs.Layer.{window_long, window_outside, begun, begins, lasts_less, Setting, Here, InTime}
+use Rattle.rt_gen_queue.proofs.Layer.{spot, S, window, window_read, Now, Straight, placed, fits, all_fit}
+use Rattle.rt_gen_queue.proofs.Owning.{queue_here, timer_back, put_here, spelled_put}
+use Rattle.rt_gen_timer.specs.TimerCode.{queue_of}
+use Rattle.rt_gen_timer.specs.TimerCalls.{MayUseTimer, StandsBefore}
+use Rattle.rt_gen_timer.specs.TimerLines.{alarm_lines}
+use Rattle.rt_gen_timer.proofs.Acting.{Columns}
+use Rattle.rt_gen_timer.proofs.Alone.{IsTimerAlone}
+use Rattle.rt_gen_timer.proofs.Closing.{closes_timer}
+use Rattle.rt_gen_timer.proofs.Opening.{MayOpen, may_enter, columns_inside}
 use Rattle.rt_gen_timer.proofs.Rising.{rise_reach}
-use Rattle.rt_gen_timer.proofs.Window.{Words, words, Frame, window, words_of, frame_of, window_of, window_read}
+use Rattle.rt_gen_timer.proofs.Window.{Slots, Words, words, words_of, frame_of, window_of}
 
 -- so many turns lead through so many messages
 pub reach_enough : (n : ℕ) → n < rise_reach n
 reach_enough zero = omega arith
 reach_enough (suc n) = omega (arith, reach_enough n)
 
--- What is left as it was with a message more in the hands is left as it was.
-pub own_on : (st : Storage) (who : Runner) (s : Spot) (e : Entry) (lefts slots mid cells : List ℕ) (a : ℕ)
-    (more queues : Holder → List Entry) (rest : Doing Values)
-    → LeavesMine st who s mid more
-    → LeavesMine st who (record s {
-      lefts = lefts;
-      places = e ∷ s.places;
-      slots = slots;
-      address = a;
-      cells = mid;
-      queues = more;
-      rest = rest;
-    }) cells queues
-    → LeavesMine st who s cells queues
-own_on st who s e lefts slots mid cells a more queues rest first second = record {
-  long = second.long ∙ first.long;
-  touched = λ c may.
-      second.touched c
-      (may_load st who s
-      (record s {
-        lefts = lefts;
-        places = e ∷ s.places;
-        slots = slots;
-        address = a;
-        cells = mid;
-        queues = more;
-        rest = rest;
-      }) (st.home c) (λ holder read. read) more_mine may)
-      ∙ first.touched c may;
-  queued = λ holder own. second.queued holder own ∙ first.queued holder own;
-}
-  where
-    more_mine : (y : Entry) → 0 < mine s y
-        → 0 < mine (record s {
-          lefts = lefts;
-          places = e ∷ s.places;
-          slots = slots;
-          address = a;
-          cells = mid;
-          queues = more;
-          rest = rest;
-        }) y
-    more_mine y some =
-        let same : queued more y s.held ≡ queued s.queues y s.held =
-        queues_same s.queues more y s.held (λ x opens. first.queued (Guarded x) (owns_open st who s.held x opens)) in
-        omega (arith, some, same, count_more y e s.places)
+-- lines as they stand in code, from one of them on
+pub code_from : (code : List Line) (k at : ℕ) (lines : List Line) → HasCode code at lines
+    → HasCode code (at + k) (drop k lines)
+code_from code zero at lines has =
+    let e : at ≡ at + 0 = omega arith in subst (λ (a : ℕ). HasCode code a lines) e has
+code_from code (suc k) at [] has = tt
+code_from code (suc k) at (line ∷ lines) (first, rest) =
+    let e : suc at + k ≡ at + suc k = omega arith in
+    subst (λ (a : ℕ). HasCode code a (drop k lines)) e (code_from code k (suc at) lines rest)
 
--- an address that is told otherwise
-pub at_address : (z : Setting) (k : ℕ) (h : Here) (a b : ℕ) → a ≡ b → S z k (record h { at = b })
-    → S z k (record h { at = a })
-at_address z k h a b same stands = subst (λ (to : ℕ). S z k (record h { at = to })) (sym same) stands
+pub code_first : (code : List Line) (n at : ℕ) (lines : List Line) → HasCode code at lines
+    → HasCode code at (take n lines)
+code_first code zero at lines has = tt
+code_first code (suc n) at [] has = tt
+code_first code (suc n) at (line ∷ lines) (first, rest) = (first, code_first code n (suc at) lines rest)
 
--- Behind a call: the answer is in the first slot of the window, and what the job has is as before.
-pub record HasCalled (z : Setting) (f : Frame) (steps : ℕ) (h : Here) (w : Words) (values : Values) (answer used : ℕ)
-    (v : Words) (cells : List ℕ) (queues : Holder → List Entry) (vs : Values) : Type 0 where
+-- so many of them
+pub code_part : (code : List Line) (at : ℕ) (lines : List Line) (k n : ℕ) → HasCode code at lines
+    → HasCode code (at + k) (take n (drop k lines))
+code_part code at lines k n has = code_first code n (at + k) (drop k lines) (code_from code k at lines has)
+
+-- lines with one that leaves the timer queue's section among them: that they fit, and how they stand in code
+pub leaving_fits : (app : App) (level : ℕ) (front behind : List Line) → all_fit 24 9 front ≡ true
+    → all_fit 24 9 behind ≡ true → all_fit 24 9 (front ++ leave app section.Timer level 9 ∷ behind) ≡ true
+leaving_fits app level [] behind first second =
+    and_both (fits 24 9 (leave app section.Timer level 9).0) (all_fit 24 9 behind)
+    (leave_fits section.Timer (guard_of app section.Timer) level 9 24 9) second
+leaving_fits app level (line ∷ front) behind first second =
+    and_both (fits 24 9 line.0) (all_fit 24 9 (front ++ leave app section.Timer level 9 ∷ behind))
+    (and_left (fits 24 9 line.0) (all_fit 24 9 front) first)
+    (leaving_fits app level front behind (and_right (fits 24 9 line.0) (all_fit 24 9 front) first) second)
+
+pub leaving_code : (z : Setting) (f : Slots) (level at : ℕ) (front behind : List Line)
+    → HasCode z.code at
+    (map (placed f.slot) front ++ leave z.app section.Timer level (f.slot + 9) ∷ map (placed f.slot) behind)
+    → HasCode z.code at (map (placed f.slot) (front ++ leave z.app section.Timer level 9 ∷ behind))
+leaving_code z f level at front behind has =
+    subst (HasCode z.code at)
+    (ap (λ line. map (placed f.slot) front ++ line ∷ map (placed f.slot) behind)
+    (sym (leave_placed section.Timer (guard_of z.app section.Timer) level 9 f.slot))
+    ∙ sym (map-append (placed f.slot) front (leave z.app section.Timer level 9 ∷ behind))) has
+
+-- a call that goes to the timer queue: for a task, at a level, with the first of its slots, and what is left behind it
+pub record Call : Type 0 where
+  pub z : Setting
+  pub task : ℕ
+  pub t : Task
+  pub level : ℕ
+  pub slot : ℕ
+  pub rest : ℕ → Rest
+  pub values : Values
+
+abbrev pub call_of : (z : Setting) (task : ℕ) (t : Task) (level slot : ℕ) (rest : ℕ → Rest) (values : Values) → Call
+call_of z task t level slot rest values =
+    record { z = z; task = task; t = t; level = level; slot = slot; rest = rest; values = values }
+
+-- it may begin here, in so many steps
+pub record MayCall (c : Call) (steps : ℕ) (h : Here) : Type 0 where
+  pub facts : Spawned c.z.app c.task c.t
+  pub timed : IsSome c.z.app.mono
+  pub cells : length h.cells ≡ length (memory c.z.app)
+  pub frame : c.slot + TIMER_QUEUE_WORDS ≤ length h.slots
+  pub masks : AllByRecursion (λ d. d < c.slot) (saved_slots h.held)
+  pub closed : is_open h.held section.Timer ≡ false
+  pub within : IsWithin (storage c.z.app) c.z.who c.z.who section.Timer
+  pub off : HoldsOff c.z.app c.z.who c.z.who h.held c.level
+  pub time : InTime (h.done + steps) h
+
+-- what it leaves
+pub record Used : Type 0 where
+  pub done : ℕ
+  pub slots : List ℕ
+  pub cells : List ℕ
+  pub queues : Holder → List Entry
+  pub values : Values
+
+-- Behind it the answer is in the first slot, other slots, what the job may read, and its cells and queues are as they
+-- were.
+pub record HasUsed (c : Call) (steps : ℕ) (h : Here) (answer : ℕ) (u : Used) : Type 0 where
+  pub answered : (answer ≤ 2 ^ 31) × (slice_index u.slots c.slot ≡ answer)
+  pub frame : length u.slots ≡ length h.slots
+  pub kept : (d : ℕ) → (d < c.slot) ⊎ (c.slot + TIMER_QUEUE_WORDS ≤ d) → slice_index u.slots d ≡ slice_index h.slots d
+  pub in_time : u.done ≤ h.done + steps
+  pub own : LeavesMine (storage c.z.app) c.z.who (spot c.z h) u.cells u.queues
+  pub agree : Agree (storage c.z.app) c.z.who h.held u.values c.values
+
+-- the code behind these lines is correct
+abbrev pub GoesBehind : Call → (steps : ℕ) → List Line → Here → Type 0
+GoesBehind c steps lines h =
+    (answer : ℕ) (u : Used) → HasUsed c steps h answer u
+    → S c.z (record h {
+      done = u.done;
+      slots = u.slots;
+      at = h.at + length lines;
+      cells = u.cells;
+      queues = u.queues;
+      rest = c.rest answer u.values;
+    })
+
+-- the same with the words of its window
+pub record Left : Type 0 where
+  pub done : ℕ
+  pub words : Words
+  pub cells : List ℕ
+  pub queues : Holder → List Entry
+  pub values : Values
+
+-- where a job began a call with these values, this is what it leaves
+pub record HasCalled (z : Setting) (h : Here) (before : Values) (steps answer : ℕ) (b : Left) : Type 0 where
   pub small : answer ≤ 2 ^ 31
-  pub answered : v.answer ≡ answer
-  pub in_time : used ≤ steps
-  pub own : LeavesMine (storage z.app) z.who (spot z (Now f h w)) cells queues
-  pub agree : Agree (storage z.app) z.who h.held vs values
+  pub answered : b.words.answer ≡ answer
+  pub in_time : b.done ≤ h.done + steps
+  pub own : LeavesMine (storage z.app) z.who (spot z h) b.cells b.queues
+  pub agree : Agree (storage z.app) z.who h.held b.values before
 
--- a window is as long whatever its words
-pub window_long : (f : Frame) (v w : Words) → length (window f (words v)) ≡ length (window f (words w))
-window_long f v w =
-    length-append f.front (words v ++ f.back)
-    ∙ ap (λ n. length f.front + n) (length-append (words v) f.back ∙ sym (length-append (words w) f.back))
-    ∙ sym (length-append f.front (words w ++ f.back))
+-- and where it is then
+abbrev pub behind_call : Here → (at : ℕ) → Rest → Left → Here
+behind_call h at rest b = record h {
+  done = b.done;
+  at = at;
+  cells = b.cells;
+  queues = b.queues;
+  rest = rest b.values;
+}
 
-module _ (app : App) (code : List Line) (bodies : List BodyRow) (thread : ℕ) (who : Runner) (slot : ℕ) (s : Spot)
-    (long : slot + 24 ≤ length s.slots) where
-  abbrev pub setting : Setting
-  setting = record { app = app; code = code; bodies = bodies; thread = thread; who = who; caller = s.caller }
+module _ {c : Call} {steps : ℕ} {h : Here} (may : MayCall c steps h) where
+  abbrev pub f : Slots
+  f = frame_of c.slot h.slots may.frame
 
-  abbrev pub framed : Frame
-  framed = frame_of slot s.slots long
+  abbrev pub w : Words
+  w = words_of c.slot h.slots
 
-  abbrev pub worded : Words
-  worded = words_of slot s.slots
+  -- on the window it is where it is
+  pub on_window : S c.z (Now f h (words w)) → S c.z h
+  on_window correct =
+      subst (λ (slots : List ℕ). S c.z (record h { slots = slots })) (sym (window_of c.slot h.slots may.frame)) correct
 
-  abbrev pub started : Here
-  started = record {
-    held = s.held;
-    done = 0;
-    deadlines = s.lefts;
-    places = s.places;
-    slots = s.slots;
-    at = s.address;
-    cells = s.cells;
-    queues = s.queues;
-    rest = s.rest;
+  pub may_open : MayOpen c.z f c.level h
+  may_open = record {
+    accepted = may.facts.accepted;
+    timed = may.timed;
+    masks = may.masks;
+    off = may.off;
+    within = may.within;
+    closed = may.closed;
   }
 
-  -- where it begins
-  pub call_begins : (k : ℕ) → S setting k (Now framed started worded) → Stands (storage app) code bodies thread who k s
-  call_begins k stands =
-      subst (λ (lefts : List ℕ). Stands (storage app) code bodies thread who k (record s { lefts = lefts }))
-      (left_none s.lefts)
-      (subst (λ (slots : List ℕ). S setting k (record started { slots = slots })) (sym (window_of slot s.slots long))
-      stands)
-
-  -- and where it ends
-  pub call_ends : (steps n : ℕ) (lines : List Line) (rest : ℕ → Rest) (vs : Values)
-      → ((answer used m : ℕ) (slots cells : List ℕ) (queues : Holder → List Entry) (ws : Values) → n ≤ m
-      → HasUsedTimer app who steps slot s vs answer used slots cells queues ws
-      → Stands (storage app) code bodies thread who m (behind app who s lines used slots cells queues (rest answer) ws))
-      → (answer used : ℕ) (v : Words) (cells : List ℕ) (queues : Holder → List Entry) (ws : Values)
-      → HasCalled setting framed steps started worded vs answer used v cells queues ws
-      → S setting n (record started {
-        done = used;
-        slots = window framed (words v);
-        at = s.address + length lines;
-        cells = cells;
-        queues = queues;
-        rest = rest answer ws;
-      })
-  call_ends steps n lines rest vs on answer used v cells queues ws called =
-      let first : slot ≡ slot + 0 = omega arith in
-      let same : window framed (words worded) ≡ s.slots = sym (window_of slot s.slots long) in
-      on answer used n (window framed (words v)) cells queues ws (omega arith)
+  -- where it ends, on the window
+  pub call_ends : (lines : List Line) → GoesBehind c steps lines h → (answer : ℕ) (b : Left)
+      → HasCalled c.z h c.values steps answer b
+      → S c.z (Now f (behind_call h (h.at + length lines) (c.rest answer) b) (words b.words))
+  call_ends lines on answer b called =
+      let first : c.slot ≡ c.slot + 0 = omega arith in
+      let same : window f (words w) ≡ h.slots = sym (window_of c.slot h.slots may.frame) in
+      let slots : List ℕ = window f (words b.words) in
+      on answer (record { done = b.done; slots = slots; cells = b.cells; queues = b.queues; values = b.values })
       (record {
         answered = (
           called.small,
-          ap (slice_index (window framed (words v))) first ∙ window_read framed (words v) 0 (omega arith)
-              ∙ called.answered,
+          ap (slice_index slots) first ∙ window_read f (words b.words) 0 (omega arith) ∙ called.answered,
         );
-        frame = window_long framed v worded ∙ ap (λ (slots : List ℕ). length slots) same;
+        frame = window_long f (words b.words) (words w) refl ∙ ap (λ (ss : List ℕ). length ss) same;
         kept = λ d far.
-            window_outside framed worded v d far ∙ ap (λ (slots : List ℕ). slice_index slots d) same;
+            window_outside f (words b.words) (words w) refl d far ∙ ap (λ (ss : List ℕ). slice_index ss d) same;
         in_time = called.in_time;
-        own = record {
-          long = called.own.long;
-          touched = λ c may.
-              called.own.touched c
-              (may_load (storage app) who s (spot setting (Now framed started worded)) ((storage app).home c)
-              (λ holder read. read) (λ e some. some) may);
-          queued = called.own.queued;
-        };
+        own = called.own;
         agree = called.agree;
       })
+
+-- Inside the section of the timer queue: where it was entered, at which cost, and what was taken over.
+pub record Inside : Type 0 where
+  pub z : Setting
+  pub f : Slots
+  pub level : ℕ
+  pub cost : ℕ
+  pub h : Here
+  pub before : Values
+  pub cells : List ℕ
+  pub queues : Holder → List Entry
+  pub values : Values
+
+abbrev pub entries : Inside → List Entry
+entries i = i.queues (Guarded section.Timer)
+
+-- the job there, with this left to do
+abbrev pub at_work : Inside → (done at : ℕ) → List Entry → List ℕ → (Holder → List Entry) → Doing Values → Here
+at_work i done at places cells queues rest =
+    record (within i.h (opened i.z i.f section.Timer i.level) i.cost cells queues rest) {
+      done = done;
+      places = places;
+      at = at;
+    }
+
+-- what is known of it
+pub record IsInside (i : Inside) : Type 0 where
+  pub may : MayOpen i.z i.f i.level i.h
+  pub long : length i.h.cells ≡ length (memory i.z.app)
+  pub taken : TakesOver (storage i.z.app) i.z.who section.Timer (passed (spot i.z i.h)) i.before i.values i.cells
+      i.queues
+  pub spells : SpellsTimer i.z.app (slice_index i.cells) (entries i) (i.values (Guarded section.Timer))
+
+-- what is left of the queue: in its cells alone these messages are armed
+pub record LeavesQueue (i : Inside) (after : List ℕ) (es : List Entry) (t : Timed) : Type 0 where
+  pub spells : SpellsTimer i.z.app (slice_index after) es (Delays t)
+  pub few : t.given + t.moved ≤ 2 ^ 32
+  pub alone : IsTimerAlone i.z.app i.cells after
+  pub long : length after ≡ length i.cells
+
+module _ {i : Inside} (now : IsInside i) where
+  pub columns_now : {after : List ℕ} → length after ≡ length i.cells
+      → Columns i.z (queue_of i.z.app) (opened i.z i.f section.Timer i.level ∷ i.h.held) after
+  columns_now long =
+      columns_inside i.z i.f i.level i.h.held now.may.timed (long ∙ now.taken.same.long ∙ now.long)
+
+  -- its queue is read inside
+  pub reads_now : reads (storage i.z.app) i.z.who (opened i.z i.f section.Timer i.level ∷ i.h.held)
+      (Guarded section.Timer) ≡ true
+  reads_now = reads_it tt (may_enter now.may) now.taken
+
+  -- The section closes with the alarm set, behind an action that put this into the queue: all else is as it was.
+  pub settles : {lines : List Line} {done at : ℕ} {places es : List Entry} {after : List ℕ} {t : Timed} {rest : Rest}
+      {ws : Values} {content : Content} (v : Words) → LeavesQueue i after es t → content ≡ Delays t
+      → Agree (storage i.z.app) i.z.who (opened i.z i.f section.Timer i.level ∷ i.h.held) ws i.values
+      → v.count ≡ length es
+      → ((last other : ℕ) (us : Values) → last ≤ done + 6
+      → LeavesMine (storage i.z.app) i.z.who (spot i.z i.h) after (with_queue i.queues section.Timer es)
+      → Agree (storage i.z.app) i.z.who i.h.held us i.before
+      → Straight i.z i.f lines (record i.h {
+        done = last;
+        places = places;
+        at = at + 7;
+        cells = after;
+        queues = with_queue i.queues section.Timer es;
+        rest = rest us;
+      }) (words (record v { other = other })))
+      → Straight i.z i.f (alarm_lines (queue_of i.z.app) 0 at ++ leave i.z.app section.Timer i.level 9 ∷ lines)
+      (at_work i done at places after (with_queue i.queues section.Timer es)
+      (leave_timer i.z.app rest (put_at ws (Guarded section.Timer) content))) (words v)
+  settles {es = es} {after = after} {t = t} {ws = ws} {content = content} v leaves is agree counted on =
+      let x = section.Timer in
+      let enter = may_enter now.may in
+      closes_timer i.level v
+      (record {
+        accepted = now.may.accepted;
+        mono = now.may.timed;
+        columns = columns_now leaves.long;
+        counted = counted ∙ ap (λ (ys : List Entry). length ys) (sym (queue_here i.z.app i.z.who i.queues x es));
+        spelled =
+            spelled_put i.z.app (slice_index after) es content i.queues ws x
+            (subst (λ (k : Content). (storage i.z.app).Spells (Guarded x) (slice_index after) es k) (sym is)
+            (timer_back _ _ _ now.taken.spelled leaves.spells));
+        few = subst (λ (k : Content). (timed k).given + (timed k).moved ≤ 2 ^ 32)
+            (sym (put_here i.z.app i.z.who ws x content ∙ is)) leaves.few;
+      }) refl refl refl
+      (λ last other zs soon later.
+      on last other zs soon (own_left tt enter now.taken es after leaves.long leaves.alone)
+      (agree_left tt enter now.taken content later agree))
+
+-- What is left as it was with a message more in the hands is left as it was.
+pub own_on : (z : Setting) (h : Here) {e : Entry} {mid cells : List ℕ} {more queues : Holder → List Entry}
+    → LeavesMine (storage z.app) z.who (spot z h) mid more
+    → LeavesMine (storage z.app) z.who (spot z (record h { places = e ∷ h.places; cells = mid; queues = more })) cells
+    queues
+    → LeavesMine (storage z.app) z.who (spot z h) cells queues
+own_on z h {e = e} {mid = mid} {more = more} first second = record {
+  long = second.long ∙ first.long;
+  touched = λ cell may.
+      second.touched cell
+      (may_load (storage z.app) z.who (spot z h)
+      (spot z (record h { places = e ∷ h.places; cells = mid; queues = more })) ((storage z.app).home cell)
+      (λ holder read. read) more_mine may)
+      ∙ first.touched cell may;
+  queued = λ holder own. second.queued holder own ∙ first.queued holder own;
+}
+  where
+    more_mine : (y : Entry) → 0 < mine (spot z h) y
+        → 0 < mine (spot z (record h { places = e ∷ h.places; cells = mid; queues = more })) y
+    more_mine y some =
+        let same : queued more y h.held ≡ queued h.queues y h.held =
+        queues_same h.queues more y h.held
+        (λ x opens. first.queued (Guarded x) (owns_open (storage z.app) z.who h.held x opens)) in
+        omega (arith, some, same, count_more y e h.places)
+
+-- the call in the frame of a job
+abbrev pub of_job : Call → Spot → Call
+of_job c s = record c { z = record c.z { caller = s.caller } }
+
+-- a job that may use the timer queue may call
+pub may_call : (c : Call) {s : Spot} {steps k : ℕ} → Spawned c.z.app c.task c.t → IsSome c.z.app.mono
+    → MayUseTimer c.z.app c.z.who steps c.level c.slot s → steps ≤ k → MayCall (of_job c s) steps (begun s k)
+may_call c {s = s} {steps = steps} facts mono may enough = record {
+  facts = facts;
+  timed = mono;
+  cells = may.cells;
+  frame = may.frame;
+  masks = may.masks;
+  closed = may.closed;
+  within = may.within;
+  off = may.off;
+  time = (omega arith, lasts_less (0 + steps) steps s.lefts (omega arith) may.enough);
+}
+
+-- the code of a call stands for its actions, where it is correct
+pub stands_called : (c : Call) (s : Spot) (lines : List Line) {steps n : ℕ}
+    → ((k : ℕ) → steps ≤ k → GoesBehind (of_job c s) steps lines (begun s k) → S (of_job c s).z (begun s k))
+    → StandsBefore c.z.app c.z.who c.z.code c.z.bodies c.z.thread steps c.slot lines c.rest n s c.values
+stands_called c s lines {steps = steps} {n = n} correct on k enough =
+    begins s k
+    (correct k (omega (arith, enough))
+    (λ answer u used. record {
+      stands = on answer u.done (k - u.done) u.slots u.cells u.queues u.values (omega (arith, used.in_time, enough))
+          (record {
+            answered = used.answered;
+            frame = used.frame;
+            kept = used.kept;
+            in_time = omega (arith, used.in_time);
+            own = record { long = used.own.long; touched = used.own.touched; queued = used.own.queued };
+            agree = used.agree;
+          });
+    }))

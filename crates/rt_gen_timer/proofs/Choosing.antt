@@ -20,7 +20,6 @@ use Rattle.rt_gen_timer.specs.TimerCode.{queue_of, armed_task, choices_code}
 use Rattle.rt_gen_timer.specs.TimerLines.{choice_lines}
 use Rattle.rt_gen_timer.specs.declared.armed.ArmedTask.{ArmedTask}
 use Rattle.rt_gen_timer.specs.declared.emitter.Emitter.{Emitter}
-use Rattle.rt_gen_timer.proofs.Appending.{the_made, behind}
 
 -- a task that is fired is a software task
 pub fired_software : (app : App) (n : ℕ) (t : Task) (b : Bool) → slice_get app.tasks n ≡ Some t
@@ -55,8 +54,7 @@ choices_more : (app : App) (level : ℕ) (ts : List Task) (t : Task) (at n : ℕ
 choices_more app level [] t at n =
     let a : at ≡ at + 0 = omega arith in
     let b : n ≡ n + 0 = omega arith in
-    alone (is_software t && is_armed app n) ∙ ap (λ x. task_code app level x n t) a
-    ∙ ap (λ x. task_code app level (at + 0) x t) b
+    alone (is_software t && is_armed app n) ∙ (λ i. task_code app level (a i) (b i) t)
   where
     alone : (b : Bool) → (if b then choice_lines (queue_of app) 0 level (armed_task app n) at ++ [] else [])
         ≡ (if b then choice_lines (queue_of app) 0 level (armed_task app n) at else [])
@@ -83,13 +81,8 @@ choices_more app level (u ∷ ts) t at n =
     go true others =
         let more : List Line = choices_code app level (at + 26) (n + 1) ts in
         let places : at + 26 + length more ≡ at + length (own ++ more) = omega (arith, length-append own more) in
-        ap (λ (ls : List Line). own ++ ls) (others (at + 26))
-        ∙ ap (λ a. own ++ (more ++ task_code app level a (n + 1 + length ts) t)) places
-        ∙ ap (λ k. own ++ (more ++ task_code app level (at + length (own ++ more)) k t)) numbers
-        ∙ sym (append_assoc own more (task_code app level (at + length (own ++ more)) (n + length (u ∷ ts)) t))
-    go false others =
-        let more : List Line = choices_code app level at (n + 1) ts in
-        others at ∙ ap (λ k. more ++ task_code app level (at + length more) k t) numbers
+        rw (others (at + 26), places, numbers, append_assoc)
+    go false others = rw (others at, numbers)
 
 -- before the first task there are no lines, and behind the last those of all
 pub choices_none : (app : App) (level entry : ℕ) (old : Made)
@@ -124,16 +117,16 @@ choices_next app level entry n t old mid new within at before pushed =
     let ts : List Task = map task_of (take n items) in
     let first : ℕ = entry + length old.lines in
     let so_far : List Line = choices_code (app_of app) level first 0 ts in
-    let last : ℕ → ℕ → List Line = λ at k. task_code (app_of app) level at k (task_of t) in
     let place : entry + length mid.lines ≡ first + length so_far =
     omega (arith, ap (λ (m : Made). length m.lines) before, length-append old.lines so_far) in
     let long : n ≡ 0 + length ts =
     omega (arith, length-map (take n items) task_of, length-take-le n items (omega (arith, within))) in
-    pushed
-    ∙ ap (λ a. the_made (mid.lines ++ last a n)) place
-    ∙ ap (λ k. the_made (mid.lines ++ last (first + length so_far) k)) long
-    ∙ behind old mid so_far (last (first + length so_far) (0 + length ts)) before
-    ∙ ap (λ (ls : List Line). the_made (old.lines ++ ls))
-    (sym (choices_more (app_of app) level ts (task_of t) first 0))
-    ∙ ap (λ us. the_made (old.lines ++ choices_code (app_of app) level first 0 us))
-    (sym (map_next task_of items n t within at))
+    let pushes : Appends mid new (task_code (app_of app) level (first + length so_far) (0 + length ts) (task_of t)) =
+    pushed ∙ (λ i. record { lines = mid.lines ++ task_code (app_of app) level (place i) (long i) (task_of t) }) in
+    rw (
+      pushes,
+      before,
+      map_next task_of items n t within at,
+      choices_more (app_of app) level ts (task_of t) first 0,
+      append_assoc,
+    )

@@ -1,19 +1,21 @@
 -- Two keys are compared without a jump: the instants first, and of equal instants the numbers. Of numbers of 32 bits it
 -- is the order of the keys as one number each.
-use Rattle.std.proofs.Common.{◌≡◌, ℕ, suc, ◌+◌, ◌*◌, ◌^◌, ◌<◌, ◌≤◌, ◌==◌, ◌&&◌, ◌||◌, nat_lt, Bool, true, false}
-use Rattle.std.proofs.Common.{slice_index, bit_and, bit_or, refl, sym, ap, ◌∙◌, arith, inl, inr}
+use Rattle.std.proofs.Common.{◌≡◌, ℕ, ◌+◌, ◌*◌, ◌^◌, ◌<◌, ◌==◌, ◌&&◌, ◌||◌, nat_lt, Bool, true, false, List, [], ◌∷◌}
+use Rattle.std.proofs.Common.{◌++◌, slice_index, slice_set, bit_and, bit_or, refl, sym, ap, ◌∙◌, arith, inl, inr}
 use Rattle.std.proofs.lemmas.Bool.{cases_lt, lt-ltb, le-ltb}
 use Rattle.std.proofs.lemmas.Bool.Decides.{nat_tests}
+use Rattle.rt_ids.specs.Entry.{Entry}
 use Rattle.rt_ids.specs.Operation.{number_of}
+use Rattle.rt_app.specs.Heap.{key_of}
 use Rattle.rt_ids.specs.declared.op.Op.TheVariants as op
-use Rattle.rt_lemmas.proofs.Bools.{and_both, and_parts}
-use Rattle.rt_gen_queue.specs.Line.{HasCode}
-use Rattle.rt_gen_queue.proofs.Spots.{Setting, Here}
-use Rattle.rt_gen_queue.proofs.Steps.{S}
-use Rattle.rt_gen_timer.specs.TimerLines.{less_lines}
+use Rattle.rt_code.specs.declared.instr.Instr.TheVariants as instr
+use Rattle.rt_gen_queue.specs.Line.{Line, plain}
+use Rattle.rt_gen_queue.proofs.Layer.{Setting, Here, Straight, ahead, calculates, loads_at, reads_open}
+use Rattle.rt_gen_timer.specs.TimerLines.{heap_of, instants_of, numbers_of}
 use Rattle.rt_gen_timer.specs.declared.queue.TimerQueue.{TimerQueue}
-use Rattle.rt_gen_timer.proofs.Window.{Words, words, Frame, window, Scratch, turning, is_there}
-use Rattle.rt_gen_timer.proofs.Acting.{Now, Runs, calculates}
+use Rattle.rt_gen_timer.proofs.Window.{Slots, Words, words, Scratch, turning}
+use Rattle.rt_gen_timer.proofs.Acting.{Columns, heap_open, instant_open, number_open}
+use Rattle.rt_gen_timer.proofs.Hollow.{IsKept, IsHollow}
 
 -- both of two tests, as numbers
 and_numbers : (a b : Bool) → bit_and (number_of a) (number_of b) ≡ number_of (a && b)
@@ -55,84 +57,85 @@ pairs_are a b c d small small_too =
           ])
     ]
 
--- a slot has a value, whatever is in the slots of the answer
-abbrev pub Reads : Words → ℕ → ℕ → Type 0
-Reads w s value = (l e k : ℕ) → slice_index (words (record w { less = l; equal = e; work = k })) s ≡ value
+-- what the loops work on: the columns of a heap, how many messages it has, and the one in hand
+pub record Hand : Type 0 where
+  pub queue : TimerQueue
+  pub row : Entry → ℕ
+  pub instant : Entry → ℕ
+  pub arming : Entry → ℕ
+  pub size : ℕ
+  pub hand : Entry
 
--- what the comparison reads in a loop
-module _ (w : Words) (s : Scratch) (place t a : ℕ) where
-  -- the instant in hand
-  pub reads_instant : Reads (turning w s place t a) 10 t
-  reads_instant l e k = refl
+-- where a loop ends: the steps that are done, the place of the hole, the cells, and the messages of the heap
+pub record Place : Type 0 where
+  pub done : ℕ
+  pub hole : ℕ
+  pub cells : List ℕ
+  pub heap : List Entry
 
-  -- the number in hand
-  pub reads_arming : Reads (turning w s place t a) 11 a
-  reads_arming l e k = refl
+-- the key of a message, the heap with its hole, and the words in a loop
+abbrev pub key : Hand → Entry → ℕ
+key k = key_of k.instant k.arming
 
-  -- the instant of the message at the other place
-  pub reads_row_instant : Reads (turning w s place t a) 16 s.row_instant
-  reads_row_instant l e k = refl
+abbrev pub IsOpen : Hand → List ℕ → List Entry → ℕ → Type 0
+IsOpen k cells xs i = IsHollow k.queue k.row k.instant k.arming k.size cells xs i
 
-  -- the number of that message
-  pub reads_row_arming : Reads (turning w s place t a) 17 s.row_arming
-  reads_row_arming l e k = refl
+abbrev pub in_hand : Hand → Words → Scratch → ℕ → Words
+in_hand k w s i = turning w s i (k.instant k.hand) (k.arming k.hand)
 
-  -- the instant of the message of the right child
-  pub reads_right_instant : Reads (turning w s place t a) 19 s.right_instant
-  reads_right_instant l e k = refl
+-- the lines that compare, and those that load a key, whose slots are numbered from the window's first
+abbrev pub less_of : ℕ → ℕ → ℕ → ℕ → List Line
+less_of s t u v =
+    plain (instr.Calc op.Lt 21 s u) ∷ plain (instr.Calc op.Eq 22 s u) ∷ plain (instr.Calc op.Lt 8 t v)
+    ∷ plain (instr.Calc op.And 22 22 8) ∷ plain (instr.Calc op.Or 21 21 22) ∷ []
 
-  -- the number of that message
-  pub reads_right_arming : Reads (turning w s place t a) 20 s.right_arming
-  reads_right_arming l e k = refl
+abbrev pub key_from : TimerQueue → ℕ → ℕ → ℕ → ℕ → List Line
+key_from q p r i n =
+    plain (instr.LoadAt r (heap_of q) p) ∷ plain (instr.LoadAt i (instants_of q) r)
+    ∷ plain (instr.LoadAt n (numbers_of q) r) ∷ []
 
-module _ (z : Setting) (f : Frame) (q : TimerQueue) where
-  -- the answer is 1 where the key of the first two slots is less than that of the others, and else 0
-  pub compares : (n end : ℕ) (h : Here) (w : Words) (s t u v a b c d : ℕ)
-      → HasCode z.code h.at (less_lines q f.slot s t u v) → h.done + 5 ≤ end → Runs f end h.held h.deadlines
-      → (is_there s && (is_there t && (is_there u && is_there v))) ≡ true
-      → Reads w s a → Reads w t b → Reads w u c → Reads w v d → b < 2 ^ 32 → d < 2 ^ 32
-      → ((e k : ℕ)
-      → S z n (record h {
-        done = suc (suc (suc (suc (suc h.done))));
-        slots = window f (words (record w {
-          less = number_of (nat_lt (a * 2 ^ 32 + b) (c * 2 ^ 32 + d));
-          equal = e;
-          work = k;
-        }));
-        at = suc (suc (suc (suc (suc h.at))));
-      }))
-      → S z (suc (suc (suc (suc (suc n))))) (Now f h w)
-  compares n end h w s t u v a b c d has within runs known first second third fourth small small_too on =
-      let one = and_parts (is_there s) (is_there t && (is_there u && is_there v)) known in
-      let two = and_parts (is_there t) (is_there u && is_there v) one.1 in
-      let three = and_parts (is_there u) (is_there v) two.1 in
+-- Two slots have an instant and a number, whatever is in the slots of the answer.
+pub record HasKey (w : Words) (s t a b : ℕ) : Type 0 where
+  pub instant : (l e k : ℕ) → slice_index (words (record w { less = l; equal = e; work = k })) s ≡ a
+  pub number : (l e k : ℕ) → slice_index (words (record w { less = l; equal = e; work = k })) t ≡ b
+  pub small : b < 2 ^ 32
+
+module _ {z : Setting} {f : Slots} {lines : List Line} {h : Here} where
+  -- the answer is 1 where the first key is less than the other, and else 0
+  pub compares : (w : Words) {s t u v a b c d : ℕ} → HasKey w s t a b → HasKey w u v c d
+      → ((e k : ℕ) → Straight z f lines (ahead 5 h)
+      (words (record w { less = number_of (nat_lt (a * 2 ^ 32 + b) (c * 2 ^ 32 + d)); equal = e; work = k })))
+      → Straight z f (less_of s t u v ++ lines) h (words w)
+  compares w {s = s} {u = u} {v = v} {a = a} {b = b} {c = c} {d = d} one other on =
       let less : ℕ = number_of (nat_lt a c) in
       let same : ℕ = number_of (a == c) in
       let below : ℕ = number_of (nat_lt b d) in
-      let both : ℕ = number_of ((a == c) && nat_lt b d) in
       let w1 : Words = record w { less = less } in
-      let w2 : Words = record w { less = less; equal = same } in
-      let w3 : Words = record w { less = less; equal = same; work = below } in
-      let w4 : Words = record w { less = less; equal = both; work = below } in
-      let h1 : Here = record h { done = suc h.done; at = suc h.at } in
-      let h2 : Here = record h1 { done = suc h1.done; at = suc h1.at } in
-      let h3 : Here = record h2 { done = suc h2.done; at = suc h2.at } in
-      let h4 : Here = record h3 { done = suc h3.done; at = suc h3.at } in
-      calculates z f _ end h w op.Lt 21 s u less has.0 (omega arith) runs (there_two s u one.0 three.0)
-      (ap (λ k. number_of (nat_lt k (slice_index (words w) u))) (first w.less w.equal w.work)
-      ∙ ap (λ k. number_of (nat_lt a k)) (third w.less w.equal w.work))
-      (calculates z f _ end h1 w1 op.Eq 22 s u same has.1.0 (omega arith) runs (there_two s u one.0 three.0)
-      (ap (λ k. number_of (k == slice_index (words w1) u)) (first less w.equal w.work)
-      ∙ ap (λ k. number_of (a == k)) (third less w.equal w.work))
-      (calculates z f _ end h2 w2 op.Lt 8 t v below has.1.1.0 (omega arith) runs (there_two t v two.0 three.1)
-      (ap (λ k. number_of (nat_lt k (slice_index (words w2) v))) (second less same w.work)
-      ∙ ap (λ k. number_of (nat_lt b k)) (fourth less same w.work))
-      (calculates z f _ end h3 w3 op.And 22 22 8 both has.1.1.1.0 (omega arith) runs refl
-      (and_numbers (a == c) (nat_lt b d))
-      (calculates z f _ end h4 w4 op.Or 21 21 22 (number_of (nat_lt (a * 2 ^ 32 + b) (c * 2 ^ 32 + d))) has.1.1.1.1.0
-      (omega arith) runs refl
-      (or_numbers (nat_lt a c) ((a == c) && nat_lt b d) ∙ ap number_of (pairs_are a b c d small small_too))
-      (on both below)))))
-    where
-      there_two : (x y : ℕ) → is_there x ≡ true → is_there y ≡ true → (true && (is_there x && is_there y)) ≡ true
-      there_two x y left right = and_both (is_there x) (is_there y) left right
+      let w2 : Words = record w1 { equal = same } in
+      calculates less
+      (ap (λ k. number_of (nat_lt k (slice_index (words w) u))) (one.instant w.less w.equal w.work)
+      ∙ ap (λ k. number_of (nat_lt a k)) (other.instant w.less w.equal w.work))
+      (calculates same
+      (ap (λ k. number_of (k == slice_index (words w1) u)) (one.instant less w.equal w.work)
+      ∙ ap (λ k. number_of (a == k)) (other.instant less w.equal w.work))
+      (calculates below
+      (ap (λ k. number_of (nat_lt k (slice_index (words w2) v))) (one.number less same w.work)
+      ∙ ap (λ k. number_of (nat_lt b k)) (other.number less same w.work))
+      (calculates (number_of ((a == c) && nat_lt b d)) (and_numbers (a == c) (nat_lt b d))
+      (calculates (number_of (nat_lt (a * 2 ^ 32 + b) (c * 2 ^ 32 + d)))
+      (or_numbers (nat_lt a c) ((a == c) && nat_lt b d) ∙ ap number_of (pairs_are a b c d one.small other.small))
+      (on (number_of ((a == c) && nat_lt b d)) below)))))
+
+  -- The row of a message and its key are loaded, from a place of the heap that a slot has.
+  pub loads_key : {q : TimerQueue} {row instant arming : Entry → ℕ} {x : Entry} {ws : List ℕ} {p r i n j : ℕ}
+      → Columns z q h.held h.cells → slice_index ws p ≡ j → j < q.messages
+      → slice_index h.cells (heap_of q + j) ≡ row x → IsKept q row instant arming h.cells x
+      → ((v u : ℕ) → (slice_index (slice_set ws r v) r ≡ v)
+      × (slice_index (slice_set (slice_set ws r v) i u) r ≡ v))
+      → Straight z f lines (ahead 3 h) (slice_set (slice_set (slice_set ws r (row x)) i (instant x)) n (arming x))
+      → Straight z f (key_from q p r i n ++ lines) h ws
+  loads_key {row = row} {instant = instant} {arming = arming} {x = x} {j = j} columns shown less column kept apart on =
+      loads_at j (row x) shown (reads_open (heap_open columns less) column)
+      (loads_at (row x) (instant x) (apart (row x) 0).0 (reads_open (instant_open columns kept.room) kept.instants)
+      (loads_at (row x) (arming x) (apart (row x) (instant x)).1
+      (reads_open (number_open columns kept.room) kept.numbers) on))

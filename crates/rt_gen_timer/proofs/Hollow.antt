@@ -1,15 +1,17 @@
--- A heap of messages in cells with a hole, while one message is in hand: the column of the heap has the row of each
--- message but that of the hole, and the columns by row have the message's instant and the number of its last arming.
--- Only the heap's column is written, so keys stay as they are.
-use Rattle.std.proofs.Common.{◌≡◌, ◌≢◌, ◌⊎◌, ℕ, ◌+◌, ◌^◌, ◌<◌, ◌≤◌, List, length, slice_index, slice_set}
-use Rattle.std.proofs.Common.{refl, sym, ap, subst, ◌∙◌, arith, inl, inr, get_or-set_same, get_or-set_other, length-set}
+-- A heap of messages in cells: the column of the heap has the row of each, and the columns by row have the message's
+-- instant and the number of its last arming. While one message is in hand its place is a hole, whatever stands there.
+-- Only the heap's column is written then, so keys stay as they are.
+use Rattle.std.proofs.Common.{◌≡◌, ◌≢◌, ◌⊎◌, ℕ, ◌+◌, ◌^◌, ◌<◌, ◌≤◌, Option, Some, None, List, [], ◌∷◌, length}
+use Rattle.std.proofs.Common.{slice_index, slice_set, refl, sym, ap, subst, ◌∙◌, arith, inl, inr, get_or-set_same}
+use Rattle.std.proofs.Common.{get_or-set_other, length-set, take}
 use Rattle.std.proofs.lemmas.Bool.{cases_eq}
-use Rattle.rt_ids.specs.Entry.{Entry}
-use Rattle.rt_gen_queue.proofs.Spots.{Wrote}
+use Rattle.std.proofs.lemmas.List.{length-take-le, get_or-take, get_or-set_same, get_or-set_other}
 use Rattle.rt_app.specs.Heap.{at}
+use Rattle.rt_gen_queue.proofs.Layer.{Wrote}
+use Rattle.rt_gen_timer.proofs.Moves.{with_moved}
 use Rattle.rt_gen_timer.specs.TimerLines.{instants_of, numbers_of, heap_of}
 use Rattle.rt_gen_timer.specs.declared.queue.TimerQueue.{TimerQueue}
-use Rattle.rt_gen_timer.proofs.Moves.{with_moved}
+use Rattle.rt_ids.specs.Entry.{Entry}
 
 -- cells outside the heap's column are as before
 pub record IsBeside (q : TimerQueue) (before after : List ℕ) : Type 0 where
@@ -18,26 +20,32 @@ pub record IsBeside (q : TimerQueue) (before after : List ℕ) : Type 0 where
   pub long : length after ≡ length before
 
 -- nothing is written
-pub beside_none : (q : TimerQueue) (cells : List ℕ) → IsBeside q cells cells
-beside_none q cells = record { others = λ c out. refl; long = refl }
+pub beside_none : {q : TimerQueue} {cells : List ℕ} → IsBeside q cells cells
+beside_none = record { others = λ c out. refl; long = refl }
 
 -- one after the other
-pub beside_more : (q : TimerQueue) (before mid after : List ℕ) → IsBeside q before mid → IsBeside q mid after
+pub beside_more : {q : TimerQueue} {before mid after : List ℕ} → IsBeside q before mid → IsBeside q mid after
     → IsBeside q before after
-beside_more q before mid after first second = record {
+beside_more first second = record {
   others = λ c out. second.others c out ∙ first.others c out;
   long = second.long ∙ first.long;
 }
 
 -- one place of the heap is written
-pub beside_one_place : (q : TimerQueue) (i v : ℕ) (before after : List ℕ) → i < q.messages
+pub beside_one_place : (q : TimerQueue) {i v : ℕ} {before after : List ℕ} → i < q.messages
     → Wrote (heap_of q + i) v before after → IsBeside q before after
-beside_one_place q i v before after within one =
-    record { others = λ c out. one.others c (other c out); long = one.long }
-  where
-    other : (c : ℕ) → (c < heap_of q) ⊎ (heap_of q + q.messages ≤ c) → c ≢ heap_of q + i
-    other c (inl less) same = absurd (omega (arith, same))
-    other c (inr more) same = absurd (omega (arith, same))
+beside_one_place q within one = record { others = λ c out. one.others c (omega (arith, out)); long = one.long }
+
+-- what holds of a message put at a place, and of the others at theirs, holds of each place then
+pub set_each : (P : Entry → Type 0) {j : ℕ} (xs : List Entry) (i : ℕ) (e : Entry) → i < length xs → (j ≡ i → P e)
+    → (j ≢ i → P (at xs j)) → P (at (slice_set xs i e) j)
+set_each P {j = j} xs i e within here there =
+    elim (cases_eq j i) [
+      | inl same ↦
+          subst P (sym (ap (at (slice_set xs i e)) same
+          ∙ get_or-set_same xs i e (record { task = 0; place = 0 }) within)) (here same)
+      | inr far ↦ subst P (sym (get_or-set_other xs i j e (record { task = 0; place = 0 }) far)) (there far)
+    ]
 
 module _ (q : TimerQueue) (row instant arming : Entry → ℕ) where
   -- what the columns by row have of a message
@@ -47,17 +55,6 @@ module _ (q : TimerQueue) (row instant arming : Entry → ℕ) where
     pub numbers : slice_index cells (numbers_of q + row x) ≡ arming x
     pub small : arming x < 2 ^ 32
 
-  -- writes into the heap's column leave what the columns by row have
-  pub kept_beside : (before after : List ℕ) (x : Entry) → IsBeside q before after → IsKept before x → IsKept after x
-  kept_beside before after x beside kept =
-      let room : row x < q.messages = kept.room in
-      record {
-        room = kept.room;
-        instants = beside.others (instants_of q + row x) (inl (omega arith)) ∙ kept.instants;
-        numbers = beside.others (numbers_of q + row x) (inl (omega arith)) ∙ kept.numbers;
-        small = kept.small;
-      }
-
   -- n messages in cells, whatever stands at the hole
   pub record IsHollow (n : ℕ) (cells : List ℕ) (xs : List Entry) (i : ℕ) : Type 0 where
     pub room : n ≤ q.messages
@@ -66,56 +63,113 @@ module _ (q : TimerQueue) (row instant arming : Entry → ℕ) where
     pub column : (j : ℕ) → j < n → j ≢ i → slice_index cells (heap_of q + j) ≡ row (at xs j)
     pub kept : (j : ℕ) → j < n → j ≢ i → IsKept cells (at xs j)
 
-  -- the row of a message is stored at the hole, and the hole is where that message was
-  pub hollow_moved : (n : ℕ) (cells after : List ℕ) (xs : List Entry) (i j : ℕ) → IsHollow n cells xs i
-      → j < n → j ≢ i → Wrote (heap_of q + i) (row (at xs j)) cells after
-      → IsHollow n after (with_moved xs i j) j
-  hollow_moved n cells after xs i j hollow there apart one =
-      let room : n ≤ q.messages = hollow.room in
-      let within : i < n = hollow.within in
-      let long : length xs ≡ n = hollow.long in
-      let beside : IsBeside q cells after = beside_one_place q i (row (at xs j)) cells after (omega arith) one in
-      let here : at (with_moved xs i j) i ≡ at xs j =
-      get_or-set_same xs i (at xs j) (record { task = 0; place = 0 }) (omega arith) in
-      let elsewhere : (k : ℕ) → k ≢ i → at (with_moved xs i j) k ≡ at xs k =
-      λ k other. get_or-set_other xs i k (at xs j) (record { task = 0; place = 0 }) other in
+  -- nothing is armed, and there is no least instant; or it is that of the heap's first message, which is in the cells
+  abbrev pub IsFirst : List ℕ → Option ℕ → List Entry → Type 0
+  IsFirst cells least [] = least ≡ None
+  IsFirst cells least (e ∷ others) =
+      (slice_index cells (heap_of q) ≡ row e) × IsKept cells e × (least ≡ Some (instant e))
+
+module _ {q : TimerQueue} {row instant arming : Entry → ℕ} where
+  -- where the columns by row are as before, so is what they have
+  pub kept_same : {before after : List ℕ} {x : Entry}
+      → ((c : ℕ) → instants_of q ≤ c → c < heap_of q → slice_index after c ≡ slice_index before c)
+      → IsKept q row instant arming before x → IsKept q row instant arming after x
+  kept_same {x = x} same kept = record {
+    room = kept.room;
+    instants = same (instants_of q + row x) (omega arith) (omega (arith, kept.room)) ∙ kept.instants;
+    numbers = same (numbers_of q + row x) (omega arith) (omega (arith, kept.room)) ∙ kept.numbers;
+    small = kept.small;
+  }
+
+  -- writes into the heap's column leave it
+  pub kept_beside : {before after : List ℕ} {x : Entry} → IsBeside q before after
+      → IsKept q row instant arming before x → IsKept q row instant arming after x
+  kept_beside beside kept = kept_same (λ c least less. beside.others c (inl less)) kept
+
+  module _ {n : ℕ} {cells after : List ℕ} {xs : List Entry} {i : ℕ} where
+    -- the message in hand is put at the hole: the column has the rows of all
+    pub hollow_filled : (e : Entry) → IsHollow q row instant arming n cells xs i
+        → Wrote (heap_of q + i) (row e) cells after
+        → (j : ℕ) → j < n → slice_index after (heap_of q + j) ≡ row (at (slice_set xs i e) j)
+    hollow_filled e hollow one j less =
+        set_each (λ x. slice_index after (heap_of q + j) ≡ row x) xs i e (omega (arith, hollow.long, hollow.within))
+        (λ same. ap (λ m. slice_index after (heap_of q + m)) same ∙ one.here)
+        (λ far. one.others (heap_of q + j) (omega arith) ∙ hollow.column j less far)
+
+    -- the row of a message is stored at the hole, and the hole is where that message was
+    pub hollow_moved : {j : ℕ} → IsHollow q row instant arming n cells xs i → j < n → j ≢ i
+        → Wrote (heap_of q + i) (row (at xs j)) cells after
+        → IsHollow q row instant arming n after (with_moved xs i j) j
+    hollow_moved {j = j} hollow there apart one =
+        let beside : IsBeside q cells after =
+        beside_one_place q (omega (arith, hollow.within, hollow.room)) one in
+        record {
+          room = hollow.room;
+          long = length-set xs i (at xs j) ∙ hollow.long;
+          within = there;
+          column = λ k less other. hollow_filled (at xs j) hollow one k less;
+          kept = λ k less other.
+              set_each (IsKept q row instant arming after) xs i (at xs j) (omega (arith, hollow.long, hollow.within))
+              (λ same. kept_beside beside (hollow.kept j there apart))
+              (λ far. kept_beside beside (hollow.kept k less far));
+        }
+
+module _ (q : TimerQueue) (row instant arming : Entry → ℕ) where
+  -- so many messages in cells
+  pub record IsWhole (n : ℕ) (cells : List ℕ) (xs : List Entry) : Type 0 where
+    pub room : n ≤ q.messages
+    pub long : length xs ≡ n
+    pub column : (j : ℕ) → j < n → slice_index cells (heap_of q + j) ≡ row (at xs j)
+    pub kept : (j : ℕ) → j < n → IsKept q row instant arming cells (at xs j)
+
+module _ {q : TimerQueue} {row instant arming : Entry → ℕ} {n : ℕ} {xs : List Entry} where
+  -- the queue's own counts are no part of it
+  pub whole_counted : {c v : ℕ} {before after : List ℕ} → c < instants_of q → Wrote c v before after
+      → IsWhole q row instant arming n before xs → IsWhole q row instant arming n after xs
+  whole_counted less one whole = record {
+    room = whole.room;
+    long = whole.long;
+    column = λ j within. one.others (heap_of q + j) (omega arith) ∙ whole.column j within;
+    kept = λ j within. kept_same (λ d least most. one.others d (omega arith)) (whole.kept j within);
+  }
+
+  -- the last message leaves
+  pub whole_fewer : {cells : List ℕ} → IsWhole q row instant arming (n + 1) cells xs
+      → IsWhole q row instant arming n cells (take n xs)
+  whole_fewer {cells = cells} whole =
+      let same : (j : ℕ) → j < n → at xs j ≡ at (take n xs) j =
+      λ j less. sym (get_or-take n xs j (record { task = 0; place = 0 }) less) in
       record {
-        room = hollow.room;
-        long = length-set xs i (at xs j) ∙ hollow.long;
-        within = there;
-        column = λ k less other.
-            elim (cases_eq k i) [
-              | inl same ↦
-                  (ap (λ m. slice_index after (heap_of q + m)) same ∙ one.here
-                  ∙ ap row (sym here ∙ ap (at (with_moved xs i j)) (sym same)))
-              | inr far ↦
-                  (one.others (heap_of q + k) (λ same. far (omega (arith, same))) ∙ hollow.column k less far
-                  ∙ ap row (sym (elsewhere k far)))
-            ];
-        kept = λ k less other.
-            elim (cases_eq k i) [
-              | inl same ↦
-                  (subst (IsKept after) (sym here ∙ ap (at (with_moved xs i j)) (sym same))
-                  (kept_beside cells after (at xs j) beside (hollow.kept j there apart)))
-              | inr far ↦
-                  (subst (IsKept after) (sym (elsewhere k far))
-                  (kept_beside cells after (at xs k) beside (hollow.kept k less far)))
-            ];
+        room = omega (arith, whole.room);
+        long = length-take-le n xs (omega (arith, whole.long));
+        column = λ j less. whole.column j (omega arith) ∙ ap row (same j less);
+        kept = λ j less. subst (IsKept q row instant arming cells) (same j less) (whole.kept j (omega arith));
       }
 
-  -- the message in hand is put at the hole: the column has the rows of all
-  pub hollow_filled : (n : ℕ) (cells after : List ℕ) (xs : List Entry) (i : ℕ) (e : Entry) → IsHollow n cells xs i
-      → Wrote (heap_of q + i) (row e) cells after
-      → (j : ℕ) → j < n → slice_index after (heap_of q + j) ≡ row (at (slice_set xs i e) j)
-  hollow_filled n cells after xs i e hollow one j less =
-      let within : i < n = hollow.within in
-      let long : length xs ≡ n = hollow.long in
-      elim (cases_eq j i) [
-        | inl same ↦
-            (ap (λ m. slice_index after (heap_of q + m)) same ∙ one.here
-            ∙ ap row (sym (ap (at (slice_set xs i e)) same
-            ∙ get_or-set_same xs i e (record { task = 0; place = 0 }) (omega arith))))
-        | inr far ↦
-            (one.others (heap_of q + j) (λ same. far (omega (arith, same))) ∙ hollow.column j less far
-            ∙ ap row (sym (get_or-set_other xs i j e (record { task = 0; place = 0 }) far)))
-      ]
+  -- or it comes into the hand, and a place of the others is the hole
+  pub whole_taken : {i : ℕ} {cells : List ℕ} → i < n → IsWhole q row instant arming (n + 1) cells xs
+      → IsHollow q row instant arming n cells (take n xs) i
+  whole_taken within whole =
+      let fewer = whole_fewer whole in
+      record {
+        room = fewer.room;
+        long = fewer.long;
+        within = within;
+        column = λ j less apart. fewer.column j less;
+        kept = λ j less apart. fewer.kept j less;
+      }
+
+  -- the message in hand is put at the hole
+  pub whole_filled : {i : ℕ} {cells after : List ℕ} (e : Entry) → IsHollow q row instant arming n cells xs i
+      → IsKept q row instant arming cells e → Wrote (heap_of q + i) (row e) cells after
+      → IsWhole q row instant arming n after (slice_set xs i e)
+  whole_filled {i = i} {cells = cells} {after = after} e hollow kept one =
+      let beside = beside_one_place q (omega (arith, hollow.within, hollow.room)) one in
+      record {
+        room = hollow.room;
+        long = length-set xs i e ∙ hollow.long;
+        column = hollow_filled e hollow one;
+        kept = λ j less.
+            set_each (IsKept q row instant arming after) xs i e (omega (arith, hollow.long, hollow.within))
+            (λ same. kept_beside beside kept) (λ far. kept_beside beside (hollow.kept j less far));
+      }

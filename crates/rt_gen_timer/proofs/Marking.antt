@@ -1,6 +1,7 @@
--- The notes by which a message comes out of the timer queue into the hands: a cancel's and the timer handler's.
-use Rattle.std.proofs.Common.{◌≡◌, ℕ, suc, ◌+◌, ◌<◌, true, List, ◌∷◌, ◌++◌, Some, slice_get, slice_index, ap, ◌∙◌}
-use Rattle.rt_ids.specs.Action.{Cancels, Fires, effect}
+-- The notes of the timer queue's code: a message is armed, goes last for another instant, or comes out of the queue
+-- into the hands, for a cancel or because it fires.
+use Rattle.std.proofs.Common.{◌≡◌, ℕ, ◌+◌, true, List, [], ◌∷◌, ◌++◌, Some, slice_get, slice_index, slice_set, refl}
+use Rattle.rt_ids.specs.Action.{Arms, Cancels, Fires, Moves, effect}
 use Rattle.rt_ids.specs.Content.{Message, Values}
 use Rattle.rt_ids.specs.Doing.{Doing, does}
 use Rattle.rt_ids.specs.Entry.{Entry}
@@ -11,91 +12,164 @@ use Rattle.rt_code.specs.Acting.{with_queue}
 use Rattle.rt_code.specs.Owning.{is_open, Agree}
 use Rattle.rt_code.specs.declared.instr.Instr.TheVariants as instr
 use Rattle.rt_code.specs.declared.instr.Note.TheVariants as note
-use Rattle.rt_gen_queue.specs.Line.{noted}
-use Rattle.rt_gen_queue.proofs.Spots.{Setting, Here}
-use Rattle.rt_gen_queue.proofs.Steps.{S, by_line, at_passed}
-use Rattle.rt_gen_timer.proofs.Window.{Words, words, Frame, is_there}
-use Rattle.rt_gen_timer.proofs.Acting.{Now, Runs, slot_shows, marks}
+use Rattle.rt_gen_queue.specs.Line.{Line, noted}
+use Rattle.rt_gen_queue.proofs.Layer.{Setting, Here, does as asks, Wrote, wrote, shows, Writes, store_at_gives}
+use Rattle.rt_gen_queue.proofs.Layer.{mark_gives, window, Now, is_there, MayRun, Straight, slot_of, word_of, by_noted}
+use Rattle.rt_gen_queue.proofs.Layer.{goes_later, behind_line}
+use Rattle.rt_gen_timer.specs.TimerLines.{heap_of}
+use Rattle.rt_gen_timer.specs.declared.queue.TimerQueue.{TimerQueue}
+use Rattle.rt_gen_timer.proofs.Window.{Slots, Words, words}
 
-module _ (z : Setting) (f : Frame) where
-  -- behind it a message is in the hands, and the others are in the queue
-  abbrev pub taken_out : Here → Words → Entry → List Entry → Doing Values → Here
-  taken_out h w e others rest = record (Now f h w) {
-    done = suc h.done;
-    places = e ∷ h.places;
-    at = suc h.at;
-    queues = with_queue h.queues section.Timer others;
-    rest = rest;
-  }
+-- a message of a task is in the queue, between these, with its section open
+pub record IsQueued (h : Here) (task : ℕ) (e : Entry) (before behind : List Entry) : Type 0 where
+  pub opens : is_open h.held section.Timer ≡ true
+  pub stands : h.queues (Guarded section.Timer) ≡ before ++ e ∷ behind
+  pub of_task : e.task ≡ task
 
-  -- the message of a task whose handle is in a slot
-  pub cancels : (n end : ℕ) (h : Here) (w : Words) (t s handle : ℕ) (e : Entry) (before behind : List Entry)
-      (rest : Values → Doing Values) (values : Values)
-      → slice_get z.code h.at ≡ Some (noted instr.Mark (note.Cancel t (f.slot + s))) → h.done < end
-      → Runs f end h.held h.deadlines → is_there s ≡ true → slice_index (words w) s ≡ handle
-      → is_open h.held section.Timer ≡ true → h.queues (Guarded section.Timer) ≡ before ++ e ∷ behind → e.task ≡ t
-      → h.rest ≡ does (Cancels t handle) values (λ answer. rest)
-      → ((vs : Values) → Agree (storage z.app) z.who h.held vs values
-      → S z n (taken_out h w e (before ++ behind) (rest (effect (Cancels t handle) vs))))
-      → S z (suc n) (Now f h w)
-  cancels n end h w t s handle e before behind rest values here within runs there is opens stands of_task doing on =
-      by_line z n end (Now f h w) instr.Mark (Some (note.Cancel t (f.slot + s))) here within runs.lasts
-      (marks z f n h w (Some (note.Cancel t (f.slot + s)))
+-- one is in the hands
+pub record IsInHands (h : Here) (task : ℕ) (e : Entry) (others : List Entry) (m : Message) : Type 0 where
+  pub opens : is_open h.held section.Timer ≡ true
+  pub hands : h.places ≡ e ∷ others
+  pub of_task : (e.task ≡ task) × (m.task ≡ task)
+
+-- what a slot shows where a run is
+word_shown : {f : Slots} {line : Line} {lines : List Line} {h : Here} {ws : List ℕ} (x v : ℕ)
+    → MayRun f (line ∷ lines) h ws → is_there 24 x ≡ true → slice_index ws x ≡ v
+    → slice_get (window f ws) (f.slot + x) ≡ Some v
+word_shown {f = f} {ws = ws} x v run there is =
+    shows (window f ws) (f.slot + x) v (slot_of x run there) (word_of x v run there is)
+
+-- behind a line that changes the queue to these messages
+abbrev pub queued : Here → List Entry → List ℕ → List Entry → Doing Values → Here
+queued h places cells entries rest = behind_line h places cells (with_queue h.queues section.Timer entries) rest
+
+module _ {z : Setting} {f : Slots} {lines : List Line} {h : Here} {values : Values} {rest : Values → Doing Values} where
+  -- the message in the hands is armed for the instant in its slot: its row in the hand is stored at the hole
+  pub arms : (q : TimerQueue) {task : ℕ} {e : Entry} {others : List Entry} {m : Message} (w : Words)
+      → Writes z (Now f h (words w)) (heap_of q + w.hole) → IsInHands h task e others m
+      → h.rest ≡ does (Arms w.instant m) values (λ answer. rest)
+      → ((left : List ℕ) (vs : Values) → Wrote (heap_of q + w.hole) w.hand h.cells left
+      → Agree (storage z.app) z.who h.held vs values
+      → Straight z f lines (queued h others left (h.queues (Guarded section.Timer) ++ e ∷ [])
+      (rest (effect (Arms w.instant m) vs))) (words w))
+      → Straight z f (noted (instr.StoreAt (heap_of q) 6 4) (note.Arm task 10) ∷ lines) h (words w)
+  arms q {task = task} {e = e} {others = others} {m = m} w writes may doing on =
+      by_noted (λ run has.
+      asks (Some (note.Arm task (f.slot + 10)))
+      (store_at_gives w.hole w.hand (slot_of 6 run refl) (slot_of 4 run refl) (word_of 6 w.hole run refl refl)
+      (word_of 4 w.hand run refl refl) writes)
       (record {
-        handle = handle;
-        entry = e;
-        before = before;
-        behind = behind;
-        inside = opens;
-        stands = stands;
-        of_task = of_task;
-        shown = slot_shows f w s there ∙ ap Some is;
-        acts = record {
-          values = values;
-          follows = λ answer. rest;
-          is = doing;
-          on = λ vs agree.
-              at_passed z n (record (Now f h w) {
-                places = e ∷ h.places;
-                at = suc h.at;
-                queues = with_queue h.queues section.Timer (before ++ behind);
-                rest = rest (effect (Cancels t handle) vs);
-              }) (on vs agree);
-        };
-      }))
-
-  -- a message of a task, which fires
-  pub fires : (n end : ℕ) (h : Here) (w : Words) (t : ℕ) (m : Message) (e : Entry) (before behind : List Entry)
-      (rest : Values → Doing Values) (values : Values)
-      → slice_get z.code h.at ≡ Some (noted instr.Mark (note.Fire t)) → h.done < end
-      → Runs f end h.held h.deadlines
-      → is_open h.held section.Timer ≡ true → h.queues (Guarded section.Timer) ≡ before ++ e ∷ behind
-      → (e.task ≡ t) × (m.task ≡ t)
-      → h.rest ≡ does (Fires m) values (λ answer. rest)
-      → ((vs : Values) → Agree (storage z.app) z.who h.held vs values
-      → S z n (taken_out h w e (before ++ behind) (rest (effect (Fires m) vs))))
-      → S z (suc n) (Now f h w)
-  fires n end h w t m e before behind rest values here within runs opens stands of_task doing on =
-      by_line z n end (Now f h w) instr.Mark (Some (note.Fire t)) here within runs.lasts
-      (marks z f n h w (Some (note.Fire t))
-      (record {
+        instant = w.instant;
         message = m;
         entry = e;
-        before = before;
-        behind = behind;
-        inside = opens;
-        stands = stands;
-        of_task = of_task;
+        others = others;
+        inside = may.opens;
+        in_hands = may.hands;
+        of_task = may.of_task;
+        shown = word_shown 10 w.instant run refl refl;
         acts = record {
           values = values;
           follows = λ answer. rest;
           is = doing;
           on = λ vs agree.
-              at_passed z n (record (Now f h w) {
-                places = e ∷ h.places;
-                at = suc h.at;
-                queues = with_queue h.queues section.Timer (before ++ behind);
-                rest = rest (effect (Fires m) vs);
-              }) (on vs agree);
+              let left : List ℕ = slice_set h.cells (heap_of q + w.hole) w.hand in
+              goes_later others left
+              (with_queue h.queues section.Timer (h.queues (Guarded section.Timer) ++ e ∷ []))
+              (rest (effect (Arms w.instant m) vs)) (words w) refl run has
+              (on left vs (wrote (heap_of q + w.hole) w.hand h.cells writes.there) agree);
         };
       }))
+
+  -- the message of the handle in a slot goes last, for the instant in its slot
+  pub moves : (q : TimerQueue) {task handle : ℕ} {e : Entry} {before behind : List Entry} (w : Words)
+      → w.first ≡ handle → Writes z (Now f h (words w)) (heap_of q + w.hole) → IsQueued h task e before behind
+      → h.rest ≡ does (Moves task handle w.instant) values (λ answer. rest)
+      → ((left : List ℕ) (vs : Values) → Wrote (heap_of q + w.hole) w.hand h.cells left
+      → Agree (storage z.app) z.who h.held vs values
+      → Straight z f lines (queued h h.places left (before ++ (behind ++ e ∷ []))
+      (rest (effect (Moves task handle w.instant) vs))) (words w))
+      → Straight z f (noted (instr.StoreAt (heap_of q) 6 4) (note.Move task 1 10) ∷ lines) h (words w)
+  moves q {task = task} {handle = handle} {e = e} {before = before} {behind = behind} w shown writes may doing on =
+      by_noted (λ run has.
+      asks (Some (note.Move task (f.slot + 1) (f.slot + 10)))
+      (store_at_gives w.hole w.hand (slot_of 6 run refl) (slot_of 4 run refl) (word_of 6 w.hole run refl refl)
+      (word_of 4 w.hand run refl refl) writes)
+      (record {
+        handle = handle;
+        instant = w.instant;
+        entry = e;
+        before = before;
+        behind = behind;
+        inside = may.opens;
+        stands = may.stands;
+        of_task = may.of_task;
+        shown = word_shown 1 handle run refl shown;
+        put_off = word_shown 10 w.instant run refl refl;
+        acts = record {
+          values = values;
+          follows = λ answer. rest;
+          is = doing;
+          on = λ vs agree.
+              let left : List ℕ = slice_set h.cells (heap_of q + w.hole) w.hand in
+              goes_later h.places left (with_queue h.queues section.Timer (before ++ (behind ++ e ∷ [])))
+              (rest (effect (Moves task handle w.instant) vs)) (words w) refl run has
+              (on left vs (wrote (heap_of q + w.hole) w.hand h.cells writes.there) agree);
+        };
+      }))
+
+  module _ {task : ℕ} {e : Entry} {before behind : List Entry} {ws : List ℕ} where
+    -- the message whose handle is in the first slot comes into the hands
+    pub cancels : {handle : ℕ} → slice_index ws 0 ≡ handle → IsQueued h task e before behind
+        → h.rest ≡ does (Cancels task handle) values (λ answer. rest)
+        → ((vs : Values) → Agree (storage z.app) z.who h.held vs values
+        → Straight z f lines (queued h (e ∷ h.places) h.cells (before ++ behind)
+        (rest (effect (Cancels task handle) vs))) ws)
+        → Straight z f (noted instr.Mark (note.Cancel task 0) ∷ lines) h ws
+    cancels {handle = handle} shown may doing on =
+        by_noted (λ run has.
+        asks (Some (note.Cancel task (f.slot + 0))) mark_gives
+        (record {
+          handle = handle;
+          entry = e;
+          before = before;
+          behind = behind;
+          inside = may.opens;
+          stands = may.stands;
+          of_task = may.of_task;
+          shown = word_shown 0 handle run refl shown;
+          acts = record {
+            values = values;
+            follows = λ answer. rest;
+            is = doing;
+            on = λ vs agree.
+                goes_later (e ∷ h.places) h.cells (with_queue h.queues section.Timer (before ++ behind))
+                (rest (effect (Cancels task handle) vs)) ws refl run has (on vs agree);
+          };
+        }))
+
+    -- so does one that fires
+    pub fires : {m : Message} → IsQueued h task e before behind → m.task ≡ task
+        → h.rest ≡ does (Fires m) values (λ answer. rest)
+        → ((vs : Values) → Agree (storage z.app) z.who h.held vs values
+        → Straight z f lines (queued h (e ∷ h.places) h.cells (before ++ behind) (rest (effect (Fires m) vs))) ws)
+        → Straight z f (noted instr.Mark (note.Fire task) ∷ lines) h ws
+    fires {m = m} may of_task doing on =
+        by_noted (λ run has.
+        asks (Some (note.Fire task)) mark_gives
+        (record {
+          message = m;
+          entry = e;
+          before = before;
+          behind = behind;
+          inside = may.opens;
+          stands = may.stands;
+          of_task = (may.of_task, of_task);
+          acts = record {
+            values = values;
+            follows = λ answer. rest;
+            is = doing;
+            on = λ vs agree.
+                goes_later (e ∷ h.places) h.cells (with_queue h.queues section.Timer (before ++ behind))
+                (rest (effect (Fires m) vs)) ws refl run has (on vs agree);
+          };
+        }))

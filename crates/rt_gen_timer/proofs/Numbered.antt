@@ -1,93 +1,73 @@
--- On messages in order of their last arming: numbers that rise along a list.
-use Rattle.std.proofs.Common.{◌≡◌, ℕ, zero, suc, ◌<◌, ◌≤◌, Bool, true, false, cond, List, [], ◌∷◌, ◌++◌, slice_get}
-use Rattle.std.proofs.Common.{Some, refl, ap, subst, inl, inr, arith}
-use Rattle.std.specs.List.{AllByRecursion}
-use Rattle.std.proofs.lemmas.Bool.{cases_lt}
+-- On lists in which each is in a relation to all behind it: messages in order of their last arming, whose numbers rise
+-- along the list, and messages of which no two have one handle.
+use Rattle.std.proofs.Common.{◌≡◌, ◌⊎◌, ℕ, zero, suc, ◌<◌, List, [], ◌∷◌, ◌++◌, slice_get, Some, refl, subst, inl}
+use Rattle.std.proofs.Common.{inr, arith}
 use Rattle.std.proofs.lemmas.Option.{same_Some, none-some}
+use Rattle.std.specs.List.{AllByRecursion}
 use Rattle.rt_lemmas.proofs.Lists.{all_append, all_front, all_behind}
-use Rattle.rt_lemmas.proofs.Membership.{all_at}
-use Rattle.rt_ids.specs.Entry.{Entry, is_same_entry, count}
-use Rattle.rt_app.proofs.Counting.{one, count_more, same_entry, all_counted}
-use Rattle.rt_app.specs.Heap.{IsRising}
+use Rattle.rt_lemmas.proofs.Membership.{all_at, all_weaker}
 
--- each number is less than all behind it
-abbrev pub RiseAlong : (Entry → ℕ) → List Entry → Type 0
-RiseAlong arming [] = Unit {0}
-RiseAlong arming (x ∷ xs) = AllByRecursion (λ y. arming x < arming y) xs × RiseAlong arming xs
+-- of a list one less, and one more between
+pub all_less : {X : Type 0} (P : X → Type 0) (before behind : List X) (x : X)
+    → AllByRecursion P (before ++ x ∷ behind) → AllByRecursion P (before ++ behind)
+all_less P before behind x all =
+    all_append P before behind (all_front P before (x ∷ behind) all) (all_behind P before (x ∷ behind) all).1
+
+pub all_around : {X : Type 0} (P : X → Type 0) (before behind : List X) (x : X) → P x
+    → AllByRecursion P (before ++ behind) → AllByRecursion P (before ++ x ∷ behind)
+all_around P before behind x here all =
+    all_append P before (x ∷ behind) (all_front P before behind all) (here, all_behind P before behind all)
 
 -- what holds at each place, holds of all
-pub all_from_slots : {X : Type 0} (P : X → Type 0) (xs : List X)
+all_from_slots : {X : Type 0} (P : X → Type 0) (xs : List X)
     → ((i : ℕ) (x : X) → slice_get xs i ≡ Some x → P x) → AllByRecursion P xs
 all_from_slots P [] each = tt
 all_from_slots P (x ∷ xs) each = (each 0 x refl, all_from_slots P xs (λ i y at. each (suc i) y at))
 
--- that is what it means that numbers rise
-pub along_rising : (arming : Entry → ℕ) (xs : List Entry) → IsRising arming xs → RiseAlong arming xs
-along_rising arming [] rising = tt
-along_rising arming (x ∷ xs) rising = (
-  all_from_slots (λ y. arming x < arming y) xs (λ j y at. rising 0 (suc j) x y refl at (omega arith)),
-  along_rising arming xs
-      (λ i j a b first second less. rising (suc i) (suc j) a b first second (omega arith)),
-)
+module _ {X : Type 0} (R : X → X → Type 0) where
+  abbrev pub Along : List X → Type 0
+  Along [] = Unit {0}
+  Along (x ∷ xs) = AllByRecursion (R x) xs × Along xs
 
-pub rising_along : (arming : Entry → ℕ) (xs : List Entry) → RiseAlong arming xs → IsRising arming xs
-rising_along arming [] along i j a b first second less = absurd (none-some a first)
-rising_along arming (x ∷ xs) along zero zero a b first second less = absurd (omega arith)
-rising_along arming (x ∷ xs) along zero (suc j) a b first second less =
-    subst (λ y. arming y < arming b) (same_Some x a first)
-    (all_at (λ y. arming x < arming y) xs j b along.0 second)
-rising_along arming (x ∷ xs) along (suc i) zero a b first second less = absurd (omega arith)
-rising_along arming (x ∷ xs) along (suc i) (suc j) a b first second less =
-    rising_along arming xs along.1 i j a b first second (omega arith)
+  -- the same by places
+  abbrev pub ByPlaces : List X → Type 0
+  ByPlaces xs = (i j : ℕ) (a b : X) → slice_get xs i ≡ Some a → slice_get xs j ≡ Some b → i < j → R a b
 
--- of a message less
-pub all_less : (P : Entry → Type 0) (before behind : List Entry) (e : Entry)
-    → AllByRecursion P (before ++ e ∷ behind) → AllByRecursion P (before ++ behind)
-all_less P before behind e all =
-    all_append P before behind (all_front P before (e ∷ behind) all) (all_behind P before (e ∷ behind) all).1
+  pub along_from : (xs : List X) → ByPlaces xs → Along xs
+  along_from [] each = tt
+  along_from (x ∷ xs) each = (
+    all_from_slots (R x) xs (λ j y at. each 0 (suc j) x y refl at (omega arith)),
+    along_from xs (λ i j a b first second less. each (suc i) (suc j) a b first second (omega arith)),
+  )
 
-pub along_less : (arming : Entry → ℕ) (before behind : List Entry) (e : Entry)
-    → RiseAlong arming (before ++ e ∷ behind) → RiseAlong arming (before ++ behind)
-along_less arming [] behind e along = along.1
-along_less arming (x ∷ before) behind e along = (
-  all_less (λ y. arming x < arming y) before behind e along.0,
-  along_less arming before behind e along.1,
-)
+  pub along_at : (xs : List X) → Along xs → ByPlaces xs
+  along_at [] along i j a b first second less = absurd (none-some a first)
+  along_at (x ∷ xs) along zero (suc j) a b first second less =
+      subst (λ y. R y b) (same_Some x a first) (all_at (R x) xs j b along.0 second)
+  along_at (x ∷ xs) along (suc i) (suc j) a b first second less =
+      along_at xs along.1 i j a b first second (omega arith)
+  along_at (x ∷ xs) along i zero a b first second less = absurd (omega arith)
 
--- a message more, with a greater number
-pub along_more : (arming : Entry → ℕ) (xs : List Entry) (e : Entry) → RiseAlong arming xs
-    → AllByRecursion (λ x. arming x < arming e) xs → RiseAlong arming (xs ++ e ∷ [])
-along_more arming [] e along all = (tt, tt)
-along_more arming (x ∷ xs) e along all = (
-  all_append (λ y. arming x < arming y) xs (e ∷ []) along.0 (all.0, tt),
-  along_more arming xs e along.1 all.1,
-)
+  -- one less
+  pub along_less : (before behind : List X) (x : X) → Along (before ++ x ∷ behind) → Along (before ++ behind)
+  along_less [] behind x along = along.1
+  along_less (y ∷ before) behind x along =
+      (all_less (R y) before behind x along.0, along_less before behind x along.1)
 
--- those before a message have less
-pub less_before : (arming : Entry → ℕ) (before behind : List Entry) (e : Entry)
-    → RiseAlong arming (before ++ e ∷ behind) → AllByRecursion (λ x. arming x < arming e) before
-less_before arming [] behind e along = tt
-less_before arming (x ∷ before) behind e along = (
-  (all_behind (λ y. arming x < arming y) before (e ∷ behind) along.0).0,
-  less_before arming before behind e along.1,
-)
+  -- one more
+  pub along_more : (xs : List X) (x : X) → Along xs → AllByRecursion (λ y. R y x) xs → Along (xs ++ x ∷ [])
+  along_more [] x along all = (tt, tt)
+  along_more (y ∷ xs) x along all =
+      (all_append (R y) xs (x ∷ []) along.0 (all.0, tt), along_more xs x along.1 all.1)
 
--- no message stands there twice
-pub once_along : (arming : Entry → ℕ) (xs : List Entry) (x : Entry) → RiseAlong arming xs → count x xs ≤ 1
-once_along arming [] x along = omega arith
-once_along arming (y ∷ xs) x along =
-    let rest : count x xs ≤ 1 = once_along arming xs x along.1 in
-    go (is_same_entry x y) refl rest
-  where
-    go : (b : Bool) → is_same_entry x y ≡ b → count x xs ≤ 1 → count x (y ∷ xs) ≤ 1
-    go true is rest =
-        let here : one x y ≡ 1 = ap {B = ℕ} (λ b. cond b 1 0) is in
-        elim (cases_lt 0 (count x xs)) [
-          | inl some ↦ (
-              let less : arming y < arming x = all_counted (λ z. arming y < arming z) xs x along.0 some in
-              let same : arming x ≡ arming y = ap arming (same_entry x y is) in absurd (omega arith)
-              )
-          | inr none ↦ omega (arith, count_more x y xs, here, none)
-        ]
-    go false is rest =
-        let here : one x y ≡ 0 = ap {B = ℕ} (λ b. cond b 1 0) is in omega (arith, count_more x y xs, here, rest)
+  -- those before one, and all others
+  pub along_before : (before behind : List X) (x : X) → Along (before ++ x ∷ behind) → AllByRecursion (λ y. R y x) before
+  along_before [] behind x along = tt
+  along_before (y ∷ before) behind x along =
+      ((all_behind (R y) before (x ∷ behind) along.0).0, along_before before behind x along.1)
+
+  pub along_others : (before behind : List X) (x : X) → Along (before ++ x ∷ behind)
+      → AllByRecursion (λ y. R y x ⊎ R x y) (before ++ behind)
+  along_others [] behind x along = all_weaker (R x) (λ y. R y x ⊎ R x y) (λ y is. inr is) behind along.0
+  along_others (y ∷ before) behind x along =
+      (inl (all_behind (R y) before (x ∷ behind) along.0).0, along_others before behind x along.1)

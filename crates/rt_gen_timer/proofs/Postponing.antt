@@ -1,34 +1,29 @@
 -- What the cells of the timer queue spell once a message is put to another instant: it goes last, with the next number
 -- and its handle, and the others are as before.
-use Rattle.std.proofs.Common.{◌≡◌, ◌≢◌, ◌⊎◌, ℕ, ◌+◌, ◌*◌, ◌<◌, ◌≤◌, List, [], ◌∷◌, ◌++◌, map, length, IsSome}
-use Rattle.std.proofs.Common.{slice_index, refl, sym, ap, subst, ◌∙◌, arith, inl, inr, append_assoc}
-use Rattle.std.specs.List.{AllByRecursion}
+use Rattle.std.proofs.Common.{◌≡◌, ◌≢◌, ℕ, ◌+◌, ◌<◌, List, [], ◌∷◌, ◌++◌, map, length, IsSome, slice_index, refl, sym}
+use Rattle.std.proofs.Common.{ap, subst, ◌∙◌, arith, append_assoc}
 use Rattle.std.proofs.lemmas.List.{map-append}
-use Rattle.std.proofs.lemmas.Option.{slice_get_within, get_or_from_slice_get}
-use Rattle.rt_lemmas.proofs.Membership.{all_append}
-use Rattle.rt_ids.specs.Content.{Content, Armed, Delays, MayArm, armed_as, without_handle, postponed, with_moved}
-use Rattle.rt_ids.specs.Entry.{Entry, count}
-use Rattle.rt_app.specs.Tree.{App}
-use Rattle.rt_app.specs.Heap.{IsArranged, at, key_of}
-use Rattle.rt_app.specs.Holding.{SpellsTimer, armed_place, message_at, instant_at, arming_at, handle_at, armed_at}
-use Rattle.rt_app.specs.Layout.{home_of, timer_at, armings_at, given_at, instants_at, numbers_at, handles_at, heap_at}
-use Rattle.rt_app.specs.Level.{armed_messages}
-use Rattle.rt_app.proofs.ArmedPlaces.{armed_place_within, armed_place_once}
-use Rattle.rt_app.proofs.Counting.{all_counted, one_itself}
-use Rattle.rt_app.proofs.LaidTimer.{armings_is_home, instant_is_home, number_is_home}
+use Rattle.std.specs.List.{AllByRecursion}
 use Rattle.rt_app.proofs.Spelling.{IsTimedPlace}
-use Rattle.rt_gen_timer.specs.TimerLines.{armings_of, instants_of, numbers_of, heap_of}
-use Rattle.rt_gen_timer.specs.TimerCode.{queue_of}
-use Rattle.rt_gen_timer.specs.declared.queue.TimerQueue.{TimerQueue}
-use Rattle.rt_gen_timer.proofs.Alike.{AreSame, arranged_same, count_around, counted_both}
-use Rattle.rt_gen_timer.proofs.Alone.{beside_timer, IsTimerAlone, message_same, armed_same}
-use Rattle.rt_gen_timer.proofs.Arranged.{IsOfHandle, armed_once, move_begins, moved}
+use Rattle.rt_app.specs.Handled.{AreHandled}
+use Rattle.rt_app.specs.Heap.{IsArranged, at, key_of}
+use Rattle.rt_app.specs.Holding.{SpellsTimer, armed_place}
+use Rattle.rt_app.specs.Layout.{timer_at, given_at, heap_at}
+use Rattle.rt_app.specs.Tree.{App}
+use Rattle.rt_gen_timer.proofs.Alone.{instant_in, number_in, handle_in, armed_in}
+use Rattle.rt_gen_timer.proofs.Arranged.{IsOfHandle, others_differ, count_less, length_less, listed_less, elsewhere}
+use Rattle.rt_gen_timer.proofs.Arranged.{move_begins, goes_last}
 use Rattle.rt_gen_timer.proofs.Handled.{handled_last}
 use Rattle.rt_gen_timer.proofs.Hollow.{IsBeside, IsHollow}
-use Rattle.rt_gen_timer.proofs.Moves.{HasHole, HasSettled}
+use Rattle.rt_gen_timer.proofs.Lasting.{IsRow, AreOthers, own_row, same_instants, same_numbers, hollow_last, spells_last}
+use Rattle.rt_gen_timer.proofs.Moves.{HasHole, HasSettled, count_put}
 use Rattle.rt_gen_timer.proofs.Numbered.{all_less}
-use Rattle.rt_gen_timer.proofs.Pushing.{maps_alike}
-use Rattle.rt_gen_timer.proofs.Spelled.{place_of, row_of, spelled_count, spelled_column, spelled_kept}
+use Rattle.rt_gen_timer.proofs.Spelled.{place_of, spelled_count, spelled_whole}
+use Rattle.rt_gen_timer.specs.TimerCode.{queue_of}
+use Rattle.rt_gen_timer.specs.TimerLines.{armings_of, instants_of, numbers_of, handles_of}
+use Rattle.rt_gen_timer.specs.declared.queue.TimerQueue.{TimerQueue}
+use Rattle.rt_ids.specs.Content.{Content, Armed, Delays, MayArm, armed_as, without_handle, postponed, with_moved}
+use Rattle.rt_ids.specs.Entry.{Entry}
 
 -- a row has another instant and the next number, and the count of armings is one more
 pub record IsAgain (q : TimerQueue) (row instant a : ℕ) (before after : List ℕ) : Type 0 where
@@ -39,241 +34,122 @@ pub record IsAgain (q : TimerQueue) (row instant a : ℕ) (before after : List �
       → slice_index after c ≡ slice_index before c
   pub long : length after ≡ length before
 
-module _ (app : App) (mono : IsSome app.mono) (entries : List Entry) (content : Content) (before : List ℕ)
-    (s : SpellsTimer app (slice_index before) entries content) (few : MayArm content) (i : ℕ)
-    (within : i < length s.heap) (task handle : ℕ)
-    (found : IsOfHandle (armed_at app (slice_index before)) entries (at s.heap i) task handle) where
+-- The message of a handle, at a place of the heap, may be put to another instant.
+pub record MayMove (app : App) (entries : List Entry) (content : Content) (before : List ℕ) (i task handle : ℕ)
+    : Type 0 where
+  pub mono : IsSome app.mono
+  pub spells : SpellsTimer app (slice_index before) entries content
+  pub few : MayArm content
+  pub within : i < length spells.heap
+  pub found : IsOfHandle (armed_in app before) entries (at spells.heap i) task handle
+
+module _ {app : App} {entries : List Entry} {content : Content} {before : List ℕ} {i task handle : ℕ}
+    (may : MayMove app entries content before i task handle) where
   -- the message, and the others in their order
-  abbrev pub the_one : Entry
-  the_one = at s.heap i
+  abbrev the_one : Entry
+  the_one = at may.spells.heap i
 
-  abbrev pub the_others : List Entry
-  the_others = found.before ++ found.behind
+  abbrev the_others : List Entry
+  the_others = may.found.before ++ may.found.behind
 
-  abbrev pub armings_so_far : ℕ
-  armings_so_far = s.timed.given + s.timed.moved
+  abbrev armings_so_far : ℕ
+  armings_so_far = may.spells.timed.given + may.spells.timed.moved
 
-  row_there : armed_place app the_one < armed_messages app
-  row_there = row_of app before entries content s i within
+  abbrev size : ℕ
+  size = length may.spells.heap
 
-  one_place : IsTimedPlace app the_one
-  one_place = place_of app before entries content s i within
+  pub are : AreOthers app the_others the_one
+  are = record {
+    places = all_less (IsTimedPlace app) may.found.before may.found.behind the_one
+        (subst (AllByRecursion (IsTimedPlace app)) may.found.parts may.spells.places);
+    place = place_of may.spells i may.within;
+    differ = others_differ may.spells.arranged may.found.before may.found.behind the_one may.found.parts;
+  }
 
-  other_places : AllByRecursion (IsTimedPlace app) the_others
-  other_places =
-      all_less (IsTimedPlace app) found.before found.behind the_one
-      (subst (AllByRecursion (IsTimedPlace app)) found.parts s.places)
-
-  other_row : (x : Entry) → 0 < count x the_others → armed_place app x < armed_messages app
-  other_row x some =
-      let place : IsTimedPlace app x = all_counted (IsTimedPlace app) the_others x other_places some in
-      armed_place_within app x (record { armed = place.0; within = place.2 })
-
-  -- another message has another row
-  row_apart : (x : Entry) → 0 < count x the_others → armed_place app x ≢ armed_place app the_one
-  row_apart x some same =
-      let place : IsTimedPlace app x = all_counted (IsTimedPlace app) the_others x other_places some in
-      let is : x ≡ the_one =
-      armed_place_once app x the_one (record { armed = place.0; within = place.2 })
-      (record { armed = one_place.0; within = one_place.2 }) same in
-      let counted : count x the_others ≡ count the_one the_others = ap (λ y. count y the_others) is in
-      let once : count the_one entries ≤ 1 =
-      armed_once (instant_at app (slice_index before)) (arming_at app (slice_index before)) armings_so_far s.heap
-      entries s.arranged the_one in
-      absurd (omega (
-        arith,
-        some,
-        counted,
-        once,
-        ap (count the_one) found.parts,
-        count_around the_one found.before found.behind the_one,
-        one_itself the_one,
-      ))
-
-  -- the messages at other places of the heap are among the others
-  elsewhere : (j : ℕ) → j < length s.heap → j ≢ i → 0 < count (at s.heap j) the_others
-  elsewhere j less apart =
-      omega (
-        arith,
-        counted_both (at s.heap j) s.heap i j within less apart,
-        one_itself (at s.heap j),
-        s.arranged.alike (at s.heap j),
-        ap (count (at s.heap j)) found.parts,
-        count_around (at s.heap j) found.before found.behind the_one,
-      )
-
-  module _ (instant : ℕ) (mid : List ℕ)
+  module _ {instant : ℕ} {mid : List ℕ}
       (again : IsAgain (queue_of app) (armed_place app the_one) instant armings_so_far before mid) where
-    abbrev pub mid_instants : Entry → ℕ
-    mid_instants = instant_at app (slice_index mid)
-
-    abbrev pub mid_numbers : Entry → ℕ
-    mid_numbers = arming_at app (slice_index mid)
-
-    -- what the columns have of the others is as before
-    same_instants : AreSame mid_instants (instant_at app (slice_index before)) the_others
-    same_instants x some =
-        let apart = row_apart x some in
-        again.others (instants_at app + armed_place app x) (λ same. absurd (omega (arith, same)))
-        (λ same. apart (omega (arith, same))) (λ same. absurd (omega (arith, same, other_row x some)))
-
-    same_numbers : AreSame mid_numbers (arming_at app (slice_index before)) the_others
-    same_numbers x some =
-        let apart = row_apart x some in
-        again.others (numbers_at app + armed_place app x) (λ same. absurd (omega (arith, same)))
-        (λ same. absurd (omega (arith, same, row_there))) (λ same. apart (omega (arith, same)))
-
-    same_handle : (x : Entry) → handle_at app (slice_index mid) x ≡ handle_at app (slice_index before) x
-    same_handle x =
-        again.others (handles_at app + armed_place app x) (λ same. absurd (omega (arith, same)))
-        (λ same. absurd (omega (arith, same, row_there))) (λ same. absurd (omega (arith, same, row_there)))
-
-    same_heap : (j : ℕ) → slice_index mid (heap_at app + j) ≡ slice_index before (heap_at app + j)
-    same_heap j =
-        again.others (heap_at app + j) (λ same. absurd (omega (arith, same)))
-        (λ same. absurd (omega (arith, same, row_there))) (λ same. absurd (omega (arith, same, row_there)))
+    pub is_row : IsRow (queue_of app) (armed_place app the_one) instant armings_so_far (handle_in app before the_one) before mid
+    is_row =
+        let own = own_row are in
+        record {
+          instants = again.instants;
+          numbers = again.numbers;
+          handles = again.others (handles_of (queue_of app) + armed_place app the_one) (omega arith) (omega arith)
+              (omega arith);
+          others = λ c out instants numbers handles. again.others c (omega (arith, out)) instants numbers;
+        }
 
     -- where the loops begin
-    pub again_hole : HasHole (length s.heap) (key_of mid_instants mid_numbers) s.heap i
+    pub again_hole : HasHole size (key_of (instant_in app mid) (number_in app mid)) may.spells.heap i
     again_hole =
-        move_begins (instant_at app (slice_index before)) (arming_at app (slice_index before)) armings_so_far s.heap
-        entries s.arranged mid_instants mid_numbers i within found.before found.behind found.parts same_instants
-        same_numbers
+        move_begins may.spells.arranged may.found.before may.found.behind may.within may.found.parts
+        (same_instants are is_row) (same_numbers are is_row)
 
-    pub again_hollow : IsHollow (queue_of app) (armed_place app) mid_instants mid_numbers (length s.heap) mid s.heap i
-    again_hollow = record {
-      room = omega (arith, s.arranged.long, s.room);
-      long = refl;
-      within = within;
-      column = λ j less apart. same_heap j ∙ spelled_column app before entries content s j less;
-      kept = λ j less apart.
-          let was = spelled_kept app before entries content s few j less in
-          record {
-            room = was.room;
-            instants = refl;
-            numbers = refl;
-            small = omega (arith, was.small, same_numbers (at s.heap j) (elsewhere j less apart));
-          };
-    }
+    pub again_hollow : IsHollow (queue_of app) (armed_place app) (instant_in app mid) (number_in app mid) size mid
+        may.spells.heap i
+    again_hollow =
+        let whole = spelled_whole before may.spells may.few in
+        hollow_last are is_row whole (whole.room, refl, may.within)
+        (λ j less apart. (
+          less,
+          refl,
+          elsewhere may.spells.arranged may.found.before may.found.behind may.within may.found.parts j less apart,
+        ))
 
-    -- the rows of the heap are in its column, and nothing else is written
-    module _ (after : List ℕ) (next : List Entry) (beside : IsBeside (queue_of app) mid after)
-        (column : (j : ℕ) → j < length s.heap → slice_index after (heap_at app + j) ≡ armed_place app (at next j))
-        (settled : HasSettled (length s.heap) (key_of mid_instants mid_numbers) the_one s.heap i next) where
-      -- only cells of the timer queue are others
-      pub again_alone : IsTimerAlone app before after
-      again_alone c other =
-          beside.others c (aside (beside_timer app mono c other))
-          ∙ again.others c (λ same. other (ap (home_of app) same ∙ armings_is_home app mono))
-          (λ same. other (ap (home_of app) same ∙ instant_is_home app mono (armed_place app the_one) row_there))
-          (λ same. other (ap (home_of app) same ∙ number_is_home app mono (armed_place app the_one) row_there))
-        where
-          aside : (c < timer_at app) ⊎ (timer_at app + (3 + 4 * armed_messages app) ≤ c)
-              → (c < heap_of (queue_of app)) ⊎ (heap_of (queue_of app) + armed_messages app ≤ c)
-          aside (inl less) = inl (omega arith)
-          aside (inr more) = inr (omega arith)
+    -- the armed messages then
+    abbrev put_off : Armed
+    put_off = record (armed_in app before the_one) { instant = instant }
 
-      unmoved : (c : ℕ) → c < heap_at app → slice_index after c ≡ slice_index mid c
-      unmoved c low = beside.others c (inl low)
+    armed_then : (with_moved task handle instant may.spells.timed).armed
+        ≡ map (armed_in app before) the_others ++ put_off ∷ []
+    armed_then =
+        ap (λ list. list ++ postponed instant (armed_as task handle may.spells.timed.armed))
+        (ap (without_handle task handle) may.spells.messages ∙ may.found.others)
+        ∙ ap (λ o. map (armed_in app before) the_others ++ postponed instant o)
+        (ap (armed_as task handle) may.spells.messages ∙ may.found.found)
 
-      armed_old : (x : Entry) → 0 < count x the_others
-          → armed_at app (slice_index before) x ≡ armed_at app (slice_index after) x
-      armed_old x some =
-          armed_same app before after again_alone x (all_counted (IsTimedPlace app) the_others x other_places some)
-          (sym (unmoved (instants_at app + armed_place app x) (omega (arith, other_row x some))
-          ∙ same_instants x some))
-          (sym (unmoved (handles_at app + armed_place app x) (omega (arith, other_row x some)) ∙ same_handle x))
+    handled_then : AreHandled (with_moved task handle instant may.spells.timed)
+    handled_then =
+        subst (λ list. AreHandled (record may.spells.timed { moved = may.spells.timed.moved + 1; armed = list }))
+        (sym (armed_then ∙ ap (λ list. list ++ put_off ∷ []) (map-append (armed_in app before) may.found.before
+        may.found.behind)))
+        (handled_last may.spells.timed (map (armed_in app before) may.found.before)
+        (map (armed_in app before) may.found.behind) (armed_in app before the_one) may.spells.handled
+        (may.spells.messages ∙ ap (map (armed_in app before)) may.found.parts
+        ∙ map-append (armed_in app before) may.found.before (the_one ∷ may.found.behind)) instant
+        (may.spells.timed.moved + 1))
 
-      abbrev put_off : Armed
-      put_off = record (armed_at app (slice_index before) the_one) { instant = instant }
-
-      armed_new : armed_at app (slice_index after) the_one ≡ put_off
-      armed_new =
-          let a : instant_at app (slice_index after) the_one ≡ instant =
-          unmoved (instants_at app + armed_place app the_one) (omega (arith, row_there)) ∙ again.instants in
-          let word : message_at app (slice_index after) the_one ≡ message_at app (slice_index before) the_one =
-          sym (message_same app before after again_alone the_one one_place) in
-          let h : handle_at app (slice_index after) the_one ≡ handle_at app (slice_index before) the_one =
-          unmoved (handles_at app + armed_place app the_one) (omega (arith, row_there)) ∙ same_handle the_one in
-          λ k. record { instant = a k; message = word k; handle = h k }
-
-      abbrev last_list : List Entry
-      last_list = the_others ++ the_one ∷ []
-
-      last_places : AllByRecursion (IsTimedPlace app) last_list
-      last_places = all_append (IsTimedPlace app) the_others (the_one ∷ []) other_places (one_place, tt)
-
-      last_row : (x : Entry) → 0 < count x last_list → armed_place app x < armed_messages app
-      last_row x some =
-          let place : IsTimedPlace app x = all_counted (IsTimedPlace app) last_list x last_places some in
-          armed_place_within app x (record { armed = place.0; within = place.2 })
-
-      last_arranged : IsArranged (instant_at app (slice_index after)) (arming_at app (slice_index after))
-          (armings_so_far + 1) next last_list
-      last_arranged =
-          arranged_same mid_instants mid_numbers (instant_at app (slice_index after))
-          (arming_at app (slice_index after)) (armings_so_far + 1) next last_list
-          (λ x some. unmoved (instants_at app + armed_place app x) (omega (arith, last_row x some)))
-          (λ x some. unmoved (numbers_at app + armed_place app x) (omega (arith, last_row x some)))
-          (moved (instant_at app (slice_index before)) (arming_at app (slice_index before)) armings_so_far s.heap
-          entries s.arranged mid_instants mid_numbers i within found.before found.behind found.parts same_instants
-          same_numbers next again.numbers settled)
-
-      -- the armed messages
-      armed_then : (with_moved task handle instant s.timed).armed
-          ≡ map (armed_at app (slice_index before)) the_others ++ put_off ∷ []
-      armed_then =
-          ap (λ list. list ++ postponed instant (armed_as task handle s.timed.armed))
-          (ap (without_handle task handle) s.messages ∙ found.others)
-          ∙ ap (λ o. map (armed_at app (slice_index before)) the_others ++ postponed instant o)
-          (ap (armed_as task handle) s.messages ∙ found.found)
-
-      messages_then : (with_moved task handle instant s.timed).armed ≡ map (armed_at app (slice_index after)) last_list
-      messages_then =
-          armed_then
-          ∙ ap (λ list. list ++ put_off ∷ [])
-          (maps_alike (armed_at app (slice_index before)) (armed_at app (slice_index after)) the_others armed_old)
-          ∙ ap (λ a. map (armed_at app (slice_index after)) the_others ++ a ∷ []) (sym armed_new)
-          ∙ sym (map-append (armed_at app (slice_index after)) the_others (the_one ∷ []))
-
-      spelled_last : SpellsTimer app (slice_index after) last_list (Delays (with_moved task handle instant s.timed))
-      spelled_last = record {
-        timed = with_moved task handle instant s.timed;
-        is = refl;
-        messages = messages_then;
-        handled =
-            handled_last s.timed (with_moved task handle instant s.timed).armed
-            (map (armed_at app (slice_index before)) found.before)
-            (map (armed_at app (slice_index before)) found.behind) (armed_at app (slice_index before) the_one) s.handled
-            (s.messages ∙ ap (map (armed_at app (slice_index before))) found.parts
-            ∙ map-append (armed_at app (slice_index before)) found.before (the_one ∷ found.behind))
-            put_off refl
-            (armed_then
-            ∙ ap (λ list. list ++ put_off ∷ [])
-            (map-append (armed_at app (slice_index before)) found.before found.behind)) (s.timed.moved + 1);
-        places = last_places;
-        room = omega (arith, last_arranged.long, settled.long, s.arranged.long, s.room);
-        count = unmoved (timer_at app) (omega arith)
-            ∙ again.others (timer_at app) (λ same. absurd (omega (arith, same)))
-            (λ same. absurd (omega (arith, same))) (λ same. absurd (omega (arith, same)))
-            ∙ spelled_count app before entries content s ∙ sym settled.long ∙ last_arranged.long;
-        armings = unmoved (armings_at app) (omega arith) ∙ again.armings ∙ omega arith;
-        given = unmoved (given_at app) (omega arith)
-            ∙ again.others (given_at app) (λ same. absurd (omega (arith, same)))
-            (λ same. absurd (omega (arith, same))) (λ same. absurd (omega (arith, same))) ∙ s.given;
-        heap = next;
-        column = λ j x there.
-            column j (omega (arith, settled.long, slice_get_within next j x there))
-            ∙ ap (armed_place app) (get_or_from_slice_get next j x (record { task = 0; place = 0 }) there);
-        arranged =
-            (let is : armings_so_far + 1 ≡ s.timed.given + (s.timed.moved + 1) = omega arith in
-            subst (λ n. IsArranged (instant_at app (slice_index after)) (arming_at app (slice_index after)) n next
-            last_list) is last_arranged);
-      }
-
-      -- that is what the cells spell then, with the message last in the queue
-      pub spelled_moved : SpellsTimer app (slice_index after) (found.before ++ (found.behind ++ the_one ∷ []))
-          (Delays (with_moved task handle instant s.timed))
-      spelled_moved =
-          subst (λ es. SpellsTimer app (slice_index after) es (Delays (with_moved task handle instant s.timed)))
-          (append_assoc found.before found.behind (the_one ∷ [])) spelled_last
+    -- The rows of the heap are in its column, and nothing else is written: that is what the cells spell then.
+    pub spelled_moved : {after : List ℕ} {next : List Entry} → IsBeside (queue_of app) mid after
+        → ((j : ℕ) → j < size → slice_index after (heap_at app + j) ≡ armed_place app (at next j))
+        → HasSettled size (key_of (instant_in app mid) (number_in app mid)) the_one may.spells.heap i next
+        → SpellsTimer app (slice_index after) (may.found.before ++ (may.found.behind ++ the_one ∷ []))
+        (Delays (with_moved task handle instant may.spells.timed))
+    spelled_moved {after = after} {next = next} beside column settled =
+        let s = may.spells in
+        let a = s.arranged in
+        let parts = may.found.parts in
+        let long : armings_so_far + 1 ≡ s.timed.given + (s.timed.moved + 1) = omega arith in
+        subst (λ es. SpellsTimer app (slice_index after) es (Delays (with_moved task handle instant s.timed)))
+        (append_assoc may.found.before may.found.behind (the_one ∷ []))
+        (spells_last are is_row beside may.mono
+        (record {
+          messages = armed_then;
+          handled = handled_then;
+          room = omega (arith, settled.long, a.long, s.room);
+          count = again.others (timer_at app) (omega arith) (omega arith) (omega arith) ∙ spelled_count s
+              ∙ sym settled.long;
+          armings = again.armings ∙ long;
+          given = again.others (given_at app) (omega arith) (omega arith) (omega arith) ∙ s.given;
+          column = λ j less. column j (omega (arith, settled.long));
+          arranged = subst
+              (λ n. IsArranged (instant_in app mid) (number_in app mid) n next (the_others ++ the_one ∷ [])) long
+              (goes_last (listed_less a may.found.before may.found.behind the_one parts) (same_numbers are is_row)
+              again.numbers settled
+              (λ x. omega (
+                arith,
+                count_put s.heap i the_one x may.within,
+                count_less a may.found.before may.found.behind the_one parts x,
+              ))
+              (length_less a may.found.before may.found.behind the_one parts));
+        }))

@@ -8,22 +8,21 @@ use Rattle.rt_ids.specs.Entry.{Entry}
 use Rattle.rt_ids.specs.Operation.{operate}
 use Rattle.rt_ids.specs.declared.op.Op.TheVariants as op
 use Rattle.rt_gen_queue.specs.Line.{Line, HasCode}
-use Rattle.rt_gen_queue.proofs.Numbers.{one_less, steps_and, steps_are}
+use Rattle.rt_gen_queue.proofs.Numbers.{one_less, steps_and}
 use Rattle.rt_gen_queue.proofs.Placing.{code_front, code_behind}
-use Rattle.rt_gen_queue.proofs.Spots.{Setting, Here, Wrote}
-use Rattle.rt_gen_queue.proofs.Steps.{S}
+use Rattle.rt_gen_queue.proofs.Layer.{Setting, Here, S, Wrote, Now, Straight, calculates, stores, stores_at, jumps_off}
+use Rattle.rt_gen_queue.proofs.Layer.{stays, ends, writes_open}
 use Rattle.rt_app.specs.Heap.{IsHeap, at, keys, key_of}
-use Rattle.rt_gen_timer.specs.TimerLines.{heap_of, instants_of, numbers_of, last_lines, rise_lines, sink_lines}
-use Rattle.rt_gen_timer.specs.TimerLines.{store_at, remove_lines}
+use Rattle.rt_gen_timer.specs.TimerLines.{heap_of, last_lines, rise_lines, sink_lines, store_at, remove_lines}
 use Rattle.rt_gen_timer.specs.declared.queue.TimerQueue.{TimerQueue}
 use Rattle.rt_gen_timer.proofs.Moves.{hole_left, settled_both}
-use Rattle.rt_gen_timer.proofs.Window.{Words, words, Frame, window, Scratch, turning}
-use Rattle.rt_gen_timer.proofs.Acting.{Now, next_line, Runs, IsOpened, AreColumns, more_steps, calculates, stores}
-use Rattle.rt_gen_timer.proofs.Acting.{loads_at, stores_at, jumps_off, goes_on}
-use Rattle.rt_gen_timer.proofs.Hollow.{IsBeside, beside_more, beside_one_place, IsKept, kept_beside}
-use Rattle.rt_gen_timer.proofs.Whole.{IsWhole, whole_counted, whole_taken, whole_fewer, whole_filled}
+use Rattle.rt_gen_timer.proofs.Window.{Slots, Words, words, Scratch, scratch_of, turning}
+use Rattle.rt_gen_timer.proofs.Acting.{Runs, sooner, may_run, Columns, columns_on, count_open, heap_open}
+use Rattle.rt_gen_timer.proofs.Comparing.{Hand, Place, loads_key}
+use Rattle.rt_gen_timer.proofs.Hollow.{IsBeside, beside_more, beside_one_place, kept_beside}
+use Rattle.rt_gen_timer.proofs.Hollow.{IsWhole, whole_counted, whole_taken, whole_fewer, whole_filled}
 use Rattle.rt_gen_timer.proofs.Rowing.{taken_off}
-use Rattle.rt_gen_timer.proofs.Rising.{IsReady, IsRisen, rise_reach, rises_stands}
+use Rattle.rt_gen_timer.proofs.Rising.{IsReady, IsRisen, rise_reach, rises_stand}
 use Rattle.rt_gen_timer.proofs.Sinking.{MaySink, IsSunk, sink_reach, reach_more, sinks_stand}
 use Rattle.rt_gen_timer.proofs.Arranged.{IsWithout, without_last, without_other}
 
@@ -40,22 +39,6 @@ pub reach_is : (turns : ℕ) → rise_reach turns ≡ 2 ^ suc turns
 reach_is zero = refl
 reach_is (suc turns) = omega (arith, reach_is turns, pow-succ' 2 (suc turns))
 
--- what is in the slots that are worked in
-abbrev pub scratch_of : Words → Scratch
-scratch_of w = record {
-  work = w.work;
-  other = w.other;
-  right = w.right;
-  row = w.row;
-  row_instant = w.row_instant;
-  row_arming = w.row_arming;
-  right_row = w.right_row;
-  right_instant = w.right_instant;
-  right_arming = w.right_arming;
-  less = w.less;
-  equal = w.equal;
-}
-
 -- a heap of so many messages is in cells, and a place of it is the hole
 abbrev pub removing : Words → ℕ → ℕ → Words
 removing w size i = record w { count = size; hole = i; one = 1; two = 2 }
@@ -64,298 +47,230 @@ removing w size i = record w { count = size; hole = i; one = 1; two = 2 }
 abbrev pub removed : Words → Scratch → ℕ → ℕ → ℕ → ℕ → ℕ → Words
 removed w s n hand i instant arming = turning (record w { hand = hand; count = n }) s i instant arming
 
-module _ (z : Setting) (f : Frame) (q : TimerQueue) (row instant arming : Entry → ℕ) where
-  -- A message may leave the heap, which stands in cells and is in order: n others are left. So many turns lead up from
-  -- its place, and so many through the others.
-  pub record MayRemove (rising turns size n i end : ℕ) (h : Here) (heap : List Entry) : Type 0 where
-    pub code : HasCode z.code h.at (remove_lines q f.slot h.at)
-    pub within : h.done + (15 * rising + 31 * turns + 48) ≤ end
-    pub runs : Runs f end h.held h.deadlines
-    pub above : i < n → suc i < rise_reach rising
-    pub reach : n < rise_reach turns
-    pub few : n < 2 ^ 31
-    pub fewer : size ≡ n + 1
-    pub inside : i ≤ n
-    pub columns : AreColumns z q
-    pub opened : IsOpened z h.held h.cells
-    pub whole : IsWhole q row instant arming size h.cells heap
-    pub order : IsHeap (length heap) (keys (key_of instant arming) heap)
+-- What leaves: of a heap with so many messages the one at a place, and so many others are left. So many turns lead up
+-- from its place, and so many through the others.
+pub record Removal : Type 0 where
+  pub queue : TimerQueue
+  pub row : Entry → ℕ
+  pub instant : Entry → ℕ
+  pub arming : Entry → ℕ
+  pub heap : List Entry
+  pub all : ℕ
+  pub size : ℕ
+  pub place : ℕ
+  pub rising : ℕ
+  pub turns : ℕ
 
-  -- Behind that: the heap without the message, in cells; the count's cell has how many are left. All other cells but
-  -- the heap's column are as before.
-  pub record IsRemoved (rising turns n i : ℕ) (h : Here) (heap : List Entry) (done : ℕ) (cells : List ℕ)
-      (next : List Entry) : Type 0 where
-    pub within : done ≤ h.done + (15 * rising + 31 * turns + 48)
-    pub without : IsWithout (key_of instant arming) heap i next
-    pub whole : IsWhole q row instant arming n cells next
-    pub count : slice_index cells q.at ≡ n
-    pub others : (c : ℕ) → c ≢ q.at → (c < heap_of q) ⊎ (heap_of q + q.messages ≤ c)
-        → slice_index cells c ≡ slice_index h.cells c
-    pub long : length cells ≡ length h.cells
+-- the last message, in hand
+abbrev last_hand : Removal → Hand
+last_hand r = record {
+  queue = r.queue;
+  row = r.row;
+  instant = r.instant;
+  arming = r.arming;
+  size = r.size;
+  hand = at r.heap r.size;
+}
 
-  -- What is told behind it. Of the slots, those of the place, of the answer, of the arguments, of the mask and of the
-  -- numbers 1 and 2 are as before; and the hand's, the hole's, those of the key in hand and those that are worked in
-  -- have whatever they have.
-  abbrev pub Behind : ℕ → ℕ → ℕ → ℕ → ℕ → Here → List Entry → Words → Type 0
-  Behind rising turns n i k h heap w =
-      (done hand j t a : ℕ) (s : Scratch) (cells : List ℕ) (next : List Entry)
-      → IsRemoved rising turns n i h heap done cells next
-      → S z k (record h {
-        done = done;
-        slots = window f (words (removed w s n hand j t a));
-        at = h.at + 54;
-        cells = cells;
-      })
+-- the steps that it takes at most
+abbrev pub removal_steps : Removal → ℕ
+removal_steps r = 15 * r.rising + 31 * r.turns + 48
 
-  -- where the parts of the code lie
-  record AreParts (at : ℕ) : Type 0 where
-    pub rise : HasCode z.code (at + 7) (rise_lines q f.slot (at + 7))
-    pub sink : HasCode z.code (at + 7 + 15) (sink_lines q f.slot (at + 7 + 15))
-    pub last : HasCode z.code (at + 7 + 15 + 31) (store_at q f.slot (heap_of q) 6 4 ∷ [])
+abbrev IsAll : Removal → ℕ → List ℕ → List Entry → Type 0
+IsAll r n cells heap = IsWhole r.queue r.row r.instant r.arming n cells heap
 
-  parts_of : (at : ℕ) → HasCode z.code at (remove_lines q f.slot at) → AreParts at
-  parts_of at has =
-      let store : List Line = store_at q f.slot (heap_of q) 6 4 ∷ [] in
-      let sink : List Line = sink_lines q f.slot (at + 22) in
-      let rise : List Line = rise_lines q f.slot (at + 7) in
-      let from7 : HasCode z.code (at + 7) (rise ++ (sink ++ store)) =
-      code_behind z.code at (at + 7) (last_lines q f.slot (at + 54)) (rise ++ (sink ++ store)) refl has in
-      let from22 : HasCode z.code (at + 7 + 15) (sink ++ store) =
-      code_behind z.code (at + 7) (at + 7 + 15) rise (sink ++ store) refl from7 in
-      let e : at + 22 ≡ at + 7 + 15 = omega arith in
-      record {
-        rise = code_front z.code (at + 7) rise (sink ++ store) from7;
-        sink = subst (λ (to : ℕ). HasCode z.code (at + 7 + 15) (sink_lines q f.slot to)) e
-            (code_front z.code (at + 7 + 15) sink store from22);
-        last = code_behind z.code (at + 7 + 15) (at + 7 + 15 + 31) sink store refl from22;
-      }
+-- A message may leave the heap, which stands in cells and is in order.
+pub record MayRemove (z : Setting) (f : Slots) (r : Removal) (h : Here) : Type 0 where
+  pub code : HasCode z.code h.at (remove_lines r.queue f.slot h.at)
+  pub runs : Runs f (h.done + removal_steps r) h
+  pub above : r.place < r.size → suc r.place < rise_reach r.rising
+  pub reach : r.size < rise_reach r.turns
+  pub few : r.size < 2 ^ 31
+  pub fewer : r.all ≡ r.size + 1
+  pub inside : r.place ≤ r.size
+  pub columns : Columns z r.queue h.held h.cells
+  pub whole : IsAll r r.all h.cells r.heap
+  pub order : IsHeap (length r.heap) (keys (key_of r.instant r.arming) r.heap)
 
-  module _ (rising turns size n i end : ℕ) (h : Here) (heap : List Entry)
-      (may : MayRemove rising turns size n i end h heap) where
-    whole_more : IsWhole q row instant arming (n + 1) h.cells heap
-    whole_more = subst (λ m. IsWhole q row instant arming m h.cells heap) may.fewer may.whole
+-- Behind that: the heap without the message, in cells; the count's cell has how many are left. All other cells but the
+-- heap's column are as before.
+pub record IsRemoved (r : Removal) (h : Here) (b : Place) : Type 0 where
+  pub within : b.done ≤ h.done + removal_steps r
+  pub without : IsWithout (key_of r.instant r.arming) r.heap r.place b.heap
+  pub whole : IsAll r r.size b.cells b.heap
+  pub count : slice_index b.cells r.queue.at ≡ r.size
+  pub others : (c : ℕ) → c ≢ r.queue.at → (c < heap_of r.queue) ⊎ (heap_of r.queue + r.queue.messages ≤ c)
+      → slice_index b.cells c ≡ slice_index h.cells c
+  pub long : length b.cells ≡ length h.cells
 
-    opened_behind : (left : List ℕ) → length left ≡ length h.cells → IsOpened z h.held left
-    opened_behind left long = record { opens = may.opened.opens; long = long ∙ may.opened.long }
+-- What is told behind it. Of the slots, those of the place, of the answer, of the arguments, of the mask and of the
+-- numbers 1 and 2 are as before; and the hand's, the hole's, those of the key in hand and those that are worked in
+-- have whatever they have.
+abbrev pub Behind : Setting → Slots → Removal → Here → Words → Type 0
+Behind z f r h w =
+    (b : Place) (hand t a : ℕ) (s : Scratch) → IsRemoved r h b
+    → S z (Now f (record h { done = b.done; at = h.at + 54; cells = b.cells })
+    (words (removed w s r.size hand b.hole t a)))
 
-    counted : (left : List ℕ) → Wrote q.at n h.cells left → IsWhole q row instant arming (n + 1) left heap
-    counted left one = whole_counted q row instant arming (n + 1) q.at n h.cells left heap (omega arith) one whole_more
+-- where the parts of the code lie
+record AreParts (z : Setting) (f : Slots) (q : TimerQueue) (at : ℕ) : Type 0 where
+  pub first : HasCode z.code at (last_lines q f.slot (at + 54))
+  pub rise : HasCode z.code (at + 7) (rise_lines q f.slot (at + 7))
+  pub sink : HasCode z.code (at + 7 + 15) (sink_lines q f.slot (at + 7 + 15))
+  pub last : HasCode z.code (at + 7 + 15 + 31) (store_at q f.slot (heap_of q) 6 4 ∷ [])
 
-    -- The first lines: one message fewer. Where the one at the hole was the last they end, else the last is in the
-    -- hand.
-    takes_last : (m : ℕ) (w : Words)
-        → (i ≡ n → (left : List ℕ) → Wrote q.at n h.cells left
-        → S z (steps_and 3 m) (record (Now f h (record (removing w n i) { other = n - i })) {
-          done = steps_and 4 h.done;
-          at = h.at + 54;
-          cells = left;
-        }))
-        → (i < n → (left : List ℕ) → Wrote q.at n h.cells left
-        → let e : Entry = at heap n in
-        S z m (record
-        (Now f h (removed w (record (scratch_of w) { other = n - i }) n (row e) i (instant e) (arming e))) {
-          done = steps_and 7 h.done;
-          at = steps_and 7 h.at;
-          cells = left;
-        }))
-        → S z (steps_and 7 m) (Now f h (removing w size i))
-    takes_last m w last on =
-        let e : Entry = at heap n in
-        let has = may.code in
-        let few : n < 2 ^ 31 = may.few in
-        let inside : i ≤ n = may.inside in
-        let bound : h.done + (15 * rising + 31 * turns + 48) ≤ end = may.within in
-        let more : IsWhole q row instant arming (n + 1) h.cells heap = whole_more in
-        let room : n + 1 ≤ q.messages = more.room in
-        let fewer : size ≡ suc n = omega (arith, may.fewer) in
-        let w2 : Words = removing w n i in
-        let w3 : Words = record (removing w n i) { other = n - i } in
-        let w5 : Words = record (removing w n i) { other = n - i; hand = row e } in
-        let w6 : Words = record (removing w n i) { other = n - i; hand = row e; instant = instant e } in
-        let h1 : Here = next_line h in
-        calculates z f (steps_and 6 m) end h (removing w size i) op.Sub 5 5 12 n has.0 (omega arith) may.runs refl
-        (ap (λ k. operate op.Sub k 1) fewer ∙ one_less n (omega arith))
-        (stores z f (steps_and 5 m) end h1 w2 q.at 5 n has.1.0 (omega arith) may.runs refl refl may.opened
-        may.columns.count
-        (λ left one.
-        let kept : IsKept q row instant arming left e = (counted left one).kept n (omega arith) in
-        let opened : IsOpened z h.held left = opened_behind left one.long in
-        let h2 : Here = record h1 { done = suc h1.done; at = suc h1.at; cells = left } in
-        let h3 : Here = next_line h2 in
-        let h4 : Here = next_line h3 in
-        let h5 : Here = next_line h4 in
-        let h6 : Here = next_line h5 in
-        calculates z f (steps_and 4 m) end h2 w2 op.Sub 13 5 6 (n - i) has.1.1.0 (omega arith) may.runs refl
-        (taken_off n i (n - i) (omega arith) (omega arith))
-        (elim (cases_lt i n) [
-          | inl less ↦
-              goes_on z f (steps_and 3 m) end h3 w3 13 (h.at + 54) has.1.1.1.0 (omega arith) may.runs refl
-              (omega arith)
-              (loads_at z f (steps_and 2 m) end h4 w3 4 (heap_of q) 5 n (row e) has.1.1.1.1.0 (omega arith) may.runs
-              refl refl opened (may.columns.heap n (omega arith)) ((counted left one).column n (omega arith))
-              (loads_at z f (steps_and 1 m) end h5 w5 10 (instants_of q) 4 (row e) (instant e) has.1.1.1.1.1.0
-              (omega arith) may.runs refl refl opened (may.columns.instants (row e) kept.room) kept.instants
-              (loads_at z f m end h6 w6 11 (numbers_of q) 4 (row e) (arming e) has.1.1.1.1.1.1.0 (omega arith)
-              may.runs refl refl opened (may.columns.numbers (row e) kept.room) kept.numbers (on less left one))))
-          | inr most ↦
-              jumps_off z f (steps_and 3 m) end h3 w3 13 (h.at + 54) has.1.1.1.0 (omega arith) may.runs refl
-              (omega arith) (last (omega arith) left one)
-        ])))
+parts_of : {z : Setting} (f : Slots) (q : TimerQueue) (at : ℕ) → HasCode z.code at (remove_lines q f.slot at)
+    → AreParts z f q at
+parts_of {z = z} f q at has =
+    let store : List Line = store_at q f.slot (heap_of q) 6 4 ∷ [] in
+    let sink : List Line = sink_lines q f.slot (at + 22) in
+    let rise : List Line = rise_lines q f.slot (at + 7) in
+    let last : List Line = last_lines q f.slot (at + 54) in
+    let from7 : HasCode z.code (at + 7) (rise ++ (sink ++ store)) =
+    code_behind z.code at (at + 7) last (rise ++ (sink ++ store)) refl has in
+    let from22 : HasCode z.code (at + 7 + 15) (sink ++ store) =
+    code_behind z.code (at + 7) (at + 7 + 15) rise (sink ++ store) refl from7 in
+    let e : at + 22 ≡ at + 7 + 15 = omega arith in
+    record {
+      first = code_front z.code at last (rise ++ (sink ++ store)) has;
+      rise = code_front z.code (at + 7) rise (sink ++ store) from7;
+      sink = subst (λ (to : ℕ). HasCode z.code (at + 7 + 15) (sink_lines q f.slot to)) e
+          (code_front z.code (at + 7 + 15) sink store from22);
+      last = code_behind z.code (at + 7 + 15) (at + 7 + 15 + 31) sink store refl from22;
+    }
+
+module _ {z : Setting} {f : Slots} {r : Removal} {h : Here} (may : MayRemove z f r h) where
+  whole_more : IsAll r (r.size + 1) h.cells r.heap
+  whole_more = subst (λ m. IsAll r m h.cells r.heap) may.fewer may.whole
+
+  parts : AreParts z f r.queue h.at
+  parts = parts_of f r.queue h.at may.code
+
+  module _ {left : List ℕ} (one : Wrote r.queue.at r.size h.cells left) where
+    counted : IsAll r (r.size + 1) left r.heap
+    counted = whole_counted (omega arith) one whole_more
 
     -- The loop upwards may begin.
-    may_rise : (left : List ℕ) → Wrote q.at n h.cells left → i < n
-        → IsReady z f q row instant arming n (at heap n) rising i end
-        (record h { done = steps_and 7 h.done; at = h.at + 7; cells = left }) (take n heap)
-    may_rise left one less =
-        let bound : h.done + (15 * rising + 31 * turns + 48) ≤ end = may.within in
-        let few : n < 2 ^ 31 = may.few in
-        record {
-          code = (parts_of h.at may.code).rise;
-          within = omega arith;
-          runs = may.runs;
-          reach = may.above less;
-          few = omega arith;
-          small = (whole_more.kept n (omega arith)).small;
-          columns = may.columns;
-          opened = opened_behind left one.long;
-          hollow = whole_taken q row instant arming n i left heap less (counted left one);
-          hole = hole_left n (key_of instant arming) heap i whole_more.long less may.order;
-        }
+    may_rise : r.place < r.size
+        → IsReady z f (last_hand r) r.rising r.place (record h { done = steps_and 7 h.done; at = h.at + 7; cells = left })
+        (take r.size r.heap)
+    may_rise less = record {
+      code = parts.rise;
+      runs = sooner may.runs (omega arith);
+      reach = may.above less;
+      few = omega (arith, may.few);
+      small = (whole_more.kept r.size (omega arith)).small;
+      columns = columns_on may.columns one.long;
+      hollow = whole_taken less counted;
+      hole = hole_left r.heap whole_more.long less may.order;
+    }
 
     -- And behind it the loop downwards.
-    may_sink : (left : List ℕ) → Wrote q.at n h.cells left → (done j : ℕ) (cells : List ℕ) (ys : List Entry) (w : Words)
-        → IsRisen z f q row instant arming n (at heap n) rising i
-        (record h { done = steps_and 7 h.done; at = h.at + 7; cells = left }) (take n heap) done j cells ys
-        → w.count ≡ n
-        → MaySink z f q row instant arming n (at heap n) turns j end
-        (record h { done = done; at = h.at + 7 + 15; cells = cells }) ys w
-    may_sink left one done j cells ys w risen counted_is =
-        let bound : h.done + (15 * rising + 31 * turns + 48) ≤ end = may.within in
-        let so_far : done ≤ steps_and 7 h.done + (15 * rising + 12) = risen.within in
-        let reach : n < rise_reach turns = may.reach in
-        record {
-          code = (parts_of h.at may.code).sink;
-          within = omega arith;
-          runs = may.runs;
-          reach = omega (arith, reaches_alike turns, reach_more turns 0 j (omega arith));
-          few = may.few;
-          small = (whole_more.kept n (omega arith)).small;
-          counted = counted_is;
-          columns = may.columns;
-          opened = opened_behind cells (risen.beside.long ∙ one.long);
-          hollow = risen.hollow;
-          hole = risen.risen.hole;
-        }
+    may_sink : {b : Place}
+        → IsRisen (last_hand r) r.rising r.place (record h { done = steps_and 7 h.done; at = h.at + 7; cells = left })
+        (take r.size r.heap) b
+        → MaySink z f (last_hand r) r.turns b.hole (record h { done = b.done; at = h.at + 7 + 15; cells = b.cells })
+        b.heap
+    may_sink {b = b} risen = record {
+      code = parts.sink;
+      runs = sooner may.runs (omega (arith, risen.within));
+      reach = omega (arith, may.reach, reaches_alike r.turns, reach_more r.turns 0 b.hole (omega arith));
+      few = may.few;
+      small = (whole_more.kept r.size (omega arith)).small;
+      columns = columns_on may.columns (risen.beside.long ∙ one.long);
+      hollow = risen.hollow;
+      hole = risen.risen.hole;
+    }
 
     -- What is left behind both loops and the last line.
-    filled : (left : List ℕ) → Wrote q.at n h.cells left → i < n → (done j : ℕ) (mid : List ℕ) (ys : List Entry)
-        → IsRisen z f q row instant arming n (at heap n) rising i
-        (record h { done = steps_and 7 h.done; at = h.at + 7; cells = left }) (take n heap) done j mid ys
-        → (finished l : ℕ) (cells : List ℕ) (zs : List Entry)
-        → IsSunk z f q row instant arming n (at heap n) turns j
-        (record h { done = done; at = h.at + 7 + 15; cells = mid }) ys finished l cells zs
-        → (after : List ℕ) → Wrote (heap_of q + l) (row (at heap n)) cells after
-        → IsRemoved rising turns n i h heap (suc finished) after (slice_set zs l (at heap n))
-    filled left one less done j mid ys risen finished l cells zs sunk after put =
-        let e : Entry = at heap n in
-        let key : Entry → ℕ = key_of instant arming in
-        let first : done ≤ steps_and 7 h.done + (15 * rising + 12) = risen.within in
-        let second : finished ≤ done + (31 * turns + 28) = sunk.within in
-        let room : n ≤ q.messages = sunk.hollow.room in
-        let inside : l < n = sunk.hollow.within in
-        let both : IsBeside q left cells = beside_more q left mid cells risen.beside sunk.beside in
-        let all : IsBeside q left after =
-        beside_more q left cells after both (beside_one_place q l (row e) cells after (omega arith) put) in
-        let kept : IsKept q row instant arming cells e =
-        kept_beside q row instant arming left cells e both ((counted left one).kept n (omega arith)) in
+    filled : {b c : Place} {after : List ℕ} → r.place < r.size
+        → IsRisen (last_hand r) r.rising r.place (record h { done = steps_and 7 h.done; at = h.at + 7; cells = left })
+        (take r.size r.heap) b
+        → IsSunk (last_hand r) r.turns b.hole (record h { done = b.done; at = h.at + 7 + 15; cells = b.cells }) b.heap c
+        → Wrote (heap_of r.queue + c.hole) (r.row (at r.heap r.size)) c.cells after
+        → IsRemoved r h
+        (record c { done = suc c.done; cells = after; heap = slice_set c.heap c.hole (at r.heap r.size) })
+    filled less risen sunk put =
+        let both : IsBeside r.queue left _ = beside_more risen.beside sunk.beside in
+        let all : IsBeside r.queue left _ =
+        beside_more both (beside_one_place r.queue (omega (arith, sunk.hollow.within, sunk.hollow.room)) put) in
         record {
-          within = omega arith;
-          without = without_other key heap n i (slice_set zs l e) whole_more.long less
-              (settled_both n key e (take n heap) i ys j zs l risen.risen sunk.sunk);
-          whole = whole_filled q row instant arming n l cells after zs e sunk.hollow kept put;
-          count = all.others q.at (inl (omega arith)) ∙ one.here;
+          within = omega (arith, risen.within, sunk.within);
+          without = without_other r.heap whole_more.long less (settled_both risen.risen sunk.sunk);
+          whole = whole_filled (at r.heap r.size) sunk.hollow (kept_beside both (counted.kept r.size (omega arith))) put;
+          count = all.others r.queue.at (inl (omega arith)) ∙ one.here;
           others = λ c apart out. all.others c out ∙ one.others c apart;
           long = all.long ∙ one.long;
         }
 
     -- or where the last message itself left
-    shortened : (left : List ℕ) → Wrote q.at n h.cells left → i ≡ n
-        → IsRemoved rising turns n i h heap (steps_and 4 h.done) left (take n heap)
-    shortened left one is =
-        let key : Entry → ℕ = key_of instant arming in
-        record {
-          within = omega arith;
-          without = subst (λ j. IsWithout key heap j (take n heap)) (sym is)
-              (without_last key heap n whole_more.long may.order);
-          whole = whole_fewer q row instant arming n left heap (counted left one);
-          count = one.here;
-          others = λ c apart out. one.others c apart;
-          long = one.long;
-        }
+    shortened : (hole : ℕ) → r.place ≡ r.size
+        → IsRemoved r h
+        (record { done = steps_and 4 h.done; hole = hole; cells = left; heap = take r.size r.heap })
+    shortened hole is = record {
+      within = omega arith;
+      without = subst (λ j. IsWithout (key_of r.instant r.arming) r.heap j (take r.size r.heap)) (sym is)
+          (without_last r.heap r.size whole_more.long may.order);
+      whole = whole_fewer counted;
+      count = one.here;
+      others = λ c apart out. one.others c apart;
+      long = one.long;
+    }
 
     -- Both loops and the last line, where another than the last message leaves.
-    fills : (k : ℕ) (w : Words) → Behind rising turns n i k h heap w → i < n → (left : List ℕ)
-        → Wrote q.at n h.cells left → (s : Scratch) → let e : Entry = at heap n in
-        S z (15 * rising + 12 + (31 * turns + 28 + suc k))
-        (record (Now f h (removed w s n (row e) i (instant e) (arming e))) {
-          done = steps_and 7 h.done;
-          at = h.at + 7;
-          cells = left;
-        })
-    fills k w on less left one s =
-        let e : Entry = at heap n in
-        let bound : h.done + (15 * rising + 31 * turns + 48) ≤ end = may.within in
-        let w1 : Words = record w { hand = row e; count = n } in
-        let h7 : Here = record h { done = steps_and 7 h.done; at = h.at + 7; cells = left } in
-        rises_stands z f q row instant arming n e rising i end (31 * turns + 28 + suc k) h7 (take n heap) w1 s
-        (may_rise left one less)
-        (λ done j t mid ys risen.
-        let h22 : Here = record h { done = done; at = h.at + 7 + 15; cells = mid } in
-        sinks_stand z f q row instant arming n e turns j end (suc k) h22 ys w1 t
-        (may_sink left one done j mid ys w1 risen refl)
-        (λ finished l u cells zs sunk.
-        let first : done ≤ steps_and 7 h.done + (15 * rising + 12) = risen.within in
-        let second : finished ≤ done + (31 * turns + 28) = sunk.within in
-        let room : n ≤ q.messages = sunk.hollow.room in
-        let inside : l < n = sunk.hollow.within in
-        let opened : IsOpened z h.held cells =
-        opened_behind cells (sunk.beside.long ∙ risen.beside.long ∙ one.long) in
-        let h53 : Here = record h { done = finished; at = h.at + 7 + 15 + 31; cells = cells } in
-        stores_at z f k end h53 (removed w u n (row e) l (instant e) (arming e)) (heap_of q) 6 4 l (row e)
-        (parts_of h.at may.code).last.0 (omega arith) may.runs refl refl refl opened
-        (may.columns.heap l (omega arith))
+    fills : (w : Words) (s : Scratch) → Behind z f r h w → r.place < r.size → let e : Entry = at r.heap r.size in
+        S z (Now f (record h { done = steps_and 7 h.done; at = h.at + 7; cells = left })
+        (words (removed w s r.size (r.row e) r.place (r.instant e) (r.arming e))))
+    fills w s on less =
+        let e : Entry = at r.heap r.size in
+        let w1 : Words = record w { hand = r.row e; count = r.size } in
+        rises_stand w1 s (may_rise less)
+        (λ b t risen.
+        sinks_stand w1 t (may_sink risen)
+        (λ c u sunk.
+        let puts : Straight z f (store_at r.queue 0 (heap_of r.queue) 6 4 ∷ [])
+        (record h { done = c.done; at = h.at + 7 + 15 + 31; cells = c.cells })
+        (words (removed w u r.size (r.row e) c.hole (r.instant e) (r.arming e))) =
+        stores_at c.hole (r.row e) refl refl
+        (writes_open (heap_open (columns_on may.columns (sunk.beside.long ∙ risen.beside.long ∙ one.long))
+        (omega (arith, sunk.hollow.within, sunk.hollow.room))))
         (λ after put.
-        subst (λ (to : ℕ). S z k (record (Now f h (removed w u n (row e) l (instant e) (arming e))) {
-          done = suc finished;
-          at = to;
-          cells = after;
-        })) (omega arith)
-        (on (suc finished) (row e) l (instant e) (arming e) u after (slice_set zs l e)
-        (filled left one less done j mid ys risen finished l cells zs sunk after put)))))
+        let last : h.at + 54 ≡ suc (h.at + 7 + 15 + 31) = omega arith in
+        ends
+        (subst (λ (to : ℕ). S z (Now f (record h { done = suc c.done; at = to; cells = after })
+        (words (removed w u r.size (r.row e) c.hole (r.instant e) (r.arming e))))) last
+        (on _ (r.row e) (r.instant e) (r.arming e) u (filled less risen sunk put)))) in
+        puts.runs (may_run may.runs (omega (arith, risen.within, sunk.within)) refl refl) parts.last))
 
-    -- The message at the hole leaves the heap, within 48 steps, 15 a turn up and 31 a turn down; where it is the last
-    -- one, after 4 steps.
-    pub removes_stand : (k : ℕ) (w : Words) → Behind rising turns n i k h heap w
-        → S z (15 * rising + 31 * turns + 48 + k) (Now f h (removing w size i))
-    removes_stand k w on =
-        let m : ℕ = 15 * rising + 12 + (31 * turns + 28 + suc k) in
-        more_steps z (steps_and 7 m) (15 * rising + 31 * turns + 48 + k) (Now f h (removing w size i))
-        (omega (arith, steps_are 7 m))
-        (takes_last m w
-        (λ is left one.
-        let s : Scratch = record (scratch_of w) { other = n - i } in
-        more_steps z k (steps_and 3 m)
-        (record (Now f h (record (removing w n i) { other = n - i })) {
-          done = steps_and 4 h.done;
-          at = h.at + 54;
-          cells = left;
-        }) (omega (arith, steps_are 3 m))
-        (on (steps_and 4 h.done) w.hand i w.instant w.arming s left (take n heap) (shortened left one is)))
-        (λ less left one.
-        let s : Scratch = record (scratch_of w) { other = n - i } in
-        let e : Entry = at heap n in
-        subst (λ (to : ℕ). S z m (record (Now f h (removed w s n (row e) i (instant e) (arming e))) {
-          done = steps_and 7 h.done;
-          at = to;
-          cells = left;
-        })) (omega arith) (fills k w on less left one s)))
+-- The message at the hole leaves the heap, within 48 steps, 15 a turn up and 31 a turn down; where it is the last one,
+-- after 4 steps.
+pub removes_stand : {z : Setting} {f : Slots} {r : Removal} {h : Here} (w : Words) → MayRemove z f r h
+    → Behind z f r h w → S z (Now f h (words (removing w r.all r.place)))
+removes_stand {z = z} {f = f} {r = r} {h = h} w may on =
+    let e : Entry = at r.heap r.size in
+    let n : ℕ = r.size in
+    let inside : r.place ≤ n = may.inside in
+    let few : n < 2 ^ 31 = may.few in
+    let room : n + 1 ≤ r.queue.messages = (whole_more may).room in
+    let s : Scratch = record (scratch_of w) { other = n - r.place } in
+    let fewer : r.all ≡ suc n = omega (arith, may.fewer) in
+    let takes_last : Straight z f (last_lines r.queue 0 (h.at + 54)) h (words (removing w r.all r.place)) =
+    calculates n (ap (λ k. operate op.Sub k 1) fewer ∙ one_less n (omega arith))
+    (stores n refl (writes_open (count_open may.columns))
+    (λ left one.
+    calculates (n - r.place) (taken_off n r.place (n - r.place) (omega arith) (omega arith))
+    (elim (cases_lt r.place n) [
+      | inl less ↦
+          (let next : h.at + 7 ≡ steps_and 7 h.at = omega arith in
+          stays (omega arith)
+          (loads_key (columns_on may.columns one.long) refl (omega arith) ((counted may one).column n (omega arith))
+          ((counted may one).kept n (omega arith)) (λ v u. (refl, refl))
+          (ends
+          (subst (λ (to : ℕ). S z (Now f (record h { done = steps_and 7 h.done; at = to; cells = left })
+          (words (removed w s n (r.row e) r.place (r.instant e) (r.arming e))))) next
+          (fills may one w s on less)))))
+      | inr most ↦
+          jumps_off (omega arith)
+          (on _ w.hand w.instant w.arming s (shortened may one r.place (omega arith)))
+    ]))) in
+    takes_last.runs (may_run may.runs (omega arith) refl refl) (parts may).first

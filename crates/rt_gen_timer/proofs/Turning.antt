@@ -2,16 +2,17 @@
 -- each message, whichever are fewer. So its section is within both of its costs.
 use Rattle.std.proofs.Common.{◌≡◌, ℕ, zero, suc, ◌+◌, ◌-◌, ◌*◌, ◌^◌, ◌<◌, ◌≤◌, Bool, true, false, List, [], ◌∷◌}
 use Rattle.std.proofs.Common.{length, if◌then◌else◌, arith, inl, inr}
-use Rattle.std.specs.List.{AllByRecursion}
+use Rattle.std.proofs.Math.Nat.{pow-le-pow_right}
 use Rattle.std.proofs.lemmas.Bool.{cases_lt}
+use Rattle.std.specs.List.{AllByRecursion}
 use Rattle.rt_app.specs.Accepted.{IsAccepted}
 use Rattle.rt_app.specs.Level.{is_armed, armed_capacities, armed_count, armed_messages, armed_tasks}
 use Rattle.rt_app.specs.Limits.{KeepsTaskLimits}
 use Rattle.rt_app.specs.Tree.{Task, App}
-use Rattle.rt_gen_timer.specs.TimerCalls.{IsSectionCost}
 use Rattle.rt_gen_timer.proofs.Calling.{reach_enough}
 use Rattle.rt_gen_timer.proofs.Removing.{reach_is}
 use Rattle.rt_gen_timer.proofs.Rising.{rise_reach}
+use Rattle.rt_gen_timer.specs.TimerCalls.{IsSectionCost}
 
 module _ (app : App) where
   -- a task that may be armed has a place at least
@@ -34,21 +35,20 @@ module _ (app : App) where
       one false = omega arith
 
 -- the steps of the choices are within those of the digits
-few_tries : (digits tasks : ℕ) → tasks < 2 ^ digits → tasks ≤ 64 → 3 * tasks ≤ 24 + 33 * digits
-few_tries zero tasks less few = omega arith
-few_tries (suc zero) tasks less few = omega arith
-few_tries (suc (suc zero)) tasks less few = omega arith
-few_tries (suc (suc (suc zero))) tasks less few = omega arith
-few_tries (suc (suc (suc (suc zero)))) tasks less few = omega arith
-few_tries (suc (suc (suc (suc (suc zero))))) tasks less few = omega arith
-few_tries (suc (suc (suc (suc (suc (suc digits)))))) tasks less few = omega arith
+few_tries : (digits tasks : ℕ) → 0 < digits → tasks < 2 ^ digits → tasks ≤ 64 → 3 * tasks ≤ 15 + 33 * digits
+few_tries digits tasks some less few =
+    let most : (n : ℕ) → digits ≤ n → 2 ^ digits ≤ 2 ^ n = λ n within. pow-le-pow_right (omega arith) within in
+    elim (cases_lt 3 digits) [
+      | inr small ↦ omega (arith, most 3 small)
+      | inl larger ↦ elim (cases_lt 5 digits) [ inl large ↦ omega arith | inr middle ↦ omega (arith, most 5 middle) ]
+    ]
 
 -- so many turns are enough where a message is armed, and within a cost of the section
 pub record AreSinks (app : App) (cost : ℕ) : Type 0 where
   pub turns : ℕ
   pub reach : armed_messages app ≤ rise_reach turns
   pub few : turns < armed_messages app
-  pub enough : 71 + 31 * turns + 3 * armed_tasks app ≤ cost
+  pub enough : 80 + 31 * turns + 3 * armed_tasks app ≤ cost
 
 pub sinks_for : (app : App) (cost : ℕ) → IsAccepted app → IsSectionCost app cost → 0 < armed_messages app
     → AreSinks app cost
@@ -57,7 +57,7 @@ sinks_for app cost accepted costs some =
     omega (arith, counts_few app 0 app.tasks, accepted.limits.few_tasks) in
     let within : armed_tasks app ≤ armed_messages app = counts_within app 0 app.tasks accepted.limits.tasks in
     let n : ℕ = armed_messages app in
-    let by_messages : 71 + 31 * (n - 1) + 3 * armed_tasks app ≤ cost → AreSinks app cost =
+    let by_messages : 80 + 31 * (n - 1) + 3 * armed_tasks app ≤ cost → AreSinks app cost =
     λ enough. record {
       turns = n - 1;
       reach = omega (arith, reach_enough (n - 1));
@@ -80,10 +80,10 @@ sinks_for app cost accepted costs some =
       turns = turns;
       reach = omega (arith, reach_is turns);
       few = omega arith;
-      enough = omega (arith, is, few_tries (suc turns) (armed_tasks app) (omega arith) few);
+      enough = omega (arith, is, few_tries (suc turns) (armed_tasks app) (omega arith) (omega arith) few);
     }
 
 -- where none is due the section is shorter than any cost
-pub idle_enough : (app : App) (cost : ℕ) → IsSectionCost app cost → 16 ≤ cost
+pub idle_enough : (app : App) (cost : ℕ) → IsSectionCost app cost → 64 ≤ cost
 idle_enough app cost (inl is) = omega (arith, is)
 idle_enough app cost (inr (digits, below, is)) = omega (arith, is)

@@ -1,15 +1,11 @@
--- The 24 slots of the code for the timer queue as a list of words, with the slots before and behind them: a write into
--- one of them is a write into the list, and that computes.
-use Rattle.std.proofs.Common.{◌≡◌, ◌≢◌, ◌⊎◌, ℕ, zero, suc, ◌+◌, ◌-◌, ◌<◌, ◌≤◌, ◌==◌, ◌&&◌, nat_lt, not, Bool, true}
-use Rattle.std.proofs.Common.{List, [], ◌∷◌, ◌++◌, length, take, drop, slice_index, slice_set}
-use Rattle.std.proofs.Common.{refl, sym, ap, subst, ◌∙◌, arith, inl, inr, get_or-set_other, drop-cons}
-use Rattle.std.specs.List.{AllByRecursion}
-use Rattle.std.proofs.lemmas.List.{get_or-append-add, get_or_append_left, set-append_left, set-append_right}
-use Rattle.std.proofs.lemmas.List.{length-append, length-take-le, take-append-drop}
-use Rattle.std.proofs.lemmas.Bool.{ltb-true, false≢true}
-use Rattle.rt_lemmas.proofs.Bools.{and_left, and_right}
-use Rattle.rt_code.specs.Owning.{Held, saved_slots}
-use Rattle.rt_code.specs.Standing.{KeepsSaved}
+-- The 24 slots of the code for the timer queue as named words. The mask is kept in the tenth.
+use Rattle.std.proofs.Common.{◌≡◌, ℕ, zero, suc, ◌+◌, ◌<◌, ◌≤◌, List, [], ◌∷◌, ◌++◌, length, take, drop, slice_index}
+use Rattle.std.proofs.Common.{sym, ap, ◌∙◌, arith, drop-cons}
+use Rattle.std.proofs.lemmas.List.{length-take-le, take-append-drop}
+use Rattle.rt_gen_queue.proofs.Layer.{Frame, window}
+
+abbrev pub Slots : Type 0
+Slots = Frame 24 9
 
 -- what is in the 24 slots
 pub record Words : Type 0 where
@@ -97,78 +93,6 @@ turning w s place instant arming = record w {
   equal = s.equal;
 }
 
--- the slots before the window, from whose end on its own are numbered, and those behind it
-pub record Frame : Type 0 where
-  pub slot : ℕ
-  pub front : List ℕ
-  pub back : List ℕ
-  pub behind : slot ≡ length front
-
--- all slots, with these words in the window
-abbrev pub window : Frame → List ℕ → List ℕ
-window f ws = f.front ++ (ws ++ f.back)
-
--- a slot of the window
-abbrev pub is_there : ℕ → Bool
-is_there d = nat_lt d 24
-
--- one of them that keeps no mask
-abbrev pub is_free : ℕ → Bool
-is_free d = nat_lt d 24 && not (d == 9)
-
--- a free slot's number is below 24
-pub free_there : (d : ℕ) → is_free d ≡ true → d < 24
-free_there d free = ltb-true d 24 (and_left (nat_lt d 24) (not (d == 9)) free)
-
--- and is not the mask's
-free_other : (d : ℕ) → is_free d ≡ true → d ≢ 9
-free_other d free same =
-    let e : not (9 == 9) ≡ true =
-    subst (λ (k : ℕ). not (k == 9) ≡ true) same (and_right (nat_lt d 24) (not (d == 9)) free) in
-    false≢true e
-
--- what a slot of the window holds
-pub window_read : (f : Frame) (ws : List ℕ) (d : ℕ) → d < length ws
-    → slice_index (window f ws) (f.slot + d) ≡ slice_index ws d
-window_read f ws d there =
-    ap (λ k. slice_index (window f ws) (k + d)) f.behind ∙ get_or-append-add f.front (ws ++ f.back) d 0
-    ∙ get_or_append_left ws f.back 0 d there
-
--- a write into a slot of the window
-pub window_set : (f : Frame) (ws : List ℕ) (d v : ℕ) → d < length ws
-    → slice_set (window f ws) (f.slot + d) v ≡ window f (slice_set ws d v)
-window_set f ws d v there =
-    let from : length f.front ≤ f.slot + d = omega (arith, f.behind) in
-    let e : f.slot + d - length f.front ≡ d = omega (arith, f.behind) in
-    set-append_right f.front (ws ++ f.back) (length f.front) (f.slot + d) v refl from
-    ∙ ap (λ k. f.front ++ slice_set (ws ++ f.back) k v) e
-    ∙ ap (λ (ys : List ℕ). f.front ++ ys) (set-append_left ws f.back d v there)
-
--- the slots of the window are there
-pub window_there : (f : Frame) (ws : List ℕ) (d : ℕ) → d < length ws → f.slot + d < length (window f ws)
-window_there f ws d there =
-    omega (arith, f.behind, length-append f.front (ws ++ f.back), length-append ws f.back)
-
--- Of the open sections at most one keeps a mask in the window, and in the slot that is for it.
-abbrev pub Saves : Frame → List Held → Type 0
-Saves f held = AllByRecursion (λ e. (e < f.slot) ⊎ (e ≡ f.slot + 9)) (saved_slots held)
-
--- another slot is written than those that masks are kept in
-kept_all : (saved slots : List ℕ) (slot d v : ℕ) → d ≢ 9 → AllByRecursion (λ e. (e < slot) ⊎ (e ≡ slot + 9)) saved
-    → AllByRecursion (λ e. slice_index (slice_set slots (slot + d) v) e ≡ slice_index slots e) saved
-kept_all [] slots slot d v other saves = tt
-kept_all (e ∷ saved) slots slot d v other (first, rest) =
-    (get_or-set_other slots (slot + d) e v 0 (differ e first), kept_all saved slots slot d v other rest)
-  where
-    differ : (e : ℕ) → (e < slot) ⊎ (e ≡ slot + 9) → e ≢ slot + d
-    differ e (inl less) = omega arith
-    differ e (inr is) = omega (arith, other)
-
--- a write into a free slot keeps what sections saved
-pub window_kept : (f : Frame) (held : List Held) (slots : List ℕ) (d v : ℕ) → is_free d ≡ true → Saves f held
-    → KeepsSaved held slots (slice_set slots (f.slot + d) v)
-window_kept f held slots d v free saves = kept_all (saved_slots held) slots f.slot d v (free_other d free) saves
-
 -- the words from a slot on
 abbrev pub words_of : ℕ → List ℕ → Words
 words_of slot slots = record {
@@ -199,12 +123,12 @@ words_of slot slots = record {
 }
 
 -- what is before and behind them
-abbrev pub frame_of : (slot : ℕ) (slots : List ℕ) → slot + 24 ≤ length slots → Frame
+abbrev pub frame_of : (slot : ℕ) (slots : List ℕ) → slot + 24 ≤ length slots → Slots
 frame_of slot slots long = record {
   slot = slot;
   front = take slot slots;
   back = drop (slot + 24) slots;
-  behind = sym (length-take-le slot slots (omega arith));
+  begins = sym (length-take-le slot slots (omega arith));
 }
 
 -- so many words from a slot on
@@ -213,7 +137,7 @@ reads slots slot d zero = []
 reads slots slot d (suc n) = slice_index slots (slot + d) ∷ reads slots slot (d + 1) n
 
 -- words that are read one by one are the list
-read_off : (n d slot : ℕ) (slots : List ℕ) → slot + d + n ≤ length slots
+pub read_off : (n d slot : ℕ) (slots : List ℕ) → slot + d + n ≤ length slots
     → drop (slot + d) slots ≡ reads slots slot d n ++ drop (slot + d + n) slots
 read_off zero d slot slots long = let e : slot + d ≡ slot + d + 0 = omega arith in ap (λ k. drop k slots) e
 read_off (suc n) d slot slots long =

@@ -67,7 +67,8 @@ impl Emitter {
         lines.append(&self.due(level, at + IDLE_OFFSET, at + DUE_OFFSET))?;
         lines.append(&self.alarm(at + IDLE_OFFSET))?;
         lines.append(&self.idle(level))?;
-        self.push_remove(at + (DUE_OFFSET + 1), lines)
+        self.push_remove(at + (DUE_OFFSET + 1), lines)?;
+        Ok(())
     }
 
     /// The lines that make the word of the message whose row is in a slot and fire it, or lead to an address where it

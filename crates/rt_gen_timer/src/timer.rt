@@ -117,7 +117,8 @@ fn generate(
     let emitter = emitter_of(plan, rows, 0, entry)?;
     emitter.push_front(level, entry, lines)?;
     push_tasks(plan, rows, &emitter, level, entry, lines)?;
-    lines.push(Instr::Jump(entry + IDLE_OFFSET))
+    lines.push(Instr::Jump(entry + IDLE_OFFSET))?;
+    Ok(())
 }
 
 /// Appends the code of the timer handler to code, and answers the address where it begins. Its lines name only what the

@@ -17,7 +17,7 @@ pub returns-in-Some-task : goal.returns-in-Some-task
 returns-in-Some-task c =
     let there = task_found c.args.plan.now.app.now c.in-Task.number c.in-Some-task.task.now c.in-Some-task.ensures in
     subst (λ lines. OnOk c.blocks-in-Some-task.result (Appends c.args.lines.now c.blocks-in-Some-task.new.lines lines))
-    (task_code c.args.plan.now.app.now c.args.guards.now c.args.id c.in-Task.number c.in-Some-task.task.now
+    (task_code c.args.plan.now.app.now c.args.guards.now c.args.id c.in-Some-task.task.now
     (next_address c.args.lines.now) c.requires.guards c.in-Task.is there)
     c.blocks-in-Some-task.ensures
 

@@ -1,47 +1,50 @@
-use Rattle.std.proofs.Common.{List, ◌++◌, if◌then◌else◌, length, ap, ◌∙◌}
-use Rattle.std.specs.Prelude.{is_ok}
+use Rattle.std.proofs.Common.{◌≡◌, ℕ, ◌+◌, ◌++◌, List, length, take, drop, ap, sym, subst, ◌∙◌, arith, length-append}
+use Rattle.std.specs.List.{AllByRecursion}
+use Rattle.std.proofs.lemmas.List.{take_at, drop_at}
+use Rattle.rt_app.specs.Bodies.{member_at}
+use Rattle.rt_app.specs.Names.{names_of}
 use Rattle.rt_app.specs.View.{app_of}
-use Rattle.rt_gen_queue.specs.Line.{Line}
-use Rattle.rt_gen_body.proofs.Appended.{appended_named, appended_formed, appended_short, appended_stands}
+use Rattle.rt_gen_queue.specs.Line.{Line, IsNameable}
+use Rattle.rt_gen_queue.proofs.Nameable.{nameable}
+use Rattle.rt_gen_body.specs.Form.{HasForm}
+use Rattle.rt_gen_body.specs.Inside.Whole.{code_of}
+use Rattle.rt_gen_body.proofs.Forms.{code_formed}
+use Rattle.rt_gen_body.proofs.Generated.{generated_stands}
+use Rattle.rt_gen_body.proofs.Nameable.{code_claimed}
+use Rattle.rt_gen_body.proofs.Sizes.{code_short}
 use Rattle.rt_gen_body.proofs.body.gen_body.Goals as goal
 
-pub returns-clause-lines : goal.returns-clause-lines
-returns-clause-lines c =
-    appended_named (app_of c.args.plan.now.app.now) c.requires.accepted c.args.id c.args.code.now.items
-    c.extend_from_slice.new.self.items c.as_slice.result.now c.new-lines.result c.generate.new.lines c.in_ok-entry.entry
-    (c.in_ok-entry.ensures ∙ ap (λ (l : List Line). length l) c.deref.ensures.value) c.new-lines.ensures
-    c.in_ok-generate.ensures c.as_slice.ensures
-    (c.extend_from_slice.ensures.items
-    ∙ ap (λ r. if is_ok r then c.args.code.now.items ++ c.as_slice.result.now else c.args.code.now.items)
-    c.in_ok-extend_from_slice.was)
-
-pub returns-clause-form : goal.returns-clause-form
-returns-clause-form c =
-    appended_formed (app_of c.args.plan.now.app.now) c.requires.accepted c.args.id c.args.code.now.items
-    c.extend_from_slice.new.self.items c.as_slice.result.now c.new-lines.result c.generate.new.lines c.in_ok-entry.entry
-    (c.in_ok-entry.ensures ∙ ap (λ (l : List Line). length l) c.deref.ensures.value) c.new-lines.ensures
-    c.in_ok-generate.ensures c.as_slice.ensures
-    (c.extend_from_slice.ensures.items
-    ∙ ap (λ r. if is_ok r then c.args.code.now.items ++ c.as_slice.result.now else c.args.code.now.items)
-    c.in_ok-extend_from_slice.was)
-
-pub returns-clause-size : goal.returns-clause-size
-returns-clause-size c =
-    appended_short (app_of c.args.plan.now.app.now) c.requires.accepted c.args.id c.args.code.now.items
-    c.extend_from_slice.new.self.items c.as_slice.result.now c.new-lines.result c.generate.new.lines c.in_ok-entry.entry
-    (c.in_ok-entry.ensures ∙ ap (λ (l : List Line). length l) c.deref.ensures.value) c.new-lines.ensures
-    c.in_ok-generate.ensures c.as_slice.ensures
-    (c.extend_from_slice.ensures.items
-    ∙ ap (λ r. if is_ok r then c.args.code.now.items ++ c.as_slice.result.now else c.args.code.now.items)
-    c.in_ok-extend_from_slice.was)
-
-pub returns-clause-stands : goal.returns-clause-stands
-returns-clause-stands c =
-    appended_stands (app_of c.args.plan.now.app.now) c.requires.accepted c.args.id c.args.code.now.items
-    c.extend_from_slice.new.self.items c.as_slice.result.now c.new-lines.result c.generate.new.lines c.in_ok-entry.entry
-    (c.in_ok-entry.ensures ∙ ap (λ (l : List Line). length l) c.deref.ensures.value) c.new-lines.ensures
-    c.in_ok-generate.ensures c.as_slice.ensures
-    (c.extend_from_slice.ensures.items
-    ∙ ap (λ r. if is_ok r then c.args.code.now.items ++ c.as_slice.result.now else c.args.code.now.items)
-    c.in_ok-extend_from_slice.was)
-    c.requires.of_app
+pub returns : goal.returns
+returns c =
+    let app = app_of c.args.plan.now.app.now in
+    let old : List Line = c.args.code.now.items in
+    let entry : ℕ = c.in_ok-entry.entry in
+    let code : List Line = code_of app c.args.id (member_at app c.args.id) entry in
+    let begins : entry ≡ length old = c.in_ok-entry.ensures ∙ ap (λ (l : List Line). length l) c.deref.ensures.value in
+    let none : entry + 0 ≡ entry = omega arith in
+    let is : c.extend_from_slice.new.self.items ≡ old ++ code =
+    rw (
+      c.extend_from_slice.ensures.items,
+      c.in_ok-extend_from_slice.was,
+      c.as_slice.ensures,
+      c.in_ok-generate.ensures,
+      c.new-lines.ensures,
+      none,
+    ) in
+    let behind : drop entry c.extend_from_slice.new.self.items ≡ code =
+    ap (drop entry) is ∙ drop_at old code entry (sym begins) in
+    record {
+      entry = begins;
+      kept = ap (take entry) is ∙ take_at old code entry (sym begins);
+      lines = subst (AllByRecursion (IsNameable (names_of app))) (sym behind)
+          (nameable (names_of app) code (code_claimed app c.requires.accepted c.args.id entry));
+      form = subst (HasForm app c.args.id entry) (sym behind) (code_formed app c.args.id entry);
+      size = omega (
+        arith,
+        ap (λ (ls : List Line). length ls) is,
+        length-append old code,
+        code_short app c.requires.accepted c.args.id entry,
+      );
+      stands = rw (is, begins) (generated_stands c.requires.accepted old c.args.id c.requires.of_app);
+      left = tt;
+    }

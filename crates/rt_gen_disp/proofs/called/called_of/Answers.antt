@@ -7,10 +7,11 @@ use Rattle.rt_gen_disp.proofs.called.called_of.Goals as goal
 
 pub of-requires-clause-greatest : goal.of-requires-clause-greatest
 of-requires-clause-greatest c =
-    top_small c.args.plan.now c.args.number (task_of c.args.task.now) c.requires.accepted c.requires.planned
-    c.requires.task c.requires.software c.plan.inside.0.0.now.bits c.deref-3.result.now c.free_ceiling.result
-    (ap (λ (p : Plan). p.app.now.bits) c.plan.view_is)
-    (c.deref-3.ensures.value ∙ ap (λ (p : Plan). p.ceil.free) c.plan.view_is) c.free_ceiling.ensures
+    let bits = ap (λ (p : Plan). p.app.now.bits) c.plan.view_is in
+    let tops = c.deref-3.ensures.value ∙ ap (λ (p : Plan). p.ceil.free) c.plan.view_is in
+    rw (c.free_ceiling.ensures, bits, tops)
+    (top_small c.args.plan.now c.args.number (task_of c.args.task.now) c.requires.accepted c.requires.planned
+    c.requires.task c.requires.software)
 
 pub returns-clause-few : goal.returns-clause-few
 returns-clause-few c =
@@ -19,13 +20,19 @@ returns-clause-few c =
 
 pub returns-clause-is : goal.returns-clause-is
 returns-clause-is c =
-    called_made c.args.plan.now c.args.number c.args.row (task_of c.args.task.now) c.requires.accepted
-    c.requires.planned c.requires.task c.requires.software c.plan.inside.0.0.now.bits c.deref.result.now
-    c.deref-2.result.now c.deref-3.result.now c.cell_at-free.result c.cell_at-inputs.result c.free_ceiling.result
-    c.of.result
-    (ap (λ (p : Plan). p.app.now.bits) c.plan.view_is)
-    (c.deref.ensures.value ∙ ap (λ (p : Plan). p.lay.free) c.plan.view_is)
-    (c.deref-2.ensures.value ∙ ap (λ (p : Plan). p.lay.inputs) c.plan.view_is)
-    (c.deref-3.ensures.value ∙ ap (λ (p : Plan). p.ceil.free) c.plan.view_is) c.cell_at-free.ensures
-    c.cell_at-inputs.ensures
-    c.free_ceiling.ensures c.of.ensures
+    let bits = ap (λ (p : Plan). p.app.now.bits) c.plan.view_is in
+    let cells = c.deref.ensures.value ∙ ap (λ (p : Plan). p.lay.free) c.plan.view_is in
+    let starts = c.deref-2.ensures.value ∙ ap (λ (p : Plan). p.lay.inputs) c.plan.view_is in
+    let tops = c.deref-3.ensures.value ∙ ap (λ (p : Plan). p.ceil.free) c.plan.view_is in
+    rw (
+      c.cell_at-free.ensures,
+      c.cell_at-inputs.ensures,
+      c.of.ensures,
+      c.free_ceiling.ensures,
+      bits,
+      cells,
+      starts,
+      tops,
+    )
+    (called_made c.args.plan.now c.args.number c.args.row (task_of c.args.task.now) c.requires.accepted
+    c.requires.planned c.requires.task c.requires.software)

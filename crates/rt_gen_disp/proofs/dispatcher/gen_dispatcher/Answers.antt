@@ -1,39 +1,44 @@
-use Rattle.std.proofs.Common.{List, ◌++◌, if◌then◌else◌, length, ap, ◌∙◌}
-use Rattle.std.specs.Prelude.{is_ok}
+use Rattle.std.proofs.Common.{◌≡◌, ◌++◌, List, length, drop, ap, ◌∙◌, sym, subst, arith, length-append}
+use Rattle.std.specs.List.{AllByRecursion}
+use Rattle.std.proofs.lemmas.List.{drop_at}
+use Rattle.rt_app.specs.Names.{names_of}
+use Rattle.rt_app.specs.Tree.{App}
 use Rattle.rt_app.specs.View.{app_of}
-use Rattle.rt_gen_queue.specs.Line.{Line}
-use Rattle.rt_gen_disp.proofs.Appended.{appended_lines, appended_named, appended_short}
+use Rattle.rt_gen_queue.specs.Line.{Line, IsNameable}
+use Rattle.rt_gen_queue.proofs.Named.{dispatcher_named}
+use Rattle.rt_gen_disp.specs.Code.{dispatcher_code}
+use Rattle.rt_gen_disp.proofs.Nameable.{dispatcher_lines_named}
+use Rattle.rt_gen_disp.proofs.Sizes.{dispatcher_short}
 use Rattle.rt_gen_disp.proofs.dispatcher.gen_dispatcher.Goals as goal
+
+abbrev own : goal.After-drop-lines-2 → List Line
+own c = dispatcher_code (app_of c.args.plan.now.app.now) c.args.level c.in_ok-entry.entry
+
+-- the lines were generated into none, and then put behind the code
+appended : (c : goal.After-drop-lines-2) → c.extend_from_slice.new.self.items ≡ c.args.code.now.items ++ own c
+appended c =
+    c.in_ok-extend_from_slice.ensures.items
+    ∙ ap (λ lines. c.args.code.now.items ++ lines)
+    (c.deref-2.ensures.value ∙ c.in_ok-generate.ensures ∙ ap (λ lines. lines ++ own c) c.new-lines.ensures.items)
 
 pub returns-clause-lines : goal.returns-clause-lines
 returns-clause-lines c =
-    appended_lines (app_of c.args.plan.now.app.now) c.requires.accepted c.args.level c.requires.software
-    c.args.code.now.items c.extend_from_slice.new.self.items c.deref-2.result.now c.new-lines.result.items
-    c.generate.new.lines.items c.in_ok-entry.entry
-    (c.in_ok-entry.ensures ∙ ap (λ (l : List Line). length l) c.deref.ensures.value) c.new-lines.ensures.items
-    c.in_ok-generate.ensures c.deref-2.ensures.value
-    (c.extend_from_slice.ensures.items
-    ∙ ap (λ r. if is_ok r then c.args.code.now.items ++ c.deref-2.result.now else c.args.code.now.items)
-    c.in_ok-extend_from_slice.was)
+    let begins = c.in_ok-entry.ensures ∙ ap (λ (l : List Line). length l) c.deref.ensures.value in
+    ap (drop c.in_ok-entry.entry) (appended c) ∙ drop_at c.args.code.now.items (own c) c.in_ok-entry.entry (sym begins)
 
 pub returns-clause-names : goal.returns-clause-names
 returns-clause-names c =
-    appended_named (app_of c.args.plan.now.app.now) c.requires.accepted c.args.level c.requires.software
-    c.args.code.now.items c.extend_from_slice.new.self.items c.deref-2.result.now c.new-lines.result.items
-    c.generate.new.lines.items c.in_ok-entry.entry
-    (c.in_ok-entry.ensures ∙ ap (λ (l : List Line). length l) c.deref.ensures.value) c.new-lines.ensures.items
-    c.in_ok-generate.ensures c.deref-2.ensures.value
-    (c.extend_from_slice.ensures.items
-    ∙ ap (λ r. if is_ok r then c.args.code.now.items ++ c.deref-2.result.now else c.args.code.now.items)
-    c.in_ok-extend_from_slice.was)
+    let app : App = app_of c.args.plan.now.app.now in
+    subst (AllByRecursion (IsNameable (names_of app))) (sym (returns-clause-lines c))
+    (dispatcher_lines_named app c.args.level
+    (dispatcher_named app c.args.level c.requires.accepted c.requires.software) c.in_ok-entry.entry)
 
 pub returns-clause-size : goal.returns-clause-size
 returns-clause-size c =
-    appended_short (app_of c.args.plan.now.app.now) c.requires.accepted c.args.level c.requires.software
-    c.args.code.now.items c.extend_from_slice.new.self.items c.deref-2.result.now c.new-lines.result.items
-    c.generate.new.lines.items c.in_ok-entry.entry
-    (c.in_ok-entry.ensures ∙ ap (λ (l : List Line). length l) c.deref.ensures.value) c.new-lines.ensures.items
-    c.in_ok-generate.ensures c.deref-2.ensures.value
-    (c.extend_from_slice.ensures.items
-    ∙ ap (λ r. if is_ok r then c.args.code.now.items ++ c.deref-2.result.now else c.args.code.now.items)
-    c.in_ok-extend_from_slice.was)
+    omega (
+      arith,
+      ap (λ (l : List Line). length l) (appended c),
+      length-append c.args.code.now.items (own c),
+      dispatcher_short (app_of c.args.plan.now.app.now) c.args.level c.in_ok-entry.entry
+          c.requires.accepted.limits.tasks,
+    )

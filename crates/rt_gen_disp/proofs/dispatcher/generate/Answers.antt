@@ -1,9 +1,12 @@
-use Rattle.std.proofs.Common.{OnOk, ap, ◌∙◌, ◌+◌, ◌≡◌, subst, sym, refl, length, map}
+use Rattle.std.proofs.Common.{OnOk, ℕ, List, map, refl, ap, ◌∙◌, ◌+◌, ◌++◌, ◌≡◌, subst, sym, length, arith}
+use Rattle.std.proofs.Common.{length-append, append_assoc}
+use Rattle.rt_app.specs.Tree.{App}
 use Rattle.rt_app.specs.View.{app_of, task_of}
+use Rattle.rt_gen_queue.specs.Line.{Line}
 use Rattle.rt_gen_queue.specs.Queue.{queue_at}
 use Rattle.rt_gen_queue.specs.declared.queue.ReadyQueue.{ReadyQueue}
-use Rattle.rt_gen_disp.specs.Code.{last_from}
-use Rattle.rt_gen_disp.proofs.Appended.{dispatcher_is}
+use Rattle.rt_gen_disp.specs.Code.{front_lines, choices_code, exit_of, last_from}
+use Rattle.rt_gen_disp.specs.declared.lines.Exit.{Exit}
 use Rattle.rt_gen_disp.proofs.dispatcher.generate.Goals as goal
 
 pub push_choices-requires-clause-queue : goal.push_choices-requires-clause-queue
@@ -13,11 +16,26 @@ push_choices-requires-clause-queue c =
 
 pub returns : goal.returns
 returns c =
+    let app : App = app_of c.args.plan.now.app.now in
+    let old : List Line = c.args.lines.now.items in
+    let own : List Line = front_lines (queue_at app c.args.level) c.args.entry in
+    let here : c.in_ok-at.at ≡ c.args.entry =
+    omega (arith, c.in_ok-at.ensures.at, ap (λ (l : List Line). length l) c.deref.ensures.value, c.requires.empty) in
+    let behind : c.args.entry + length (old ++ own) ≡ c.args.entry + 18 =
+    omega (arith, c.requires.empty, length-append old own) in
+    let last = c.last_of-last.ensures
+    ∙ ap (λ ts. last_from c.args.level 0 0 (map task_of ts)) c.deref-2.ensures.value in
+    let exit : Exit = record { address = c.in_ok-at.at + 4; last = c.last_of-last.result } in
+    let exits : exit ≡ exit_of app c.args.level c.args.entry = rw (here, last) refl in
+    let front = c.in_ok-push_front.ensures
+    ∙ ap (λ (q : ReadyQueue). old ++ front_lines q c.in_ok-at.at) c.queue_of-queue.ensures
+    ∙ ap (λ a. old ++ front_lines (queue_at app c.args.level) a) here in
+    let first : List Line = c.push_front.new.lines.items in
+    let rest : ℕ → Exit → ℕ → List Line = λ level x at. choices_code app level x at 0 0 app.tasks in
     subst (λ lines. OnOk c.push_choices.result (c.push_choices.new.lines.items ≡ lines))
-    (dispatcher_is (app_of c.args.plan.now.app.now) c.args.level c.args.entry c.in_ok-at.at
-    (record { address = c.in_ok-at.at + 4; last = c.last_of-last.result }) c.queue_of-queue.result
-    c.args.lines.now.items c.push_front.new.lines.items c.queue_of-queue.ensures c.requires.empty
-    (c.in_ok-at.ensures.at ∙ ap (λ lines. c.args.entry + length lines) c.deref.ensures.value)
-    c.in_ok-push_front.ensures refl
-    (c.last_of-last.ensures ∙ ap (λ ts. last_from c.args.level 0 0 (map task_of ts)) c.deref-2.ensures.value))
+    (ap (λ (q : ReadyQueue). first ++ rest q.level exit (c.args.entry + length first)) c.queue_of-queue.ensures
+    ∙ ap (λ ls. ls ++ rest c.args.level exit (c.args.entry + length ls)) front
+    ∙ ap (λ a. (old ++ own) ++ rest c.args.level exit a) behind
+    ∙ ap (λ x. (old ++ own) ++ rest c.args.level x (c.args.entry + 18)) exits
+    ∙ append_assoc old own (rest c.args.level (exit_of app c.args.level c.args.entry) (c.args.entry + 18)))
     c.push_choices.ensures

@@ -1,7 +1,9 @@
-use Rattle.std.proofs.Common.{◌≡◌, sym, ap, ◌∙◌, if◌then◌else◌}
+use Rattle.std.proofs.Common.{◌≡◌, sym, ap, ◌∙◌, ◌+◌, if◌then◌else◌, map, drop}
+use Rattle.std.proofs.lemmas.List.{drop_all}
 use Rattle.rt_app.specs.Level.{is_of_level}
 use Rattle.rt_app.specs.View.{task_of}
-use Rattle.rt_gen_disp.proofs.Appended.{last_next}
+use Rattle.rt_gen_disp.specs.Code.{last_from}
+use Rattle.rt_gen_disp.proofs.Generated.{tasks_left}
 use Rattle.rt_gen_disp.proofs.dispatcher.last_of.Goals as goal
 use Rattle.rt_gen_disp.proofs.dispatcher.last_of.Goals.{then-is_of_level, else-is_of_level}
 
@@ -11,15 +13,18 @@ loop-number-preserved c =
     ≡ (if is_of_level c.args.level (task_of c.index-tasks-number.result) then c.loop-number.number
     else c.loop-number.last) =
     elim c.if-is_of_level.branch [
-      | then-is_of_level w ↦
-          w.last-is
-          ∙ sym (ap (λ b. if b then c.loop-number.number else c.loop-number.last)
-          (sym c.is_of_level.ensures ∙ w.if-is_of_level.true))
-      | else-is_of_level w ↦
-          w.last-is
-          ∙ sym (ap (λ b. if b then c.loop-number.number else c.loop-number.last)
-          (sym c.is_of_level.ensures ∙ w.if-is_of_level.false))
+      | then-is_of_level w ↦ w.last-is ∙ rw (sym c.is_of_level.ensures ∙ w.if-is_of_level.true)
+      | else-is_of_level w ↦ w.last-is ∙ rw (sym c.is_of_level.ensures ∙ w.if-is_of_level.false)
     ] in
-    chosen
-    ∙ last_next c.args.level c.args.tasks.now c.loop-number.number c.loop-number.last c.index-tasks-number.result
-    c.loop-number-test.true c.index-tasks-number.is c.loop-number.invariant
+    c.loop-number.invariant
+    ∙ ap (last_from c.args.level c.loop-number.last c.loop-number.number)
+    (tasks_left c.args.tasks.now c.loop-number.number c.index-tasks-number.result c.loop-number-test.true
+    c.index-tasks-number.is)
+    ∙ ap (λ k. last_from c.args.level k (c.loop-number.number + 1)
+    (map task_of (drop (c.loop-number.number + 1) c.args.tasks.now))) (sym chosen)
+
+pub returns : goal.returns
+returns c =
+    sym (c.loop-number.invariant
+    ∙ ap (λ ts. last_from c.args.level c.loop-number.last c.loop-number.number (map task_of ts))
+    (drop_all c.loop-number.number c.args.tasks.now c.loop-number-test.false))

@@ -1,31 +1,28 @@
-use Rattle.std.proofs.Common.{arith, refl, ap, ◌∙◌, ◌+◌}
-use Rattle.std.specs.Int.{from_bool}
+use Rattle.std.proofs.Common.{arith, ◌∙◌, sym, refl}
+use Rattle.std.proofs.lemmas.List.{append-nil, drop_all}
 use Rattle.rt_app.specs.View.{app_of}
-use Rattle.rt_gen_disp.proofs.Appended.{choices_next, row_next, choices_none, choices_all}
+use Rattle.rt_gen_disp.proofs.Generated.{choices_next, at_most_one}
 use Rattle.rt_gen_disp.proofs.dispatcher.push_choices.Goals as goal
 
 pub loop-number-init : goal.loop-number-init
-loop-number-init c = record {
-  lines = choices_none (app_of c.args.plan.now.app.now) c.args.queue.now.level c.args.exit c.args.entry
-      c.args.lines.now.items;
-  row = refl;
-}
+loop-number-init c = record { lines = refl; row = omega arith }
 
 pub loop-number-preserved : goal.loop-number-preserved
 loop-number-preserved c = record {
   lines =
-      choices_next c.args.plan.now.app.now c.args.queue.now.level c.args.exit c.args.entry c.loop-number.number
-      c.loop-number.row
-      c.index-task.result.now c.args.lines.now.items c.loop-number.lines.items c.push_task.new.lines.items (omega arith)
-      c.index-task.ensures c.loop-number.invariant.lines c.loop-number.invariant.row c.in_ok-push_task.ensures;
-  row =
-      ap (λ more. c.loop-number.row + more) (c.from-row.ensures ∙ ap from_bool c.is_software.ensures)
-      ∙ row_next c.args.plan.now.app.now.tasks.items c.loop-number.number c.loop-number.row c.index-task.result.now
-      (omega arith) c.index-task.ensures c.loop-number.invariant.row;
+      c.loop-number.invariant.lines
+      ∙ choices_next (record {
+        app = app_of c.args.plan.now.app.now;
+        level = c.args.queue.now.level;
+        exit = c.args.exit;
+        entry = c.args.entry;
+      }) c.args.plan.now.app.now.tasks.items c.loop-number.lines.items c.loop-number.row (omega arith)
+      c.index-task.ensures
+      ∙ rw (c.in_ok-push_task.ensures, c.from-row.ensures, c.is_software.ensures) refl;
+  row = omega (arith, at_most_one c.is_software.result);
 }
 
 pub returns : goal.returns
 returns c =
-    choices_all c.args.plan.now.app.now c.args.queue.now.level c.args.exit c.args.entry c.loop-number.number
-    c.args.lines.now.items
-    c.loop-number.lines.items (omega arith) c.loop-number.invariant.lines
+    let none = drop_all c.loop-number.number c.args.plan.now.app.now.tasks.items (omega arith) in
+    sym (c.loop-number.invariant.lines ∙ rw (none, append-nil) refl)

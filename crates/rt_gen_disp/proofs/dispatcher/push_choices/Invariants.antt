@@ -1,16 +1,18 @@
--- The lines of the tasks so far, and the row behind theirs.
-use Rattle.std.proofs.Common.{◌≡◌, ◌+◌, ◌++◌, length, map, take}
-use Rattle.std.specs.Prelude.{count_by}
-use Rattle.rt_app.specs.Level.{is_software}
+-- The lines so far and those of the tasks that are left are all; a software task's row is not above its number.
+use Rattle.std.proofs.Common.{◌≡◌, ◌≤◌, ℕ, List, map, drop}
+use Rattle.rt_app.specs.Tree.{Task}
 use Rattle.rt_app.specs.View.{task_of, app_of}
-use Rattle.rt_gen_disp.specs.Code.{choices_code}
+use Rattle.rt_gen_queue.specs.Line.{Line}
+use Rattle.rt_gen_disp.proofs.Generated.{with_rest}
 use Rattle.rt_gen_disp.proofs.dispatcher.push_choices.Given as goal
 
 abbrev pub invariant-loop-number : goal.invariant-loop-number
-invariant-loop-number l = record {
-  lines :
-      l.lines.items ≡ l.fn.lines.items
-      ++ choices_code (app_of l.plan.app.now) l.queue.level l.exit (l.entry + length l.fn.lines.items) 0 0
-      (map task_of (take l.number l.plan.app.now.tasks.items));
-  row : l.row ≡ count_by is_software (map task_of (take l.number l.plan.app.now.tasks.items));
-}
+invariant-loop-number l =
+    let lines : List Line → ℕ → ℕ → List Task → List Line =
+    with_rest (record { app = app_of l.plan.app.now; level = l.queue.level; exit = l.exit; entry = l.entry }) in
+    record {
+      lines :
+          lines l.fn.lines.items 0 0 (map task_of l.plan.app.now.tasks.items)
+          ≡ lines l.lines.items l.number l.row (map task_of (drop l.number l.plan.app.now.tasks.items));
+      row : l.row ≤ l.number;
+    }

@@ -1,5 +1,6 @@
-use Rattle.std.proofs.Common.{arith}
-use Rattle.rt_gen_queue.proofs.Rooms.{room_more}
+use Rattle.std.proofs.Common.{◌+◌, drop, ap, arith}
+use Rattle.rt_lemmas.proofs.Lists.{drop_as_cons}
+use Rattle.rt_gen_queue.proofs.Rooms.{room_of, room_first}
 use Rattle.rt_gen_queue.proofs.queue.ready_room.Goals as goal
 
 pub loop-task-preserved : goal.loop-task-preserved
@@ -8,8 +9,9 @@ loop-task-preserved c = (
     arith,
     c.loop-task.invariant.0,
     c.capacity_at-room.ensures.is,
-    room_more c.args.level c.args.tasks.now c.loop-task.task-index c.task-item.result c.loop-task-test.true
-        c.task-item.is,
+    ap (room_of c.args.level) (drop_as_cons c.args.tasks.now c.loop-task.task-index c.task-item.result
+        c.loop-task-test.true c.task-item.is),
+    room_first c.args.level c.task-item.result (drop (c.loop-task.task-index + 1) c.args.tasks.now),
   ),
   omega (arith, c.loop-task.invariant.1, c.capacity_at-room.ensures.few),
 )

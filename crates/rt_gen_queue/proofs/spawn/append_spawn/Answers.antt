@@ -1,9 +1,21 @@
-use Rattle.rt_gen_queue.proofs.Appending.{spawn_appended}
+use Rattle.std.proofs.Common.{◌≡◌, ℕ, ◌+◌, ◌-◌, arith}
+use Rattle.rt_gen_queue.proofs.Appending.{four_appended}
 use Rattle.rt_gen_queue.proofs.spawn.append_spawn.Goals as goal
 
 pub returns : goal.returns
 returns c =
-    spawn_appended c.args.target.now c.args.level c.args.slot c.args.entry c.in_ok-end.end c.args.lines.now
-    c.append.new.self c.fill.new.lines c.append-2.new.self c.append-3.new.self c.take.result c.ready.result
-    c.answer.result c.in_ok-end.ensures c.take.ensures c.ready.ensures c.answer.ensures c.in_ok-append.ensures
-    c.in_ok-fill.ensures c.in_ok-append-2.ensures c.in_ok-append-3.ensures
+    let full : ℕ = c.args.entry + (26 + c.args.target.now.args) in
+    let first : c.in_ok-end.end - 2 ≡ full = omega (arith, c.in_ok-end.ensures) in
+    let last : c.in_ok-end.end ≡ full + 2 = omega (arith, c.in_ok-end.ensures) in
+    rw (
+      c.in_ok-append-3.ensures,
+      c.in_ok-append-2.ensures,
+      c.in_ok-fill.ensures,
+      c.in_ok-append.ensures,
+      c.answer.ensures,
+      c.ready.ensures,
+      c.take.ensures,
+      first,
+      last,
+      four_appended,
+    )

@@ -7,10 +7,11 @@ use Rattle.rt_gen_queue.proofs.target.target_of.Goals as goal
 
 pub of-requires-clause-greatest : goal.of-requires-clause-greatest
 of-requires-clause-greatest c =
-    top_small c.args.plan.now c.args.task (task_of c.args.declared.now) c.requires.accepted c.requires.planned
-    c.requires.is_there c.requires.software c.plan.inside.0.0.now.bits c.deref-3.result.now c.free_ceiling.result
-    (ap (λ (p : Plan). p.app.now.bits) c.plan.view_is)
-    (c.deref-3.ensures.value ∙ ap (λ (p : Plan). p.ceil.free) c.plan.view_is) c.free_ceiling.ensures
+    let bits = ap (λ (p : Plan). p.app.now.bits) c.plan.view_is in
+    let tops = c.deref-3.ensures.value ∙ ap (λ (p : Plan). p.ceil.free) c.plan.view_is in
+    rw (c.free_ceiling.ensures, bits, tops)
+    (top_small c.args.plan.now c.args.task (task_of c.args.declared.now) c.requires.accepted c.requires.planned
+    c.requires.is_there c.requires.software)
 
 pub queue_of-requires-clause-software : goal.queue_of-requires-clause-software
 queue_of-requires-clause-software c =
@@ -20,16 +21,25 @@ queue_of-requires-clause-software c =
 
 pub returns-clause-is : goal.returns-clause-is
 returns-clause-is c =
-    target_made c.args.plan.now c.args.task (task_of c.args.declared.now) c.requires.accepted c.requires.planned
-    c.requires.is_there c.requires.software c.plan.inside.0.0.now.bits c.deref.result.now c.deref-2.result.now
-    c.deref-3.result.now _ c.cell_at-free.result c.cell_at-inputs.result c.free_ceiling.result c.of.result
-    c.queue_of.result
-    (ap (λ (p : Plan). p.app.now.bits) c.plan.view_is)
-    (c.deref.ensures.value ∙ ap (λ (p : Plan). p.lay.free) c.plan.view_is)
-    (c.deref-2.ensures.value ∙ ap (λ (p : Plan). p.lay.inputs) c.plan.view_is)
-    (c.deref-3.ensures.value ∙ ap (λ (p : Plan). p.ceil.free) c.plan.view_is)
-    (c.from-place.ensures ∙ c.task.view_is) c.cell_at-free.ensures c.cell_at-inputs.ensures c.free_ceiling.ensures
-    c.of.ensures c.queue_of.ensures
+    let bits = ap (λ (p : Plan). p.app.now.bits) c.plan.view_is in
+    let cells = c.deref.ensures.value ∙ ap (λ (p : Plan). p.lay.free) c.plan.view_is in
+    let starts = c.deref-2.ensures.value ∙ ap (λ (p : Plan). p.lay.inputs) c.plan.view_is in
+    let tops = c.deref-3.ensures.value ∙ ap (λ (p : Plan). p.ceil.free) c.plan.view_is in
+    let at = c.from-place.ensures ∙ c.task.view_is in
+    rw (
+      c.cell_at-free.ensures,
+      c.cell_at-inputs.ensures,
+      c.of.ensures,
+      c.free_ceiling.ensures,
+      c.queue_of.ensures,
+      bits,
+      cells,
+      starts,
+      tops,
+      at,
+    )
+    (target_made c.args.plan.now c.args.task (task_of c.args.declared.now) c.requires.accepted c.requires.planned
+    c.requires.is_there c.requires.software)
 
 pub returns-clause-few : goal.returns-clause-few
 returns-clause-few c =

@@ -1,55 +1,40 @@
-use Rattle.std.proofs.Common.{◌++◌, if◌then◌else◌, ap, ◌∙◌, arith}
-use Rattle.std.specs.Prelude.{is_ok}
-use Rattle.rt_app.specs.declared.costs.TheConstants.{SPAWN_AFTER_COST}
+use Rattle.std.proofs.Common.{◌≡◌, ◌++◌, arith, length, ap, length-append, List}
 use Rattle.rt_app.specs.Names.{names_of}
 use Rattle.rt_app.specs.View.{app_of}
-use Rattle.rt_gen_queue.specs.Line.{IsNameable}
-use Rattle.rt_gen_timer.specs.TimerLines as lines
+use Rattle.rt_gen_queue.specs.Line.{Line}
+use Rattle.rt_gen_queue.proofs.Nameable.{named_behind}
+use Rattle.rt_gen_queue.proofs.Named.{spawned}
+use Rattle.rt_gen_timer.specs.TimerLines.{after_lines}
 use Rattle.rt_gen_timer.specs.TimerCode.{after_code}
-use Rattle.rt_gen_timer.proofs.Generated.{generated, longer, behind_front, spawned, timer_named, after_short}
-use Rattle.rt_gen_timer.proofs.Named.{after_named}
+use Rattle.rt_gen_timer.proofs.Generated.{timer_named, after_short}
+use Rattle.rt_gen_timer.proofs.Named.{after_claimed}
 use Rattle.rt_gen_timer.proofs.generate.gen_after.Goals as goal
 
-pub returns-clause-code : goal.returns-clause-code
-returns-clause-code c =
-    generated (app_of c.args.plan.now.app.now) c.args.task c.args.slot
-    (λ q s a. lines.after_lines q s c.args.level a c.args.entry) c.in_ok-emitter.emitter
-    c.armed_of.result c.new-lines.result c.push_after.new.lines c.args.code.now.items c.extend_from_slice.new.self.items
-    c.as_slice.result.now c.in_ok-emitter.ensures.queue c.in_ok-emitter.ensures.slot c.armed_of.ensures.is
-    c.new-lines.ensures c.in_ok-push_after.ensures c.as_slice.ensures
-    (c.extend_from_slice.ensures.items
-    ∙ ap (λ r. if is_ok r then c.args.code.now.items ++ c.as_slice.result.now else c.args.code.now.items)
-    c.in_ok-extend_from_slice.was)
-
-pub returns-clause-size : goal.returns-clause-size
-returns-clause-size c =
-    let task = spawned (app_of c.args.plan.now.app.now) c.args.task c.requires.accepted c.requires.software in
-    longer c.args.code.now.items c.extend_from_slice.new.self.items
-    (after_code (app_of c.args.plan.now.app.now) c.args.task c.args.level c.args.slot c.args.entry) SPAWN_AFTER_COST
-    (generated (app_of c.args.plan.now.app.now) c.args.task c.args.slot
-    (λ q s a. lines.after_lines q s c.args.level a c.args.entry) c.in_ok-emitter.emitter
-    c.armed_of.result c.new-lines.result c.push_after.new.lines c.args.code.now.items c.extend_from_slice.new.self.items
-    c.as_slice.result.now c.in_ok-emitter.ensures.queue c.in_ok-emitter.ensures.slot c.armed_of.ensures.is
-    c.new-lines.ensures c.in_ok-push_after.ensures c.as_slice.ensures
-    (c.extend_from_slice.ensures.items
-    ∙ ap (λ r. if is_ok r then c.args.code.now.items ++ c.as_slice.result.now else c.args.code.now.items)
-    c.in_ok-extend_from_slice.was))
-    (omega (arith, after_short (app_of c.args.plan.now.app.now) c.args.task c.args.level c.args.slot c.args.entry task.0 task.1))
-
-pub returns-clause-lines : goal.returns-clause-lines
-returns-clause-lines c =
-    let task = spawned (app_of c.args.plan.now.app.now) c.args.task c.requires.accepted c.requires.software in
-    behind_front (IsNameable (names_of (app_of c.args.plan.now.app.now))) c.args.code.now.items
-    c.extend_from_slice.new.self.items
-    (after_code (app_of c.args.plan.now.app.now) c.args.task c.args.level c.args.slot c.args.entry)
-    (generated (app_of c.args.plan.now.app.now) c.args.task c.args.slot
-    (λ q s a. lines.after_lines q s c.args.level a c.args.entry) c.in_ok-emitter.emitter
-    c.armed_of.result c.new-lines.result c.push_after.new.lines c.args.code.now.items c.extend_from_slice.new.self.items
-    c.as_slice.result.now c.in_ok-emitter.ensures.queue c.in_ok-emitter.ensures.slot c.armed_of.ensures.is
-    c.new-lines.ensures c.in_ok-push_after.ensures c.as_slice.ensures
-    (c.extend_from_slice.ensures.items
-    ∙ ap (λ r. if is_ok r then c.args.code.now.items ++ c.as_slice.result.now else c.args.code.now.items)
-    c.in_ok-extend_from_slice.was))
-    (after_named (app_of c.args.plan.now.app.now)
-    (timer_named (app_of c.args.plan.now.app.now) c.requires.accepted c.requires.timed)
-    c.args.slot c.args.level c.args.task task.0 task.1 c.args.entry)
+pub returns : goal.returns
+returns c =
+    let app = app_of c.args.plan.now.app.now in
+    let task = spawned app c.args.task c.requires.accepted c.requires.software in
+    let code : List Line = after_code app c.args.task c.args.level c.args.slot c.args.entry in
+    let is : c.extend_from_slice.new.self.items ≡ c.args.code.now.items ++ code =
+    rw (
+      c.extend_from_slice.ensures.items,
+      c.in_ok-extend_from_slice.was,
+      c.as_slice.ensures,
+      c.in_ok-push_after.ensures,
+      c.new-lines.ensures,
+    )
+    (λ i. c.args.code.now.items ++ after_lines (c.in_ok-emitter.ensures.queue i) (c.in_ok-emitter.ensures.slot i)
+    c.args.level (c.armed_of.ensures.is i) c.args.entry) in
+    record {
+      code = is;
+      size = omega (
+        arith,
+        ap (λ (ls : List Line). length ls) is,
+        length-append c.args.code.now.items code,
+        after_short app c.args.task c.args.level c.args.slot c.args.entry task.0 task.1,
+      );
+      lines = named_behind (names_of app) c.args.code.now.items c.extend_from_slice.new.self.items code is
+          (after_claimed app (timer_named app c.requires.accepted c.requires.timed) c.args.slot c.args.level c.args.task
+          task.0 task.1 c.args.entry);
+      left = tt;
+    }

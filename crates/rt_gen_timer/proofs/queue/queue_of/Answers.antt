@@ -1,19 +1,41 @@
-use Rattle.rt_gen_timer.proofs.Planned.{top_small, messages_small, queue_made}
+use Rattle.std.proofs.Common.{ap, arith}
+use Rattle.rt_app.specs.declared.app.App as coded
+use Rattle.rt_app.specs.declared.plan.Plan.{Plan}
+use Rattle.rt_app.specs.Level.{armed_messages}
+use Rattle.rt_app.specs.View.{app_of}
+use Rattle.rt_app.proofs.ArmedPlaces.{few_messages}
+use Rattle.rt_gen_timer.proofs.Planned.{first_planned, top_planned, irq_planned, top_small}
 use Rattle.rt_gen_timer.proofs.queue.queue_of.Goals as goal
 
 pub of-requires-clause-greatest : goal.of-requires-clause-greatest
 of-requires-clause-greatest c =
-    top_small c.args.plan.now c.args.mono c.requires.accepted c.requires.planned c.requires.timed c.top_of.result
-    c.top_of.ensures
+    omega (
+      arith,
+      c.top_of.ensures,
+      top_small c.args.plan.now c.requires.planned c.args.mono c.requires.timed c.requires.accepted,
+    )
 
-pub returns-clause-is : goal.returns-clause-is
-returns-clause-is c =
-    queue_made c.args.plan.now c.args.mono c.requires.accepted c.requires.planned c.requires.timed c.args.rows.now
-    c.requires.rows c.messages.result c.messages.ensures.value c.deref.result.now c.first_cell.result c.top_of.result
-    c.irq_number.result c.of.result c.deref.ensures.value c.first_cell.ensures c.top_of.ensures c.of.ensures
-    c.irq_number.ensures
-
-pub returns-clause-few : goal.returns-clause-few
-returns-clause-few c =
-    messages_small c.args.plan.now c.args.mono c.requires.accepted c.requires.planned c.requires.timed c.args.rows.now
-    c.requires.rows c.messages.result c.messages.ensures.value
+pub returns : goal.returns
+returns c =
+    let plan : Plan = c.args.plan.now in
+    let counted = ap (λ (a : coded.App). armed_messages (app_of a)) c.requires.rows in
+    record {
+      is = rw (
+        c.first_cell.ensures,
+        c.messages.ensures.value,
+        counted,
+        c.of.ensures,
+        c.top_of.ensures,
+        c.irq_number.ensures,
+        c.deref.ensures.value,
+        first_planned plan c.requires.planned c.args.mono c.requires.timed,
+        top_planned plan c.requires.planned c.args.mono c.requires.timed,
+        irq_planned plan c.requires.planned c.args.mono c.requires.timed,
+      );
+      few = omega (
+        arith,
+        c.messages.ensures.value,
+        counted,
+        few_messages (app_of plan.app.now) c.requires.accepted,
+      );
+    }

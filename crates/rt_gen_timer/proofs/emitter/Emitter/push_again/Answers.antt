@@ -1,37 +1,19 @@
-use Rattle.std.proofs.Common.{ℕ, ◌+◌, List, [], ◌∷◌, ◌++◌, ap}
-use Rattle.rt_code.specs.declared.instr.Instr.TheVariants as instr
-use Rattle.rt_code.specs.declared.instr.Note.TheVariants as note
-use Rattle.rt_gen_queue.specs.Line.{Line, noted}
-use Rattle.rt_gen_queue.specs.Making.{Made, Appends}
-use Rattle.rt_gen_timer.specs.TimerLines as spec
-use Rattle.rt_gen_timer.specs.declared.queue.TimerQueue.{TimerQueue}
-use Rattle.rt_gen_timer.specs.declared.slots.TheConstants.{ARGUMENTS, HAND, HOLE, PLACE, INSTANT}
-use Rattle.rt_gen_timer.proofs.Appending.{begun, more}
+use Rattle.std.proofs.Common.{append_assoc}
 use Rattle.rt_gen_timer.proofs.emitter.Emitter.push_again.Goals as goal
 
 pub returns : goal.returns
 returns c =
-    let q : TimerQueue = c.args.self.now.queue in
-    let old : Made = c.args.lines.now in
-    let at : ℕ = c.args.at in
-    let slot : ℕ = c.args.self.now.slot in
-    let p0 : List Line = spec.copy q slot HAND PLACE ∷ [] in
-    let l0 : Appends old c.append.new.self p0 = begun old p0 c.in_ok-append.ensures (ap (λ line. line ∷ []) c.copy.ensures) in
-    let p1 : List Line = spec.time_lines q slot (at + 1) in
-    let d1 : List Line = p0 ++ p1 in
-    let l1 : Appends old c.append-2.new.self d1 =
-    more old p0 c.append.new.self p1 l0 c.in_ok-append-2.ensures (c.time.ensures) in
-    let p2 : List Line = spec.again_lines q slot in
-    let d2 : List Line = d1 ++ p2 in
-    let l2 : Appends old c.append-3.new.self d2 =
-    more old d1 c.append-2.new.self p2 l1 c.in_ok-append-3.ensures (c.again.ensures) in
-    let p3 : List Line = spec.rise_lines q slot (at + 12) in
-    let d3 : List Line = d2 ++ p3 in
-    let l3 : Appends old c.append-4.new.self d3 =
-    more old d2 c.append-3.new.self p3 l2 c.in_ok-append-4.ensures (c.rise.ensures) in
-    let p4 : List Line = spec.sink_lines q slot (at + 27) in
-    let d4 : List Line = d3 ++ p4 in
-    let l4 : Appends old c.append-5.new.self d4 =
-    more old d3 c.append-4.new.self p4 l3 c.in_ok-append-5.ensures (c.sink.ensures) in
-    let p5 : List Line = noted (instr.StoreAt (spec.heap_of q) (slot + HOLE) (slot + HAND)) (note.Move c.args.armed.now.target.task (slot + ARGUMENTS) (slot + INSTANT)) ∷ [] in
-    more old d4 c.append-5.new.self p5 l4 c.in_ok-append-6.ensures (ap (λ line. line ∷ []) c.settle.ensures)
+    rw (
+      c.in_ok-append-6.ensures,
+      c.in_ok-append-5.ensures,
+      c.in_ok-append-4.ensures,
+      c.in_ok-append-3.ensures,
+      c.in_ok-append-2.ensures,
+      c.in_ok-append.ensures,
+      c.settle.ensures,
+      c.sink.ensures,
+      c.rise.ensures,
+      c.again.ensures,
+      c.time.ensures,
+      c.copy.ensures,
+    ) (simp append_assoc)

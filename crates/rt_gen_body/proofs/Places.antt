@@ -1,0 +1,192 @@
+-- What is known of a body and of a place in it, and what it means that code there does what it is to do.
+use Rattle.std.proofs.Common.{◌≡◌, ◌≢◌, ◌⊎◌, ℕ, ◌+◌, ◌^◌, ◌<◌, ◌≤◌, List, ◌∷◌, length, map, slice_index, Contains}
+use Rattle.std.proofs.Common.{◌++◌, refl, sym, ◌∙◌, subst, inl, inr, arith}
+use Rattle.std.specs.List.{AllByRecursion}
+use Rattle.rt_lemmas.proofs.Membership.{all_weaker}
+use Rattle.rt_ids.specs.Holder.{Holder}
+use Rattle.rt_ids.specs.Content.{Values}
+use Rattle.rt_ids.specs.Entry.{Entry}
+use Rattle.rt_ids.specs.Doing.{Doing}
+use Rattle.rt_app.specs.Bodies.{Member}
+use Rattle.rt_app.specs.Holding.{storage}
+use Rattle.rt_app.specs.Layout.{memory}
+use Rattle.rt_app.specs.Meaning.{Later}
+use Rattle.rt_code.specs.Owning.{Held, saved_slots}
+use Rattle.rt_gen_queue.specs.Line.{Line, HasCode}
+use Rattle.rt_gen_queue.proofs.Layer.{Setting, Here, S, InTime, IsFree, lasts_less}
+use Rattle.rt_gen_queue.proofs.Placing.{code_front}
+use Rattle.rt_gen_body.specs.Inside.Values.{Context}
+use Rattle.rt_gen_body.proofs.Facts.{LevelIs, Facts}
+use Rattle.rt_gen_body.proofs.Owning.{IsSpelled}
+use Rattle.rt_gen_body.proofs.Values.{OpenAre}
+
+-- A body with what its code is generated with, and its frame: so many words, whose slots for masks begin at one.
+pub record Body : Type 0 where
+  pub z : Setting
+  pub m : Member
+  pub c : Context
+  pub words : ℕ
+  pub top : ℕ
+  pub facts : Facts (storage z.app) z.who z.app m c
+  pub floor : c.expressions ≤ top
+  pub masks : top ≤ c.spawns
+  pub spawns : c.spawns ≤ words
+  pub word : words < 2 ^ 32
+
+-- Where a statement stands: the variables in scope, those of loops round it, the resources that are locked, how many
+-- variables there are before it, the level that is held off, and the slot for the next mask.
+pub record Scope : Type 0 where
+  pub visible : List ℕ
+  pub fixed : List ℕ
+  pub locked : List ℕ
+  pub count : ℕ
+  pub level : ℕ
+  pub lock : ℕ
+
+-- the local resources that a body lists
+abbrev pub listed_by : Member → List ℕ
+listed_by m = map (λ o. o.local) m.body.local
+
+-- the slots that open sections saved masks in are among these
+abbrev pub SavedBetween : ℕ → ℕ → List Held → Type 0
+SavedBetween low high held = AllByRecursion (λ d. (low ≤ d) × (d < high)) (saved_slots held)
+
+-- a place with these sections open
+pub record Inside (b : Body) (p : Scope) (held : List Held) : Type 0 where
+  pub below : (y : ℕ) → Contains p.visible y → y < p.count
+  pub fixed : (y : ℕ) → Contains p.fixed y → y < p.count
+  pub room : p.count ≤ b.c.expressions
+  pub low : b.top ≤ p.lock
+  pub high : p.lock ≤ b.c.spawns
+  pub saved : SavedBetween b.top p.lock held
+  pub are : OpenAre held p.locked
+  pub level_is : LevelIs b.z.app.bits (storage b.z.app) b.z.who held p.level
+
+-- a slot below those for masks, or above them, keeps none
+pub free_slot : {b : Body} {p : Scope} {held : List Held} (d : ℕ) → (d < b.top) ⊎ (p.lock ≤ d) → Inside b p held
+    → IsFree held d
+free_slot {b = b} {p = p} {held = held} d apart inside =
+    all_weaker (λ e. (b.top ≤ e) × (e < p.lock)) (λ e. e ≢ d) (λ e between. differ e between.0 between.1 apart)
+    (saved_slots held) inside.saved
+  where
+    differ : (e : ℕ) → b.top ≤ e → e < p.lock → (d < b.top) ⊎ (p.lock ≤ d) → e ≢ d
+    differ e low high (inl below) = omega arith
+    differ e low high (inr above) = omega arith
+
+-- What is known of values: those of variables in scope are in their slots, those of resources in cells.
+pub record Knows (b : Body) (held : List Held) (visible slots cells vars : List ℕ) (vs : Values) : Type 0 where
+  pub in_slots : (x : ℕ) → Contains visible x → slice_index slots x ≡ slice_index vars x
+  pub in_cells : IsSpelled b.z held cells vs
+  pub long : length cells ≡ length (memory b.z.app)
+  pub frame : length slots ≡ b.words
+  pub variables : length vars ≡ b.c.expressions
+
+-- less is known of fewer variables
+pub fewer_visible : {b : Body} {held : List Held} {visible fewer slots cells vars : List ℕ} {vs : Values}
+    → ((x : ℕ) → Contains fewer x → Contains visible x) → Knows b held visible slots cells vars vs
+    → Knows b held fewer slots cells vars vs
+fewer_visible within known = record {
+  in_slots = λ x here. known.in_slots x (within x here);
+  in_cells = known.in_cells;
+  long = known.long;
+  frame = known.frame;
+  variables = known.variables;
+}
+
+-- before some lines that take so many steps: they are in the code, and there is time for them
+pub record Begins (b : Body) (p : Scope) (h : Here) (lines : List Line) (cost : ℕ) (vars : List ℕ) (vs : Values)
+    : Type 0 where
+  pub has : HasCode b.z.code h.at lines
+  pub time : InTime (h.done + cost) h
+  pub known : Knows b h.held p.visible h.slots h.cells vars vs
+  pub inside : Inside b p h.held
+
+-- what lines change
+pub record State : Type 0 where
+  pub done : ℕ
+  pub slots : List ℕ
+  pub cells : List ℕ
+  pub vars : List ℕ
+  pub queues : Holder → List Entry
+  pub vs : Values
+
+-- behind them, with these variables in scope: the variables of loops are in their slots as before
+pub record Settled (b : Body) (fixed visible : List ℕ) (h : Here) (t : State) : Type 0 where
+  pub known : Knows b h.held visible t.slots t.cells t.vars t.vs
+  pub kept : (x : ℕ) → Contains fixed x → slice_index t.slots x ≡ slice_index h.slots x
+
+abbrev pub then_at : Here → ℕ → State → Doing Values → Here
+then_at h at t rest =
+    record h { done = t.done; slots = t.slots; at = at; cells = t.cells; queues = t.queues; rest = rest }
+
+-- the code behind some lines is correct, where they have taken no more than so many steps
+pub record Behind (b : Body) (p : Scope) (visible : List ℕ) (h : Here) (size cost : ℕ) (later : Later) : Type 0 where
+  pub on : (t : State) → t.done ≤ h.done + cost → Settled b p.fixed visible h t
+      → S b.z (then_at h (h.at + size) t (later t.vars t.vs))
+
+-- lines, which depend on where they begin, do what is to be done before anything later
+pub record Performs (b : Body) (p : Scope) (visible : List ℕ) (lines : ℕ → List Line) (cost : ℕ)
+    (doing : Later → Later) : Type 0 where
+  pub runs : {h : Here} {vars : List ℕ} {vs : Values} (later : Later) → Begins b p h (lines h.at) cost vars vs
+      → h.rest ≡ doing later vars vs → Behind b p visible h (length (lines h.at)) cost later → S b.z h
+
+-- the same place by other names
+pub named : {z : Setting} {h : Here} {done at : ℕ} {rest : Doing Values} → h.done ≡ done → h.at ≡ at → h.rest ≡ rest
+    → S z (record h { done = done; at = at; rest = rest }) → S z h
+named {z = z} {h = h} {done = done} {at = at} done_is at_is rest_is correct =
+    subst (λ (k : ℕ). S z (record h { done = k })) (sym done_is)
+    (subst (λ (a : ℕ). S z (record h { done = done; at = a })) (sym at_is)
+    (subst (λ (r : Doing Values). S z (record h { done = done; at = at; rest = r })) (sym rest_is) correct))
+
+-- behind some lines the code is correct, wherever they have led by another name
+pub goes_behind : {b : Body} {p : Scope} {h : Here} {visible slots cells vars : List ℕ} {size cost done at : ℕ}
+    {queues : Holder → List Entry} {vs : Values} {later : Later} → Behind b p visible h size cost later
+    → at ≡ h.at + size → done ≤ h.done + cost → Knows b h.held visible slots cells vars vs
+    → ((x : ℕ) → Contains p.fixed x → slice_index slots x ≡ slice_index h.slots x)
+    → S b.z (record h {
+      done = done;
+      slots = slots;
+      at = at;
+      cells = cells;
+      queues = queues;
+      rest = later vars vs;
+    })
+goes_behind {slots = slots} {cells = cells} {vars = vars} {done = done} {queues = queues} {vs = vs} behind at_is less
+    known kept =
+    let t : State = record {
+      done = done;
+      slots = slots;
+      cells = cells;
+      vars = vars;
+      queues = queues;
+      vs = vs;
+    } in
+    named refl at_is refl (behind.on t less (record { known = known; kept = kept }))
+
+-- so what is behind them is behind their last ones, which begin where loops' variables are as before
+pub still_behind : {b : Body} {p : Scope} {h : Here} {visible slots cells : List ℕ} {size few cost steps done at : ℕ}
+    {queues : Holder → List Entry} {rest : Doing Values} {later : Later} → Behind b p visible h size cost later
+    → at + few ≡ h.at + size → done + steps ≤ h.done + cost
+    → ((x : ℕ) → Contains p.fixed x → slice_index slots x ≡ slice_index h.slots x)
+    → Behind b p visible
+    (record h { done = done; slots = slots; at = at; cells = cells; queues = queues; rest = rest }) few steps later
+still_behind behind at_is less kept = record {
+  on = λ t within settled.
+      goes_behind behind at_is (omega arith) settled.known (λ x here. settled.kept x here ∙ kept x here);
+}
+
+module _ {b : Body} {p : Scope} {h : Here} {lines : List Line} {cost : ℕ} {vars : List ℕ} {vs : Values} where
+  -- there is time for so many of the steps
+  pub sooner : {k : ℕ} → k ≤ h.done + cost → Begins b p h lines cost vars vs → InTime k h
+  sooner {k = k} less begins = lasts_less k (h.done + cost) (h.until ∷ h.deadlines) less begins.time
+
+  -- the first of the lines
+  pub front_of : {few : ℕ} {front : List Line} (back : List Line) → few ≤ cost → lines ≡ front ++ back
+      → Begins b p h lines cost vars vs → Begins b p h front few vars vs
+  front_of {few = few} {front = front} back less is begins = record {
+    has = code_front b.z.code h.at front back
+        (subst (λ (ls : List Line). HasCode b.z.code h.at ls) is begins.has);
+    time = sooner {k = h.done + few} (omega arith) begins;
+    known = begins.known;
+    inside = begins.inside;
+  }

@@ -1,0 +1,278 @@
+-- Sections of queues: how they open and close, by their ceilings, at any level, on any window.
+use Rattle.std.proofs.Common.{◌≡◌, ◌⊎◌, ℕ, suc, ◌+◌, ◌^◌, ◌<◌, ◌≤◌, ◌==◌, nat_le, Bool, true, false}
+use Rattle.std.proofs.Common.{if◌then◌else◌, List, [], ◌∷◌, ◌++◌, Some, length, map, Contains}
+use Rattle.std.proofs.Common.{slice_index, slice_set, refl, sym, ap, subst, ◌∙◌, arith, inl, inr, length-set}
+use Rattle.std.specs.List.{AllByRecursion}
+use Rattle.std.proofs.lemmas.Bool.{le-leb}
+use Rattle.std.proofs.lemmas.List.{set-get_or, map-append}
+use Rattle.rt_lemmas.proofs.Bools.{and_left, and_right, and_both}
+use Rattle.rt_lemmas.proofs.Lists.{all_behind}
+use Rattle.rt_lemmas.proofs.Membership.{all_has, all_append, all_weaker}
+use Rattle.rt_ids.specs.Holder.{Holder, Guarded}
+use Rattle.rt_ids.specs.Content.{Content, Values, put_at}
+use Rattle.rt_ids.specs.Entry.{Entry}
+use Rattle.rt_ids.specs.Action.{Enters, Leaves}
+use Rattle.rt_ids.specs.Doing.{Doing, does}
+use Rattle.rt_ids.specs.Storage.{Runner, Starting, AtLevel, At}
+use Rattle.rt_ids.specs.declared.ids.Section.{Section}
+use Rattle.rt_app.specs.Tree.{App}
+use Rattle.rt_app.specs.Ceiling.{ceiling}
+use Rattle.rt_app.specs.Holding.{storage}
+use Rattle.rt_app.specs.Layout.{home_of}
+use Rattle.rt_code.specs.Acting.{with_queue}
+use Rattle.rt_code.specs.Masking.{TakesOver, IsMask, IsKindFor, IsWithin, NobodyKeeps, opening, closing, saving}
+use Rattle.rt_code.specs.Owning.{Marked, Raised, Masked, Held, is_open, saved_slot, saved_slots, reads, Agree, LeavesMine}
+use Rattle.rt_code.specs.Standing.{passed}
+use Rattle.rt_code.specs.declared.instr.Note.TheVariants as note
+use Rattle.rt_gen_queue.specs.Line.{Line, noted, HasCode}
+use Rattle.rt_gen_queue.specs.Guards.{value_of, guard_of, kind_of, kind_at, enter_line, leave_line, enter, leave}
+use Rattle.rt_gen_queue.specs.Spawning.{HoldsOff}
+use Rattle.rt_gen_queue.specs.declared.guard.Guard.{Guard}
+use Rattle.rt_gen_queue.proofs.Masks.{of_kinds, mask_of, saves_in}
+use Rattle.rt_gen_queue.proofs.Owning.{IsQueue, unread, reads_inside, agree_out, leaves_out}
+use Rattle.rt_gen_queue.proofs.Layer.{Now, InTime, Lasts, lasts_less, Setting, Here, spot, S, Frame, window, Saves, window_set}
+use Rattle.rt_gen_queue.proofs.Layer.{window_there, fits, all_fit, placed, MayRun, Straight, next_in_time}
+use Rattle.rt_gen_queue.proofs.Layer.{enters_here, leaves_here}
+
+pub kind_fits : (app : App) (who : Runner) (held : List Held) (x : Section) (level slot : ℕ)
+    → HoldsOff app who who held level → ceiling app x ≤ 2 ^ app.bits
+    → IsKindFor (storage app) who who held x (kind_at app x level slot)
+unfolding storage
+kind_fits app Starting held x level slot off top =
+    let low : nat_le (ceiling app x) level ≡ true = le-leb (ceiling app x) level (omega arith) in
+    ap (λ (b : Bool). if b then Marked else if value_of app x == 0 then Masked slot else Raised slot) low
+kind_fits app (AtLevel p) held x level slot off top =
+    subst (λ (l : ℕ). IsMask (storage app) (AtLevel p) (ceiling app x) l (kind_at app x level slot)) off
+    (mask_of (storage app) (AtLevel p) (guard_of app x) level slot refl)
+
+-- the lines of a section where a window's slots are numbered from another one on, and that they fit any window
+module _ (x : Section) (g : Guard) (level mask : ℕ) where
+  pub enter_placed : (s : ℕ) → placed s (enter_line x g level mask) ≡ enter_line x g level (s + mask)
+  enter_placed s =
+      of_kinds g level (λ kind. placed s (noted (opening g.value (kind mask)) (note.Enter x))
+      ≡ noted (opening g.value (kind (s + mask))) (note.Enter x)) refl refl refl
+
+  pub leave_placed : (s : ℕ) → placed s (leave_line x g level mask) ≡ leave_line x g level (s + mask)
+  leave_placed s =
+      of_kinds g level (λ kind. placed s (noted (closing (kind mask)) (note.Leave x))
+      ≡ noted (closing (kind (s + mask))) (note.Leave x)) refl refl refl
+
+  pub enter_fits : (size free : ℕ) → fits size free (enter_line x g level mask).0 ≡ true
+  enter_fits size free =
+      of_kinds g level (λ kind. fits size free (opening g.value (kind mask)) ≡ true) refl refl refl
+
+  pub leave_fits : (size free : ℕ) → fits size free (leave_line x g level mask).0 ≡ true
+  leave_fits size free = of_kinds g level (λ kind. fits size free (closing (kind mask)) ≡ true) refl refl refl
+
+not_kept : (saved : List ℕ) (slot mask : ℕ) → AllByRecursion (λ d. d < slot) saved → ¬ Contains saved (slot + mask)
+not_kept saved slot mask below has =
+    let less : slot + mask < slot = all_has (λ d. d < slot) saved (slot + mask) below has in omega arith
+
+-- a section behind the line that opens it, whose own deadline is its cost from there
+abbrev pub within : Here → Held → (cost : ℕ) → List ℕ → (Holder → List Entry) → Doing Values → Here
+within h o cost cells queues rest = record h {
+  held = o ∷ h.held;
+  done = suc h.done;
+  deadlines = (h.done + cost) ∷ h.deadlines;
+  at = suc h.at;
+  cells = cells;
+  queues = queues;
+  rest = rest;
+}
+
+module _ {size mask : ℕ} where
+  -- what a section saves is in the slot for a mask, and all else is as before
+  saves_mask : (f : Frame size mask) (g : Guard) (level saved : ℕ) (ws : List ℕ) → mask < length ws
+      → (m : ℕ) × (saving (kind_of g level (f.slot + mask)) saved (window f ws) ≡ window f (slice_set ws mask m))
+  saves_mask f g level saved ws there =
+      of_kinds g level
+      (λ kind. (m : ℕ) × (saving (kind (f.slot + mask)) saved (window f ws) ≡ window f (slice_set ws mask m)))
+      (slice_index ws mask, ap (window f) (sym (set-get_or ws mask 0))) (saved, window_set f ws mask saved there)
+      (saved, window_set f ws mask saved there)
+
+  abbrev pub opened : Setting → Frame size mask → Section → ℕ → Held
+  opened z f x level = record { section = x; kind = kind_at z.app x level (f.slot + mask) }
+
+  -- what is asked for to enter the section of a queue
+  pub record MayEnter (z : Setting) (f : Frame size mask) (h : Here) (x : Section) (level : ℕ) : Type 0 where
+    pub room : mask < size
+    pub masks : AllByRecursion (λ d. d < f.slot) (saved_slots h.held)
+    pub off : HoldsOff z.app z.who z.who h.held level
+    pub top : ceiling z.app x ≤ 2 ^ z.app.bits
+    pub within : IsWithin (storage z.app) z.who z.who x
+    pub closed : is_open h.held x ≡ false
+    pub nobody : NobodyKeeps (storage z.app) z.who z.who x
+
+  -- masks that are kept below a window are none that it works with
+  pub saves_below : (f : Frame size mask) (held : List Held) → AllByRecursion (λ d. d < f.slot) (saved_slots held)
+      → Saves f held
+  saves_below f held masks =
+      all_weaker (λ e. e < f.slot) (λ e. (e < f.slot) ⊎ (e ≡ f.slot + mask)) (λ e less. inl less) _ masks
+
+  pub saves_inside : {z : Setting} {f : Frame size mask} {h : Here} {x : Section} {level : ℕ} → MayEnter z f h x level
+      → Saves f (opened z f x level ∷ h.held)
+  saves_inside {z = z} {f = f} {h = h} {x = x} {level = level} may =
+      all_append (λ e. (e < f.slot) ⊎ (e ≡ f.slot + mask)) (saved_slot (kind_at z.app x level (f.slot + mask)))
+      (saved_slots h.held)
+      (all_weaker (λ e. e ≡ f.slot + mask) (λ e. (e < f.slot) ⊎ (e ≡ f.slot + mask)) (λ e is. inr is) _
+      (saves_in (guard_of z.app x) level (f.slot + mask))) (saves_below f h.held may.masks)
+
+  module _ {z : Setting} {f : Frame size mask} {lines : List Line} {h : Here} {ws : List ℕ} {x : Section} where
+    pub enters : {level cost : ℕ} {values : Values} {rest : Values → Doing Values} → MayEnter z f h x level
+        → length lines < cost → h.rest ≡ does (Enters x cost) values (λ answer. rest)
+        → ((m : ℕ) (vs : Values) (cells : List ℕ) (queues : Holder → List Entry)
+        → TakesOver (storage z.app) z.who x (passed (spot z h)) values vs cells queues
+        → Straight z f lines (within h (opened z f x level) cost cells queues (rest vs)) (slice_set ws mask m))
+        → Straight z f (enter z.app x level mask ∷ lines) h ws
+    unfolding storage
+    enters {level = level} {cost = cost} {rest = rest} may short is on = record {
+      runs = λ run has.
+          let there : mask < length ws = omega (arith, run.long, may.room) in
+          enters_here (kind_at z.app x level (f.slot + mask)) cost
+          (has.0 ∙ ap Some (enter_placed x (guard_of z.app x) level mask f.slot)) refl (next_in_time run)
+          (record {
+            mask = kind_fits z.app z.who h.held x level (f.slot + mask) may.off may.top;
+            slot =
+                all_weaker (λ d. d ≡ f.slot + mask)
+                (λ d. (d < length (window f ws)) × (¬ Contains (saved_slots h.held) d))
+                (λ d d_is.
+                subst (λ (k : ℕ). (k < length (window f ws)) × (¬ Contains (saved_slots h.held) k)) (sym d_is)
+                (window_there f ws mask there, not_kept (saved_slots h.held) f.slot mask may.masks))
+                (saved_slot (kind_at z.app x level (f.slot + mask)))
+                (saves_in (guard_of z.app x) level (f.slot + mask));
+            within = may.within;
+            closed = may.closed;
+            nobody = may.nobody;
+          }) is
+          (λ saved vs cells queues taken.
+          let kept = saves_mask f (guard_of z.app x) level saved ws there in
+          subst (λ slots. S z (record (within h (opened z f x level) cost cells queues (rest vs)) { slots = slots }))
+          (sym kept.1)
+          ((on kept.0 vs cells queues
+          (record {
+            agree = taken.agree;
+            same = record { long = taken.same.long; touched = taken.same.touched; queued = taken.same.queued };
+            spelled = taken.spelled;
+            once = taken.once;
+            few = taken.few;
+          })).runs
+          (record {
+            time = (
+              omega (arith, run.time.0),
+              (
+                omega arith,
+                lasts_less (suc h.done + length lines) (h.done + suc (length lines)) h.deadlines (omega arith)
+                    run.time.1,
+              ),
+            );
+            saves = saves_inside may;
+            long = length-set ws mask kept.0 ∙ run.long;
+            fit = and_right (fits size mask (enter z.app x level mask).0) (all_fit size mask lines) run.fit;
+          }) has.1));
+    }
+
+    -- out of it: the deadlines are those around it
+    pub leaves : {outer : List Held} {deadline : ℕ} {around : List ℕ} {values : Values} {rest : Values → Doing Values}
+        (level : ℕ) → h.held ≡ opened z f x level ∷ outer → h.deadlines ≡ deadline ∷ around
+        → h.rest ≡ does (Leaves x) values (λ answer. rest)
+        → (storage z.app).Spells (Guarded x) (slice_index h.cells) (h.queues (Guarded x)) (values (Guarded x))
+        → ((vs : Values) → Agree (storage z.app) z.who outer vs values
+        → Straight z f lines
+        (record h { held = outer; done = suc h.done; deadlines = around; at = suc h.at; rest = rest vs }) ws)
+        → Straight z f (leave z.app x level mask ∷ lines) h ws
+    leaves {outer = outer} {deadline = deadline} {around = around} level innermost last is spelled on = record {
+      runs = λ run has.
+          leaves_here (kind_at z.app x level (f.slot + mask)) outer deadline around
+          (has.0 ∙ ap Some (leave_placed x (guard_of z.app x) level mask f.slot)) refl (next_in_time run) innermost last
+          is spelled
+          (λ vs agree. (on vs agree).runs
+          (record {
+            time = (omega (arith, run.time.0), times run);
+            saves = kept run;
+            long = run.long;
+            fit = and_right (fits size mask (leave z.app x level mask).0) (all_fit size mask lines) run.fit;
+          }) has.1);
+    }
+      where
+        times : MayRun f (leave z.app x level mask ∷ lines) h ws → Lasts (suc h.done + length lines) around
+        times run =
+            let all : Lasts (h.done + suc (length lines)) (deadline ∷ around) =
+            subst (Lasts (h.done + suc (length lines))) last run.time.1 in
+            lasts_less (suc h.done + length lines) (h.done + suc (length lines)) around (omega arith) all.1
+
+        kept : MayRun f (leave z.app x level mask ∷ lines) h ws → Saves f outer
+        kept run =
+            all_behind (λ e. (e < f.slot) ⊎ (e ≡ f.slot + mask)) (saved_slot (kind_at z.app x level (f.slot + mask)))
+            (saved_slots outer) (subst (λ (hs : List Held). Saves f hs) innermost run.saves)
+
+pub fits_append : (size free : ℕ) (lines more : List Line) → all_fit size free lines ≡ true
+    → all_fit size free more ≡ true → all_fit size free (lines ++ more) ≡ true
+fits_append size free [] more fit others = others
+fits_append size free (line ∷ lines) more fit others =
+    and_both (fits size free line.0) (all_fit size free (lines ++ more))
+    (and_left (fits size free line.0) (all_fit size free lines) fit)
+    (fits_append size free lines more (and_right (fits size free line.0) (all_fit size free lines) fit) others)
+
+-- the lines of a whole section, likewise
+module _ (x : Section) (g : Guard) (level mask : ℕ) where
+  abbrev pub section_lines : List Line → List Line
+  section_lines lines = enter_line x g level mask ∷ (lines ++ leave_line x g level mask ∷ [])
+
+  pub section_placed : (s : ℕ) (lines : List Line)
+      → enter_line x g level (s + mask) ∷ (map (placed s) lines ++ leave_line x g level (s + mask) ∷ [])
+      ≡ map (placed s) (section_lines lines)
+  section_placed s lines =
+      ap (λ line. line ∷ (map (placed s) lines ++ leave_line x g level (s + mask) ∷ []))
+      (sym (enter_placed x g level mask s))
+      ∙ ap (λ line. placed s (enter_line x g level mask) ∷ (map (placed s) lines ++ line ∷ []))
+      (sym (leave_placed x g level mask s))
+      ∙ ap (λ ls. placed s (enter_line x g level mask) ∷ ls)
+      (sym (map-append (placed s) lines (leave_line x g level mask ∷ [])))
+
+  pub section_fits : (size free : ℕ) (lines : List Line) → all_fit size free lines ≡ true
+      → all_fit size free (section_lines lines) ≡ true
+  section_fits size free lines fit =
+      and_both (fits size free (enter_line x g level mask).0) (all_fit size free (lines ++ leave_line x g level mask ∷ []))
+      (enter_fits x g level mask size free)
+      (fits_append size free lines (leave_line x g level mask ∷ []) fit
+      (and_both (fits size free (leave_line x g level mask).0) true (leave_fits x g level mask size free) refl))
+
+-- the code of a whole section
+pub section_stands : {size mask : ℕ} {z : Setting} {f : Frame size mask} {h : Here} {x : Section}
+    {level : ℕ} (ws : List ℕ) (lines : List Line) → MayEnter z f h x level → length ws ≡ size → all_fit size mask lines ≡ true
+    → InTime (h.done + length (section_lines x (guard_of z.app x) level mask lines)) h
+    → HasCode z.code h.at (enter z.app x level (f.slot + mask)
+    ∷ (map (placed f.slot) lines ++ leave z.app x level (f.slot + mask) ∷ []))
+    → Straight z f (section_lines x (guard_of z.app x) level mask lines) h ws → S z (Now f h ws)
+section_stands {size = size} {mask = mask} {z = z} {f = f} {h = h} {x = x} {level = level} ws lines may long fit time
+    has run =
+    run.runs
+    (record {
+      time = time;
+      saves = saves_below f h.held may.masks;
+      long = long;
+      fit = section_fits x (guard_of z.app x) level mask size mask lines fit;
+    })
+    (subst (HasCode z.code h.at) (section_placed x (guard_of z.app x) level mask f.slot lines) has)
+
+-- what is so behind the section of a queue, from what was taken over in it
+module _ {size mask : ℕ} {z : Setting} {f : Frame size mask} {h : Here} {x : Section} {level : ℕ} {vs ws : Values}
+    {cells : List ℕ} {queues : Holder → List Entry} (queue : IsQueue x) (may : MayEnter z f h x level)
+    (taken : TakesOver (storage z.app) z.who x (passed (spot z h)) vs ws cells queues) where
+  pub reads_it : reads (storage z.app) z.who (opened z f x level ∷ h.held) (Guarded x) ≡ true
+  reads_it = reads_inside z.app z.who h.held (opened z f x level) x refl
+
+  pub own_left : (entries : List Entry) (left : List ℕ) → length left ≡ length cells
+      → ((c : ℕ) → ¬ (home_of z.app c ≡ At (Guarded x)) → slice_index left c ≡ slice_index cells c)
+      → LeavesMine (storage z.app) z.who (spot z h) left (with_queue queues x entries)
+  own_left entries left long kept =
+      leaves_out z (spot z h) x entries (unread z.app z.who h.held x queue may.closed)
+      (record { long = taken.same.long; touched = taken.same.touched; queued = taken.same.queued }) long kept
+
+  pub agree_left : {us after : Values} (content : Content)
+      → Agree (storage z.app) z.who h.held after (put_at us (Guarded x) content)
+      → Agree (storage z.app) z.who (opened z f x level ∷ h.held) us ws → Agree (storage z.app) z.who h.held after vs
+  agree_left content last inner holder may_read =
+      agree_out z h.held (opened z f x level) x content (unread z.app z.who h.held x queue may.closed) last inner holder
+      may_read
+      ∙ taken.agree holder may_read

@@ -1,0 +1,107 @@
+-- How a job goes into a section and comes out of it, whatever the section guards and however it holds others off.
+use Rattle.std.proofs.Common.{◌≡◌, ℕ, suc, ◌+◌, ◌-◌, ◌<◌, false, Some, List, [], ◌∷◌, length, map, drop, Contains}
+use Rattle.std.proofs.Common.{slice_get, slice_index, refl, sym, ap, subst, ◌∙◌, arith}
+use Rattle.std.specs.List.{AllByRecursion}
+use Rattle.rt_ids.specs.Holder.{Holder, Guarded}
+use Rattle.rt_ids.specs.Content.{Values}
+use Rattle.rt_ids.specs.Entry.{Entry}
+use Rattle.rt_ids.specs.Action.{Enters, Leaves}
+use Rattle.rt_ids.specs.Doing.{Doing, does}
+use Rattle.rt_ids.specs.declared.ids.Section.{Section}
+use Rattle.rt_app.specs.Holding.{storage}
+use Rattle.rt_code.specs.Masking.{TakesOver, IsKindFor, IsWithin, NobodyKeeps, opening, closing, saving, inside}
+use Rattle.rt_code.specs.Owning.{Kind, Held, is_open, saved_slot, saved_slots, Agree}
+use Rattle.rt_code.specs.Standing.{passed}
+use Rattle.rt_code.specs.declared.instr.Instr.{Instr}
+use Rattle.rt_code.specs.declared.instr.Note.TheVariants as note
+use Rattle.rt_gen_queue.specs.Line.{noted}
+use Rattle.rt_gen_queue.proofs.Layer.Jobs.{left_at, left_passed, Setting, Here, InTime, spot}
+use Rattle.rt_gen_queue.proofs.Layer.Correct.{S, Later, by_line}
+
+-- the section may be opened so
+pub record MayOpen (z : Setting) (h : Here) (x : Section) (kind : Kind) : Type 0 where
+  pub mask : IsKindFor (storage z.app) z.who z.who h.held x kind
+  -- the slot that keeps the mask is in the frame, and keeps no other
+  pub slot : AllByRecursion (λ d. (d < length h.slots) × (¬ Contains (saved_slots h.held) d)) (saved_slot kind)
+  pub within : IsWithin (storage z.app) z.who z.who x
+  pub closed : is_open h.held x ≡ false
+  pub nobody : NobodyKeeps (storage z.app) z.who z.who x
+
+-- inside it, whose own deadline is its cost from here
+abbrev pub entered : Here → Section → Kind → (cost saved : ℕ) → List ℕ → (Holder → List Entry) → Doing Values → Here
+entered h x kind cost saved cells queues rest = record h {
+  held = record { section = x; kind = kind } ∷ h.held;
+  done = suc h.done;
+  deadlines = (h.done + cost) ∷ h.deadlines;
+  slots = saving kind saved h.slots;
+  at = suc h.at;
+  cells = cells;
+  queues = queues;
+  rest = rest;
+}
+
+module _ {z : Setting} {h : Here} where
+  pub enters_here : {i : Instr} {x : Section} {values : Values} {rest : Values → Doing Values} (kind : Kind) (cost : ℕ)
+      → slice_get z.code h.at ≡ Some (noted i (note.Enter x))
+      → i ≡ opening ((storage z.app).value ((storage z.app).ceiling x)) kind → InTime (suc h.done) h
+      → MayOpen z h x kind → h.rest ≡ does (Enters x cost) values (λ answer. rest)
+      → ((saved : ℕ) (vs : Values) (cells : List ℕ) (queues : Holder → List Entry)
+      → TakesOver (storage z.app) z.who x (passed (spot z h)) values vs cells queues
+      → S z (entered h x kind cost saved cells queues (rest vs)))
+      → S z h
+  enters_here {i = i} {x = x} {values = values} {rest = rest} kind cost here opens time may is on =
+      by_line i (Some (note.Enter x)) here time
+      (record {
+        cost = cost;
+        values = values;
+        follows = λ answer. rest;
+        is = is;
+        kind = kind;
+        mask = may.mask;
+        opens = opens;
+        slot = may.slot;
+        within = may.within;
+        once = may.closed;
+        shared = may.nobody;
+        on = λ saved vs cells queues taken.
+            let e : cost - 1 ≡ (h.done + cost) - suc h.done = omega arith in
+            subst (λ (lefts : List ℕ). Later z h
+            (record (inside (storage z.app) z.who x kind saved cost (rest vs) cells queues
+            (passed (spot z h))) { lefts = lefts }))
+            (sym (ap (λ m. m ∷ map (λ k. k - 1) (left_at h.done h.deadlines)) e
+            ∙ ap (λ ms. ((h.done + cost) - suc h.done) ∷ ms) (left_passed h.done h.deadlines)))
+            (on saved vs cells queues taken).stands;
+      })
+
+  -- out of it: the deadlines are those around it
+  pub leaves_here : {i : Instr} {x : Section} {values : Values} {rest : Values → Doing Values} (kind : Kind)
+      (outer : List Held) (deadline : ℕ) (around : List ℕ)
+      → slice_get z.code h.at ≡ Some (noted i (note.Leave x)) → i ≡ closing kind → InTime (suc h.done) h
+      → h.held ≡ record { section = x; kind = kind } ∷ outer → h.deadlines ≡ deadline ∷ around
+      → h.rest ≡ does (Leaves x) values (λ answer. rest)
+      → (storage z.app).Spells (Guarded x) (slice_index h.cells) (h.queues (Guarded x)) (values (Guarded x))
+      → ((vs : Values) → Agree (storage z.app) z.who outer vs values
+      → S z (record h { held = outer; done = suc h.done; deadlines = around; at = suc h.at; rest = rest vs }))
+      → S z h
+  leaves_here {i = i} {x = x} {values = values} {rest = rest} kind outer deadline around here closes time innermost
+      last is spelled on =
+      by_line i (Some (note.Leave x)) here time
+      (record {
+        values = values;
+        follows = λ answer. rest;
+        is = is;
+        kind = kind;
+        outer = outer;
+        innermost = innermost;
+        closes = closes;
+        spelled = spelled;
+        on = λ vs agree.
+            subst (λ (lefts : List ℕ). Later z h
+            (record (spot z (record h { held = outer; at = suc h.at; rest = rest vs })) { lefts = lefts }))
+            (ap (λ ds. left_at (suc h.done) (drop 1 ds)) (sym last) ∙ dropped h.done h.deadlines)
+            (on vs agree).stands;
+      })
+    where
+      dropped : (k : ℕ) (ds : List ℕ) → left_at (suc k) (drop 1 ds) ≡ drop 1 (map (λ m. m - 1) (left_at k ds))
+      dropped k [] = refl
+      dropped k (d ∷ ds) = sym (left_passed k ds)
