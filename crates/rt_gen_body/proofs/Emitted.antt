@@ -79,12 +79,11 @@ pub between : (c : Context) (at : ℕ) (one two : ℕ → List Line) (second : L
 between c at one two [] some = absurd (true≢false some)
 between c at one two (x ∷ xs) some = refl
 
-pub two_emitted : (c : Context) (b q r : Lines) (first second : ℕ → List Line) {over : ℕ}
+pub two_emitted : (c : Context) (b q r : Lines) (first second : ℕ → List Line)
     → Appends b q (first_code c (next_address b) (first (next_address b + 1)))
-    → over ≡ length b.lines + 1 + length (first (next_address b + 1)) → EndsWith q r over (second (next_address q))
+    → EndsWith q r (length b.lines + 1 + length (first (next_address b + 1))) (second (next_address q))
     → Appends b r (two_code c (next_address b) first second)
-two_emitted c b q r first second e place f =
-    rw (f, place, e) (simp (behind_at, longer, append_assoc, between_seam))
+two_emitted c b q r first second e f = rw (f, e) (simp (behind_at, longer, append_assoc, between_seam))
 
 -- so many slots on from one
 abbrev pub slot_on : ℕ → ℕ → ℕ

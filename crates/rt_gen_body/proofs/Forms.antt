@@ -41,7 +41,8 @@ module _ (app : App) (c : Context)
   block_fixed level lock at (Then (Emit (Num value)) rest) {lines = lines} is =
       let one = made_of (λ (more : List Line). plain (instr.Set 0 value) ∷ plain (instr.Emit 0) ∷ more)
       (fixed_block app rest) lines is in
-      ap (λ slot. plain (instr.Set slot value) ∷ plain (instr.Emit slot) ∷ block_code c level lock (at + 2) rest) known.0
+      ap (λ slot. plain (instr.Set slot value) ∷ plain (instr.Emit slot) ∷ block_code c level lock
+      (at + 2) rest) known.0
       ∙ (ap (λ (more : List Line). plain (instr.Set 0 value) ∷ plain (instr.Emit 0) ∷ more)
       (block_fixed level lock (at + 2) rest one.1) ∙ one.2)
   block_fixed level lock at (Then (Pend irq) rest) {lines = lines} is =
@@ -62,7 +63,11 @@ module _ (app : App) where
           → blocks_of app (Some m) at ≡ lines
       go true none fixed =
           let args : m.args ≡ 0 = eqb-true m.args 0 none in
-          block_fixed app (context_of app m) (omega (arith, args, no_variables app m.body.block lines fixed), λ irq. number_is app irq app.irqs)
+          block_fixed app (context_of app m) (
+            omega
+                (arith, args, no_variables app m.body.block lines fixed),
+            λ irq. number_is app irq app.irqs,
+          )
           (level_of app m) (first_lock_slot m.args m.body) at m.body.block fixed
       go false none fixed = absurd (none-some lines fixed)
 

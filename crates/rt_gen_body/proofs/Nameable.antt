@@ -2,6 +2,7 @@
 use Rattle.std.proofs.Common.{◌≡◌, ℕ, ◌+◌, ◌<◌, Bool, true, false, if◌then◌else◌, Option, Some, None, max, List, []}
 use Rattle.std.proofs.Common.{◌∷◌, ◌++◌, length, map, slice_get, slice_index, refl, sym, subst, arith, is_some}
 use Rattle.std.proofs.lemmas.List.{length-map}
+use Rattle.std.specs.List.{range_with_len}
 use Rattle.rt_lemmas.proofs.Bools.{and_left, and_right}
 use Rattle.rt_ids.specs.declared.ids.BodyId.{BodyId}
 use Rattle.rt_ids.specs.declared.ids.BodyId.TheVariants as body
@@ -47,7 +48,13 @@ number_named : (app : App) (i : ℕ) → i < length app.irqs
 number_named app i within =
     subst (λ n. HasIrq (names_of app) n) (sym (number_is app i app.irqs)) (irq_declared app i within)
 
-module _ (app : App) (m : Member) (accepted : IsAccepted app) where
+-- where a statement is placed: the local resources that its body lists, and the variables before it and in scope
+record Where : Type 0 where
+  listed : List ℕ
+  count : ℕ
+  visible : List ℕ
+
+module _ {app : App} (m : Member) (accepted : IsAccepted app) where
   abbrev c : Context
   c = context_of app m
 
@@ -121,9 +128,10 @@ module _ (app : App) (m : Member) (accepted : IsAccepted app) where
       both (first (at + 1)) (plain (instr.Jump (behind + length (second behind))) ∷ second behind) (one (at + 1))
       (two behind)
 
-  lock_claimed : (level lock at r : ℕ) (block : ℕ → ℕ → ℕ → List Line) → r < length app.shared
-      → ((inside slot a : ℕ) → Claimed (block inside slot a)) → Claimed (lock_code c level lock at r block)
-  lock_claimed level lock at r block there are =
+  lock_claimed : (level lock at r : ℕ) (block : ℕ → ℕ → ℕ → List Line) → (r < length app.shared) ×
+      ((inside slot a : ℕ) → Claimed (block inside slot a))
+      → Claimed (lock_code c level lock at r block)
+  lock_claimed level lock at r block (there, are) =
       let x = section.Res r in
       let has : HasSection (names_of app) x = omega (arith, length-map app.shared (λ s. s.name)) in (
         enter_named (names_of app) x (guard_at c r) level lock has,
@@ -133,47 +141,48 @@ module _ (app : App) (m : Member) (accepted : IsAccepted app) where
             (leave_named (names_of app) x (guard_at c r) level lock has, tt),
       )
 
-  module _ (listed : List ℕ) where
-    mutual
-      statement_claimed : (s : Statement) (n : ℕ) (visible : List ℕ) (level lock at : ℕ)
-          → IsStatementPlaced app listed n visible s → Claimed (statement_code c level lock at s)
-      statement_claimed (Bind x (Calc e)) n visible level lock at placed =
-          valued e (plain (instr.Copy x c.expressions) ∷ []) tt
-      statement_claimed (Bind x (Now place)) n visible level lock at placed = tt
-      statement_claimed (Bind x (Call s)) n visible level lock at placed =
-          both (send_code c level at s) (plain (instr.Copy x c.spawns) ∷ []) (send_claimed level at s) tt
-      statement_claimed (Assign (atom.Var x) e place) n visible level lock at placed =
-          valued e (plain (instr.Copy x c.expressions) ∷ []) tt
-      statement_claimed (Assign (atom.Shared r) e place) n visible level lock at placed =
-          valued e (plain (instr.Store r c.expressions) ∷ []) tt
-      statement_claimed (Assign (atom.Local k) e place) n visible level lock at placed =
-          valued e (plain (instr.Store (c.locals + k) c.expressions) ∷ []) tt
-      statement_claimed (Branch e first second) n visible level lock at placed =
-          let behind : ℕ = at + length (value_code c e) in
-          let one : ℕ → List Line = λ a. block_code c level lock a first in
-          let two : ℕ → List Line = λ a. block_code c level lock a second in
-          valued e (branch_code c behind one two second) (branch_claimed behind one two second
-          (λ a. block_claimed first n visible level lock a placed.1)
-          (λ a. block_claimed second (n + variables first) visible level lock a placed.2))
-      statement_claimed (Repeat x first last turn) n visible level lock at placed =
-          both (block_code c level lock (at + 4) turn) (loop_back c x (at + 1))
-          (block_claimed turn (n + 1) (n ∷ visible) level lock (at + 4) placed.1) tt
-      statement_claimed (Locked r inner place) n visible level lock at placed =
-          lock_claimed level lock at r (λ inside slot a. block_code c inside slot a inner) placed.0
-          (λ inside slot a. block_claimed inner n visible inside slot a placed.1)
-      statement_claimed (Emit e) n visible level lock at placed = valued e (plain (instr.Emit c.expressions) ∷ []) tt
-      statement_claimed (Pend i) n visible level lock at placed = (number_named app i placed, tt)
-      statement_claimed (Spawns s) n visible level lock at placed = send_claimed level at s
+  mutual
+    statement_claimed : (s : Statement) (w : Where) (level lock at : ℕ)
+        → IsStatementPlaced app w.listed w.count w.visible s → Claimed (statement_code c level lock at s)
+    statement_claimed (Bind x (Calc e)) w level lock at placed =
+        valued e (plain (instr.Copy x c.expressions) ∷ []) tt
+    statement_claimed (Bind x (Now place)) w level lock at placed = tt
+    statement_claimed (Bind x (Call s)) w level lock at placed =
+        both (send_code c level at s) (plain (instr.Copy x c.spawns) ∷ []) (send_claimed level at s) tt
+    statement_claimed (Assign (atom.Var x) e place) w level lock at placed =
+        valued e (plain (instr.Copy x c.expressions) ∷ []) tt
+    statement_claimed (Assign (atom.Shared r) e place) w level lock at placed =
+        valued e (plain (instr.Store r c.expressions) ∷ []) tt
+    statement_claimed (Assign (atom.Local k) e place) w level lock at placed =
+        valued e (plain (instr.Store (c.locals + k) c.expressions) ∷ []) tt
+    statement_claimed (Branch e first second) w level lock at placed =
+        let behind : ℕ = at + length (value_code c e) in
+        let one : ℕ → List Line = λ a. block_code c level lock a first in
+        let two : ℕ → List Line = λ a. block_code c level lock a second in
+        valued e (branch_code c behind one two second) (branch_claimed behind one two second
+        (λ a. block_claimed first w level lock a placed.1)
+        (λ a. block_claimed second (record w { count = w.count + variables first }) level lock a placed.2))
+    statement_claimed (Repeat x first last turn) w level lock at placed =
+        both (block_code c level lock (at + 4) turn) (loop_back c x (at + 1))
+        (block_claimed turn (record w { count = w.count + 1; visible = w.count ∷ w.visible }) level lock
+        (at + 4) placed.1) tt
+    statement_claimed (Locked r inner place) w level lock at placed =
+        lock_claimed level lock at r (λ inside slot a. block_code c inside slot a inner)
+        (placed.0, λ inside slot a. block_claimed inner w inside slot a placed.1)
+    statement_claimed (Emit e) w level lock at placed = valued e (plain (instr.Emit c.expressions) ∷ []) tt
+    statement_claimed (Pend i) w level lock at placed = (number_named app i placed, tt)
+    statement_claimed (Spawns s) w level lock at placed = send_claimed level at s
 
-      block_claimed : (b : Block) (n : ℕ) (visible : List ℕ) (level lock at : ℕ)
-          → IsBlockPlaced app listed n visible b → Claimed (block_code c level lock at b)
-      block_claimed Empty n visible level lock at placed = tt
-      block_claimed (Then s rest) n visible level lock at placed =
-          let first : List Line = statement_code c level lock at s in
-          both first (block_code c level lock (at + length first) rest)
-          (statement_claimed s n visible level lock at placed.0)
-          (block_claimed rest (n + variables_in s) (behind app listed n visible s) level lock
-          (at + length first) placed.1)
+    block_claimed : (b : Block) (w : Where) (level lock at : ℕ)
+        → IsBlockPlaced app w.listed w.count w.visible b → Claimed (block_code c level lock at b)
+    block_claimed Empty w level lock at placed = tt
+    block_claimed (Then s rest) w level lock at placed =
+        let first : List Line = statement_code c level lock at s in
+        both first (block_code c level lock (at + length first) rest)
+        (statement_claimed s w level lock at placed.0)
+        (block_claimed rest
+        (record w { count = w.count + variables_in s; visible = behind app w.listed w.count w.visible s }) level lock
+        (at + length first) placed.1)
 
 module _ (app : App) (accepted : IsAccepted app) where
   end_claimed : (id : BodyId) (entry : ℕ) → AreClaimed (names_of app) (end_line app id entry ∷ [])
@@ -192,7 +201,9 @@ module _ (app : App) (accepted : IsAccepted app) where
       → AreClaimed (names_of app) (blocks_of app o entry)
   blocks_claimed id None entry is = tt
   blocks_claimed id (Some m) entry is =
-      block_claimed app m accepted (map (λ o. o.local) m.body.local) m.body.block m.args _ (level_of app m)
+      block_claimed m accepted m.body.block
+      (record { listed = map (λ o. o.local) m.body.local; count = m.args; visible = range_with_len 0 m.args })
+      (level_of app m)
       (first_lock_slot m.args m.body) entry (has_body app accepted id m is).placed.block
 
   -- the lines of a body

@@ -141,7 +141,8 @@ module _ {z : Setting} where
     has = λ {holder} {cell} has may.
         elim (same_or_other (Guarded h.section) holder) [
           | inl same ↦ has.of (slice_index cells) (queues holder) (vs holder)
-              (subst (λ (k : Holder). (storage z.app).Spells k (slice_index cells) (queues k) (vs k)) same.0 taken.spelled)
+              (subst (λ (k : Holder). (storage z.app).Spells k (slice_index cells) (queues k)
+              (vs k)) same.0 taken.spelled)
           | inr other ↦
               (spelled_left s taken.same taken.agree known).has has (reads_fewer z h s.held holder other may)
         ];

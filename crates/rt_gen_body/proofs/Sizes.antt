@@ -82,7 +82,8 @@ has_few app m accepted = record {
       (move_code app task level (first_spawn_slot m.args m.body) at) HANDLE_COST (λ timed. omega arith);
 }
 
-branch_size : (c : Context) (at : ℕ) (first second : ℕ → List Line) (b : Block) {m n : ℕ} → ((a : ℕ) → length (first a) ≤ m)
+branch_size : (c : Context) (at : ℕ) (first second : ℕ → List Line) (b : Block) {m n : ℕ} → ((a : ℕ) → length
+    (first a) ≤ m)
     → ((a : ℕ) → length (second a) ≤ n)
     → length (branch_code c at first second b) ≤ 2 + (m + n)
 branch_size c at first second Empty {m = m} {n = n} one two = let few = one (at + 1) in omega arith

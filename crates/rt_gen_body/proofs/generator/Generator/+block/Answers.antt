@@ -99,7 +99,7 @@ statement-returns-in_ok-over-in-Branch t c =
       two_emitted (context c.args.self.now) c.value.new.code c.choose_first.new.code
           c.choose_second.new.code (block c.deref-else-is_empty.result.now)
           (block c.deref-else-is_empty-2.result.now) c.in_ok-over-in-Branch.ensures.lines
-          c.in_ok-over-in-Branch.ensures.place ends,
+          (rw c.in_ok-over-in-Branch.ensures.place at ends),
       c.in_ok-value-in-Branch.ensures,
       branch_at _ _ _ _ _ _ c.in-Branch.is c.deref-else-is_empty.ensures.value c.deref-else-is_empty-2.ensures.value,
       between (context c.args.self.now) _ _ _ c.deref-else-is_empty-2.result.now some,
