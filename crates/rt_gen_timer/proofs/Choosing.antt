@@ -21,30 +21,53 @@ use Rattle.rt_gen_timer.specs.TimerLines.{choice_lines}
 use Rattle.rt_gen_timer.specs.declared.armed.ArmedTask.{ArmedTask}
 use Rattle.rt_gen_timer.specs.declared.emitter.Emitter.{Emitter}
 
+-- a task by its number, for which the timer handler at a level may have a choice
+pub record Site : Type 0 where
+  pub app : App
+  pub level : ℕ
+  pub number : ℕ
+  pub task : Task
+
+-- whether it has one
+abbrev pub has_choice : Site → Bool
+has_choice s = is_software s.task && is_armed s.app s.number
+
+abbrev pub site_code : Site → ℕ → List Line
+site_code s at = task_code s.app s.level at s.number s.task
+
+abbrev pub site_of : code.App → ℕ → ℕ → row.Task → Site
+site_of app level n t = record { app = app_of app; level = level; number = n; task = task_of t }
+
 -- a task that is fired is a software task
-pub fired_software : (app : App) (n : ℕ) (t : Task) (b : Bool) → slice_get app.tasks n ≡ Some t
-    → b ≡ (is_software t && is_armed app n) → b ≡ true → is_some_and is_software (slice_get app.tasks n) ≡ true
-fired_software app n t b at is fired =
-    ap (is_some_and is_software) at ∙ and_left (is_software t) (is_armed app n) (sym is ∙ fired)
+pub fired_software : (s : Site) {b : Bool} → slice_get s.app.tasks s.number ≡ Some s.task → b ≡ has_choice s
+    → b ≡ true → is_some_and is_software (slice_get s.app.tasks s.number) ≡ true
+fired_software s at is fired =
+    ap (is_some_and is_software) at
+    ∙ and_left (is_software s.task) (is_armed s.app s.number) (sym is ∙ fired)
+
+-- what is read of the rows of an application is so of the application
+pub fires : {rows app : code.App} (level n : ℕ) (t : row.Task) {b : Bool}
+    → b ≡ has_choice (site_of rows level n t) → rows ≡ app → b ≡ has_choice (site_of app level n t)
+fires level n t is same = is ∙ ap (λ app. has_choice (site_of app level n t)) same
 
 -- one that is not adds nothing
-pub not_fired : (app : App) (level at n : ℕ) (t : Task) (b : Bool) (made : Made)
-    → b ≡ (is_software t && is_armed app n) → b ≡ false → Appends made made (task_code app level at n t)
-not_fired app level at n t b made is other =
+pub not_fired : (s : Site) (at : ℕ) (made : Made) {b : Bool} → b ≡ has_choice s → b ≡ false
+    → Appends made made (site_code s at)
+not_fired s at made is other =
+    let own : List Line = choice_lines (queue_of s.app) 0 s.level (armed_task s.app s.number) at in
     ap (λ (ls : List Line). record { lines = ls })
     (sym (append-nil made.lines) ∙ ap (λ (ls : List Line). made.lines ++ ls)
-    (sym (ap (λ b. if b then choice_lines (queue_of app) 0 level (armed_task app n) at else []) (sym is ∙ other))))
+    (sym (ap (λ b. if b then own else []) (sym is ∙ other))))
 
 -- the lines of one that is
-pub fired_lines : (app : App) (level at here n : ℕ) (t : Task) (b : Bool) (e : Emitter) (a : ArmedTask)
-    → e ≡ record { queue = queue_of app; slot = 0 } → a ≡ armed_task app n → at ≡ here
-    → b ≡ (is_software t && is_armed app n) → b ≡ true
-    → choice_lines e.queue e.slot level a at ≡ task_code app level here n t
-fired_lines app level at here n t b e a emitter same place is fired =
-    ap (λ (e : Emitter). choice_lines e.queue e.slot level a at) emitter
-    ∙ ap (λ (a : ArmedTask). choice_lines (queue_of app) 0 level a at) same
-    ∙ ap (choice_lines (queue_of app) 0 level (armed_task app n)) place
-    ∙ sym (ap (λ b. if b then choice_lines (queue_of app) 0 level (armed_task app n) here else []) (sym is ∙ fired))
+pub fired_lines : (s : Site) {at here : ℕ} {b : Bool} {e : Emitter} {a : ArmedTask}
+    → e ≡ record { queue = queue_of s.app; slot = 0 } → a ≡ armed_task s.app s.number → at ≡ here
+    → b ≡ has_choice s → b ≡ true → choice_lines e.queue e.slot s.level a at ≡ site_code s here
+fired_lines s {at = at} {here = here} {a = a} emitter same place is fired =
+    let own : ArmedTask → ℕ → List Line = choice_lines (queue_of s.app) 0 s.level in
+    let known : ArmedTask = armed_task s.app s.number in
+    ap (λ (e : Emitter). choice_lines e.queue e.slot s.level a at) emitter ∙ ap (λ (a : ArmedTask). own a at) same
+    ∙ ap (own known) place ∙ sym (ap (λ b. if b then own known here else []) (sym is ∙ fired))
 
 -- a task more
 choices_more : (app : App) (level : ℕ) (ts : List Task) (t : Task) (at n : ℕ)
@@ -84,19 +107,33 @@ choices_more app level (u ∷ ts) t at n =
         rw (others (at + 26), places, numbers, append_assoc)
     go false others = rw (others at, numbers)
 
--- before the first task there are no lines, and behind the last those of all
-pub choices_none : (app : App) (level entry : ℕ) (old : Made)
-    → Appends old old (choices_code app level (entry + length old.lines) 0 [])
-choices_none app level entry old = ap (λ (ls : List Line). record { lines = ls }) (sym (append-nil old.lines))
+-- where the choices of a level begin, behind the lines made before
+pub record Start : Type 0 where
+  pub app : code.App
+  pub level : ℕ
+  pub entry : ℕ
+  pub old : Made
 
-pub choices_all : (app : code.App) (level entry n : ℕ) (old new : Made) → length app.tasks.items ≤ n
-    → Appends old new
-    (choices_code (app_of app) level (entry + length old.lines) 0 (map task_of (take n app.tasks.items)))
-    → Appends old new (choices_code (app_of app) level (entry + length old.lines) 0 (map task_of app.tasks.items))
-choices_all app level entry n old new beyond are =
+abbrev pub begun : code.App → ℕ → ℕ → Made → Start
+begun app level entry old = record { app = app; level = level; entry = entry; old = old }
+
+abbrev pub first : Start → ℕ
+first s = s.entry + length s.old.lines
+
+-- the lines made before, with the choices of these tasks
+abbrev pub AreMade : Start → List row.Task → Made → Type 0
+AreMade s items new = Appends s.old new (choices_code (app_of s.app) s.level (first s) 0 (map task_of items))
+
+-- before the first task there are no lines, and behind the last those of all
+pub choices_none : (s : Start) → AreMade s [] s.old
+choices_none s = ap (λ (ls : List Line). record { lines = ls }) (sym (append-nil s.old.lines))
+
+pub choices_all : (s : Start) (n : ℕ) {new : Made} → length s.app.tasks.items ≤ n
+    → AreMade s (take n s.app.tasks.items) new → AreMade s s.app.tasks.items new
+choices_all s n beyond are =
     are ∙ ap (λ (ts : List row.Task). record {
-      lines = old.lines ++ choices_code (app_of app) level (entry + length old.lines) 0 (map task_of ts);
-    }) (take_all n app.tasks.items beyond)
+      lines = s.old.lines ++ choices_code (app_of s.app) s.level (first s) 0 (map task_of ts);
+    }) (take_all n s.app.tasks.items beyond)
 
 -- a task of the code, as it stands among the tasks of the definitions
 pub task_there : (app : code.App) (n : ℕ) (t : row.Task) → n < length app.tasks.items
@@ -105,28 +142,25 @@ task_there app n t within at =
     mapped_at task_of app.tasks.items n t (slice_get_read app.tasks.items (length app.tasks.items) n t refl within at)
 
 -- the lines with those of one task more
-pub choices_next : (app : code.App) (level entry n : ℕ) (t : row.Task) (old mid new : Made)
-    → n < length app.tasks.items → t ≡ get_or app.tasks.items n t
-    → Appends old mid
-    (choices_code (app_of app) level (entry + length old.lines) 0 (map task_of (take n app.tasks.items)))
-    → Appends mid new (task_code (app_of app) level (entry + length mid.lines) n (task_of t))
-    → Appends old new
-    (choices_code (app_of app) level (entry + length old.lines) 0 (map task_of (take (n + 1) app.tasks.items)))
-choices_next app level entry n t old mid new within at before pushed =
-    let items : List row.Task = app.tasks.items in
+pub choices_next : (s : Start) (n : ℕ) {t : row.Task} {mid new : Made} → n < length s.app.tasks.items
+    → t ≡ get_or s.app.tasks.items n t → AreMade s (take n s.app.tasks.items) mid
+    → Appends mid new (task_code (app_of s.app) s.level (s.entry + length mid.lines) n (task_of t))
+    → AreMade s (take (n + 1) s.app.tasks.items) new
+choices_next s n {t = t} {mid = mid} {new = new} within at before pushed =
+    let items : List row.Task = s.app.tasks.items in
     let ts : List Task = map task_of (take n items) in
-    let first : ℕ = entry + length old.lines in
-    let so_far : List Line = choices_code (app_of app) level first 0 ts in
-    let place : entry + length mid.lines ≡ first + length so_far =
-    omega (arith, ap (λ (m : Made). length m.lines) before, length-append old.lines so_far) in
+    let so_far : List Line = choices_code (app_of s.app) s.level (first s) 0 ts in
+    let place : s.entry + length mid.lines ≡ first s + length so_far =
+    omega (arith, ap (λ (m : Made). length m.lines) before, length-append s.old.lines so_far) in
     let long : n ≡ 0 + length ts =
     omega (arith, length-map (take n items) task_of, length-take-le n items (omega (arith, within))) in
-    let pushes : Appends mid new (task_code (app_of app) level (first + length so_far) (0 + length ts) (task_of t)) =
-    pushed ∙ (λ i. record { lines = mid.lines ++ task_code (app_of app) level (place i) (long i) (task_of t) }) in
+    let own : ℕ → ℕ → List Line = λ a k. task_code (app_of s.app) s.level a k (task_of t) in
+    let pushes : Appends mid new (own (first s + length so_far) (0 + length ts)) =
+    pushed ∙ (λ i. record { lines = mid.lines ++ own (place i) (long i) }) in
     rw (
       pushes,
       before,
       map_next task_of items n t within at,
-      choices_more (app_of app) level ts (task_of t) first 0,
+      choices_more (app_of s.app) s.level ts (task_of t) (first s) 0,
       append_assoc,
     )

@@ -1,17 +1,16 @@
 use Rattle.std.proofs.Common.{arith}
 use Rattle.std.proofs.lemmas.List.{length-map}
-use Rattle.rt_app.specs.View.{app_of, task_of}
-use Rattle.rt_gen_timer.proofs.Choosing.{choices_none, choices_next, choices_all, task_there}
+use Rattle.rt_app.specs.View.{task_of}
+use Rattle.rt_gen_timer.proofs.Choosing.{begun, choices_none, choices_next, choices_all, task_there}
 use Rattle.rt_gen_timer.proofs.timer.push_tasks.Goals as goal
 
 pub loop-number-init : goal.loop-number-init
-loop-number-init c = choices_none (app_of c.args.plan.now.app.now) c.args.level c.args.entry c.args.lines.now
+loop-number-init c = choices_none (begun c.args.plan.now.app.now c.args.level c.args.entry c.args.lines.now)
 
 pub loop-number-preserved : goal.loop-number-preserved
 loop-number-preserved c =
-    choices_next c.args.plan.now.app.now c.args.level c.args.entry c.loop-number.number c.index-task.result.now
-    c.args.lines.now c.loop-number.lines c.push_task.new.lines (omega arith) c.index-task.ensures
-    c.loop-number.invariant c.in_ok-push_task.ensures
+    choices_next (begun c.args.plan.now.app.now c.args.level c.args.entry c.args.lines.now) c.loop-number.number
+    (omega arith) c.index-task.ensures c.loop-number.invariant c.in_ok-push_task.ensures
 
 pub push_task-requires-clause-task : goal.push_task-requires-clause-task
 push_task-requires-clause-task c =
@@ -24,5 +23,5 @@ push_task-requires-clause-small c =
 
 pub returns : goal.returns
 returns c =
-    choices_all c.args.plan.now.app.now c.args.level c.args.entry c.loop-number.number c.args.lines.now
-    c.loop-number.lines (omega arith) c.loop-number.invariant
+    choices_all (begun c.args.plan.now.app.now c.args.level c.args.entry c.args.lines.now) c.loop-number.number
+    (omega arith) c.loop-number.invariant
