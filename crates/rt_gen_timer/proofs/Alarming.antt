@@ -30,7 +30,8 @@ IsFirst q row instant arming cells least (e ∷ others) =
 module _ {z : Setting} {f : Slots} {values : Values} {rest : Values → Doing Values} {lines : List Line} {h : Here} where
   -- the alarm is set within 5 steps; only one slot is written
   pub alarm_stands : (w : Words) (heap : List Entry) → Columns z (queue_of z.app) h.held h.cells
-      → (storage z.app).timer ≡ Some (queue_of z.app).irq → (w.count ≡ length heap) × (length heap ≤ (queue_of z.app).messages)
+      → (storage z.app).timer ≡ Some (queue_of z.app).irq
+      → (w.count ≡ length heap) × (length heap ≤ (queue_of z.app).messages)
       → IsFirst (queue_of z.app) (armed_place z.app) (instant_at z.app (slice_index h.cells))
       (arming_at z.app (slice_index h.cells)) h.cells (least_instant (delays (values (Guarded section.Timer)))) heap
       → h.rest ≡ does SetsAlarm values (λ answer. rest)
@@ -48,7 +49,9 @@ module _ {z : Setting} {f : Slots} {values : Values} {rest : Values → Doing Va
   alarm_stands w (e ∷ others) columns timer (counted, room) (shown, kept, least) doing on =
       stays (omega (arith, counted))
       (loads (armed_place z.app e) (reads_open (first_open columns (omega (arith, room))) shown)
-      (loads_at (armed_place z.app e) (instant_at z.app (slice_index h.cells) e) refl (reads_open (instant_open columns kept.room) kept.instants)
+      (loads_at (armed_place z.app e) (instant_at z.app (slice_index h.cells) e) refl
+      (reads_open (instant_open columns kept.room) kept.instants)
       (alarms timer columns.opens doing least
       (λ vs agree.
-      jumps_past (plain instr.NoAlarm ∷ []) (omega arith) (on (steps_and 5 h.done) (instant_at z.app (slice_index h.cells) e) vs (omega arith) agree)))))
+      jumps_past (plain instr.NoAlarm ∷ []) (omega arith)
+      (on (steps_and 5 h.done) (instant_at z.app (slice_index h.cells) e) vs (omega arith) agree)))))

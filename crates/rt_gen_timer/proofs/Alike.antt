@@ -122,8 +122,10 @@ below_same numbers arming armings xs same all =
 pub arranged_same : {instant arming instants numbers : Entry → ℕ} {armings : ℕ} {heap entries : List Entry}
     → AreSame instants instant entries → AreSame numbers arming entries
     → IsArranged instant arming armings heap entries → IsArranged instants numbers armings heap entries
-arranged_same {instant = instant} {arming = arming} {instants = instants} {numbers = numbers} {armings = armings} {heap = heap} {entries = entries} first second a =
-    let same : (j : ℕ) → j < length heap → (instants (at heap j) ≡ instant (at heap j)) × (numbers (at heap j) ≡ arming (at heap j)) =
+arranged_same {instant = instant} {arming = arming} {instants = instants} {numbers = numbers} {armings = armings}
+    {heap = heap} {entries = entries} first second a =
+    let same : (j : ℕ) → j < length heap
+    → (instants (at heap j) ≡ instant (at heap j)) × (numbers (at heap j) ≡ arming (at heap j)) =
     λ j within.
     (let some : 0 < count (at heap j) entries = omega (arith, a.alike (at heap j), counted_at heap j within) in
     (first (at heap j) some, second (at heap j) some)) in

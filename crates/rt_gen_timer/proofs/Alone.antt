@@ -37,7 +37,8 @@ timed_row app e place = armed_place_within app e (record { armed = place.0; with
 pub timed_once : (app : App) (x e : Entry) → IsTimedPlace app x → IsTimedPlace app e
     → armed_place app x ≡ armed_place app e → x ≡ e
 timed_once app x e one other same =
-    armed_place_once app x e (record { armed = one.0; within = one.2 }) (record { armed = other.0; within = other.2 }) same
+    armed_place_once app x e (record { armed = one.0; within = one.2 })
+    (record { armed = other.0; within = other.2 }) same
 
 -- a cell that is none of the timer queue's lies before or behind them
 pub beside_timer : (app : App) → IsSome app.mono → (c : ℕ) → ¬ (home_of app c ≡ At (Guarded section.Timer))
@@ -60,7 +61,8 @@ pub message_same : (app : App) (before after : List ℕ) → IsTimerAlone app be
 message_same app before after alone e is =
     let task = the_task is_software app e.task is.1 in
     let level : is_of_level task.0.priority task.0 ≡ true =
-    and_both (is_software task.0) (task.0.priority == task.0.priority) task.2 (eq-eqb task.0.priority task.0.priority refl) in
+    and_both (is_software task.0) (task.0.priority == task.0.priority) task.2
+    (eq-eqb task.0.priority task.0.priority refl) in
     message_alike app task.0.priority (slice_index before) (slice_index after) e
     (ap (is_some_and (is_of_level task.0.priority)) task.1 ∙ level, is.2)
     (λ c of. sym (alone c (λ timer. (let clash = sym timer ∙ of in cc clash))))

@@ -155,7 +155,8 @@ module _ {instant arming : Entry → ℕ} {armings : ℕ} {heap entries : List E
 
     module _ (apart : AreApart (map armed_at entries)) (i : ℕ) (within : i < length heap) where
       -- a message of the heap is the one of its task that has its handle
-      pub handle_found : IsOfHandle armed_at entries (at heap i) (armed_at (at heap i)).message.task (armed_at (at heap i)).handle
+      pub handle_found : IsOfHandle armed_at entries (at heap i) (armed_at (at heap i)).message.task
+          (armed_at (at heap i)).handle
       handle_found =
           let s = splits entries (at heap i) (in_queue i within) in
           let found = armed_as_is (map armed_at s.before) (map armed_at s.behind) (armed_at (at heap i))
@@ -254,8 +255,8 @@ pub goes_last : {instants numbers arming : Entry → ℕ} {armings n i : ℕ} {o
     → HasSettled n (key_of instants numbers) e xs i heap
     → ((x : Entry) → count x (slice_set xs i e) ≡ count x others + one x e) → n ≡ length others + 1
     → IsArranged instants numbers (armings + 1) heap (others ++ e ∷ [])
-goes_last {instants = instants} {numbers = numbers} {arming = arming} {armings = armings} {others = others} {heap = heap}
-    {e = e} listed same last settled alike long =
+goes_last {instants = instants} {numbers = numbers} {arming = arming} {armings = armings} {others = others}
+    {heap = heap} {e = e} listed same last settled alike long =
     let less : AllByRecursion (λ x. numbers x < armings) others =
     below_same numbers arming armings others same listed.below in
     record {

@@ -79,7 +79,12 @@ module _ {c : Call} {handle : ℕ} {h : Here} (may : MayCall c (handle_steps c.z
   all = cancel_code c.z.app c.task c.level c.slot h.at
 
   abbrev seek : MaySeek c h
-      (record { handle = handle; slot = 0; missing = 89; found = act (Cancels c.task handle) (leave_timer c.z.app (freed_rest c)) })
+      (record {
+        handle = handle;
+        slot = 0;
+        missing = 89;
+        found = act (Cancels c.task handle) (leave_timer c.z.app (freed_rest c));
+      })
   seek = record {
     may = may;
     code = code_first c.z.code 17 h.at all asks.code;
@@ -114,7 +119,8 @@ module _ {c : Call} {handle : ℕ} {h : Here} (may : MayCall c (handle_steps c.z
 
   -- its place becomes free
   gives_back : {e : Entry} (b : Left) → HasBack e b
-      → S c.z (Now (f may) (record (behind_call h (h.at + 81) (freed_rest c) b) { places = e ∷ h.places }) (words b.words))
+      → S c.z (Now (f may) (record (behind_call h (h.at + 81) (freed_rest c) b) { places = e ∷ h.places })
+      (words b.words))
   gives_back {e = e} b back =
       let x = section.Free c.task in
       let freeing : List Line = free_lines (queue_of c.z.app) 0 c.level (target_of c.z.app c.task) in

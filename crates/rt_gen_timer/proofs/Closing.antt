@@ -46,7 +46,8 @@ pub closes_timer : {z : Setting} {f : Slots} {lines : List Line} {h : Here} {out
     (record h { held = outer; done = done; deadlines = around; at = h.at + 7; rest = rest vs })
     (words (record w { other = other })))
     → Straight z f (alarm_lines (queue_of z.app) 0 h.at ++ leave z.app section.Timer level 9 ∷ lines) h (words w)
-closes_timer {z = z} {f = f} {h = h} {outer = outer} {rest = rest} {values = values} level w may innermost last doing on =
+closes_timer {z = z} {f = f} {h = h} {outer = outer} {rest = rest} {values = values} level w may innermost last doing
+    on =
     let x = section.Timer in
     let s = timer_spelled z.app (slice_index h.cells) (h.queues (Guarded x)) (values (Guarded x)) may.spelled in
     let t_is : timed (values (Guarded x)) ≡ s.timed = ap timed s.is in
@@ -57,7 +58,7 @@ closes_timer {z = z} {f = f} {h = h} {outer = outer} {rest = rest} {values = val
     let inside : reads (storage z.app) z.who h.held (Guarded x) ≡ true =
     owns_reads (storage z.app) z.who h.held (Guarded x) (owns_open (storage z.app) z.who h.held x may.columns.opens) in
     leaves level innermost last refl
-    (subst (λ (content : Content). (storage z.app).Spells (Guarded x) (slice_index h.cells) (h.queues (Guarded x)) content)
+    (subst (λ (c : Content). (storage z.app).Spells (Guarded x) (slice_index h.cells) (h.queues (Guarded x)) c)
     (sym (agree (Guarded x) inside)) may.spelled)
     (λ us after.
     at_address (h.at + 7) (omega arith)
@@ -84,5 +85,6 @@ module _ (app : App) (level : ℕ) where
       (alarm_lines (queue_of app) f.slot at ++ leave app section.Timer level (f.slot + 9) ∷ map (placed f.slot) lines)
       → HasCode code at (map (placed f.slot) (closing_lines at lines))
   closing_placed code f at lines has =
-      subst (λ (line : Line). HasCode code at (alarm_lines (queue_of app) f.slot at ++ line ∷ map (placed f.slot) lines))
+      subst
+      (λ (line : Line). HasCode code at (alarm_lines (queue_of app) f.slot at ++ line ∷ map (placed f.slot) lines))
       (sym (leave_placed section.Timer (guard_of app section.Timer) level 9 f.slot)) has

@@ -42,8 +42,8 @@ delayed w time right = record w {
 }
 
 -- the lines stand, within 6 steps; what is left goes on by the time
-pub time_stands : {z : Setting} {f : Slots} {lines : List Line} {h : Here} (q : TimerQueue) (w : Words) {values : Values}
-    {follows : ℕ → Values → Doing Values} → h.rest ≡ does Clocks values follows
+pub time_stands : {z : Setting} {f : Slots} {lines : List Line} {h : Here} (q : TimerQueue) (w : Words)
+    {values : Values} {follows : ℕ → Values → Doing Values} → h.rest ≡ does Clocks values follows
     → ((time done right : ℕ) (vs : Values) → time < 2 ^ 31 → done ≤ h.done + 6
     → Agree (storage z.app) z.who h.held vs values
     → Straight z f lines (record h { done = done; at = h.at + 6; rest = follows time vs })

@@ -106,11 +106,15 @@ module _ {z : Setting} {f : Slots} {g : Freed z} {h : Here} (w : Words) (may : M
       } in
       let opens = is_inside z.app z.who h.held (opened z f x g.level) x refl in
       let few : suc n ≤ g.t.capacity = room_left known in
-      let small : g.t.capacity ≤ 16 = omega (arith, few_free z.app g.task g.t g.facts, capacity z.app g.task g.t g.facts) in
+      let small : g.t.capacity ≤ 16 =
+      omega (arith, few_free z.app g.task g.t g.facts, capacity z.app g.task g.t g.facts) in
       let home = free_home known in
       loads n
-      (reads_open (record { opens = opens; long = long; home = home (free_at z.app g.task) 0 (omega arith) (omega arith) })
-      known.spells.count)
+      (reads_open (record {
+        opens = opens;
+        long = long;
+        home = home (free_at z.app g.task) 0 (omega arith) (omega arith);
+      }) known.spells.count)
       (stores_at n g.place refl may.shown
       (writes_open (record { opens = opens; long = long; home = home _ (suc n) (omega arith) few }))
       (λ placed first.
@@ -124,12 +128,14 @@ module _ {z : Setting} {f : Slots} {g : Freed z} {h : Here} (w : Words) (may : M
       }))
       (record { opens = opens; hands = may.hands; of_task = refl; doing = refl })
       (λ left ws second agree.
-      let given : IsGiven z.app g.task cells left (e ∷ entries) (vs (Guarded x)) = given_back known placed left first second in
+      let given : IsGiven z.app g.task cells left (e ∷ entries) (vs (Guarded x)) =
+      given_back known placed left first second in
       let content : Content = Number (number (ws (Guarded x)) - 1) in
       let same : ws (Guarded x) ≡ vs (Guarded x) = agree (Guarded x) (reads_it tt may.enter taken) in
       leaves g.level refl refl refl
       (spelled_put z.app (slice_index left) (e ∷ entries) content queues ws x
-      (subst (λ (c : Content). (storage z.app).Spells (Guarded x) (slice_index left) (e ∷ entries) (Number (number c - 1)))
+      (subst
+      (λ (c : Content). (storage z.app).Spells (Guarded x) (slice_index left) (e ∷ entries) (Number (number c - 1)))
       (sym same)
       (free_back (slice_index cells) entries (vs (Guarded x)) taken.spelled given.spells)))
       (λ us later.

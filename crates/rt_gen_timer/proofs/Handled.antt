@@ -1,5 +1,5 @@
--- Handles stay given and of one message each, where a message leaves the queue, goes last with its handle, or comes with
--- the next one.
+-- Handles stay given and of one message each, where a message leaves the queue, goes last with its handle, or comes
+-- with the next one.
 use Rattle.std.proofs.Common.{◌≡◌, ◌≢◌, ℕ, ◌+◌, ◌<◌, ◌≤◌, List, [], ◌∷◌, ◌++◌, subst, arith}
 use Rattle.std.specs.List.{AllByRecursion}
 use Rattle.rt_app.specs.Handled.{AreHandled}
@@ -23,8 +23,10 @@ handled_by : (t : Timed) → AreGiven t.given t.armed → AreApart t.armed → A
 handled_by t given apart = record {
   given = given;
   once = λ i j a b first second same.
-      let before : i < j → a.handle ≢ b.handle = along_at (λ a b. a.handle ≢ b.handle) t.armed apart i j a b first second in
-      let behind : j < i → b.handle ≢ a.handle = along_at (λ a b. a.handle ≢ b.handle) t.armed apart j i b a second first in
+      let before : i < j → a.handle ≢ b.handle =
+      along_at (λ a b. a.handle ≢ b.handle) t.armed apart i j a b first second in
+      let behind : j < i → b.handle ≢ a.handle =
+      along_at (λ a b. a.handle ≢ b.handle) t.armed apart j i b a second first in
       grind (arith, before, behind, same);
 }
 

@@ -196,7 +196,8 @@ module _ (app : App) where
   abbrev pub due_rest : Armed → Rest
   due_rest a =
       act (Fires a.message)
-      (leave_timer app (act_all (ready_actions app (task_priority app a.message.task) a.message ++ Returns ∷ []) nothing))
+      (leave_timer app
+      (act_all (ready_actions app (task_priority app a.message.task) a.message ++ Returns ∷ []) nothing))
 
 -- what the section took over, and the values behind the clock
 pub record Took : Type 0 where
@@ -289,14 +290,16 @@ module _ (z : Setting) (f : Slots) (level cost : ℕ) (h : Here) (values : Value
       (mask time done other : ℕ) (d : Took) (known : HasJudged z f level h values d) → done ≤ h.done + 10
       → 0 < length known.spells.heap
       → S z (Now f
-      (judged h (opened z f section.Timer level) cost d done to (due_rest z.app (armed_at z.app (slice_index d.cells) (foremost known)) d.us))
+      (judged h (opened z f section.Timer level) cost d done to
+      (due_rest z.app (armed_at z.app (slice_index d.cells) (foremost known)) d.us))
       (words (judged_words w mask time (length known.spells.heap) (armed_place z.app (foremost known))
       (foremost_instant known) other)))
 
 module _ {z : Setting} {f : Slots} {level cost to : ℕ} {values : Values} {h : Here} (w : Words)
     (may : MayJudge z f level cost to values h) where
   -- Within 10 steps one or the other.
-  judges : Idles z f level cost h values → IsDue z f level cost h values to w → Straight z f (due_lines (queue_of z.app) 0 level (h.at + 10) to) h (words w)
+  judges : Idles z f level cost h values → IsDue z f level cost h values to w
+      → Straight z f (due_lines (queue_of z.app) 0 level (h.at + 10) to) h (words w)
   judges idles dues =
       enters (may_enter may.may) may.short may.is
       (λ mask vs cells queues taken.
@@ -324,7 +327,8 @@ module _ {z : Setting} {f : Slots} {level cost to : ℕ} {values : Values} {h : 
         | inr most ↦
             jumps_off (omega arith)
             (rest_is (idle_rest z.app us) (none_due known time (omega arith))
-            (idles (steps_and 6 h.done) (judged_words w mask time n w.place w.instant w.other) d known (omega arith) refl))
+            (idles (steps_and 6 h.done) (judged_words w mask time n w.place w.instant w.other) d known
+            (omega arith) refl))
         | inl some ↦
             (let instant : ℕ = foremost_instant known in
             let row : ℕ = armed_place z.app (foremost known) in
@@ -341,7 +345,8 @@ module _ {z : Setting} {f : Slots} {level cost to : ℕ} {values : Values} {h : 
                   stays (omega (arith, is))
                   (ends (at_here (h.at + 10) (omega arith)
                   (rest_is (idle_rest z.app us) (decides known some time (lt-leb instant time less))
-                  (idles (steps_and 10 h.done) (judged_words w mask time n row instant (number_of (nat_lt time instant))) d known
+                  (idles (steps_and 10 h.done)
+                  (judged_words w mask time n row instant (number_of (nat_lt time instant))) d known
                   (omega arith) refl)))))
               | inr most ↦
                   jumps_off (ap number_of (le-ltb time instant most))
@@ -401,7 +406,8 @@ module _ {k : Handler} (may : MayHandle k) where
       → Idles (setting k) (frame k) k.level k.cost (begun k) k.values
   idles_stand least has done v d known soon counted =
       let closing : Straight (setting k) (frame k) (closing_lines k.app k.level (k.first + 10) (plain instr.Ret ∷ []))
-      (judged (begun k) (opened (setting k) (frame k) section.Timer k.level) k.cost d done (k.first + 10) (idle_rest k.app d.us)) (words v) =
+      (judged (begun k) (opened (setting k) (frame k) section.Timer k.level) k.cost d done (k.first + 10)
+      (idle_rest k.app d.us)) (words v) =
       closes_timer k.level v
       (record {
         accepted = may.accepted;

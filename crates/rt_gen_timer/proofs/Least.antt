@@ -91,7 +91,8 @@ pub none_has : (task handle : ℕ) (armed : List Armed) → AllByRecursion (λ b
     → armed_as task handle armed ≡ None
 none_has task handle armed others =
     none_found (has_handle task handle) armed
-    (all_weaker (λ b. b.handle ≢ handle) (λ b. has_handle task handle b ≡ false) (other_handle task handle) armed others)
+    (all_weaker (λ b. b.handle ≢ handle) (λ b. has_handle task handle b ≡ false) (other_handle task handle) armed
+    others)
 
 module _ (before behind : List Armed) (a : Armed) (apart : AreApart (before ++ a ∷ behind)) where
   -- where handles are apart, a message is the one of its task and handle, and the others are left without it

@@ -150,8 +150,8 @@ module _ {n : ℕ} {key : Entry → ℕ} where
         record { hole = hole; alike = λ x. refl; no_less = λ before. before; no_greater = no_greater }
 
     -- a turn of it, and the turns behind
-    pub sink_turn : {c j : ℕ} {ys : List Entry} → HasHole n key xs i → IsLesser n i (keys key xs) c → key (at xs c) ≤ key e
-        → HasSunk n key e (with_moved xs i c) c ys j → HasSunk n key e xs i ys j
+    pub sink_turn : {c j : ℕ} {ys : List Entry} → HasHole n key xs i → IsLesser n i (keys key xs) c
+        → key (at xs c) ≤ key e → HasSunk n key e (with_moved xs i c) c ys j → HasSunk n key e xs i ys j
     sink_turn {c = c} hole lesser less behind = record {
       hole = behind.hole;
       alike = λ x. behind.alike x

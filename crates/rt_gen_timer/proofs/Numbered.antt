@@ -61,7 +61,8 @@ module _ {X : Type 0} (R : X → X → Type 0) where
       (all_append (R y) xs (x ∷ []) along.0 (all.0, tt), along_more xs x along.1 all.1)
 
   -- those before one, and all others
-  pub along_before : (before behind : List X) (x : X) → Along (before ++ x ∷ behind) → AllByRecursion (λ y. R y x) before
+  pub along_before : (before behind : List X) (x : X) → Along (before ++ x ∷ behind)
+      → AllByRecursion (λ y. R y x) before
   along_before [] behind x along = tt
   along_before (y ∷ before) behind x along =
       ((all_behind (R y) before (x ∷ behind) along.0).0, along_before before behind x along.1)

@@ -15,7 +15,8 @@ use Rattle.rt_gen_timer.proofs.Arranged.{IsOfHandle, others_differ, count_less, 
 use Rattle.rt_gen_timer.proofs.Arranged.{move_begins, goes_last}
 use Rattle.rt_gen_timer.proofs.Handled.{handled_last}
 use Rattle.rt_gen_timer.proofs.Hollow.{IsBeside, IsHollow}
-use Rattle.rt_gen_timer.proofs.Lasting.{IsRow, AreOthers, own_row, same_instants, same_numbers, hollow_last, spells_last}
+use Rattle.rt_gen_timer.proofs.Lasting.{IsRow, AreOthers, own_row, same_instants, same_numbers}
+use Rattle.rt_gen_timer.proofs.Lasting.{hollow_last, spells_last}
 use Rattle.rt_gen_timer.proofs.Moves.{HasHole, HasSettled, count_put}
 use Rattle.rt_gen_timer.proofs.Numbered.{all_less}
 use Rattle.rt_gen_timer.proofs.Spelled.{place_of, spelled_count, spelled_whole}
@@ -68,7 +69,8 @@ module _ {app : App} {entries : List Entry} {content : Content} {before : List �
 
   module _ {instant : ℕ} {mid : List ℕ}
       (again : IsAgain (queue_of app) (armed_place app the_one) instant armings_so_far before mid) where
-    pub is_row : IsRow (queue_of app) (armed_place app the_one) instant armings_so_far (handle_in app before the_one) before mid
+    pub is_row : IsRow (queue_of app) (armed_place app the_one) instant armings_so_far (handle_in app before the_one)
+        before mid
     is_row =
         let own = own_row are in
         record {

@@ -140,8 +140,8 @@ module _ {app : App} {entries : List Entry} {e : Entry} {content : Content} {m :
     pub hole_begins : HasHole (size + 1) (key_of (instant_in app mid) (number_in app mid)) longer size
     hole_begins = push_begins may.spells.arranged e (same_instants are is_row) (same_numbers are is_row)
 
-    pub hollow_begins : IsHollow (queue_of app) (armed_place app) (instant_in app mid) (number_in app mid) (size + 1) mid
-        longer size
+    pub hollow_begins : IsHollow (queue_of app) (armed_place app) (instant_in app mid) (number_in app mid) (size + 1)
+        mid longer size
     hollow_begins =
         hollow_last are is_row (spelled_whole before may.spells may.few)
         (omega (arith, room), length_push may.spells.heap e, omega arith)

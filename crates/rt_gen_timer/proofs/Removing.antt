@@ -152,7 +152,8 @@ module _ {z : Setting} {f : Slots} {r : Removal} {h : Here} (may : MayRemove z f
 
     -- The loop upwards may begin.
     may_rise : r.place < r.size
-        → IsReady z f (last_hand r) r.rising r.place (record h { done = steps_and 7 h.done; at = h.at + 7; cells = left })
+        → IsReady z f (last_hand r) r.rising r.place
+        (record h { done = steps_and 7 h.done; at = h.at + 7; cells = left })
         (take r.size r.heap)
     may_rise less = record {
       code = parts.rise;
@@ -197,7 +198,8 @@ module _ {z : Setting} {f : Slots} {r : Removal} {h : Here} (may : MayRemove z f
         record {
           within = omega (arith, risen.within, sunk.within);
           without = without_other r.heap whole_more.long less (settled_both risen.risen sunk.sunk);
-          whole = whole_filled (at r.heap r.size) sunk.hollow (kept_beside both (counted.kept r.size (omega arith))) put;
+          whole =
+              whole_filled (at r.heap r.size) sunk.hollow (kept_beside both (counted.kept r.size (omega arith))) put;
           count = all.others r.queue.at (inl (omega arith)) ∙ one.here;
           others = λ c apart out. all.others c out ∙ one.others c apart;
           long = all.long ∙ one.long;

@@ -146,7 +146,8 @@ module _ {z : Setting} {f : Slots} {k : Hand} where
             (λ left one.
             copies
             (jumps
-            (again (record h { done = steps_and 15 h.done; cells = left }) (with_moved xs i a) w u (ready_behind some ready one)
+            (again (record h { done = steps_and 15 h.done; cells = left }) (with_moved xs i a) w u
+            (ready_behind some ready one)
             (λ c v behind. on c v (risen_behind some ready one (omega arith) behind)))))))
         | inr most ↦
             jumps_off (ap number_of (le-ltb (key k e) (key k x) most))

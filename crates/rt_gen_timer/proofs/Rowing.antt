@@ -80,7 +80,8 @@ module _ {z : Setting} {f : Slots} {q : TimerQueue} {lines : List Line} {h : Her
       let columns2 = columns_on columns1 w2.long in
       sets
       (calculates row (taken_off w.place (CAPACITY * t.target.task - t.first) row is small)
-      (loads n (reads_open (count_open columns2) (w2.others q.at (omega arith) ∙ w1.others q.at (omega arith) ∙ counts.count))
+      (loads n
+      (reads_open (count_open columns2) (w2.others q.at (omega arith) ∙ w1.others q.at (omega arith) ∙ counts.count))
       (calculates (n + 1) (added n 1 (n + 1) refl counts.small.2)
       (stores (n + 1) refl (writes_open (count_open columns2))
       (λ c3 w3.

@@ -162,7 +162,8 @@ module _ {z : Setting} {f : Slots} {g : Search} where
   searches (suc i) = turn (searches i)
 
 -- whether a row is one of a task's, by two tests
-owned : (p first last : ℕ) → let both : ℕ = number_of (nat_lt (number_of (nat_lt p first)) (number_of (nat_lt p last))) in
+owned : (p first last : ℕ)
+    → let both : ℕ = number_of (nat_lt (number_of (nat_lt p first)) (number_of (nat_lt p last))) in
     ((both ≡ 1) × (first ≤ p) × (p < last)) ⊎ ((both ≡ 0) × ((p < first) ⊎ (last ≤ p)))
 owned p first last =
     elim (cases_lt p first) [

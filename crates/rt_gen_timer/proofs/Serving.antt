@@ -218,7 +218,8 @@ module _ {k : Handler} (u : Due k) where
   timed_place : IsTimedPlace k.app e
   timed_place = place_of u.known.spells 0 u.some
 
-  abbrev picked : IsPicked (armed_at k.app (slice_index u.d.cells)) (u.d.queues (Guarded section.Timer)) e least without_least
+  abbrev picked : IsPicked (armed_at k.app (slice_index u.d.cells)) (u.d.queues (Guarded section.Timer)) e least
+      without_least
   picked = (is_least u.known u.some).picked
 
   abbrev left : List Entry
@@ -339,7 +340,8 @@ module _ {k : Handler} (u : Due k) where
         (stays (omega arith)
         (sets
         (calculates (message_word e)
-        (added v.place (CAPACITY * e.task - a.first) (message_word e) word_is (word_small k.app u.may.accepted e timed_place))
+        (added v.place (CAPACITY * e.task - a.first) (message_word e) word_is
+        (word_small k.app u.may.accepted e timed_place))
         (fires (record { opens = (still_columns u.may u.known).opens; stands = picked.parts; of_task = refl }) refl refl
         (λ vs agree.
         at_address (at + 6) (omega arith)
@@ -394,8 +396,9 @@ module _ {k : Handler} (u : Due k) where
         runs = sooner (runs_here b.cells b.done (k.first + 73)) (omega (arith, taken.within));
         row = shown.row;
       })
-      (λ done to other less found. fires_then {v = record v { other = other }} taken (record { row = shown.row; counted = shown.counted }) done to less
-      found)
+      (λ done to other less found.
+      fires_then {v = record v { other = other }} taken (record { row = shown.row; counted = shown.counted }) done to
+      less found)
 
   -- The message leaves the heap first: within so many steps the handler has returned.
   takes_first : (w : Words) (done : ℕ) → done ≤ 10

@@ -8,7 +8,8 @@ use Rattle.rt_ids.specs.Operation.{number_of}
 use Rattle.rt_gen_queue.specs.Line.{Line, HasCode}
 use Rattle.rt_gen_queue.proofs.Numbers.{added, steps_and}
 use Rattle.rt_gen_queue.proofs.Placing.{code_front}
-use Rattle.rt_gen_queue.proofs.Layer.{Setting, Here, S, Wrote, Now, Straight, ahead, calculates, copies, stores_at, jumps}
+use Rattle.rt_gen_queue.proofs.Layer.{Setting, Here, S, Wrote, Now, Straight}
+use Rattle.rt_gen_queue.proofs.Layer.{ahead, calculates, copies, stores_at, jumps}
 use Rattle.rt_gen_queue.proofs.Layer.{jumps_off, stays, writes_open}
 use Rattle.rt_app.specs.Heap.{above, at, keys}
 use Rattle.rt_gen_timer.specs.TimerLines.{heap_of, sink_lines}

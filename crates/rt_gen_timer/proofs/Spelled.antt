@@ -117,9 +117,12 @@ module _ {app : App} {cells : ℕ → ℕ} {entries : List Entry} {content : Con
 
 module _ (cells : List ℕ) {app : App} {entries : List Entry} {content : Content}
     (s : SpellsTimer app (slice_index cells) entries content) where
+  abbrev IsWholeHeap : List Entry → Type 0
+  IsWholeHeap heap =
+      IsWhole (queue_of app) (armed_place app) (instant_in app cells) (number_in app cells) (length s.heap) cells heap
+
   -- the heap stands in cells, where the armings are numbers of 32 bits
-  whole_within : s.timed.given + s.timed.moved ≤ 2 ^ 32
-      → IsWhole (queue_of app) (armed_place app) (instant_in app cells) (number_in app cells) (length s.heap) cells s.heap
+  whole_within : s.timed.given + s.timed.moved ≤ 2 ^ 32 → IsWholeHeap s.heap
   whole_within most = record {
     room = omega (arith, s.room, s.arranged.long);
     long = refl;
@@ -138,8 +141,7 @@ module _ (cells : List ℕ) {app : App} {entries : List Entry} {content : Conten
   }
 
   -- so where one more may come
-  pub spelled_whole : MayArm content
-      → IsWhole (queue_of app) (armed_place app) (instant_in app cells) (number_in app cells) (length s.heap) cells s.heap
+  pub spelled_whole : MayArm content → IsWholeHeap s.heap
   spelled_whole few = whole_within (omega (arith, few_armings s few))
 
   -- The first message of the heap has the least armed instant; where there is none, none is armed.
@@ -150,7 +152,7 @@ module _ (cells : List ℕ) {app : App} {entries : List Entry} {content : Conten
     where
       go : (heap : List Entry)
           → IsArranged (instant_in app cells) (number_in app cells) (s.timed.given + s.timed.moved) heap entries
-          → IsWhole (queue_of app) (armed_place app) (instant_in app cells) (number_in app cells) (length s.heap) cells heap
+          → IsWholeHeap heap
           → IsFirst (queue_of app) (armed_place app) (instant_in app cells) (number_in app cells) cells
           (least_instant (delays content)) heap
       go [] a whole = ap least_instant (armed_is s ∙ ap (map (armed_at app (slice_index cells))) (none_armed a refl))

@@ -81,7 +81,8 @@ module _ (k : Handler) where
         (ap (is_armed k.app) (sym same) ∙ may.place.0)
 
     -- the tasks behind it may be tried
-    behind_one : {done at other : ℕ} → n < e.task → done + 3 * armed_count k.app (n + 1) ts ≤ h.done + 3 * armed_count k.app n (t ∷ ts)
+    behind_one : {done at other : ℕ} → n < e.task
+        → done + 3 * armed_count k.app (n + 1) ts ≤ h.done + 3 * armed_count k.app n (t ∷ ts)
         → HasCode k.code at (choices_code k.app k.level at (n + 1) ts ++ behind)
         → MayTry e (n + 1) ts behind (record h { done = done; at = at }) (record w { other = other })
     behind_one less soon code = record {

@@ -33,7 +33,7 @@ returns c =
         length-append c.args.code.now.items code,
       );
       lines = named_behind (names_of app) c.args.code.now.items c.extend_from_slice.new.self.items code is
-          (cancel_claimed app (timer_named app c.requires.accepted c.requires.timed) c.args.slot c.args.level c.args.task
-          task.0 task.1 c.args.entry);
+          (cancel_claimed app (timer_named app c.requires.accepted c.requires.timed) c.args.slot c.args.level
+          c.args.task task.0 task.1 c.args.entry);
       left = tt;
     }
