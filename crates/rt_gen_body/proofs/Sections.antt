@@ -171,10 +171,17 @@ module _ (b : Body) (p : Scope) (r place : ℕ) (inner : Block) (sound : IsSound
         }) refl
         (record {
           on = λ t within settled.
-              leaves_here kind_now h.held (h.done + cost) h.deadlines
+              leaves_here kind_now
+              (record {
+                outer = h.held;
+                deadline = h.done + cost;
+                around = h.deadlines;
+                innermost = refl;
+                last = refl;
+              })
               (code_behind b.z.code (suc h.at) (suc h.at + length (code (suc h.at))) (code (suc h.at)) last refl has).0
               refl
-              (omega (arith, begins.time.0), (omega (arith, cost_is), (sooner (omega arith) begins).1)) refl refl refl
+              (omega (arith, begins.time.0), (omega (arith, cost_is), (sooner (omega arith) begins).1)) refl
               (cell.for (slice_index t.cells) (t.queues (Guarded (section.Res r))) (t.vs (Guarded (section.Res r)))
               (settled.known.in_cells.has cell
               (owns_reads (storage b.z.app) b.z.who (open_now ∷ h.held) (Guarded (section.Res r))

@@ -218,7 +218,7 @@ module _ {d : Dispatcher} {cells : List ℕ} {queues : Holder → List Entry} {v
           time = (omega arith, (omega arith, (omega arith, tt)));
         })
         (subst (λ lines. HasCode d.code (suc (suc at)) (lines ++ start_code from))
-        (lines_by_layout d.app o.task t is.at software (λ count cell. argument_lines cell count) (λ a b. refl) t.args
+        (lines_by_layout d.app o.task is.at software (λ count cell. argument_lines cell count) (λ a b. refl) t.args
         refl) has.1.1)
         (λ later to after done_is to_is behind loaded.
         loaded_run (omega arith) (omega arith) (omega arith) behind

@@ -167,7 +167,14 @@ module _ {d : Dispatcher} (c : Chosen d) where
         let inner : List ℕ = body_frame back called 0 in
         let args_are : take c.task.args inner ≡ c.args =
         frame_begins w called few fits (suc m.at) ∙ sym holds.arguments in
-        calls_here called has.0 (next_in_time run) refl c.there refl (omega arith) (frame_fits w called few fits)
+        calls_here called has.0 (next_in_time run)
+        (record {
+          own = refl;
+          is_there = c.there;
+          closed = refl;
+          some = omega arith;
+          fits = frame_fits w called few fits;
+        })
         (subst (λ k. Stands (storage d.app) d.code (rows d) d.thread (AtLevel d.level) k
         (calm left inner (Some back) called.entry m.cells m.queues (body_rest vs))) steps_are
         (subst (λ given. Stands (storage d.app) d.code (rows d) d.thread (AtLevel d.level) (cost_of_body + steps)
@@ -298,7 +305,7 @@ module _ {d : Dispatcher} (c : Chosen d) where
               let content : us (Guarded x) ≡ Messages (map (message_at d.app (slice_index m.cells)) es) =
               put_here d.app (AtLevel d.level) ws x (Messages (drop 1 (messages (ws (Guarded x)))))
               ∙ ap (λ c. Messages (drop 1 (messages c))) (agree (Guarded x) (reads_here d x) ∙ ready.content) in
-              goes_later (entry_of ∷ []) m.cells later (rest us) (words w) refl run has
+              goes_later refl run has
               (on us later
               (spelled_put x (Messages (drop 1 (messages (ws (Guarded x))))) tt
               (spelled_agreed (alone d x) ready.spelled agree))

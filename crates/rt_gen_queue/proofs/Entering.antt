@@ -21,7 +21,8 @@ use Rattle.rt_app.specs.Holding.{storage}
 use Rattle.rt_app.specs.Layout.{home_of}
 use Rattle.rt_code.specs.Acting.{with_queue}
 use Rattle.rt_code.specs.Masking.{TakesOver, IsMask, IsKindFor, IsWithin, NobodyKeeps, opening, closing, saving}
-use Rattle.rt_code.specs.Owning.{Marked, Raised, Masked, Held, is_open, saved_slot, saved_slots, reads, Agree, LeavesMine}
+use Rattle.rt_code.specs.Owning.{Marked, Raised, Masked, Held, is_open, saved_slot, saved_slots, reads}
+use Rattle.rt_code.specs.Owning.{Agree, LeavesMine}
 use Rattle.rt_code.specs.Standing.{passed}
 use Rattle.rt_code.specs.declared.instr.Note.TheVariants as note
 use Rattle.rt_gen_queue.specs.Line.{Line, noted, HasCode}
@@ -30,7 +31,8 @@ use Rattle.rt_gen_queue.specs.Spawning.{HoldsOff}
 use Rattle.rt_gen_queue.specs.declared.guard.Guard.{Guard}
 use Rattle.rt_gen_queue.proofs.Masks.{of_kinds, mask_of, saves_in}
 use Rattle.rt_gen_queue.proofs.Owning.{IsQueue, unread, reads_inside, agree_out, leaves_out}
-use Rattle.rt_gen_queue.proofs.Layer.{Now, InTime, Lasts, lasts_less, Setting, Here, spot, S, Frame, window, Saves, window_set}
+use Rattle.rt_gen_queue.proofs.Layer.{Now, InTime, Lasts, lasts_less, Setting, Here, spot, S, Frame, window}
+use Rattle.rt_gen_queue.proofs.Layer.{Saves, window_set}
 use Rattle.rt_gen_queue.proofs.Layer.{window_there, fits, all_fit, placed, MayRun, Straight, next_in_time}
 use Rattle.rt_gen_queue.proofs.Layer.{enters_here, leaves_here}
 
@@ -182,9 +184,9 @@ module _ {size mask : ℕ} where
         → Straight z f (leave z.app x level mask ∷ lines) h ws
     leaves {outer = outer} {deadline = deadline} {around = around} level innermost last is spelled on = record {
       runs = λ run has.
-          leaves_here (kind_at z.app x level (f.slot + mask)) outer deadline around
-          (has.0 ∙ ap Some (leave_placed x (guard_of z.app x) level mask f.slot)) refl (next_in_time run) innermost last
-          is spelled
+          leaves_here (kind_at z.app x level (f.slot + mask))
+          (record { outer = outer; deadline = deadline; around = around; innermost = innermost; last = last })
+          (has.0 ∙ ap Some (leave_placed x (guard_of z.app x) level mask f.slot)) refl (next_in_time run) is spelled
           (λ vs agree. (on vs agree).runs
           (record {
             time = (omega (arith, run.time.0), times run);
@@ -232,14 +234,16 @@ module _ (x : Section) (g : Guard) (level mask : ℕ) where
   pub section_fits : (size free : ℕ) (lines : List Line) → all_fit size free lines ≡ true
       → all_fit size free (section_lines lines) ≡ true
   section_fits size free lines fit =
-      and_both (fits size free (enter_line x g level mask).0) (all_fit size free (lines ++ leave_line x g level mask ∷ []))
+      and_both (fits size free (enter_line x g level mask).0)
+      (all_fit size free (lines ++ leave_line x g level mask ∷ []))
       (enter_fits x g level mask size free)
       (fits_append size free lines (leave_line x g level mask ∷ []) fit
       (and_both (fits size free (leave_line x g level mask).0) true (leave_fits x g level mask size free) refl))
 
 -- the code of a whole section
 pub section_stands : {size mask : ℕ} {z : Setting} {f : Frame size mask} {h : Here} {x : Section}
-    {level : ℕ} (ws : List ℕ) (lines : List Line) → MayEnter z f h x level → length ws ≡ size → all_fit size mask lines ≡ true
+    {level : ℕ} (ws : List ℕ) (lines : List Line) → MayEnter z f h x level → length ws ≡ size
+    → all_fit size mask lines ≡ true
     → InTime (h.done + length (section_lines x (guard_of z.app x) level mask lines)) h
     → HasCode z.code h.at (enter z.app x level (f.slot + mask)
     ∷ (map (placed f.slot) lines ++ leave z.app x level (f.slot + mask) ∷ []))

@@ -18,7 +18,7 @@ number_at test at n (u ∷ ts) zero t there passes =
 number_at test at n (u ∷ ts) (suc i) t there passes =
     let e : n + 1 + i ≡ n + suc i = omega arith in number_at test at (n + 1) ts i t there passes ∙ ap at e
 
-module _ (app : App) (n : ℕ) (t : Task) (there : slice_get app.tasks n ≡ Some t) (software : is_software t ≡ true) where
+module _ (app : App) (n : ℕ) {t : Task} (there : slice_get app.tasks n ≡ Some t) (software : is_software t ≡ true) where
   input_is : 0 < t.args → slice_index (layout app).inputs n ≡ inputs_at app n
   input_is some =
       let zeroth : 0 + n ≡ n = omega arith in

@@ -20,11 +20,13 @@ pub use Window.{Frame, is_there, is_free, free_there, window, Now, Saves, window
 pub use Window.{window_free, inner, inner_window, read_words, read_long, read_behind, frame_at, framed, window_long}
 pub use Window.{window_outside}
 pub use Runs.{shifted, shifted_note, placed, fits, all_fit, MayRun, Straight, next_in_time, may_go_on, first_fits}
-pub use Runs.{is_in, slot_of, slot_free, word_of, Next, ends, goes_on, sets, copies, calculates, loads, loads_at, stores}
+pub use Runs.{is_in, slot_of, slot_free, word_of, Next, ends, goes_on, sets, copies, calculates, loads}
+pub use Runs.{loads_at, stores}
 pub use Runs.{stores_at, jumps, jumps_off, stays, Opens, reads_open, writes_open}
 pub use Requests.{Follows, acts, GivesBack, emits_here, posts_here, clocks_here, alarms_here, no_alarm_here}
-pub use Requests.{calls_here, returns_here}
-pub use Sections.{MayOpen, entered, enters_here, leaves_here}
-pub use Noted.{behind_line, may_follow, goes_later, acts_later, by_noted, in_window, Follow, emits, posts, clocks, alarms}
+pub use Requests.{MayCall, calls_here, returns_here}
+pub use Sections.{MayOpen, MayClose, entered, enters_here, leaves_here}
+pub use Noted.{behind_line, may_follow, goes_later, acts_later, by_noted, in_window, Follow, emits, posts}
+pub use Noted.{clocks, alarms}
 pub use Noted.{no_alarm}
 pub use Skips.{may_skip, skips, skips_off}

@@ -160,14 +160,15 @@ module _ {z : Setting} {f : Frame 9 8} {h : Here} {task : ℕ} {t : Task} {e : E
 
   abbrev around : ℕ → List Line → List Line
   around slot lines =
-      plain (instr.Set (slot + 7) args_of) ∷ plain (instr.Calc op.Mul (slot + 7) (slot + 6) (slot + 7)) ∷ (lines ++ last slot)
+      plain (instr.Set (slot + 7) args_of)
+      ∷ plain (instr.Calc op.Mul (slot + 7) (slot + 6) (slot + 7)) ∷ (lines ++ last slot)
 
   abbrev filling : List Line
   filling = around 0 (store_code args_of (inputs_at z.app task) 0 0)
 
   code_is : (slot : ℕ) → fill_code z.app task slot ≡ map (placed slot) filling
   code_is slot =
-      ap (around slot) (lines_by_layout z.app task t may.facts.at may.facts.software
+      ap (around slot) (lines_by_layout z.app task may.facts.at may.facts.software
       (λ n cell. store_code n cell slot 0) (λ n m. refl) args_of (arguments z.app task t may.facts)
       ∙ stores_placed args_of (inputs_at z.app task) slot 0)
       ∙ ap (λ ls. take 2 (around slot []) ++ ls)
@@ -234,7 +235,8 @@ message_is {z = z} {task = task} {t = t} {e = e} {values = values} {after = afte
           (arguments_of z.app n));
     }) of_task
     ∙ ap (λ ws. record { task = task; args = ws })
-    (words_are (slice_index after) values (inputs_at z.app task + e.place * count) count (omega (arith, args, few, long))
+    (words_are (slice_index after) values (inputs_at z.app task + e.place * count) count
+    (omega (arith, args, few, long))
     (λ k less. filled.there k (omega arith) less)
     ∙ ap (λ n. take n values) args)
 

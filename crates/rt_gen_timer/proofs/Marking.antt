@@ -73,9 +73,7 @@ module _ {z : Setting} {f : Slots} {lines : List Line} {h : Here} {values : Valu
           is = doing;
           on = λ vs agree.
               let left : List ℕ = slice_set h.cells (heap_of q + w.hole) w.hand in
-              goes_later others left
-              (with_queue h.queues section.Timer (h.queues (Guarded section.Timer) ++ e ∷ []))
-              (rest (effect (Arms w.instant m) vs)) (words w) refl run has
+              goes_later refl run has
               (on left vs (wrote (heap_of q + w.hole) w.hand h.cells writes.there) agree);
         };
       }))
@@ -111,8 +109,7 @@ module _ {z : Setting} {f : Slots} {lines : List Line} {h : Here} {values : Valu
           is = doing;
           on = λ vs agree.
               let left : List ℕ = slice_set h.cells (heap_of q + w.hole) w.hand in
-              goes_later h.places left (with_queue h.queues section.Timer (before ++ (behind ++ e ∷ [])))
-              (rest (effect (Moves task handle w.instant) vs)) (words w) refl run has
+              goes_later refl run has
               (on left vs (wrote (heap_of q + w.hole) w.hand h.cells writes.there) agree);
         };
       }))
@@ -142,8 +139,7 @@ module _ {z : Setting} {f : Slots} {lines : List Line} {h : Here} {values : Valu
             follows = λ answer. rest;
             is = doing;
             on = λ vs agree.
-                goes_later (e ∷ h.places) h.cells (with_queue h.queues section.Timer (before ++ behind))
-                (rest (effect (Cancels task handle) vs)) ws refl run has (on vs agree);
+                goes_later refl run has (on vs agree);
           };
         }))
 
@@ -169,7 +165,6 @@ module _ {z : Setting} {f : Slots} {lines : List Line} {h : Here} {values : Valu
             follows = λ answer. rest;
             is = doing;
             on = λ vs agree.
-                goes_later (e ∷ h.places) h.cells (with_queue h.queues section.Timer (before ++ behind))
-                (rest (effect (Fires m) vs)) ws refl run has (on vs agree);
+                goes_later refl run has (on vs agree);
           };
         }))

@@ -50,14 +50,15 @@ module _ {size mask : ℕ} where
 
   -- a run that goes on behind a line, as what the line's note asks for
   pub goes_later : {z : Setting} {f : Frame size mask} {line : Line} {lines : List Line} {h : Here} {ws : List ℕ}
-      (places : List Entry) (cells : List ℕ) (queues : Holder → List Entry) (rest : Doing Values) (after : List ℕ)
+      {places : List Entry} {cells : List ℕ} {queues : Holder → List Entry} {rest : Doing Values} {after : List ℕ}
       → length after ≡ length ws → MayRun f (line ∷ lines) h ws → HasCode z.code (suc h.at) (map (placed f.slot) lines)
       → Straight z f lines (behind_line h places cells queues rest) after
       → Later z h (passed (spot z (record (behind_line h places cells queues rest) {
         done = h.done;
         slots = window f after;
       })))
-  goes_later {f = f} {h = h} places cells queues rest after long may has on =
+  goes_later {f = f} {h = h} {places = places} {cells = cells} {queues = queues} {rest = rest} {after = after} long may
+      has on =
       at_passed (record (behind_line h places cells queues rest) { done = h.done; slots = window f after })
       (on.runs (may_follow places cells queues rest after long may) has)
 
@@ -77,7 +78,7 @@ module _ {size mask : ℕ} where
         values = values;
         follows = λ answer. rest;
         is = is;
-        on = λ vs agree. goes_later places cells queues (rest (effect action vs)) after long may has (on vs agree);
+        on = λ vs agree. goes_later long may has (on vs agree);
       }
 
   module _ {z : Setting} {f : Frame size mask} {line : Line} {lines : List Line} {h : Here} {ws : List ℕ} where
@@ -129,7 +130,8 @@ module _ {size mask : ℕ} where
     -- a slot gets the time
     pub clocks : {d : ℕ} {values : Values} {follows : ℕ → Values → Doing Values} → h.rest ≡ does Clocks values follows
         → ((now : ℕ) (vs : Values) → now < 2 ^ 31 → Agree (storage z.app) z.who h.held vs values
-        → Straight z f lines (record h { done = suc h.done; at = suc h.at; rest = follows now vs }) (slice_set ws d now))
+        → Straight z f lines (record h { done = suc h.done; at = suc h.at; rest = follows now vs })
+        (slice_set ws d now))
         → Straight z f (plain (instr.Clock d) ∷ lines) h ws
     clocks {d = d} {follows = follows} is on = record {
       runs = λ may has.

@@ -68,6 +68,14 @@ GivesBack z h values =
     (holder : Holder) → (storage z.app).is_kept z.who holder ≡ true
     → (storage z.app).Spells holder (slice_index h.cells) (h.queues holder) (values holder)
 
+-- the row of this number may be called, with its arguments in the slots from one on
+pub record MayCall (z : Setting) (h : Here) (row from : ℕ) (called : BodyRow) : Type 0 where
+  pub own : z.caller ≡ None
+  pub is_there : slice_get z.bodies row ≡ Some called
+  pub closed : h.held ≡ []
+  pub some : 0 < length h.slots
+  pub fits : arguments_fit h.slots called from ≡ true
+
 module _ {z : Setting} {h : Here} where
   -- a value is emitted
   pub emits_here : {s : ℕ} {values : Values} {rest : Values → Doing Values} (v : ℕ)
@@ -149,23 +157,22 @@ module _ {z : Setting} {h : Here} where
 
   -- a body is called, with its arguments in the slots from one on
   pub calls_here : {row from : ℕ} (called : BodyRow) → slice_get z.code h.at ≡ Some (plain (instr.Call row from))
-      → InTime (suc h.done) h → z.caller ≡ None → slice_get z.bodies row ≡ Some called → h.held ≡ []
-      → 0 < length h.slots → arguments_fit h.slots called from ≡ true
+      → InTime (suc h.done) h → MayCall z h row from called
       → Later z h (record (passed (spot z h)) {
         address = called.entry;
         slots = body_frame (caller_frame h.slots (suc h.at)) called from;
         caller = Some (caller_frame h.slots (suc h.at));
       })
       → S z h
-  calls_here {row = row} {from = from} called here time own there closed some fits on =
+  calls_here {row = row} {from = from} called here time may on =
       asks_for {z = z} {h = h} (instr.Call row from) (request.Call row from) h.at here time
       (λ now b m. effect_is_done (instr.Call row from) now (processor_of (spot z h) b m) refl refl) tt
       (record {
         called = called;
-        is_there = there;
-        closed = closed;
-        may_call = (own, some);
-        fits = fits;
+        is_there = may.is_there;
+        closed = may.closed;
+        may_call = (may.own, may.some);
+        fits = may.fits;
         on = on;
       })
 

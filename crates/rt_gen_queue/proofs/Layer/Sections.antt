@@ -27,6 +27,14 @@ pub record MayOpen (z : Setting) (h : Here) (x : Section) (kind : Kind) : Type 0
   pub closed : is_open h.held x ≡ false
   pub nobody : NobodyKeeps (storage z.app) z.who z.who x
 
+-- the section is the innermost one, so it may be closed
+pub record MayClose (h : Here) (x : Section) (kind : Kind) : Type 0 where
+  pub outer : List Held
+  pub deadline : ℕ
+  pub around : List ℕ
+  pub innermost : h.held ≡ record { section = x; kind = kind } ∷ outer
+  pub last : h.deadlines ≡ deadline ∷ around
+
 -- inside it, whose own deadline is its cost from here
 abbrev pub entered : Here → Section → Kind → (cost saved : ℕ) → List ℕ → (Holder → List Entry) → Doing Values → Here
 entered h x kind cost saved cells queues rest = record h {
@@ -75,30 +83,27 @@ module _ {z : Setting} {h : Here} where
 
   -- out of it: the deadlines are those around it
   pub leaves_here : {i : Instr} {x : Section} {values : Values} {rest : Values → Doing Values} (kind : Kind)
-      (outer : List Held) (deadline : ℕ) (around : List ℕ)
-      → slice_get z.code h.at ≡ Some (noted i (note.Leave x)) → i ≡ closing kind → InTime (suc h.done) h
-      → h.held ≡ record { section = x; kind = kind } ∷ outer → h.deadlines ≡ deadline ∷ around
-      → h.rest ≡ does (Leaves x) values (λ answer. rest)
+      (may : MayClose h x kind) → slice_get z.code h.at ≡ Some (noted i (note.Leave x)) → i ≡ closing kind
+      → InTime (suc h.done) h → h.rest ≡ does (Leaves x) values (λ answer. rest)
       → (storage z.app).Spells (Guarded x) (slice_index h.cells) (h.queues (Guarded x)) (values (Guarded x))
-      → ((vs : Values) → Agree (storage z.app) z.who outer vs values
-      → S z (record h { held = outer; done = suc h.done; deadlines = around; at = suc h.at; rest = rest vs }))
+      → ((vs : Values) → Agree (storage z.app) z.who may.outer vs values
+      → S z (record h { held = may.outer; done = suc h.done; deadlines = may.around; at = suc h.at; rest = rest vs }))
       → S z h
-  leaves_here {i = i} {x = x} {values = values} {rest = rest} kind outer deadline around here closes time innermost
-      last is spelled on =
+  leaves_here {i = i} {x = x} {values = values} {rest = rest} kind may here closes time is spelled on =
       by_line i (Some (note.Leave x)) here time
       (record {
         values = values;
         follows = λ answer. rest;
         is = is;
         kind = kind;
-        outer = outer;
-        innermost = innermost;
+        outer = may.outer;
+        innermost = may.innermost;
         closes = closes;
         spelled = spelled;
         on = λ vs agree.
             subst (λ (lefts : List ℕ). Later z h
-            (record (spot z (record h { held = outer; at = suc h.at; rest = rest vs })) { lefts = lefts }))
-            (ap (λ ds. left_at (suc h.done) (drop 1 ds)) (sym last) ∙ dropped h.done h.deadlines)
+            (record (spot z (record h { held = may.outer; at = suc h.at; rest = rest vs })) { lefts = lefts }))
+            (ap (λ ds. left_at (suc h.done) (drop 1 ds)) (sym may.last) ∙ dropped h.done h.deadlines)
             (on vs agree).stands;
       })
     where
