@@ -34,8 +34,10 @@ use Rattle.rt_gen_queue.proofs.Owning.{free_spelled, free_back}
 use Rattle.rt_gen_queue.proofs.Owning.{is_inside, spelled_put}
 use Rattle.rt_gen_queue.proofs.Facts.{Spawned, capacity, few_free}
 use Rattle.rt_gen_queue.proofs.Layer.{Setting, Here, ahead, InTime, spot, S, Wrote, Frame, Now, Straight, ends, sets}
-use Rattle.rt_gen_queue.proofs.Layer.{lasts_less, fits, calculates, loads, stores, jumps_off, stays, Opens, reads_open, writes_open}
-use Rattle.rt_gen_queue.proofs.Entering.{opened, MayEnter, within, enters, leaves, section_stands, reads_it, own_left, agree_left}
+use Rattle.rt_gen_queue.proofs.Layer.{lasts_less, fits, calculates, loads, stores, jumps_off, stays, Opens}
+use Rattle.rt_gen_queue.proofs.Layer.{reads_open, writes_open}
+use Rattle.rt_gen_queue.proofs.Entering.{opened, MayEnter, within, enters, leaves, section_stands, reads_it}
+use Rattle.rt_gen_queue.proofs.Entering.{own_left, agree_left}
 use Rattle.rt_gen_queue.proofs.Entering.{saves_inside, leave_fits, leave_placed}
 use Rattle.rt_gen_queue.proofs.Handing.{takes, refuses}
 use Rattle.rt_gen_queue.proofs.Words.{Arguments, Scratch, words}
@@ -65,209 +67,211 @@ at_full h o full cells queues rest =
 abbrev middle : App → ℕ → ℕ → ℕ → List Line
 middle app task level full = take 6 (drop 1 (take_code app task level 0 full))
 
-module _ {z : Setting} {f : Frame 9 8} {h : Here} {task level full : ℕ} {t : Task} (may : MayTake z f h task level full t)
-  where
-    abbrev places : Section
-    places = section.Free task
+module _ {z : Setting} {f : Frame 9 8} {h : Here} {task level full : ℕ} {t : Task}
+    (may : MayTake z f h task level full t) where
+  abbrev places : Section
+  places = section.Free task
 
-    free_home : (j : ℕ) → j ≤ capacity_of z.app task → home_of z.app (free_at z.app task + j) ≡ At (Guarded places)
-    free_home j within =
-        free_is_home z.app task t may.facts.at may.facts.software j
-        (omega (arith, within, capacity z.app task t may.facts))
+  free_home : (j : ℕ) → j ≤ capacity_of z.app task → home_of z.app (free_at z.app task + j) ≡ At (Guarded places)
+  free_home j within =
+      free_is_home z.app task t may.facts.at may.facts.software j
+      (omega (arith, within, capacity z.app task t may.facts))
 
-    count_home : home_of z.app (free_at z.app task) ≡ At (Guarded places)
-    count_home = let e : free_at z.app task ≡ free_at z.app task + 0 = omega arith in
-        ap (home_of z.app) e ∙ free_home 0 (omega arith)
+  count_home : home_of z.app (free_at z.app task) ≡ At (Guarded places)
+  count_home = let e : free_at z.app task ≡ free_at z.app task + 0 = omega arith in
+      ap (home_of z.app) e ∙ free_home 0 (omega arith)
 
-    opens : is_open (opened z f places level ∷ h.held) places ≡ true
-    opens = is_inside z.app z.who h.held (opened z f places level) places refl
+  opens : is_open (opened z f places level ∷ h.held) places ≡ true
+  opens = is_inside z.app z.who h.held (opened z f places level) places refl
 
-    -- the cell of the count, where the section is open
-    counts : {g : Here} → is_open g.held places ≡ true → length g.cells ≡ length (memory z.app)
-        → Opens z g places (free_at z.app task)
-    counts inside long = record { opens = inside; long = long; home = count_home }
+  -- the cell of the count, where the section is open
+  counts : {g : Here} → is_open g.held places ≡ true → length g.cells ≡ length (memory z.app)
+      → Opens z g places (free_at z.app task)
+  counts inside long = record { opens = inside; long = long; home = count_home }
 
-    module _ {vs ws : Values} {cells : List ℕ} {queues : Holder → List Entry}
-        (taken : TakesOver (storage z.app) z.who places (passed (spot z h)) vs ws cells queues) where
-      -- the place was nobody's own
-      was_free : (e : Entry) (others : List Entry) → queues (Guarded places) ≡ e ∷ others → mine (spot z h) e ≡ 0
-      was_free e others are =
-          let same : queued queues e h.held ≡ queued h.queues e h.held =
-          queues_same h.queues queues e h.held
-          (λ x opens. taken.same.queued (Guarded x) (owns_open (storage z.app) z.who h.held x opens)) in
-          omega (
-            arith,
-            taken.once e,
-            queued_more queues e (record { section = places; kind = Marked }) h.held,
-            count_more e e others,
-            one_itself e,
-            same,
-            ap (count e) are,
-          )
+  module _ {vs ws : Values} {cells : List ℕ} {queues : Holder → List Entry}
+      (taken : TakesOver (storage z.app) z.who places (passed (spot z h)) vs ws cells queues) where
+    -- the place was nobody's own
+    was_free : (e : Entry) (others : List Entry) → queues (Guarded places) ≡ e ∷ others → mine (spot z h) e ≡ 0
+    was_free e others are =
+        let same : queued queues e h.held ≡ queued h.queues e h.held =
+        queues_same h.queues queues e h.held
+        (λ x opens. taken.same.queued (Guarded x) (owns_open (storage z.app) z.who h.held x opens)) in
+        omega (
+          arith,
+          taken.once e,
+          queued_more queues e (record { section = places; kind = Marked }) h.held,
+          count_more e e others,
+          one_itself e,
+          same,
+          ap (count e) are,
+        )
 
-      own_behind : (entries : List Entry) {v : ℕ} {left : List ℕ} → Wrote (free_at z.app task) v cells left
-          → LeavesMine (storage z.app) z.who (spot z h) left (with_queue queues places entries)
-      own_behind entries {left = left} wrote =
-          own_left tt may.enter taken entries left wrote.long
-          (λ c other. wrote.others c (λ (is : c ≡ free_at z.app task). other (ap (home_of z.app) is ∙ count_home)))
+    own_behind : (entries : List Entry) {v : ℕ} {left : List ℕ} → Wrote (free_at z.app task) v cells left
+        → LeavesMine (storage z.app) z.who (spot z h) left (with_queue queues places entries)
+    own_behind entries {left = left} wrote =
+        own_left tt may.enter taken entries left wrote.long
+        (λ c other. wrote.others c (λ (is : c ≡ free_at z.app task). other (ap (home_of z.app) is ∙ count_home)))
 
-      spelled : (entries : List Entry) → queues (Guarded places) ≡ entries
-          → SpellsFree z.app (slice_index cells) task entries (ws (Guarded places))
-      spelled entries are =
-          subst (λ (es : List Entry). SpellsFree z.app (slice_index cells) task es (ws (Guarded places))) are
-          (free_spelled z.app task (slice_index cells) (queues (Guarded places)) (ws (Guarded places)) taken.spelled)
+    spelled : (entries : List Entry) → queues (Guarded places) ≡ entries
+        → SpellsFree z.app (slice_index cells) task entries (ws (Guarded places))
+    spelled entries are =
+        subst (λ (es : List Entry). SpellsFree z.app (slice_index cells) task es (ws (Guarded places))) are
+        (free_spelled z.app task (slice_index cells) (queues (Guarded places)) (ws (Guarded places)) taken.spelled)
 
-      long : length cells ≡ length (memory z.app)
-      long = taken.same.long ∙ may.long
+    long : length cells ≡ length (memory z.app)
+    long = taken.same.long ∙ may.long
 
-      granted_stands : {doing : Doing Values} {rest : Rest} {e : Entry}
-          {others : List Entry} (a : Arguments) (s : Scratch) → queues (Guarded places) ≡ e ∷ others
-          → doing ≡ act_all (Takes task ∷ Leaves places ∷ []) rest ws
-          → ((r : Scratch) (left : List ℕ) (more : Holder → List Entry) (us : Values)
-          → HasTaken z h task vs e left more us
-          → S z (Now f (record (ahead 8 h) { places = e ∷ h.places; cells = left; queues = more; rest = rest us })
-          (words a (record r { word = e.place }))))
-          → Straight z f (drop 1 (take_code z.app task level 0 full))
-          (within h (opened z f places level) FREE_COST cells queues doing) (words a s)
-      granted_stands {e = e} {others = others} a s are is on =
-          let spells = spelled (e ∷ others) are in
-          let room = spells.room in
-          let few = few_free z.app task t may.facts in
-          let next : free_at z.app task + 1 + length others ≡ free_at z.app task + suc (length others) = omega arith in
-          let last : free_at z.app task + 1 + length others ≡ free_at z.app task + (suc (length others) - 0) =
-          omega arith in
-          let differ : free_at z.app task + 1 + length others ≢ free_at z.app task = omega arith in
-          loads (suc (length others)) (reads_open (counts opens long) spells.count)
-          (stays (omega arith)
-          (sets
-          (calculates (length others) (one_less (length others) (omega arith))
-          (stores (length others) refl (writes_open (counts opens long))
-          (λ left wrote.
-          takes (length others) e.place refl
-          (reads_open
-          (record {
-            opens = opens;
-            long = wrote.long ∙ long;
-            home = ap (home_of z.app) next ∙ free_home (suc (length others)) room;
-          })
-          (wrote.others _ differ ∙ ap (slice_index cells) last ∙ spells.stack 0 e refl))
-          (record { opens = opens; first = are; of_task = spells.places.0.0; doing = is })
-          (λ us agree.
-          let content : Content = Number (number (us (Guarded places)) + 1) in
-          let content_is : Number (number (ws (Guarded places)) + 1) ≡ content =
-          ap (λ c. Number (number c + 1)) (sym (agree (Guarded places) (reads_it tt may.enter taken))) in
-          leaves level refl refl refl
-          (spelled_put z.app (slice_index left) others content queues us places
-          (free_back _ _ _ taken.spelled
-          (subst (λ (c : Content). SpellsFree z.app (slice_index left) task others c) content_is
-          (free_taken spells wrote))))
-          (λ after agree2.
-          ends (on (record s { count = length others; number = 1 }) left (with_queue queues places others) after
-          (record {
-            of_task = spells.places.0.0;
-            place = spells.places.0.1;
-            none = was_free e others are;
-            own = own_behind others wrote;
-            agree = agree_left tt may.enter taken content agree2 agree;
-          })))))))))
-
-      none_found : {doing : Doing Values} (a : Arguments) (s : Scratch) → queues (Guarded places) ≡ []
-          → ((r : Scratch) → S z (Now f (at_full h (opened z f places level) full cells queues doing) (words a r)))
-          → Straight z f (drop 1 (take_code z.app task level 0 full))
-          (within h (opened z f places level) FREE_COST cells queues doing) (words a s)
-      none_found a s are on =
-          loads 0 (reads_open (counts opens long) (spelled [] are).count) (jumps_off refl (on (record s { count = 0 })))
-
-      -- there a note says so, and the section closes
-      pub refused_stands : {rest : Rest} (a : Arguments) (s : Scratch)
-          → HasCode z.code full (drop 2 (end_code z.app task level f.slot (full + 2)))
-          → ((us : Values) → LeavesMine (storage z.app) z.who (spot z h) cells queues
-          → Agree (storage z.app) z.who h.held us vs
-          → S z (Now f
-          (record (ahead 5 h) { at = suc (suc full); cells = cells; queues = queues; rest = rest us })
-          (words (record a { first = 0 }) s)))
-          → S z (Now f (at_full h (opened z f places level) full cells queues
-          (act_all (Refuses task ∷ Leaves places ∷ []) rest ws)) (words a s))
-      refused_stands {rest = rest} a s has on =
-          let free = (target_of z.app task).guard in
-          let g : Here =
-          at_full h (opened z f places level) full cells queues (act_all (Refuses task ∷ Leaves places ∷ []) rest ws) in
-          let zeroth : f.slot ≡ f.slot + 0 = omega arith in
-          let run : Straight z f (drop 2 (end_code z.app task level 0 (full + 2))) g (words a s) =
-          refuses opens refl
-          (λ us agree.
-          leaves level refl refl refl
-          (subst (λ (c : Content). (storage z.app).Spells (Guarded places) (slice_index cells) (queues (Guarded places)) c)
-          (sym (agree (Guarded places) (reads_it tt may.enter taken)))
-          taken.spelled)
-          (λ after agree2.
-          ends (on after
-          (record { long = taken.same.long; touched = taken.same.touched; queued = taken.same.queued })
-          (λ holder read.
-          agree2 holder read
-          ∙ agree holder (reads_more (storage z.app) z.who (opened z f places level) h.held holder read)
-          ∙ taken.agree holder read)))) in
-          run.runs
-          (record {
-            time = (
-              omega (arith, may.time.0),
-              (omega arith, lasts_less (steps_and 3 h.done + 2) (h.done + 8) h.deadlines (omega arith) may.time.1),
-            );
-            saves = saves_inside may.enter;
-            long = refl;
-            fit = and_both (fits 9 8 (leave_line places free level 8).0) true (leave_fits places free level 8 9 8) refl;
-          }) (
-            has.0 ∙ ap (λ d. Some (noted (instr.Set d 0) (note.Full task))) zeroth,
-            (has.1.0 ∙ ap Some (sym (leave_placed places free level 8 f.slot)), tt),
-          )
-
-      -- fewer are out than there are places where one is free
-      place_left : (e : Entry) (others : List Entry) → queues (Guarded places) ≡ e ∷ others
-          → has_place z.app task ws ≡ true
-      place_left e others are =
-          let spells = spelled (e ∷ others) are in
-          let room = spells.room in
-          let less : capacity_of z.app task - suc (length others) < capacity_of z.app task = omega arith in
-          ap (λ c. nat_lt (number c) (capacity_of z.app task)) spells.out ∙ lt-ltb _ _ less
-
-      none_left : queues (Guarded places) ≡ [] → has_place z.app task ws ≡ false
-      none_left are =
-          ap (λ c. nat_lt (number c) (capacity_of z.app task)) (spelled [] are).out
-          ∙ le-ltb (capacity_of z.app task - 0) (capacity_of z.app task) (omega arith)
-
-    -- a place is taken, or none is left and the code at another address goes on
-    pub take_begins : {granted refused : Rest} {vs : Values} (a : Arguments) (s : Scratch)
-        → h.rest ≡ take_place z.app task granted refused vs
-        → ((e : Entry) (r : Scratch) (cells : List ℕ) (queues : Holder → List Entry) (us : Values)
-        → HasTaken z h task vs e cells queues us
-        → S z (Now f (record (ahead 8 h) { places = e ∷ h.places; cells = cells; queues = queues; rest = granted us })
+    granted_stands : {doing : Doing Values} {rest : Rest} {e : Entry}
+        {others : List Entry} (a : Arguments) (s : Scratch) → queues (Guarded places) ≡ e ∷ others
+        → doing ≡ act_all (Takes task ∷ Leaves places ∷ []) rest ws
+        → ((r : Scratch) (left : List ℕ) (more : Holder → List Entry) (us : Values)
+        → HasTaken z h task vs e left more us
+        → S z (Now f (record (ahead 8 h) { places = e ∷ h.places; cells = left; queues = more; rest = rest us })
         (words a (record r { word = e.place }))))
-        → ((r : Scratch) (cells : List ℕ) (queues : Holder → List Entry) (us : Values)
-        → TakesOver (storage z.app) z.who places (passed (spot z h)) vs us cells queues
-        → S z (Now f (at_full h (opened z f places level) full cells queues
-        (act_all (Refuses task ∷ Leaves places ∷ []) refused us)) (words a r)))
-        → S z (Now f h (words a s))
-    take_begins {granted = granted} {refused = refused} {vs = vs} a s is on off =
-        section_stands (words a s) (middle z.app task level full) may.enter refl refl may.time may.code
-        (enters may.enter (omega arith) is
-        (λ m ws cells queues taken. chosen m ws cells queues taken (queues (Guarded places)) refl))
-      where
-        follow : Values → Bool → Doing Values
-        follow ws b =
-            if b then act_all (Takes task ∷ Leaves places ∷ []) granted ws
-            else act_all (Refuses task ∷ Leaves places ∷ []) refused ws
+        → Straight z f (drop 1 (take_code z.app task level 0 full))
+        (within h (opened z f places level) FREE_COST cells queues doing) (words a s)
+    granted_stands {e = e} {others = others} a s are is on =
+        let spells = spelled (e ∷ others) are in
+        let room = spells.room in
+        let few = few_free z.app task t may.facts in
+        let next : free_at z.app task + 1 + length others ≡ free_at z.app task + suc (length others) = omega arith in
+        let last : free_at z.app task + 1 + length others ≡ free_at z.app task + (suc (length others) - 0) =
+        omega arith in
+        let differ : free_at z.app task + 1 + length others ≢ free_at z.app task = omega arith in
+        loads (suc (length others)) (reads_open (counts opens long) spells.count)
+        (stays (omega arith)
+        (sets
+        (calculates (length others) (one_less (length others) (omega arith))
+        (stores (length others) refl (writes_open (counts opens long))
+        (λ left wrote.
+        takes (length others) e.place refl
+        (reads_open
+        (record {
+          opens = opens;
+          long = wrote.long ∙ long;
+          home = ap (home_of z.app) next ∙ free_home (suc (length others)) room;
+        })
+        (wrote.others _ differ ∙ ap (slice_index cells) last ∙ spells.stack 0 e refl))
+        (record { opens = opens; first = are; of_task = spells.places.0.0; doing = is })
+        (λ us agree.
+        let content : Content = Number (number (us (Guarded places)) + 1) in
+        let content_is : Number (number (ws (Guarded places)) + 1) ≡ content =
+        ap (λ c. Number (number c + 1)) (sym (agree (Guarded places) (reads_it tt may.enter taken))) in
+        leaves level refl refl refl
+        (spelled_put z.app (slice_index left) others content queues us places
+        (free_back _ _ _ taken.spelled
+        (subst (λ (c : Content). SpellsFree z.app (slice_index left) task others c) content_is
+        (free_taken spells wrote))))
+        (λ after agree2.
+        ends (on (record s { count = length others; number = 1 }) left (with_queue queues places others) after
+        (record {
+          of_task = spells.places.0.0;
+          place = spells.places.0.1;
+          none = was_free e others are;
+          own = own_behind others wrote;
+          agree = agree_left tt may.enter taken content agree2 agree;
+        })))))))))
 
-        chosen : (m : ℕ) (ws : Values) (cells : List ℕ) (queues : Holder → List Entry)
-            (taken : TakesOver (storage z.app) z.who places (passed (spot z h)) vs ws cells queues)
-            (entries : List Entry) → queues (Guarded places) ≡ entries
-            → Straight z f (drop 1 (take_code z.app task level 0 full))
-            (within h (opened z f places level) FREE_COST cells queues (follow ws (has_place z.app task ws)))
-            (words a (record s { mask = m }))
-        chosen m ws cells queues taken [] are =
-            none_found taken a (record s { mask = m }) are
-            (λ r.
-            subst (λ (doing : Doing Values). S z (Now f (at_full h (opened z f places level) full cells queues doing) (words a r)))
-            (sym (ap (follow ws) (none_left taken are))) (off r cells queues ws taken))
-        chosen m ws cells queues taken (e ∷ others) are =
-            granted_stands taken a (record s { mask = m }) are (ap (follow ws) (place_left taken e others are))
-            (λ r left more us has. on e r left more us has)
+    none_found : {doing : Doing Values} (a : Arguments) (s : Scratch) → queues (Guarded places) ≡ []
+        → ((r : Scratch) → S z (Now f (at_full h (opened z f places level) full cells queues doing) (words a r)))
+        → Straight z f (drop 1 (take_code z.app task level 0 full))
+        (within h (opened z f places level) FREE_COST cells queues doing) (words a s)
+    none_found a s are on =
+        loads 0 (reads_open (counts opens long) (spelled [] are).count) (jumps_off refl (on (record s { count = 0 })))
+
+    -- there a note says so, and the section closes
+    pub refused_stands : {rest : Rest} (a : Arguments) (s : Scratch)
+        → HasCode z.code full (drop 2 (end_code z.app task level f.slot (full + 2)))
+        → ((us : Values) → LeavesMine (storage z.app) z.who (spot z h) cells queues
+        → Agree (storage z.app) z.who h.held us vs
+        → S z (Now f
+        (record (ahead 5 h) { at = suc (suc full); cells = cells; queues = queues; rest = rest us })
+        (words (record a { first = 0 }) s)))
+        → S z (Now f (at_full h (opened z f places level) full cells queues
+        (act_all (Refuses task ∷ Leaves places ∷ []) rest ws)) (words a s))
+    refused_stands {rest = rest} a s has on =
+        let free = (target_of z.app task).guard in
+        let g : Here =
+        at_full h (opened z f places level) full cells queues (act_all (Refuses task ∷ Leaves places ∷ []) rest ws) in
+        let zeroth : f.slot ≡ f.slot + 0 = omega arith in
+        let run : Straight z f (drop 2 (end_code z.app task level 0 (full + 2))) g (words a s) =
+        refuses opens refl
+        (λ us agree.
+        leaves level refl refl refl
+        (subst (λ (c : Content).
+        (storage z.app).Spells (Guarded places) (slice_index cells) (queues (Guarded places)) c)
+        (sym (agree (Guarded places) (reads_it tt may.enter taken)))
+        taken.spelled)
+        (λ after agree2.
+        ends (on after
+        (record { long = taken.same.long; touched = taken.same.touched; queued = taken.same.queued })
+        (λ holder read.
+        agree2 holder read
+        ∙ agree holder (reads_more (storage z.app) z.who (opened z f places level) h.held holder read)
+        ∙ taken.agree holder read)))) in
+        run.runs
+        (record {
+          time = (
+            omega (arith, may.time.0),
+            (omega arith, lasts_less (steps_and 3 h.done + 2) (h.done + 8) h.deadlines (omega arith) may.time.1),
+          );
+          saves = saves_inside may.enter;
+          long = refl;
+          fit = and_both (fits 9 8 (leave_line places free level 8).0) true (leave_fits places free level 8 9 8) refl;
+        }) (
+          has.0 ∙ ap (λ d. Some (noted (instr.Set d 0) (note.Full task))) zeroth,
+          (has.1.0 ∙ ap Some (sym (leave_placed places free level 8 f.slot)), tt),
+        )
+
+    -- fewer are out than there are places where one is free
+    place_left : (e : Entry) (others : List Entry) → queues (Guarded places) ≡ e ∷ others
+        → has_place z.app task ws ≡ true
+    place_left e others are =
+        let spells = spelled (e ∷ others) are in
+        let room = spells.room in
+        let less : capacity_of z.app task - suc (length others) < capacity_of z.app task = omega arith in
+        ap (λ c. nat_lt (number c) (capacity_of z.app task)) spells.out ∙ lt-ltb _ _ less
+
+    none_left : queues (Guarded places) ≡ [] → has_place z.app task ws ≡ false
+    none_left are =
+        ap (λ c. nat_lt (number c) (capacity_of z.app task)) (spelled [] are).out
+        ∙ le-ltb (capacity_of z.app task - 0) (capacity_of z.app task) (omega arith)
+
+  -- a place is taken, or none is left and the code at another address goes on
+  pub take_begins : {granted refused : Rest} {vs : Values} (a : Arguments) (s : Scratch)
+      → h.rest ≡ take_place z.app task granted refused vs
+      → ((e : Entry) (r : Scratch) (cells : List ℕ) (queues : Holder → List Entry) (us : Values)
+      → HasTaken z h task vs e cells queues us
+      → S z (Now f (record (ahead 8 h) { places = e ∷ h.places; cells = cells; queues = queues; rest = granted us })
+      (words a (record r { word = e.place }))))
+      → ((r : Scratch) (cells : List ℕ) (queues : Holder → List Entry) (us : Values)
+      → TakesOver (storage z.app) z.who places (passed (spot z h)) vs us cells queues
+      → S z (Now f (at_full h (opened z f places level) full cells queues
+      (act_all (Refuses task ∷ Leaves places ∷ []) refused us)) (words a r)))
+      → S z (Now f h (words a s))
+  take_begins {granted = granted} {refused = refused} {vs = vs} a s is on off =
+      section_stands (words a s) (middle z.app task level full) may.enter refl refl may.time may.code
+      (enters may.enter (omega arith) is
+      (λ m ws cells queues taken. chosen m ws cells queues taken (queues (Guarded places)) refl))
+    where
+      follow : Values → Bool → Doing Values
+      follow ws b =
+          if b then act_all (Takes task ∷ Leaves places ∷ []) granted ws
+          else act_all (Refuses task ∷ Leaves places ∷ []) refused ws
+
+      chosen : (m : ℕ) (ws : Values) (cells : List ℕ) (queues : Holder → List Entry)
+          (taken : TakesOver (storage z.app) z.who places (passed (spot z h)) vs ws cells queues)
+          (entries : List Entry) → queues (Guarded places) ≡ entries
+          → Straight z f (drop 1 (take_code z.app task level 0 full))
+          (within h (opened z f places level) FREE_COST cells queues (follow ws (has_place z.app task ws)))
+          (words a (record s { mask = m }))
+      chosen m ws cells queues taken [] are =
+          none_found taken a (record s { mask = m }) are
+          (λ r.
+          subst (λ (doing : Doing Values).
+          S z (Now f (at_full h (opened z f places level) full cells queues doing) (words a r)))
+          (sym (ap (follow ws) (none_left taken are))) (off r cells queues ws taken))
+      chosen m ws cells queues taken (e ∷ others) are =
+          granted_stands taken a (record s { mask = m }) are (ap (follow ws) (place_left taken e others are))
+          (λ r left more us has. on e r left more us has)

@@ -14,7 +14,8 @@ use Rattle.rt_code.specs.Owning.{is_open, Agree}
 use Rattle.rt_code.specs.declared.instr.Instr.TheVariants as instr
 use Rattle.rt_code.specs.declared.instr.Note.TheVariants as note
 use Rattle.rt_gen_queue.specs.Line.{Line, noted}
-use Rattle.rt_gen_queue.proofs.Layer.{Setting, Here, does as asks, Wrote, wrote, Reads, Writes, set_gives, load_at_gives}
+use Rattle.rt_gen_queue.proofs.Layer.{Setting, Here, does as asks, Wrote, wrote, Reads, Writes}
+use Rattle.rt_gen_queue.proofs.Layer.{set_gives, load_at_gives}
 use Rattle.rt_gen_queue.proofs.Layer.{store_gives, Frame, Now, is_there, is_free, Straight, first_fits, slot_of}
 use Rattle.rt_gen_queue.proofs.Layer.{slot_free, word_of, window_free, by_noted, in_window, acts_later, behind_line}
 
@@ -98,5 +99,6 @@ module _ {size mask : ℕ} {z : Setting} {f : Frame size mask} {lines : List Lin
         inside = may.opens;
         in_hands = may.hands;
         of_task = may.of_task;
-        acts = acts_later (Readies p m) ws refl run has may.doing (λ vs. on (slice_set h.cells c value) vs (wrote c value h.cells writes.there));
+        acts = acts_later (Readies p m) ws refl run has may.doing
+            (λ vs. on (slice_set h.cells c value) vs (wrote c value h.cells writes.there));
       }))

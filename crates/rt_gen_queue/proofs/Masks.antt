@@ -55,7 +55,10 @@ saved_beside g level mask saved slots =
     (record { others = λ d other. refl; long = refl }) wrote wrote
   where
     wrote : Beside mask slots (slice_set slots mask saved)
-    wrote = record { others = λ d other. get_or-set_other slots mask d saved 0 other; long = length-set slots mask saved }
+    wrote = record {
+      others = λ d other. get_or-set_other slots mask d saved 0 other;
+      long = length-set slots mask saved;
+    }
 
 -- the lines that open and close a section of what is declared name nothing else
 pub enter_named : (names : Names) (x : Section) (g : Guard) (level slot : ℕ) → HasSection names x

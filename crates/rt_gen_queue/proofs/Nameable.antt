@@ -63,7 +63,8 @@ claimed_each names f (x ∷ xs) each =
 pub named_behind : (names : Names) (front new code : List Line) → new ≡ front ++ code → AreClaimed names code
     → AllByRecursion (IsNameable names) (drop (length front) new)
 named_behind names front new code is claimed =
-    subst (AllByRecursion (IsNameable names)) (sym (ap (drop (length front)) is ∙ drop_at front code (length front) refl))
+    subst (AllByRecursion (IsNameable names))
+    (sym (ap (drop (length front)) is ∙ drop_at front code (length front) refl))
     (nameable names code claimed)
 
 -- lines that stand where a test passes

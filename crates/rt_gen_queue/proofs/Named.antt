@@ -1,5 +1,6 @@
 -- The lines of a spawn name only what the application declares.
-use Rattle.std.proofs.Common.{◌≡◌, ℕ, ◌+◌, ◌*◌, ◌<◌, Option, Some, None, [], ◌∷◌, ◌++◌, length, filter, nat_lt, slice_get}
+use Rattle.std.proofs.Common.{◌≡◌, ℕ, ◌+◌, ◌*◌, ◌<◌, Option, Some, None, [], ◌∷◌, ◌++◌, length, filter}
+use Rattle.std.proofs.Common.{nat_lt, slice_get}
 use Rattle.std.proofs.Common.{option_map, Contains, IsSome, true, refl, sym, subst, arith}
 use Rattle.std.specs.List.{range_with_len}
 use Rattle.std.proofs.lemmas.List.{length-map}

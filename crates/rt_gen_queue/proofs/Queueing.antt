@@ -30,7 +30,8 @@ use Rattle.rt_gen_queue.proofs.Owning.{home_as, ready_spelled, ready_back}
 use Rattle.rt_gen_queue.proofs.Owning.{is_inside, put_here, queue_here}
 use Rattle.rt_gen_queue.proofs.Layer.{Setting, Here, ahead, InTime, spot, S, Frame, Now, Straight, ends, sets}
 use Rattle.rt_gen_queue.proofs.Layer.{calculates, loads, stores_at, posts, Opens, reads_open, writes_open}
-use Rattle.rt_gen_queue.proofs.Entering.{opened, MayEnter, within, enters, leaves, section_stands, reads_it, own_left, agree_left}
+use Rattle.rt_gen_queue.proofs.Entering.{opened, MayEnter, within, enters, leaves, section_stands, reads_it}
+use Rattle.rt_gen_queue.proofs.Entering.{own_left, agree_left}
 use Rattle.rt_gen_queue.proofs.Handing.{hands_on}
 use Rattle.rt_gen_queue.proofs.Words.{Arguments, Scratch, words}
 
@@ -112,7 +113,8 @@ module _ {z : Setting} {f : Frame 9 8} {h : Here} {task p level : ℕ} {e : Entr
 
     readied_stands : {rest : Rest} (a : Arguments) (s : Scratch)
         → ((r : Scratch) (left : List ℕ) (more : Holder → List Entry) (us : Values) → HasReadied z h vs left more us
-        → S z (Now f (record (ahead 12 h) { places = others; cells = left; queues = more; rest = rest us }) (words a r)))
+        → S z
+        (Now f (record (ahead 12 h) { places = others; cells = left; queues = more; rest = rest us }) (words a r)))
         → Straight z f (drop 1 (ready_code z.app task p level 0))
         (within h (opened z f ring level) READY_COST cells queues
         (act_all (Readies p m ∷ Posts (dispatcher_number z.app p) ∷ Leaves ring ∷ []) rest ws))

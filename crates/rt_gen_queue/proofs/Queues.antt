@@ -167,7 +167,8 @@ module _ {app : App} {p : ℕ} {after : List ℕ} (puts : PutsReady app p after)
       last zero is here =
           let same : i ≡ length entries = omega arith in
           ap
-          (λ j. slice_index puts.mid (ready_at app p + 2 + (slice_index before (ready_at app p) + j) % ready_room app p))
+          (λ j.
+          slice_index puts.mid (ready_at app p + 2 + (slice_index before (ready_at app p) + j) % ready_room app p))
           same ∙ puts.ring.here ∙ ap message_word (same_Some e x here)
       last (suc k) is here = absurd (none-some x here)
 

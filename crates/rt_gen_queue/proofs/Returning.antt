@@ -53,7 +53,8 @@ module _ {size mask : ℕ} {z : Setting} {f : Frame size mask} {lines : List Lin
         inside = gives.opens;
         in_hands = gives.hands;
         of_task = gives.of_task;
-        acts = acts_later (Frees t) ws refl run has gives.doing (λ vs. on (slice_set h.cells c value) vs (wrote c value h.cells writes.there));
+        acts = acts_later (Frees t) ws refl run has gives.doing
+            (λ vs. on (slice_set h.cells c value) vs (wrote c value h.cells writes.there));
       }))
 
 -- a place of a task comes back among those that are free
@@ -68,7 +69,8 @@ pub record Returned (app : App) (n : ℕ) (t : Task) (cells : List ℕ) (entries
 -- what is so behind two stores
 pub record IsGiven (app : App) (n : ℕ) (cells given : List ℕ) (entries : List Entry) (content : Content) : Type 0 where
   pub long : length given ≡ length cells
-  pub elsewhere : (c : ℕ) → ¬ (home_of app c ≡ At (Guarded (section.Free n))) → slice_index given c ≡ slice_index cells c
+  pub elsewhere : (c : ℕ) → ¬ (home_of app c ≡ At (Guarded (section.Free n)))
+      → slice_index given c ≡ slice_index cells c
   pub spells : SpellsFree app (slice_index given) n entries (Number (number content - 1))
 
 module _ {app : App} {n : ℕ} {t : Task} {cells : List ℕ} {entries : List Entry} {place : ℕ}

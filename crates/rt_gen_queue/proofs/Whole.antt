@@ -20,7 +20,8 @@ use Rattle.rt_gen_queue.proofs.Owning.{nobody_keeps}
 use Rattle.rt_gen_queue.proofs.Facts.{Spawned, arguments, priority, few_arguments, known, free_top, ready_top, place_of}
 use Rattle.rt_gen_queue.proofs.Facts.{few_ready}
 use Rattle.rt_gen_queue.proofs.Placing.{code_front, code_behind, fill_long, spawn_long}
-use Rattle.rt_gen_queue.proofs.Layer.{lasts_less, Setting, Here, ahead, InTime, spot, S, moved, begun, begins, Frame, window}
+use Rattle.rt_gen_queue.proofs.Layer.{lasts_less, Setting, Here, ahead, InTime, spot, S, moved, begun, begins}
+use Rattle.rt_gen_queue.proofs.Layer.{Frame, window}
 use Rattle.rt_gen_queue.proofs.Layer.{Now, window_read, window_outside, window_long, frame_at, framed, read_behind}
 use Rattle.rt_gen_queue.proofs.Layer.{Straight, sets, jumps}
 use Rattle.rt_gen_queue.proofs.Entering.{saves_below}

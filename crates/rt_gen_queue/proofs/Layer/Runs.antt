@@ -22,7 +22,8 @@ use Rattle.rt_gen_queue.specs.Line.{Line, plain, HasCode}
 use Rattle.rt_gen_queue.proofs.Owning.{at_in_memory, loads_open, stores_open}
 use Rattle.rt_gen_queue.proofs.Layer.Jobs.{Setting, Here, InTime, spot, lasts_less}
 use Rattle.rt_gen_queue.proofs.Layer.Correct.{S, Gives, goes}
-use Rattle.rt_gen_queue.proofs.Layer.Instructions.{Reads, Writes, Wrote, wrote, IsFree, set_gives, copy_gives, calc_gives}
+use Rattle.rt_gen_queue.proofs.Layer.Instructions.{Reads, Writes, Wrote, wrote, IsFree, set_gives}
+use Rattle.rt_gen_queue.proofs.Layer.Instructions.{copy_gives, calc_gives}
 use Rattle.rt_gen_queue.proofs.Layer.Instructions.{load_gives, load_at_gives, store_gives, store_at_gives, jump_gives}
 use Rattle.rt_gen_queue.proofs.Layer.Instructions.{jump_by_gives}
 use Rattle.rt_gen_queue.proofs.Layer.Window.{Frame, window, Now, Saves, is_there, is_free, window_read, window_set}
@@ -168,7 +169,8 @@ module _ {size mask : ℕ} where
     -- a slot gets a number
     pub sets : {d v : ℕ} → Next z f lines h h.cells (slice_set ws d v)
         → Straight z f (plain (instr.Set d v) ∷ lines) h ws
-    sets {d = d} {v = v} on = writes (instr.Set d v) d v (λ may. first_fits may) (λ may free there. set_gives there free) on
+    sets {d = d} {v = v} on =
+        writes (instr.Set d v) d v (λ may. first_fits may) (λ may free there. set_gives there free) on
 
     -- a slot gets what another has
     pub copies : {d x : ℕ} → Next z f lines h h.cells (slice_set ws d (slice_index ws x))

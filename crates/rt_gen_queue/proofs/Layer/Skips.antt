@@ -44,8 +44,8 @@ module _ {size mask : ℕ} {z : Setting} {f : Frame size mask} {lines : List Lin
       → Straight z f (plain (instr.Jump to) ∷ lines) h ws
   skips {to = to} k is on = record {
     runs = λ may has.
-        (jumps {lines = lines} (on.runs (may_skip k to may) (code_from f.slot z.code (suc h.at) to k lines is has.1))).runs
-        may has;
+        (jumps {lines = lines}
+        (on.runs (may_skip k to may) (code_from f.slot z.code (suc h.at) to k lines is has.1))).runs may has;
   }
 
   -- by a jump where a slot is 0

@@ -39,7 +39,8 @@ not_the_mask size mask d free same =
     let is : (mask == mask) ≡ true = grind (arith, nat_tests) in
     false≢true (sym (ap not is) ∙ e)
 
-free_all : (mask : ℕ) (saved : List ℕ) (slot d : ℕ) → d ≢ mask → AllByRecursion (λ e. (e < slot) ⊎ (e ≡ slot + mask)) saved
+free_all : (mask : ℕ) (saved : List ℕ) (slot d : ℕ) → d ≢ mask
+    → AllByRecursion (λ e. (e < slot) ⊎ (e ≡ slot + mask)) saved
     → AllByRecursion (λ e. e ≢ slot + d) saved
 free_all mask [] slot d other saves = tt
 free_all mask (e ∷ saved) slot d other (first, rest) = (differ e first, free_all mask saved slot d other rest)
