@@ -41,13 +41,16 @@ abbrev pub handler_text : Option Handler → List ℕ
 handler_text None = codes " -"
 handler_text (Some h) = spaced h.value ++ spaced h.entry ++ spaced h.frame
 
+-- the line of an interrupt: its name, its number and its handler
 abbrev pub irq_line : IrqRow → List ℕ
 irq_line row = codes "irq " ++ row.name ++ spaced row.number ++ handler_text row.handler ++ 10 ∷ []
 
+-- the line of a body that handlers call: its task, its entry, its frame's words and its arguments
 abbrev pub body_line : Names → BodyRow → List ℕ
 body_line names row =
     codes "body " ++ task_name names row.task ++ spaced row.entry ++ spaced row.frame ++ spaced row.args ++ 10 ∷ []
 
+-- the line of an instruction: its address, the instruction and its note
 abbrev pub code_line : Names → ℕ → Instr × Option Note → List ℕ
 code_line names n line = codes "code" ++ spaced n ++ 32 ∷ instr_text names line.0 ++ note_text names line.1 ++ 10 ∷ []
 

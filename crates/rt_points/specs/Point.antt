@@ -13,6 +13,7 @@ pub use Rattle.rt_points.specs.declared.point.Kind.TheVariants.{Mark, Raise, Mas
 -- an open section, with its kind
 pub use Rattle.rt_points.specs.declared.point.Opened.{Opened}
 
+-- a point of the code: an address, who runs there, and which sections are open
 pub record Point : Type 0 where
   pub address : ℕ
   pub owner : Owner

@@ -67,6 +67,8 @@ MayEnd owner inside instr.Ret = ((place : ℕ) × (owner ≡ Handling place)) ×
 MayEnd owner inside instr.Serve = (owner ≡ Starting) × (inside ≡ [])
 MayEnd owner inside i = Unit {0}
 
+-- the instruction at a point may be used there: it is a plain one, its slots and its cell are there, and it ends a job
+-- only where it may
 pub record IsOperable (img : Image) (p : Point) (i : Instr) : Type 0 where
   pub plain : is_plain i ≡ true
   pub slots : AllByRecursion (λ slot. slot < frame_of img p.owner) (slots_of i)
@@ -96,6 +98,7 @@ abbrev pub ClosesInnermost : List Opened → Section → Instr → Type 0
 ClosesInnermost [] x i = ⊥
 ClosesInnermost (o ∷ outer) x i = (o.section ≡ x) × (i ≡ closing o.kind)
 
+-- the instruction is a jump, and the thread's
 abbrev pub JumpsInThread : Owner → Instr → Type 0
 JumpsInThread owner (instr.Jump l) = owner ≡ Thread
 JumpsInThread owner i = ⊥

@@ -68,6 +68,7 @@ TouchesAreGuarded img =
     (cell : ℕ) → IsContended img cell
     → (x : Section) × ((app : App) (events : List Event) → TouchesInside app img cell x events)
 
+-- an image is safe: whatever events come, it runs safely, and what owners contend for is touched inside sections
 pub record IsSafe (img : Image) : Type 0 where
   pub runs : (events : List Event) → RunsSafely img events
   pub guarded : TouchesAreGuarded img
