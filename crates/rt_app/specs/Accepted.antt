@@ -68,6 +68,7 @@ module _ (app : App) (listed : List ℕ) where
     IsStatementPlaced n visible (Pend i) = i < length app.irqs
     IsStatementPlaced n visible (Spawns s) = IsSpawnPlaced visible s
 
+    -- each statement of a block is placed, with the variables in scope behind those before it
     pub IsBlockPlaced : ℕ → List ℕ → Block → Type 0
     IsBlockPlaced n visible Empty = Unit {0}
     IsBlockPlaced n visible (Then s rest) =

@@ -59,6 +59,7 @@ abbrev pub lock_cost : ℕ → ℕ
 lock_cost inner = capped (2 + inner)
 
 abbrev mutual
+  -- the greatest number of core steps of a statement, its inner blocks included, or the number of its instructions
   pub statement_cost : Measure → Statement → ℕ
   statement_cost m (Bind x v) = bind_cost m v
   statement_cost m (Assign x e at) = capped (expression_cost e + 1)
@@ -71,6 +72,7 @@ abbrev mutual
   statement_cost m (Pend i) = 1
   statement_cost m (Spawns s) = spawn_cost m s
 
+  -- the cost of a block, which is the sum of the costs of its statements, or its size likewise
   pub block_cost : Measure → Block → ℕ
   block_cost m Empty = 0
   block_cost m (Then s rest) = capped (statement_cost m s + block_cost m rest)

@@ -26,6 +26,7 @@ abbrev mutual
   statement_holds_no_pend (Pend i) = false
   statement_holds_no_pend (Spawns s) = true
 
+  -- whether no `pend` stands in a block
   pub holds_no_pend : Block → Bool
   holds_no_pend Empty = true
   holds_no_pend (Then s rest) = statement_holds_no_pend s && holds_no_pend rest

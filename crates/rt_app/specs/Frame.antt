@@ -40,6 +40,7 @@ abbrev mutual
   statement_depth (Pend i) = 0
   statement_depth (Spawns s) = spawn_depth s
 
+  -- the greatest depth of an expression in a block
   pub block_depth : Block → ℕ
   block_depth Empty = 0
   block_depth (Then s rest) = max (statement_depth s) (block_depth rest)
@@ -56,6 +57,7 @@ abbrev mutual
   is_loop (Pend i) = false
   is_loop (Spawns s) = false
 
+  -- whether a `for` stands in a block
   pub has_loop : Block → Bool
   has_loop Empty = false
   has_loop (Then s rest) = is_loop s || has_loop rest
@@ -72,6 +74,7 @@ abbrev mutual
   statement_locks (Pend i) = 0
   statement_locks (Spawns s) = 0
 
+  -- the greatest number of resources that are locked at once in a block
   pub locks : Block → ℕ
   locks Empty = 0
   locks (Then s rest) = max (statement_locks s) (locks rest)

@@ -4,6 +4,7 @@ use Rattle.std.specs.Prelude.{◌≡◌, ℕ, ◌<◌, ◌≤◌, slice_get, Som
 use Rattle.std.specs.List.{AllByRecursion}
 use Rattle.rt_ids.specs.Content.{Armed, Timed}
 
+-- each armed message has a handle that was given, and no two have one handle
 pub record AreHandled (t : Timed) : Type 0 where
   -- handles count from 1 to the number of those given so far
   pub given : AllByRecursion (λ a. (0 < a.handle) × (a.handle ≤ t.given)) t.armed

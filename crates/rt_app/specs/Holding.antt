@@ -66,16 +66,19 @@ module _ (app : App) (cells : ℕ → ℕ) where
     pub ring : (i : ℕ) (e : Entry) → slice_get entries i ≡ Some e
         → cells (ready_at app p + 2 + (cells (ready_at app p) + i) % ready_room app p) ≡ message_word e
 
-  -- what the columns of the timer queue have for a message
+  -- the instant of the message of a place, in the timer queue's column of instants
   abbrev pub instant_at : Entry → ℕ
   instant_at e = cells (instants_at app + armed_place app e)
 
+  -- the number of its last arming, in the column of such numbers
   abbrev pub arming_at : Entry → ℕ
   arming_at e = cells (numbers_at app + armed_place app e)
 
+  -- its handle, in the column of handles
   abbrev pub handle_at : Entry → ℕ
   handle_at e = cells (handles_at app + armed_place app e)
 
+  -- the armed message of a place, with its instant and its handle
   abbrev pub armed_at : Entry → Armed
   armed_at e = record { instant = instant_at e; message = message_at e; handle = handle_at e }
 

@@ -75,6 +75,7 @@ ready_cells app p =
     cell (codes "head") ∷ cell (codes "count")
     ∷ map (λ k. cell (codes "at." ++ decimal k)) (range_with_len 0 (ready_room app p))
 
+-- a cell of the timer queue, which is 0 at first
 abbrev pub timer_cell : List ℕ → Cell
 timer_cell name = record { name = codes "timer." ++ name; first = 0; home = At (Guarded section.Timer) }
 
@@ -103,24 +104,24 @@ memory app =
     ++ (local_cells 0 app.locals ++ (task_cells 0 app.tasks
     ++ (flat_map (ready_cells app) (levels app) ++ timer_cells app app.mono)))
 
--- The numbers of first cells: of a resource, of a local resource, of the free places of a task, of the arguments of its
--- places, of the ready queue of a level.
+-- the cell of a shared resource
 abbrev pub resource_at : App → ℕ → ℕ
 resource_at app r = r
 
--- behind the shared resources
+-- the cell of a local resource, behind the shared ones
 abbrev pub local_at : App → ℕ → ℕ
 local_at app n = length app.shared + n
 
--- behind all resources, and the cells of the tasks before it
+-- the first cell of the free places of a task, behind all resources and the cells of the tasks before it
 abbrev pub free_at : App → ℕ → ℕ
 free_at app n = length app.shared + length app.locals + length (task_cells 0 (take n app.tasks))
 
--- behind how many free places there are, and their numbers
+-- the first cell of the arguments of a task's places, behind its free places and the number of them
 abbrev pub inputs_at : App → ℕ → ℕ
 inputs_at app n = free_at app n + 1 + capacity_of app n
 
--- behind all of that, and the ready queues of lower levels
+-- the first cell of the ready queue of a level, behind all resources, the cells of all tasks and the ready queues of
+-- lower levels
 abbrev pub ready_at : App → ℕ → ℕ
 ready_at app p =
     length app.shared + length app.locals + length (task_cells 0 app.tasks)
@@ -133,21 +134,27 @@ timer_at app =
     length app.shared + length app.locals + length (task_cells 0 app.tasks)
     + length (flat_map (ready_cells app) (levels app))
 
+-- the cell of the count of armings, first and later
 abbrev pub armings_at : App → ℕ
 armings_at app = timer_at app + 1
 
+-- the cell of the count of handles that were given
 abbrev pub given_at : App → ℕ
 given_at app = timer_at app + 2
 
+-- the first cell of the column of instants
 abbrev pub instants_at : App → ℕ
 instants_at app = timer_at app + 3
 
+-- the first cell of the column of the numbers of last armings
 abbrev pub numbers_at : App → ℕ
 numbers_at app = instants_at app + armed_messages app
 
+-- the first cell of the column of handles
 abbrev pub handles_at : App → ℕ
 handles_at app = numbers_at app + armed_messages app
 
+-- the first cell of the heap of armed places
 abbrev pub heap_at : App → ℕ
 heap_at app = handles_at app + armed_messages app
 
@@ -170,6 +177,7 @@ pub record Layout : Type 0 where
   pub ready : List ℕ
   pub timer : ℕ
 
+-- a cell as a row of an image: its name and its first value
 abbrev pub row_of : Cell → CellRow
 row_of cell = record { name = cell.name; first = cell.first }
 

@@ -20,6 +20,7 @@ abbrev mutual
   statements_in (Pend i) = 1
   statements_in (Spawns s) = 1
 
+  -- the statements of a block, those of inner blocks too
   pub statements_of : Block → ℕ
   statements_of Empty = 0
   statements_of (Then s rest) = statements_in s + statements_of rest
@@ -36,6 +37,7 @@ abbrev mutual
   inner_blocks (Pend i) = 0
   inner_blocks (Spawns s) = 0
 
+  -- the greatest number of blocks inside each other in a block, itself included
   pub blocks_of : Block → ℕ
   blocks_of Empty = 1
   blocks_of (Then s rest) = max (1 + inner_blocks s) (blocks_of rest)
@@ -72,6 +74,7 @@ abbrev mutual
   StatementFits (Pend i) = Unit {0}
   StatementFits (Spawns s) = SpawnFits s
 
+  -- each statement of a block has numbers of 32 bits, and no loop has more turns than a `for` may
   pub BlockFits : Block → Type 0
   BlockFits Empty = Unit {0}
   BlockFits (Then s rest) = StatementFits s × BlockFits rest

@@ -55,6 +55,7 @@ module _ (app : App) where
       spawn_actions app (value_in vars vs) s (λ answer. later (slice_set vars x answer)) vs
 
   abbrev mutual
+    -- a statement comes to its actions, and behind them to what is left to do
     pub run : Statement → Later → Later
     run (Bind x v) later vars vs = bind x v later vars vs
     run (Assign x e at) later vars vs = assign x (value_in vars vs e) later vars vs
@@ -68,6 +69,7 @@ module _ (app : App) where
     run (Pend i) later vars vs = act (Posts (or_zero (irq_number app i))) (later vars) vs
     run (Spawns s) later vars vs = spawn_actions app (value_in vars vs) s (λ answer. later vars) vs
 
+    -- a block comes to the actions of its statements, one statement behind the other
     pub run_block : Block → Later → Later
     run_block Empty later vars vs = later vars vs
     run_block (Then s rest) later vars vs = run s (run_block rest later) vars vs

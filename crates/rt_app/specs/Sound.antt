@@ -101,6 +101,7 @@ module _ (app : App) (m : Member) where
     IsSoundStatement n locked fixed (Pend i) = i < length app.irqs
     IsSoundStatement n locked fixed (Spawns s) = IsSoundSpawn locked s
 
+    -- each statement of a block is sound, behind the variables of those before it
     pub IsSoundBlock : ℕ → List ℕ → List ℕ → Block → Type 0
     IsSoundBlock n locked fixed Empty = Unit {0}
     IsSoundBlock n locked fixed (Then s rest) =

@@ -22,6 +22,7 @@ abbrev mutual
   statement_spawns (Pend i) = []
   statement_spawns (Spawns s) = s ∷ []
 
+  -- the spawns of a block in order of the text
   pub spawns : Block → List Spawn
   spawns Empty = []
   spawns (Then s rest) = statement_spawns s ++ spawns rest

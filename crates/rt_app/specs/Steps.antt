@@ -35,6 +35,7 @@ bind_steps m (Now at) = 2
 bind_steps m (Call s) = spawn_steps m s + 1
 
 abbrev mutual
+  -- the steps of a statement, or its instructions, with no cap
   pub statement_steps : Measure → Statement → ℕ
   statement_steps m (Bind x v) = bind_steps m v
   statement_steps m (Assign x e at) = expression_steps e + 1
@@ -46,6 +47,7 @@ abbrev mutual
   statement_steps m (Pend i) = 1
   statement_steps m (Spawns s) = spawn_steps m s
 
+  -- the steps of a block, or its instructions, with no cap
   pub block_steps : Measure → Block → ℕ
   block_steps m Empty = 0
   block_steps m (Then s rest) = statement_steps m s + block_steps m rest

@@ -49,10 +49,12 @@ mutual
     Pend : ℕ → Statement
     Spawns : Spawn → Statement
 
+  -- a block: a list of statements
   pub data Block : Type 0 where
     Empty : Block
     Then : Statement → Block → Block
 
+-- what `init`, `idle` or a task has: the resources that it lists, and its block
 pub record Body : Type 0 where
   pub shared : List Listed
   pub local : List Owned
@@ -60,6 +62,7 @@ pub record Body : Type 0 where
   -- the offset of the word `init` or `idle`, or of the task's name
   pub at : ℕ
 
+-- a task of RTIC 1: a hardware task where it binds an interrupt, else a software task
 pub record Task : Type 0 where
   pub name : List ℕ
   pub at : ℕ
@@ -72,6 +75,7 @@ pub record Task : Type 0 where
   pub args : ℕ
   pub body : Body
 
+-- an application with its names resolved
 pub record App : Type 0 where
   pub bits : ℕ
   -- whether the core has the floating-point extension

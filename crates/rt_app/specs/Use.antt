@@ -46,6 +46,7 @@ module _ (locked : List ℕ) where
   value_uses (Call s) = spawn_uses s
 
 abbrev mutual
+  -- the uses of a statement and of its inner blocks, with these resources locked round it
   pub statement_uses : List ℕ → Statement → List Placed
   statement_uses locked (Bind x v) = value_uses locked v
   statement_uses locked (Assign x e at) = placed locked (Writes x at) ∷ reads locked e
@@ -56,6 +57,7 @@ abbrev mutual
   statement_uses locked (Pend i) = []
   statement_uses locked (Spawns s) = spawn_uses locked s
 
+  -- the uses of a block in order of the text
   pub uses : List ℕ → Block → List Placed
   uses locked Empty = []
   uses locked (Then s rest) = statement_uses locked s ++ uses locked rest
@@ -72,6 +74,7 @@ abbrev mutual
   statement_loops (Pend i) = []
   statement_loops (Spawns s) = []
 
+  -- the variables of the `for` statements of a block
   pub loops : Block → List ℕ
   loops Empty = []
   loops (Then s rest) = statement_loops s ++ loops rest

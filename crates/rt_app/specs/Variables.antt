@@ -14,6 +14,7 @@ abbrev mutual
   variables_in (Pend i) = 0
   variables_in (Spawns s) = 0
 
+  -- the variables that the statements of a block bring in
   pub variables : Block → ℕ
   variables Empty = 0
   variables (Then s rest) = variables_in s + variables rest

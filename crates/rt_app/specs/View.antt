@@ -34,6 +34,7 @@ value_of (value.Now at) = tree.Now at
 value_of (value.Call s) = tree.Call (spawn_of s)
 
 abbrev mutual
+  -- a statement
   pub statement_of : Stmt → tree.Statement
   statement_of (Bind x v) = tree.Bind x (value_of v)
   statement_of (Assign x e at) = tree.Assign x (expression_of e) at
@@ -44,6 +45,7 @@ abbrev mutual
   statement_of (Pend i) = tree.Pend i
   statement_of (Call s) = tree.Spawns (spawn_of s)
 
+  -- a block that stands as a row of statements
   pub row_block : {n : _} → Row_of-Stmt n → tree.Block
   row_block end_of-Stmt = tree.Empty
   row_block (more_of-Stmt s rest) = tree.Then (statement_of s) (row_block rest)

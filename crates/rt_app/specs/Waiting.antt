@@ -80,6 +80,7 @@ module _ (app : App) (level : ℕ) where
     statement_sections outer (Pend i) = []
     statement_sections outer (Spawns s) = spawn_sections outer s
 
+    -- the sections of a block, with those inside them
     pub block_sections : ℕ → Block → List Critical
     block_sections outer Empty = []
     block_sections outer (Then s rest) = statement_sections outer s ++ block_sections outer rest

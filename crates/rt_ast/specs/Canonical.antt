@@ -16,54 +16,68 @@ abbrev pub enclosed : {A : Type 0} → (A → List ℕ) → List A → List ℕ
 enclosed text [] = codes "{}"
 enclosed text (x ∷ xs) = codes "{ " ++ separated text (x ∷ xs) ++ codes " }"
 
+-- the option that lists the dispatchers, and nothing where there is none
 abbrev pub dispatchers_text : List Ident → List ℕ
 dispatchers_text [] = []
 dispatchers_text (x ∷ xs) = codes ", dispatchers = " ++ bracketed name_text (x ∷ xs)
 
+-- the option of the floating-point extension, and nothing where it is off
 abbrev pub fpu_text : Bool → List ℕ
 fpu_text fpu = if fpu then codes ", fpu = on" else []
 
+-- the line of the application itself: its name and its options
 abbrev pub head_text : App → List ℕ
 head_text a = codes "app " ++ name_text a.name ++ codes "(bits = " ++ decimal a.bits ++ dispatchers_text a.dispatchers
     ++ fpu_text a.fpu ++ codes ");" ++ newline
 
+-- a declared interrupt: its name and its number
 abbrev pub irq_text : IrqTree → List ℕ
 irq_text irq = name_text irq.name ++ codes " = " ++ decimal irq.number.value
 
+-- the line of the declared interrupts
 abbrev pub irqs_text : List IrqTree → List ℕ
 irqs_text irqs = codes "interrupts " ++ enclosed irq_text irqs ++ newline
 
+-- the line of the monotonic, and nothing where there is none
 abbrev pub mono_text : Option MonoTree → List ℕ
 mono_text None = []
 mono_text (Some mono) =
     codes "monotonic(binds = " ++ name_text mono.binds ++ codes ", priority = " ++ decimal mono.priority.value
     ++ codes ");" ++ newline
 
+-- the word `lock_free` before a shared resource that is so
 abbrev pub lock_free_text : Bool → List ℕ
 lock_free_text lock_free = if lock_free then codes "lock_free " else []
 
+-- a shared resource: its name and its first value
 abbrev pub resource_text : SharedTree → List ℕ
 resource_text r = lock_free_text r.lock_free ++ name_text r.name ++ codes " = " ++ decimal r.first
 
+-- the line of the shared resources, and nothing where there is none
 abbrev pub shared_text : List SharedTree → List ℕ
 shared_text [] = []
 shared_text (r ∷ rs) = codes "shared " ++ enclosed resource_text (r ∷ rs) ++ newline
 
+-- a local resource: its name and its first value
 abbrev pub local_text : LocalTree → List ℕ
 local_text r = name_text r.name ++ codes " = " ++ decimal r.first
 
+-- the line of the local resources, and nothing where there is none
 abbrev pub locals_text : List LocalTree → List ℕ
 locals_text [] = []
 locals_text (r ∷ rs) = codes "local " ++ enclosed local_text (r ∷ rs) ++ newline
 
+-- the declaration of `init` or `idle`, which begins with this word, and nothing where there is none
 abbrev pub body_text : List ℕ → Option Body → List ℕ
 body_text word None = []
 body_text word (Some b) = word ++ options_text (body_options b) ++ codes " " ++ block_text [] b.block ++ newline
 
+-- the arguments that a task declares, and nothing where there is none
 abbrev pub arguments_text : List Ident → List ℕ
 arguments_text [] = []
 arguments_text (x ∷ xs) = codes " with " ++ names_text (x ∷ xs)
 
+-- the declaration of a task
 abbrev pub task_text : Task → List ℕ
 task_text t =
     codes "task " ++ name_text t.name ++ options_text (task_options t) ++ arguments_text t.args ++ codes " "

@@ -11,6 +11,7 @@ use Rattle.rt_ast.specs.CanonicalExpression.{newline, separated, name_text, expr
 abbrev pub call_text : Ident → List Expression → List ℕ
 call_text task args = name_text task ++ codes "(" ++ separated expression_text args ++ codes ")"
 
+-- a spawn, a cancel or a reschedule
 abbrev pub spawn_text : Spawn → List ℕ
 spawn_text (Soon task args) = codes "spawn " ++ call_text task args
 spawn_text (After at delay task args) =
@@ -21,6 +22,7 @@ spawn_text (Move at delay task handle) =
     codes "reschedule_after(" ++ expression_text delay ++ codes ") " ++ name_text task ++ codes "("
     ++ expression_text handle ++ codes ")"
 
+-- the value of a `let`
 abbrev pub value_text : Value → List ℕ
 value_text (Calc e) = expression_text e
 value_text (Now at) = codes "now"
@@ -30,6 +32,7 @@ value_text (Call s) = spawn_text s
 abbrev pub deeper : List ℕ → List ℕ
 deeper margin = margin ++ codes "    "
 
+-- a line that stands this far in
 abbrev pub line : List ℕ → List ℕ → List ℕ
 line margin text = margin ++ text ++ newline
 
@@ -37,13 +40,16 @@ line margin text = margin ++ text ++ newline
 abbrev pub braces : List ℕ → List ℕ → List ℕ
 braces margin lines = codes "{" ++ newline ++ lines ++ margin ++ codes "}"
 
+-- an `if` up to its block
 abbrev pub branch_head : Expression → List ℕ
 branch_head e = codes "if " ++ expression_text e ++ codes " "
 
+-- a `for` up to its block
 abbrev pub repeat_head : Ident → ℕ → ℕ → List ℕ
 repeat_head x first last =
     codes "for " ++ name_text x ++ codes " in " ++ decimal first ++ codes ".." ++ decimal last ++ codes " "
 
+-- a `lock` up to its block
 abbrev pub lock_head : Ident → List ℕ
 lock_head r = codes "lock " ++ name_text r ++ codes " "
 
@@ -59,6 +65,7 @@ abbrev mutual
   statement_text margin (Pend irq) = codes "pend " ++ name_text irq ++ codes ";"
   statement_text margin (Spawns s) = spawn_text s ++ codes ";"
 
+  -- a block that stands this far in, in its braces
   pub block_text : List ℕ → Block → List ℕ
   block_text margin Empty = codes "{}"
   block_text margin (Then s rest) =

@@ -6,6 +6,7 @@ use Rattle.rt_ids.specs.declared.op.Op.TheVariants as op
 use Rattle.rt_ast.specs.declared.ident.Ident.{Ident}
 use Rattle.rt_ast.specs.Tree.{Expression, Num, Read, Oper}
 
+-- a line feed
 abbrev pub newline : List ℕ
 newline = 10 ∷ []
 
@@ -18,12 +19,15 @@ abbrev pub separated : {A : Type 0} → (A → List ℕ) → List A → List ℕ
 separated text [] = []
 separated text (x ∷ xs) = text x ++ further text xs
 
+-- the text of a name
 abbrev pub name_text : Ident → List ℕ
 name_text x = x.name
 
+-- the text of a list of names
 abbrev pub names_text : List Ident → List ℕ
 names_text xs = separated name_text xs
 
+-- the sign of an operation
 abbrev pub sign_text : Op → List ℕ
 sign_text op.Add = codes "+"
 sign_text op.Sub = codes "-"
@@ -46,11 +50,13 @@ sign_text op.Ge = codes ">="
 abbrev pub operation_text : Op → List ℕ → List ℕ → List ℕ
 operation_text o left right = left ++ codes " " ++ sign_text o ++ codes " " ++ right
 
+-- an expression as an operand: in parentheses where it is itself an operation
 abbrev pub operand_text : Expression → List ℕ
 operand_text (Num n) = decimal n
 operand_text (Read x) = name_text x
 operand_text (Oper o left right) = codes "(" ++ operation_text o (operand_text left) (operand_text right) ++ codes ")"
 
+-- an expression that is no operand
 abbrev pub expression_text : Expression → List ℕ
 expression_text (Num n) = decimal n
 expression_text (Read x) = name_text x

@@ -10,36 +10,44 @@ use Rattle.rt_ast.specs.CanonicalExpression.{separated, name_text}
 abbrev pub bracketed : {A : Type 0} → (A → List ℕ) → List A → List ℕ
 bracketed text xs = codes "[" ++ separated text xs ++ codes "]"
 
+-- the sign `&` before a resource that is listed by reference
 abbrev pub by_ref_text : Bool → List ℕ
 by_ref_text by_ref = if by_ref then codes "&" else []
 
+-- a resource that a body lists as shared
 abbrev pub listed_text : ListedTree → List ℕ
 listed_text r = by_ref_text r.by_ref ++ name_text r.name
 
--- options, each as its text: those that are there
+-- the option of the interrupt that a task is bound to, where it has one
 abbrev pub binds_option : Option Ident → List (List ℕ)
 binds_option None = []
 binds_option (Some x) = (codes "binds = " ++ name_text x) ∷ []
 
+-- the option of a priority, where one is given
 abbrev pub priority_option : Option Number → List (List ℕ)
 priority_option None = []
 priority_option (Some n) = (codes "priority = " ++ decimal n.value) ∷ []
 
+-- the option of a capacity, where one is given
 abbrev pub capacity_option : Option ℕ → List (List ℕ)
 capacity_option None = []
 capacity_option (Some n) = (codes "capacity = " ++ decimal n) ∷ []
 
+-- the option that lists shared resources, where there are any
 abbrev pub shared_option : List ListedTree → List (List ℕ)
 shared_option [] = []
 shared_option (r ∷ rs) = (codes "shared = " ++ bracketed listed_text (r ∷ rs)) ∷ []
 
+-- the option that lists local resources, where there are any
 abbrev pub local_option : List Ident → List (List ℕ)
 local_option [] = []
 local_option (x ∷ xs) = (codes "local = " ++ bracketed name_text (x ∷ xs)) ∷ []
 
+-- the options of a body: what it lists as shared and as local
 abbrev pub body_options : Body → List (List ℕ)
 body_options b = shared_option b.shared ++ local_option b.local
 
+-- the options of a task, those of its body behind its own
 abbrev pub task_options : Task → List (List ℕ)
 task_options t = binds_option t.binds ++ priority_option t.priority ++ capacity_option t.capacity ++ body_options t.body
 

@@ -19,40 +19,51 @@ abbrev pub IfThere : {A : Type 0} → (A → Type 0) → Option A → Type 0
 IfThere P None = Unit {0}
 IfThere P (Some x) = P x
 
+-- all of these are names that read as names
 abbrev pub ArePrintableNames : List Ident → Type 0
 ArePrintableNames xs = AllByRecursion IsPrintableName xs
 
+-- a name, and a number that an interrupt may have
 abbrev pub IsPrintableIrq : IrqTree → Type 0
 IsPrintableIrq irq = IsPrintableName irq.name × (irq.number.value < IRQ_NUMBERS)
 
+-- a monotonic whose interrupt is named, with a priority of 32 bits
 abbrev pub IsPrintableMono : MonoTree → Type 0
 IsPrintableMono mono = IsPrintableName mono.binds × IsPrintableNumber mono.priority.value
 
+-- a shared resource with a name and a first value of 32 bits
 abbrev pub IsPrintableResource : SharedTree → Type 0
 IsPrintableResource r = IsPrintableName r.name × IsPrintableNumber r.first
 
+-- a local resource with a name and a first value of 32 bits
 abbrev pub IsPrintableLocal : LocalTree → Type 0
 IsPrintableLocal r = IsPrintableName r.name × IsPrintableNumber r.first
 
+-- a listed resource that is named
 abbrev pub IsPrintableListed : ListedTree → Type 0
 IsPrintableListed r = IsPrintableName r.name
 
+-- a block that reads as itself, and that keeps the limits of nesting and of the number of statements
 pub record IsPrintableBlock (b : Block) : Type 0 where
   pub statements : ArePrintable b
   pub nesting : blocks_of b ≤ NESTING
   pub few : statements_of b ≤ STATEMENTS
 
+-- a body whose lists are of names, with a block that reads as itself
 pub record IsPrintableBody (b : Body) : Type 0 where
   pub shared : AllByRecursion IsPrintableListed b.shared
   pub local : ArePrintableNames b.local
   pub block : IsPrintableBlock b.block
 
+-- a priority of 32 bits
 abbrev pub IsPrintablePriority : Number → Type 0
 IsPrintablePriority n = IsPrintableNumber n.value
 
+-- a capacity that a task may have
 abbrev pub IsPrintableCapacity : ℕ → Type 0
 IsPrintableCapacity n = (1 ≤ n) × (n ≤ CAPACITY)
 
+-- a task that reads as itself: each part that is there does, and the arguments are no more than a task may have
 pub record IsPrintableTask (t : Task) : Type 0 where
   pub name : IsPrintableName t.name
   pub binds : IfThere IsPrintableName t.binds
@@ -62,9 +73,11 @@ pub record IsPrintableTask (t : Task) : Type 0 where
   pub few_args : length t.args ≤ ARGUMENTS
   pub body : IsPrintableBody t.body
 
+-- a body for `init`, which lists nothing shared
 abbrev pub IsPrintableInit : Body → Type 0
 IsPrintableInit b = IsPrintableBody b × (b.shared ≡ [])
 
+-- an application that has a canonical text which is read as it
 pub record IsPrintable (a : App) : Type 0 where
   pub name : IsPrintableName a.name
   pub bits : (LEAST_BITS ≤ a.bits) × (a.bits ≤ MOST_BITS)

@@ -15,6 +15,7 @@ pub record IsPrintableName (x : Ident) : Type 0 where
   pub no_word : is_word x.name ≡ false
   pub short : length x.name ≤ NAME_BYTES
 
+-- a number of 32 bits
 abbrev pub IsPrintableNumber : ℕ → Type 0
 IsPrintableNumber n = n < 2 ^ 32
 
@@ -24,14 +25,17 @@ depth_of (Num n) = 1
 depth_of (Read x) = 1
 depth_of (Oper o left right) = 1 + max (depth_of left) (depth_of right)
 
+-- an expression with numbers and names that read as such, however deep it is
 abbrev pub IsSpelledOut : Expression → Type 0
 IsSpelledOut (Num n) = IsPrintableNumber n
 IsSpelledOut (Read x) = IsPrintableName x
 IsSpelledOut (Oper o left right) = IsSpelledOut left × IsSpelledOut right
 
+-- an expression that reads as itself, and that is no deeper than an expression may be
 abbrev pub IsPrintableExpression : Expression → Type 0
 IsPrintableExpression e = IsSpelledOut e × (depth_of e ≤ DEPTH)
 
+-- a spawn, a cancel or a reschedule of a name, with expressions that read as themselves
 abbrev pub IsPrintableSpawn : Spawn → Type 0
 IsPrintableSpawn (Soon task args) = IsPrintableName task × AllByRecursion IsPrintableExpression args
 IsPrintableSpawn (After at delay task args) =
@@ -40,12 +44,14 @@ IsPrintableSpawn (Cancel at task handle) = IsPrintableName task × IsPrintableEx
 IsPrintableSpawn (Move at delay task handle) =
     IsPrintableExpression delay × IsPrintableName task × IsPrintableExpression handle
 
+-- a value of a `let` that reads as itself
 abbrev pub IsPrintableValue : Value → Type 0
 IsPrintableValue (Calc e) = IsPrintableExpression e
 IsPrintableValue (Now at) = Unit {0}
 IsPrintableValue (Call s) = IsPrintableSpawn s
 
 abbrev mutual
+  -- a statement that reads as itself, its inner blocks included
   pub IsPrintableStatement : Statement → Type 0
   IsPrintableStatement (Bind x v) = IsPrintableName x × IsPrintableValue v
   IsPrintableStatement (Assign x e) = IsPrintableName x × IsPrintableExpression e
@@ -83,6 +89,7 @@ abbrev mutual
   statements_in (Locked r inner) = 1 + statements_of inner
   statements_in other = 1
 
+  -- the statements of a block, those of inner blocks included
   pub statements_of : Block → ℕ
   statements_of Empty = 0
   statements_of (Then s rest) = statements_in s + statements_of rest

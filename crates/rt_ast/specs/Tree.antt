@@ -9,6 +9,7 @@ use Rattle.rt_ast.specs.declared.app.SharedTree.{SharedTree}
 use Rattle.rt_ast.specs.declared.app.LocalTree.{LocalTree}
 use Rattle.rt_ast.specs.declared.app.ListedTree.{ListedTree}
 
+-- an expression: a number, a name that is read, or an operation on two expressions
 pub data Expression : Type 0 where
   Num : ℕ → Expression
   Read : Ident → Expression
@@ -25,6 +26,7 @@ pub data Spawn : Type 0 where
   -- the offset of the word, the delay, the task, and the handle of a message of it
   Move : ℕ → Expression → Ident → Expression → Spawn
 
+-- the value of a `let`: an expression, the time, or what a spawn answers
 pub data Value : Type 0 where
   Calc : Expression → Value
   -- the offset of the word
@@ -43,10 +45,12 @@ mutual
     Pend : Ident → Statement
     Spawns : Spawn → Statement
 
+  -- a block: a list of statements
   pub data Block : Type 0 where
     Empty : Block
     Then : Statement → Block → Block
 
+-- what `init`, `idle` or a task has: the resources that it lists, and its block
 pub record Body : Type 0 where
   pub shared : List ListedTree
   pub local : List Ident
@@ -54,6 +58,7 @@ pub record Body : Type 0 where
   -- the offset of the word `init` or `idle`, or of the task's name
   pub at : ℕ
 
+-- a task of the text, hardware or software: a hardware task names the interrupt that it is bound to
 pub record Task : Type 0 where
   pub name : Ident
   pub binds : Option Ident
@@ -62,6 +67,7 @@ pub record Task : Type 0 where
   pub args : List Ident
   pub body : Body
 
+-- an application as its text declares it
 pub record App : Type 0 where
   pub name : Ident
   pub bits : ℕ

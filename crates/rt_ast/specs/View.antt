@@ -12,11 +12,13 @@ use Rattle.rt_ast.specs.declared.app.BodyTree.{BodyTree}
 use Rattle.rt_ast.specs.declared.app.TaskTree.{TaskTree}
 use Rattle.rt_ast.specs.declared.app.AppTree.{AppTree}
 
+-- the expression that the code's tree of one is
 abbrev pub expression_of : Expr → tree.Expression
 expression_of (Num n) = tree.Num n
 expression_of (Read ident) = tree.Read ident
 expression_of (Oper' op p a q b) = tree.Oper op (expression_of a) (expression_of b)
 
+-- the spawn, cancel or reschedule that the code's tree of one is
 abbrev pub spawn_of : Spawn → tree.Spawn
 spawn_of (spawn.Soon task args) = tree.Soon task (map expression_of args.items)
 spawn_of (spawn.After at delay task args) = tree.After at (expression_of delay) task (map expression_of args.items)
@@ -24,12 +26,14 @@ spawn_of (spawn.Cancel at task handle) = tree.Cancel at task (expression_of hand
 spawn_of (spawn.Move at delay task handle) =
     tree.Move at (expression_of delay.value) task (expression_of handle)
 
+-- the value of a `let` that the code's tree of one is
 abbrev pub value_of : Value → tree.Value
 value_of (value.Calc e) = tree.Calc (expression_of e)
 value_of (value.Now at) = tree.Now at
 value_of (value.Call s) = tree.Call (spawn_of s)
 
 abbrev mutual
+  -- the statement that the code's tree of one is
   pub statement_of : Stmt → tree.Statement
   statement_of (Bind x v) = tree.Bind x (value_of v)
   statement_of (Assign x e) = tree.Assign x (expression_of e)
@@ -40,17 +44,21 @@ abbrev mutual
   statement_of (Pend i) = tree.Pend i
   statement_of (Call s) = tree.Spawns (spawn_of s)
 
+  -- the block that a row of the code's statements is
   pub row_block : {n : _} → Row_of-Stmt n → tree.Block
   row_block end_of-Stmt = tree.Empty
   row_block (more_of-Stmt s rest) = tree.Then (statement_of s) (row_block rest)
 
+-- the block that a list of the code's statements is
 abbrev pub block_of : List Stmt → tree.Block
 block_of [] = tree.Empty
 block_of (s ∷ stmts) = tree.Then (statement_of s) (block_of stmts)
 
+-- the body that the code's tree of one is
 abbrev pub body_of : BodyTree → tree.Body
 body_of b = record { shared = b.shared.items; local = b.local.items; block = block_of b.block.items; at = b.at }
 
+-- the task that the code's tree of one is
 abbrev pub task_of : TaskTree → tree.Task
 task_of t = record {
   name = t.name;
@@ -61,10 +69,12 @@ task_of t = record {
   body = body_of t.body;
 }
 
+-- what a function makes of a value that may not be there
 abbrev pub option_map : {A B : Type 0} → (A → B) → Option A → Option B
 option_map f None = None
 option_map f (Some x) = Some (f x)
 
+-- the application that the code's tree of one is
 abbrev pub app_of : AppTree → tree.App
 app_of a = record {
   name = a.name;

@@ -19,12 +19,13 @@ abbrev pub steps_done : Done → ℕ
 steps_done d = if d.is_step then suc d.step else d.step
 
 module _ (app : App) where
-  -- the state behind items, and the core steps that are done there
+  -- the state behind items, from a state on in which n core steps are done
   abbrev pub state_behind : laws.State → ℕ → List Item → laws.State
   state_behind t n [] = t
   state_behind t n (item ∷ items) =
       state_behind (after_item app t n item) (done_after item.step (label_of t.owing item.what)) items
 
+  -- the core steps that are done behind items, likewise
   abbrev pub done_behind : laws.State → ℕ → List Item → ℕ
   done_behind t n [] = n
   done_behind t n (item ∷ items) =

@@ -27,11 +27,13 @@ pub record IsBroken (src : List ℕ) (tree : written.App) (fault : Fault) : Type
   pub first : IsFirst (broken tree) violation
   pub says : fault ≡ fault_at src violation
 
+-- the text has a tree that breaks no rule, and this is its application
 pub record IsApplication (src : List ℕ) (app : App) : Type 0 where
   pub tree : written.App
   pub text : IsText src tree
   pub kept : KeepsRules tree app
 
+-- the text has a tree, the tree breaks a rule, and this is the first that it breaks
 pub record IsBrokenText (src : List ℕ) (fault : Fault) : Type 0 where
   pub tree : written.App
   pub text : IsText src tree

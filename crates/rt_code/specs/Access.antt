@@ -5,12 +5,14 @@ use Rattle.rt_code.specs.Processor.{Processor, Effect, Traps, Leads}
 use Rattle.rt_code.specs.declared.instr.Instr.{Instr}
 use Rattle.rt_code.specs.declared.instr.Instr.TheVariants as instr
 
+-- an access of memory: a cell is read, or it is written
 pub data Access : Type 0 where
   -- the cell is read
   Loads : (cell : ℕ) → Access
   -- the cell is written
   Stores : (cell : ℕ) → Access
 
+-- the cell of an access
 abbrev pub cell_of : Access → ℕ
 cell_of (Loads cell) = cell
 cell_of (Stores cell) = cell

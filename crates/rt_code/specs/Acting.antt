@@ -46,11 +46,12 @@ module _ (st : Storage) (bodies : List BodyRow) (who : Runner) where
     pub acts : Acts (Takes t) 0
         (record s { places = entry ∷ s.places; queues = with_queue s.queues (section.Free t) others }) later
 
+  -- the job finds no place of a task free, inside the section of its free places
   pub record FindsNone (t : ℕ) (s : Spot) (later : Spot → Type 0) : Type 0 where
     pub inside : is_open s.held (section.Free t) ≡ true
     pub acts : Acts (Refuses t) 0 s later
 
-  -- what is in the hands goes last into the ready queue of a level, or is armed for the instant in a slot
+  -- the message in the hands goes last into the ready queue of a level
   pub record MakesReady (t : ℕ) (s : Spot) (later : Spot → Type 0) : Type 0 where
     pub level : ℕ
     pub message : Message
@@ -66,6 +67,7 @@ module _ (st : Storage) (bodies : List BodyRow) (who : Runner) where
         })
         later
 
+  -- the message in the hands goes last into the timer queue, for the instant in a slot
   pub record ArmsMessage (t slot : ℕ) (s : Spot) (later : Spot → Type 0) : Type 0 where
     pub instant : ℕ
     pub message : Message

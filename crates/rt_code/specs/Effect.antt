@@ -12,6 +12,7 @@ use Rattle.rt_code.specs.declared.instr.Instr.TheVariants as instr
 use Rattle.rt_code.specs.declared.processor.Request.TheVariants as request
 use Rattle.rt_code.specs.declared.processor.Trap.TheVariants as trap
 
+-- what a slot of the frame holds
 abbrev pub slot : Processor → ℕ → ℕ
 slot p s = slice_index p.slots s
 
@@ -19,10 +20,11 @@ slot p s = slice_index p.slots s
 abbrev pub next : Processor → Processor
 next p = record p { address = suc p.address }
 
--- on, with a slot written; on, with a cell written
+-- on to the next address, with a slot written
 abbrev pub written : Processor → ℕ → ℕ → Processor
 written p d v = record (next p) { slots = slice_set p.slots d v }
 
+-- on to the next address, with a cell written
 abbrev pub stored : Processor → ℕ → ℕ → Processor
 stored p c v = record (next p) { cells = slice_set p.cells c v }
 

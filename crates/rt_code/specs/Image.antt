@@ -10,6 +10,7 @@ use Rattle.rt_code.specs.declared.image.BodyRow.{BodyRow}
 use Rattle.rt_code.specs.declared.instr.Instr.{Instr}
 use Rattle.rt_code.specs.declared.instr.Note.{Note}
 
+-- an image: code, the table of interrupts that stands for the vector table, sizes, and the initial contents of memory
 pub record Image : Type 0 where
   -- implemented priority bits
   pub bits : ℕ

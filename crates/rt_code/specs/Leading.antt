@@ -10,12 +10,13 @@ use Rattle.rt_code.specs.declared.instr.Note.{Note}
 use Rattle.rt_code.specs.declared.instr.Note.TheVariants as note
 use Rattle.rt_code.specs.declared.processor.Request.{Request}
 
--- whether a note is a section's; and whether it is neither that nor an end's, which stand on instructions of their own
+-- whether a note is a section's
 abbrev pub is_of_section : Option Note → Bool
 is_of_section (Some (note.Enter x)) = true
 is_of_section (Some (note.Leave x)) = true
 is_of_section told = false
 
+-- whether an instruction has no note, or one that is neither a section's nor an end's
 abbrev pub is_plain : Option Note → Bool
 is_plain (Some (note.Enter x)) = false
 is_plain (Some (note.Leave x)) = false

@@ -15,6 +15,7 @@ abbrev pub HasCell : Image → Option Note → Type 0
 HasCell img (Some (note.Leave (section.Res r))) = IsSome (resource_cell img r)
 HasCell img n = Unit {0}
 
+-- the traces of an image have lines that are written and read back, because each name that they need is there
 pub record HasLines (img : Image) : Type 0 where
   pub listable : IsListable img
   pub names : AreNames img.names

@@ -28,6 +28,7 @@ pub record IsPlain (bytes : List ℕ) : Type 0 where
   pub word : IsWord bytes
   pub plain : AllByRecursion (λ byte. byte ≢ 46) bytes
 
+-- each name is a word without a dot, no two names of a kind are one, and no task is named as another body
 pub record AreWritable (names : Names) : Type 0 where
   pub irqs : AllByRecursion (λ irq. IsPlain irq.0) names.irqs
   pub tasks : AllByRecursion IsPlain names.tasks
@@ -43,26 +44,32 @@ pub record AreWritable (names : Names) : Type 0 where
 abbrev pub NamesAreWritable : Type 0
 NamesAreWritable = (names : Names) → AreNames names → AreWritable names
 
+-- the interrupt of this number has a name
 abbrev pub HasIrq : Names → ℕ → Type 0
 HasIrq names irq = IsSome (irq_named names irq)
 
+-- the task of this number has a name
 abbrev pub HasTask : Names → ℕ → Type 0
 HasTask names task = task < length names.tasks
 
+-- a section has the name that its word is made of, where it is of a resource or a task
 abbrev pub HasSection : Names → Section → Type 0
 HasSection names (section.Res r) = r < length names.shared
 HasSection names (section.Free t) = HasTask names t
 HasSection names s = Unit {0}
 
+-- a body has its name, where it is a task's
 abbrev pub HasBody : Names → BodyId → Type 0
 HasBody names (body.Task t) = HasTask names t
 HasBody names b = Unit {0}
 
+-- the interrupt of an instruction has a name, where it pends one or sets its alarm
 abbrev pub HasInstr : Names → Instr → Type 0
 HasInstr names (instr.Post irq) = HasIrq names irq
 HasInstr names (instr.Alarm s irq) = HasIrq names irq
 HasInstr names i = Unit {0}
 
+-- the section, the task or the body of a note has its name
 abbrev pub HasNote : Names → Option Note → Type 0
 HasNote names (Some (note.Enter s)) = HasSection names s
 HasNote names (Some (note.Leave s)) = HasSection names s
@@ -78,6 +85,7 @@ HasNote names (Some (note.Move t s a)) = HasTask names t
 HasNote names (Some (note.End b)) = HasBody names b
 HasNote names None = Unit {0}
 
+-- an image that its text tells from every other over the same names
 pub record IsListable (img : Image) : Type 0 where
   pub names : AreWritable img.names
   -- the name of a cell is one word

@@ -18,12 +18,13 @@ use Rattle.rt_code.specs.Owning.{Agree, LeavesMine}
 use Rattle.rt_code.specs.declared.instr.Instr.{Instr}
 use Rattle.rt_code.specs.declared.instr.Instr.TheVariants as instr
 
--- the instructions that open and close a section of this kind; BASEPRI becomes the value of its ceiling
+-- the instruction that opens a section of this kind; BASEPRI becomes the value of its ceiling
 abbrev pub opening : ℕ → Kind → Instr
 opening value Marked = instr.Mark
 opening value (Raised slot) = instr.Raise slot value
 opening value (Masked slot) = instr.Mask slot
 
+-- the instruction that closes a section of this kind, and puts the mask back
 abbrev pub closing : Kind → Instr
 closing Marked = instr.Mark
 closing (Raised slot) = instr.Restore slot
@@ -81,6 +82,8 @@ module _ (st : Storage) (who : Runner) where
     -- where it is the timer queue, one more message may be armed: armings are numbered
     pub few : MayArm (vs (Guarded x))
 
+  -- The job's next action enters a section, and the instruction opens it. Then the job has what the section guards, as
+  -- others left it.
   pub record GoesIn (x : Section) (i : Instr) (s : Spot) (later : Spot → Type 0) : Type 0 where
     pub cost : ℕ
     pub values : Values

@@ -42,15 +42,17 @@ pub record Spot : Type 0 where
   pub queues : Holder → List Entry
   pub rest : Doing Values
 
+-- whether the job has a section open
 abbrev pub is_open : List Held → Section → Bool
 is_open held x = list_any (λ h. is_same_section h.section x) held
 
--- the slots that hold what masks were before the open sections
+-- the slot that holds what a mask was before a section of this kind, where it changed one
 abbrev pub saved_slot : Kind → List ℕ
 saved_slot Marked = []
 saved_slot (Raised slot) = slot ∷ []
 saved_slot (Masked slot) = slot ∷ []
 
+-- the slots that hold what masks were before the open sections
 abbrev pub saved_slots : List Held → List ℕ
 saved_slots held = flat_map (λ h. saved_slot h.kind) held
 
@@ -68,16 +70,19 @@ module _ (st : Storage) (who : Runner) where
   abbrev pub reads : List Held → Holder → Bool
   reads held holder = owns held holder || st.is_constant who holder
 
+  -- it may read a cell of this home: of a holder that it may read, or of a place in its hands or in an open queue
   abbrev pub MayLoad : Spot → Home → Type 0
   MayLoad s (At holder) = reads s.held holder ≡ true
   MayLoad s (In e) = 0 < mine s e
   MayLoad s Nowhere = ⊥
 
+  -- it may write a cell of this home: of a holder that it may change, or of a place in its hands
   abbrev pub MayStore : Spot → Home → Type 0
   MayStore s (At holder) = owns s.held holder ≡ true
   MayStore s (In e) = 0 < count e s.places
   MayStore s Nowhere = ⊥
 
+  -- it may do this access, where there is one
   abbrev pub MayAccess : Spot → Option Access → Type 0
   MayAccess s None = Unit {0}
   MayAccess s (Some (Loads cell)) = MayLoad s (st.home cell)

@@ -7,6 +7,7 @@ use Rattle.rt_code.specs.declared.processor.Registers.{Registers}
 use Rattle.rt_code.specs.declared.processor.Request.{Request}
 use Rattle.rt_code.specs.declared.processor.Trap.{Trap}
 
+-- what an instruction reads and writes by itself: its address, the two masks, the frame and memory
 pub record Processor : Type 0 where
   -- the code address of the instruction
   pub address : ℕ

@@ -6,6 +6,7 @@ use Rattle.rt_code.specs.declared.image.BodyRow.{BodyRow}
 use Rattle.rt_code.specs.declared.image.IrqRow.{IrqRow}
 use Rattle.rt_code.specs.declared.image.Handler.{Handler}
 
+-- the numbers of an image are within what a core has: its priority bits, its stack, its code and its memory
 pub record HasRightSizes (img : Image) : Type 0 where
   pub few_bits : 3 ≤ img.bits
   pub many_bits : img.bits ≤ 7
@@ -32,11 +33,13 @@ HaveNumbersApart irqs =
     (i j : ℕ) (row other : IrqRow) → slice_get irqs i ≡ Some row → slice_get irqs j ≡ Some other
     → row.number ≡ other.number → i ≡ j
 
+-- the rows of an image are such as a core has: few arguments, priority values of implemented bits, numbers that differ
 pub record HasRightRows (bits : ℕ) (bodies : List BodyRow) (irqs : List IrqRow) : Type 0 where
   pub arguments : TakeFewArguments bodies
   pub values : HaveImplementedValues bits irqs
   pub numbers : HaveNumbersApart irqs
 
+-- an image that a core runs
 pub record IsRunnable (img : Image) : Type 0 where
   pub sizes : HasRightSizes img
   pub rows : HasRightRows img.bits img.bodies img.irqs

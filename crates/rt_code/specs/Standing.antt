@@ -25,6 +25,7 @@ use Rattle.rt_code.specs.declared.instr.Note.TheVariants as note
 use Rattle.rt_code.specs.declared.processor.Request.{Request}
 use Rattle.rt_code.specs.declared.processor.Request.TheVariants as request
 
+-- the processor at a job's spot, with these masks
 abbrev pub processor_of : Spot → ℕ → Bool → Processor
 processor_of s basepri primask =
     record { address = s.address; basepri = basepri; primask = primask; slots = s.slots; cells = s.cells }
@@ -37,10 +38,11 @@ moved s p = record s { address = p.address; slots = p.slots; cells = p.cells }
 abbrev pub KeepsSaved : List Held → List ℕ → List ℕ → Type 0
 KeepsSaved held slots after = AllByRecursion (λ d. slice_index after d ≡ slice_index slots d) (saved_slots held)
 
--- a step is left to the job and to each of its open sections; and a step less
+-- a step is left to the job and to each of its open sections
 abbrev pub HaveLeft : List ℕ → Type 0
 HaveLeft lefts = AllByRecursion (λ n. 0 < n) lefts
 
+-- where the job is, with a step less left to it and to each of its open sections
 abbrev pub passed : Spot → Spot
 passed s = record s { lefts = map (λ n. n - 1) s.lefts }
 
@@ -82,6 +84,7 @@ module _ (st : Storage) (code : List (Instr × Option Note)) (bodies : List Body
   Fits i (Some (note.End b)) s later = EndsBody st code bodies thread who b i s later
   Fits i told s later = Does i told s later
 
+  -- there is a line, and its instruction fits with its note
   abbrev pub LineFits : Option (Instr × Option Note) → Spot → (Spot → Type 0) → Type 0
   LineFits None s later = ⊥
   LineFits (Some line) s later = Fits line.0 line.1 s later

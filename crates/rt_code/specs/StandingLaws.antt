@@ -25,21 +25,25 @@ IsSpelledBy st h entries c =
     (st.home c ≡ At h)
     ⊎ (((who : Runner) → st.is_kept who h ≡ false) × ((e : Entry) × (st.home c ≡ In e) × (0 < count e entries)))
 
+-- what cells spell for a holder goes by the holder's own cells alone
 abbrev pub SpellsByItsOwn : Storage → Type 0
 SpellsByItsOwn st = (h : Holder) (before after : ℕ → ℕ) (entries : List Entry) (content : Content)
     → ((c : ℕ) → IsSpelledBy st h entries c → after c ≡ before c)
     → st.Spells h before entries content → st.Spells h after entries content
 
 module _ (st : Storage) (bodies : List BodyRow) (thread : ℕ) (who : Runner) where
+  -- code that stands does so with further code behind it
   abbrev pub StandsBeforeMore : Type 0
   StandsBeforeMore = (code more : List (Instr × Option Note)) (n : ℕ) (s : Spot)
       → Stands st code bodies thread who n s → Stands st (code ++ more) bodies thread who n s
 
+  -- code that stands does so with more steps left to the job and to its open sections
   abbrev pub StandsWithMore : Type 0
   StandsWithMore =
       (code : List (Instr × Option Note)) (n m : ℕ) (s : Spot) (lefts : List ℕ) → n ≤ m → AreAtLeast s.lefts lefts
       → Stands st code bodies thread who n s → Stands st code bodies thread who m (record s { lefts = lefts })
 
+  -- code that stands does so whatever others do to what is not the job's own: it is stable under interference
   abbrev pub StandsWhateverOthersDo : Type 0
   StandsWhateverOthersDo =
       (code : List (Instr × Option Note)) (n : ℕ) (s : Spot) (cells : List ℕ) (queues : Holder → List Entry)

@@ -25,9 +25,11 @@ use Rattle.rt_code.specs.declared.processor.Request.TheVariants as request
 
 module _ (st : Storage) (code : List (Instr × Option Note)) (bodies : List BodyRow) (thread : ℕ) (who : Runner)
     (n : ℕ) (s : Spot) where
+  -- the line at the job's address is this instruction with this note
   abbrev pub IsLine : Instr → Option Note → Type 0
   IsLine i told = slice_get code s.address ≡ Some (i, told)
 
+  -- the code stands at a spot, within so many steps
   abbrev pub Later : Spot → Type 0
   Later t = Stands st code bodies thread who n t
 

@@ -20,6 +20,7 @@ pub record Saved : Type 0 where
   -- where it was a called body, the frame of the handler that called it
   pub caller : Option (List ℕ)
 
+-- the frames on the stack: the running one, that of its caller, and what the entered handlers interrupted
 pub record Frames : Type 0 where
   -- how many words have room
   pub size : ℕ

@@ -24,12 +24,15 @@ entered f number address n = record f {
 abbrev pub resumed : Frames → Saved × List Saved → Frames × ℕ
 resumed f found = (record f { slots = found.0.slots; caller = found.0.caller; below = found.1 }, found.0.address)
 
+-- exception return, where a handler runs that interrupted something
 abbrev pub left : Frames → Option (Frames × ℕ)
 left f = option_map (resumed f) (stack.interrupted f.caller f.below)
 
+-- whether what runs may call a body
 abbrev pub may_call : Frames → Bool
 may_call f = stack.may_call f.caller f.slots f.below
 
+-- whether the arguments of a body are in the running frame, from this slot on, and its own frame has room
 abbrev pub call_fits : Frames → BodyRow → ℕ → Bool
 call_fits f row from = stack.arguments_fit f.slots row from && has_room f row.frame
 

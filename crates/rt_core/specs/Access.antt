@@ -14,6 +14,7 @@ abbrev pub access_by_line : Core → Option (Instr × Option Note) → Option Ac
 access_by_line c None = None
 access_by_line c (Some line) = access_with (effect line.0 c.time c.processor) (access_of line.0 c.processor)
 
+-- the access of a core step: none where an interrupt is taken, else that of the instruction at the code address
 abbrev pub access_by : Image → Core → Option IrqRow → Option Access
 access_by img c (Some row) = None
 access_by img c None = access_by_line c (slice_get img.code c.processor.address)

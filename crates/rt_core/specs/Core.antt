@@ -23,6 +23,7 @@ pub record Context : Type 0 where
   -- where a called body was interrupted, the frame of the handler that called it
   pub caller : Option (List ℕ)
 
+-- the core: the time and the alarm, what is pending, the processor, and the handlers that are active
 pub record Core : Type 0 where
   -- ticks since reset
   pub time : ℕ
@@ -37,6 +38,7 @@ pub record Core : Type 0 where
   -- a trap came
   pub stopped : Bool
 
+-- the core after reset: it stands at address 0, nothing is pending, and PRIMASK masks all interrupts
 abbrev pub reset : Image → Core
 reset img = record {
   time = 0;
@@ -58,10 +60,11 @@ reset img = record {
 abbrev pub context_words : ℕ → Context → ℕ
 context_words entry x = stack.context_words entry x.caller x.slots
 
--- the stack words in use, and the stack bytes
+-- the stack words in use
 abbrev pub used : Image → Core → ℕ
 used img c = stack.used (context_words (entry_words img)) c.caller c.processor.slots c.below
 
+-- the stack bytes in use
 abbrev pub depth : Image → Core → ℕ
 depth img c = 4 * used img c
 
@@ -70,11 +73,13 @@ abbrev pub exception_number : List Context → ℕ
 exception_number [] = 0
 exception_number (x ∷ below) = 16 + x.irq
 
+-- the contexts as they lie in frames, each with the exception number of what it interrupted
 abbrev pub saved : List Context → List Saved
 saved [] = []
 saved (x ∷ below) =
     record { number = exception_number below; address = x.address; slots = x.slots; caller = x.caller } ∷ saved below
 
+-- the frames of a core in its stack region
 abbrev pub frames_of : Image → Core → Frames
 frames_of img c = record {
   size = img.stack_bytes / 4;

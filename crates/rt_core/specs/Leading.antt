@@ -30,13 +30,15 @@ pub record GoesPlainly (s : Spot) (before after : Processor) : Type 0 where
   pub memory : length after.cells ≡ length before.cells
   pub saved : KeepsSaved s.held before.slots after.slots
 
--- the core with another state of its processor; at another address; and there with interrupts served
+-- the core with another state of its processor
 abbrev pub with_processor : Core → Processor → Core
 with_processor c p = record c { processor = p }
 
+-- the core at another address
 abbrev pub at_address : Core → ℕ → Core
 at_address c address = with_processor c (record c.processor { address = address })
 
+-- the core at another address, with interrupts served from now on
 abbrev pub served : Core → ℕ → Core
 served c address = with_processor c (record c.processor { address = address; primask = false })
 

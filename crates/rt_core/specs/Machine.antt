@@ -3,6 +3,7 @@ use Rattle.std.specs.Prelude.{◌≡◌, ℕ}
 use Rattle.rt_code.specs.Image.{Image}
 use Rattle.rt_core.specs.Core.{Core, reset}
 
+-- an image, the state of a core that runs it, and the number of core steps that were taken
 pub record Machine : Type 0 where
   pub image : Image
   pub core : Core

@@ -30,10 +30,11 @@ CanPutBack Marked slots = Unit {0}
 CanPutBack (Raised slot) slots = slot < length slots
 CanPutBack (Masked slot) slots = (slot < length slots) × (slice_index slots slot ≤ 1)
 
--- behind the instruction that opens a section of a kind, and behind the one that closes it
+-- behind the instruction that opens a section of a kind: its mask is set, and what it was is saved
 abbrev pub opened : Processor → ℕ → Kind → Processor
 opened p value kind =
     record (with_mask p value kind) { address = suc p.address; slots = saving kind (mask_of p kind) p.slots }
 
+-- behind the instruction that closes a section of a kind: its mask is put back
 abbrev pub closed : Processor → Kind → Processor
 closed p kind = record (with_saved p kind) { address = suc p.address }

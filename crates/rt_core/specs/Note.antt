@@ -25,6 +25,7 @@ slots_from c from n =
     if (n == 0) || nat_le (from + n) (length c.processor.slots)
     then Some (take n (drop from c.processor.slots)) else None
 
+-- the item of a note
 abbrev pub shown_by : Image → Core → Note → Option What
 shown_by img c (note.Enter s) = Some (what.Enter s)
 shown_by img c (note.Leave s) = Some (what.Leave s (left_value img c s))

@@ -6,6 +6,7 @@ use Rattle.rt_trace.specs.declared.item.What.{What}
 use Rattle.rt_trace.specs.declared.item.What.TheVariants as what
 use Rattle.rt_core.specs.Core.{Core}
 
+-- what comes of a core step: a trap, or the core after the step with the item that it gives
 pub data Outcome : Type 0 where
   -- the core as a trap finds it
   Trapped : (core : Core) → (trap : Trap) → Outcome

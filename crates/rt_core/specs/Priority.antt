@@ -14,6 +14,7 @@ abbrev pub value_or_none : Option Handler → ℕ
 value_or_none None = THREAD_VALUE
 value_or_none (Some h) = h.value
 
+-- the priority value of the handler that runs, which was entered last, or that of the thread
 abbrev pub running_value : List Context → ℕ
 running_value [] = THREAD_VALUE
 running_value (x ∷ below) = x.value
@@ -22,6 +23,7 @@ running_value (x ∷ below) = x.value
 abbrev pub base_value : ℕ → ℕ
 base_value basepri = if basepri == 0 then THREAD_VALUE else basepri
 
+-- the value that PRIMASK holds the execution priority to
 abbrev pub mask_value : Bool → ℕ
 mask_value primask = if primask then 0 else THREAD_VALUE
 

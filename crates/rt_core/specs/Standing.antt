@@ -28,6 +28,7 @@ use Rattle.rt_core.specs.Stepping.{step}
 use Rattle.rt_core.specs.Transfer.{pended, called, has_room, set_alarm}
 
 module _ (img : Image) (st : Storage) (thread : ℕ) (who : Runner) (c : Core) (s : Spot) (later : Spot → Type 0) where
+  -- a core step leads to this core, and gives this item
   abbrev pub Gives : Core → Option What → Type 0
   Gives after shown = step img c ≡ (after, shown)
 
@@ -35,6 +36,7 @@ module _ (img : Image) (st : Storage) (thread : ℕ) (who : Runner) (c : Core) (
   abbrev pub ActsBehind : Processor → Action → ℕ → Type 0
   ActsBehind p action answer = Acts st img.bodies who action answer (moved (passed s) p) later
 
+  -- this action is the end of the job, and the job is where it may end
   abbrev pub EndsHere : Action → Type 0
   EndsHere action = Finishes st img.code img.bodies thread who action (passed s)
 

@@ -40,6 +40,7 @@ abbrev pub with_note : Image → Option Note → Outcome → Outcome
 with_note img (Some n) (Done c None) = noted c (shown_by img c n)
 with_note img n outcome = outcome
 
+-- what comes of an instruction with its note, by its effect
 abbrev pub go_on : Image → Core → Option Note → Effect → Outcome
 go_on img c n (Traps t) = Trapped c t
 go_on img c n (Leads p asked) = with_note img n (answer img (record c { processor = p }) asked)
@@ -49,6 +50,7 @@ abbrev pub run : Image → Core → Option (Instr × Option Note) → Outcome
 run img c None = Trapped c trap.Jump
 run img c (Some line) = go_on img c line.1 (effect line.0 c.time c.processor)
 
+-- what comes of a core step: the entry of this interrupt, or the instruction at the code address where none is taken
 abbrev pub attempt : Image → Core → Option IrqRow → Outcome
 attempt img c (Some row) = enter img c row.number row.handler
 attempt img c None = run img c (slice_get img.code c.processor.address)

@@ -14,5 +14,7 @@ NoLater x y =
     (value_or_none x.handler < value_or_none y.handler)
     ⊎ ((value_or_none x.handler ≡ value_or_none y.handler) × (x.number ≤ y.number))
 
+-- Of the interrupts that can preempt, a core takes the one of the highest priority, and of equal ones the one of the
+-- lowest number. It takes none only where there is none.
 abbrev pub TakesTheFirst : Type 0
 TakesTheFirst = (img : Image) (c : Core) → IsBest (can_preempt c) NoLater img.irqs (pick img c)

@@ -36,5 +36,6 @@ pub record StepsAlike (img : Image) (c : Core) (cells : List ℕ) : Type 0 where
       → slice_get (step img (with_cells c cells)).0.processor.cells cell ≡ slice_get (step img c).0.processor.cells cell
   pub shown : without_value (step img (with_cells c cells)).1 ≡ without_value (step img c).1
 
+-- a step depends on memory by the cell alone that it loads
 abbrev pub DependsOnItsLoadAlone : Type 0
 DependsOnItsLoadAlone = (img : Image) (c : Core) (cells : List ℕ) → HasItsLoad img c cells → StepsAlike img c cells

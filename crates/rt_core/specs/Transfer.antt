@@ -15,6 +15,7 @@ use Rattle.rt_core.specs.Outcome.{Outcome, Trapped, Done}
 abbrev pub has_room : Image → Core → ℕ → Bool
 has_room img c n = stack.has_room (img.stack_bytes / 4) (used img c) n
 
+-- an interrupt is pending from now on
 abbrev pub pended : Core → ℕ → Core
 pended c irq = record c { pending = slice_set c.pending irq true }
 
@@ -29,6 +30,8 @@ entered c irq h = record c {
       ∷ c.below;
 }
 
+-- exception entry where there is room for what it pushes and for the frame of the handler, and a trap where there is
+-- none
 abbrev pub enter : Image → Core → ℕ → Option Handler → Outcome
 enter img c irq None = Done c None
 enter img c irq (Some h) =
@@ -43,12 +46,15 @@ resumed c (Some found) =
     let after = record c.processor { address = x.address; slots = x.slots } in
     Done (record c { processor = after; caller = x.caller; below = found.1 }) (Some (what.Ret x.irq))
 
+-- exception return from the running handler, or a trap where there is nothing to return to
 abbrev pub return : Core → Outcome
 return c = resumed c (stack.interrupted c.caller c.below)
 
+-- whether what runs may call a body
 abbrev pub may_call : Core → Bool
 may_call c = stack.may_call c.caller c.processor.slots c.below
 
+-- whether the arguments of a body are in the frame, from this slot on, and its own frame has room
 abbrev pub call_fits : Image → Core → BodyRow → ℕ → Bool
 call_fits img c row from = stack.arguments_fit c.processor.slots row from && has_room img c row.frame
 
@@ -60,11 +66,13 @@ called c row from =
       caller = Some caller;
     }
 
+-- a call of the body of this row, or a trap where there is no row or it does not fit
 abbrev pub call_row : Image → Core → Option BodyRow → ℕ → Outcome
 call_row img c None from = Trapped c trap.Jump
 call_row img c (Some row) from =
     if call_fits img c row from then Done (called c row from) None else Trapped c trap.Stack
 
+-- a call of a body by the number of its row, with its arguments in the slots from one on
 abbrev pub call : Image → Core → ℕ → ℕ → Outcome
 call img c row from = if may_call c then call_row img c (slice_get img.bodies row) from else Trapped c trap.Stack
 
@@ -75,6 +83,7 @@ back_to c (Some slots) =
     let after = record c.processor { address = stack.return_address slots; slots = slots } in
     Done (record c { processor = after; caller = None }) None
 
+-- the end of a called body
 abbrev pub back : Core → Outcome
 back c = back_to c c.caller
 

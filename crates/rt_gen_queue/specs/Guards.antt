@@ -21,9 +21,11 @@ abbrev pub kind_of : Guard → ℕ → ℕ → Kind
 kind_of g level slot =
     if nat_le g.ceiling level then Marked else if g.value == 0 then Masked slot else Raised slot
 
+-- the line that opens a section with this guard at a level
 abbrev pub enter_line : Section → Guard → ℕ → ℕ → Line
 enter_line x g level slot = noted (opening g.value (kind_of g level slot)) (note.Enter x)
 
+-- the line that closes a section with this guard at a level
 abbrev pub leave_line : Section → Guard → ℕ → ℕ → Line
 leave_line x g level slot = noted (closing (kind_of g level slot)) (note.Leave x)
 
@@ -32,14 +34,18 @@ module _ (app : App) where
   abbrev pub value_of : Section → ℕ
   value_of x = hardware app.bits (ceiling app x)
 
+  -- the guard of a section: the priority ceiling and its priority value
   abbrev pub guard_of : Section → Guard
   guard_of x = guarded app.bits (ceiling app x)
 
+  -- the kind of a section of the application at a level, with a slot for what the mask was
   abbrev pub kind_at : Section → ℕ → ℕ → Kind
   kind_at x level slot = kind_of (guard_of x) level slot
 
+  -- the line that opens a section of the application at a level
   abbrev pub enter : Section → ℕ → ℕ → Line
   enter x level slot = enter_line x (guard_of x) level slot
 
+  -- the line that closes a section of the application at a level
   abbrev pub leave : Section → ℕ → ℕ → Line
   leave x level slot = leave_line x (guard_of x) level slot

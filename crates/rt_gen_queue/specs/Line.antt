@@ -6,12 +6,15 @@ use Rattle.rt_code.specs.Listable.{HasInstr, HasNote}
 use Rattle.rt_code.specs.declared.instr.Instr.{Instr}
 use Rattle.rt_code.specs.declared.instr.Note.{Note}
 
+-- a line of code: an instruction, and the note on it
 abbrev pub Line : Type 0
 Line = Instr × Option Note
 
+-- a line without a note
 abbrev pub plain : Instr → Line
 plain i = (i, None)
 
+-- a line with a note
 abbrev pub noted : Instr → Note → Line
 noted i told = (i, Some told)
 

@@ -2,6 +2,7 @@
 use Rattle.std.specs.Prelude.{◌≡◌, ◌++◌, List}
 use Rattle.rt_gen_queue.specs.Line.{Line}
 
+-- the lines that are generated so far
 pub record Made : Type 0 where
   pub lines : List Line
 

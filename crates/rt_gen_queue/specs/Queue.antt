@@ -8,6 +8,7 @@ use Rattle.rt_app.specs.Layout.{ready_at, ready_room}
 use Rattle.rt_gen_queue.specs.Guards.{guard_of}
 use Rattle.rt_gen_queue.specs.declared.queue.ReadyQueue.{ReadyQueue}
 
+-- the ready queue of a level
 abbrev pub queue_at : App → ℕ → ReadyQueue
 queue_at app p = record {
   level = p;

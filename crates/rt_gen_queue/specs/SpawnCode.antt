@@ -25,19 +25,23 @@ module _ (app : App) where
     queue = queue_at app p;
   }
 
+  -- what the code of a spawn of a task is made of
   abbrev pub target_of : ℕ → Target
   target_of task = target_at task (task_priority app task)
 
-  -- its parts
+  -- the lines that take a place of the task, or jump where none is left
   abbrev pub take_code : ℕ → ℕ → ℕ → ℕ → List Line
   take_code task level slot full = take_lines (target_of task) level slot full
 
+  -- the lines that write the arguments into the cells of the place, and make the word of the message
   abbrev pub fill_code : ℕ → ℕ → List Line
   fill_code task slot = fill_lines (target_of task) 0 slot
 
+  -- the lines that put the message last into the ring of a level, and pend the level's dispatcher
   abbrev pub ready_code : ℕ → ℕ → ℕ → ℕ → List Line
   ready_code task p level slot = ready_lines (target_at task p) level slot
 
+  -- the lines of the two answers: 1 behind a message that was put, and 0 where no place was left
   abbrev pub end_code : ℕ → ℕ → ℕ → ℕ → List Line
   end_code task level slot end = end_lines (target_of task) level slot end
 

@@ -35,14 +35,15 @@ module _ (app : App) where
     rows = if is_armed app n then capacity_of app n else 0;
   }
 
-  -- a `spawn_after`, a `cancel` and a `reschedule_after` of a task in a body at a level, whose 24 slots begin at one,
-  -- from an address on
+  -- a `spawn_after` of a task in a body at a level, whose 24 slots begin at one, from an address on
   abbrev pub after_code : ℕ → ℕ → ℕ → ℕ → List Line
   after_code task level slot at = after_lines queue_of slot level (armed_task task) at
 
+  -- a `cancel` of a message of a task in a body at a level, likewise
   abbrev pub cancel_code : ℕ → ℕ → ℕ → ℕ → List Line
   cancel_code task level slot at = cancel_lines queue_of slot level (armed_task task) at
 
+  -- a `reschedule_after` of a message of a task in a body at a level, likewise
   abbrev pub move_code : ℕ → ℕ → ℕ → ℕ → List Line
   move_code task level slot at = move_lines queue_of slot level (armed_task task) at
 

@@ -20,48 +20,60 @@ use Rattle.rt_gen_timer.specs.declared.slots.TheConstants.{INSTANT, NUMBER, ONE,
 use Rattle.rt_gen_timer.specs.declared.slots.TheConstants.{OTHER_NUMBER, RIGHT, RIGHT_ROW, RIGHT_INSTANT, RIGHT_NUMBER}
 use Rattle.rt_gen_timer.specs.declared.slots.TheConstants.{LESS, EQUAL}
 
--- the cells of a timer queue: the counts of armings and of handles, and the first cells of the columns
+-- the cell of the count of armings
 abbrev pub armings_of : TimerQueue → ℕ
 armings_of q = q.at + 1
 
+-- the cell of the count of handles that were given
 abbrev pub given_of : TimerQueue → ℕ
 given_of q = q.at + 2
 
+-- the first cell of the column of instants
 abbrev pub instants_of : TimerQueue → ℕ
 instants_of q = q.at + 3
 
+-- the first cell of the column of the numbers of last armings
 abbrev pub numbers_of : TimerQueue → ℕ
 numbers_of q = instants_of q + q.messages
 
+-- the first cell of the column of handles
 abbrev pub handles_of : TimerQueue → ℕ
 handles_of q = numbers_of q + q.messages
 
+-- the first cell of the heap
 abbrev pub heap_of : TimerQueue → ℕ
 heap_of q = handles_of q + q.messages
 
 module _ (q : TimerQueue) (slot : ℕ) where
-  -- instructions on slots of the 24, by their number among these
+  -- a slot of the 24 gets a value; like those below it names slots by their number among these
   abbrev pub set : ℕ → ℕ → Line
   set d value = plain (instr.Set (slot + d) value)
 
+  -- a slot gets the value of another
   abbrev pub copy : ℕ → ℕ → Line
   copy d s = plain (instr.Copy (slot + d) (slot + s))
 
+  -- a slot gets the result of an operation on two others
   abbrev pub calc : Op → ℕ → ℕ → ℕ → Line
   calc o d a b = plain (instr.Calc o (slot + d) (slot + a) (slot + b))
 
+  -- a slot gets the value of a cell
   abbrev pub load : ℕ → ℕ → Line
   load d c = plain (instr.Load (slot + d) c)
 
+  -- a cell gets the value of a slot
   abbrev pub store : ℕ → ℕ → Line
   store c s = plain (instr.Store c (slot + s))
 
+  -- a slot gets the value of a cell behind another, the distance being in a slot
   abbrev pub load_at : ℕ → ℕ → ℕ → Line
   load_at d c s = plain (instr.LoadAt (slot + d) c (slot + s))
 
+  -- a cell behind another, the distance being in a slot, gets the value of a slot
   abbrev pub store_at : ℕ → ℕ → ℕ → Line
   store_at c s a = plain (instr.StoreAt c (slot + s) (slot + a))
 
+  -- a jump to an address where a slot holds 0
   abbrev pub jump_zero : ℕ → ℕ → Line
   jump_zero s l = plain (instr.JumpZ (slot + s) l)
 
@@ -178,6 +190,7 @@ module _ (q : TimerQueue) (slot : ℕ) where
       ∷ copy ANSWER OTHER
       ∷ calc op.Add INSTANT INSTANT ANSWER ∷ []
 
+  -- the slots of the constants 1 and 2 are set
   abbrev pub constant_lines : List Line
   constant_lines = set ONE 1 ∷ set TWO 2 ∷ []
 
@@ -230,9 +243,11 @@ module _ (q : TimerQueue) (slot : ℕ) where
   answer_lines answer end = set ANSWER answer ∷ plain (instr.Jump end) ∷ []
 
   module _ (level : ℕ) where
+    -- the section of the timer queue opens
     abbrev pub enter_timer : Line
     enter_timer = enter_line section.Timer q.guard level (slot + MASK)
 
+    -- the section of the timer queue closes
     abbrev pub leave_timer : Line
     leave_timer = leave_line section.Timer q.guard level (slot + MASK)
 

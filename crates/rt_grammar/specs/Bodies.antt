@@ -12,6 +12,7 @@ use Rattle.rt_grammar.specs.Limits.{at_most}
 use Rattle.rt_grammar.specs.Statement.{block}
 use Rattle.rt_grammar.specs.Options.{Options, Owner, OfTask, options}
 
+-- a list, which is empty where it is left out
 abbrev pub or_empty : {A : Type 0} → Option (List A) → List A
 or_empty None = []
 or_empty (Some xs) = xs
@@ -20,6 +21,7 @@ or_empty (Some xs) = xs
 abbrev pub body_of : Options → Block → ℕ → Body
 body_of o statements at = record { shared = or_empty o.shared; local = or_empty o.local; block = statements; at = at }
 
+-- `init` or `idle`, which begins with this word, or nothing
 abbrev pub thread_body : ℕ → Owner → List ℕ → Language (Option Body)
 thread_body most owner text = or_else None (do
   at ← word text
@@ -34,12 +36,14 @@ argument xs = do
   x ← limited_name (at_most ARGUMENTS limit.Arguments (length xs))
   gives (xs ++ x ∷ [])
 
+-- the arguments that a task declares behind `with`, or nothing
 abbrev pub arguments : Language (List Ident)
 arguments = or_else [] (do
   word (codes "with")
   x ← name
   repeat argument (x ∷ []))
 
+-- a task, where so many stand before it
 abbrev pub task : ℕ → ℕ → Language Task
 task most before = do
   limited_word (codes "task") (at_most TASKS limit.Tasks before)

@@ -14,6 +14,7 @@ use Rattle.rt_grammar.specs.Resources.{interrupts, monotonic, shared, locals}
 use Rattle.rt_grammar.specs.Options.{OfInit, OfIdle}
 use Rattle.rt_grammar.specs.Bodies.{thread_body, task}
 
+-- the option that lists the dispatchers, or nothing
 abbrev pub dispatchers : Language (List Ident)
 dispatchers = or_else [] (do
   sign (codes ",")
@@ -37,6 +38,7 @@ pub record Head : Type 0 where
   pub dispatchers : List Ident
   pub fpu : Bool
 
+-- the first declaration: the name of the application and its options
 abbrev pub head : Language Head
 head = do
   word (codes "app")

@@ -23,13 +23,16 @@ pub record Operand : Type 0 where
 abbrev pub Signs : Type 0
 Signs = List (List ℕ × Op)
 
+-- the operator that a token is, of these
 abbrev pub op_of : Signs → Token → Option Op
 op_of [] t = None
 op_of (x ∷ signs) t = if is_this_sign x.0 t then Some x.1 else op_of signs t
 
+-- one of these operators
 abbrev pub operator : Signs → Language Op
 operator signs = token (op_of signs) (λ _. free)
 
+-- the operators that compare, which are the weakest
 abbrev pub comparisons : Signs
 comparisons =
     (codes "==", op.Eq) ∷ (codes "!=", op.Ne)
@@ -43,6 +46,7 @@ strengths =
     ∷ ((codes "+", op.Add) ∷ (codes "-", op.Sub) ∷ [])
     ∷ ((codes "*", op.Mul) ∷ (codes "/", op.Div) ∷ (codes "%", op.Rem) ∷ []) ∷ []
 
+-- an operation on two operands, which begins where the left one does
 abbrev pub joined : Op → Operand → Operand → Operand
 joined o left right = record { at = left.at; tree = Oper o left.tree right.tree }
 

@@ -5,6 +5,7 @@ use Rattle.rt_ids.specs.declared.limit.Limit.{Limit}
 use Rattle.rt_lex.specs.Token.{Token}
 use Rattle.rt_grammar.specs.Mark.{Mark, Takes}
 
+-- a language relates what is marked in a text to what that means: a grammar's nonterminal with its attribute
 abbrev pub Language : Type 0 → Type 1
 Language A = List Mark → A → Type 0
 
@@ -19,10 +20,12 @@ abbrev pub ◌>>=◌ : {A B : Type 0} → Language A → (A → Language B) → 
     (x : _) × (front : List Mark) × (back : List Mark) × first front x × next x back y × (marks ≡ front ++ back)
 
 infixl 10 ◌>>◌
+-- a form, and behind it another, which alone has a meaning
 abbrev pub ◌>>◌ : {A B : Type 0} → Language A → Language B → Language B
 first >> next = first >>= λ _. next
 
 infixr 8 ◌or◌
+-- a choice: one form, or the other
 abbrev pub ◌or◌ : {A : Type 0} → Language A → Language A → Language A
 (one or other) marks x = one marks x ⊎ other marks x
 

@@ -17,6 +17,7 @@ nested nesting = limit_if (nat_lt NESTING nesting) limit.Nesting
 abbrev pub turned : ℕ → ℕ → Option Limit
 turned first last = limit_if (nat_lt TURNS (last - first)) limit.Turns
 
+-- the limit on a number, which has to be from the least to the greatest
 abbrev pub within : ℕ → ℕ → Limit → ℕ → Option Limit
 within least greatest what n = limit_if (not (nat_le least n && nat_le n greatest)) what
 

@@ -5,6 +5,7 @@ use Rattle.rt_ids.specs.declared.limit.Limit.{Limit}
 use Rattle.rt_ids.specs.declared.limit.Limit.TheVariants as limit
 use Rattle.rt_lex.specs.Token.{Token}
 
+-- what is marked in a text: a token with the limit that it passes, or the end of a whole expression
 pub data Mark : Type 0 where
   Takes : Token → Option Limit → Mark
   -- whether the expression is a comparison, and the offset of its first token where it is too deep

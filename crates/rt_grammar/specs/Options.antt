@@ -21,6 +21,7 @@ pub record Options : Type 0 where
   pub shared : Option (List ListedTree)
   pub local : Option (List Ident)
 
+-- no option so far
 abbrev pub no_options : Options
 no_options = record { binds = None; priority = None; capacity = None; shared = None; local = None }
 
@@ -30,14 +31,17 @@ pub data Owner : Type 0 where
   OfIdle : Owner
   OfTask : Owner
 
+-- whether a body is a task's
 abbrev pub is_task : Owner → Bool
 is_task OfTask = true
 is_task other = false
 
+-- whether a body is that of `init`
 abbrev pub is_init : Owner → Bool
 is_init OfInit = true
 is_init other = false
 
+-- the interrupt that a task is bound to
 abbrev pub binds_option : Owner → Options → Language Options
 binds_option owner o = only_if (is_task owner && is_none o.binds) (do
   word (codes "binds")
@@ -45,6 +49,7 @@ binds_option owner o = only_if (is_task owner && is_none o.binds) (do
   x ← name
   gives (record o { binds = Some x }))
 
+-- the priority of a task
 abbrev pub priority_option : Owner → Options → Language Options
 priority_option owner o = only_if (is_task owner && is_none o.priority) (do
   word (codes "priority")
@@ -52,6 +57,7 @@ priority_option owner o = only_if (is_task owner && is_none o.priority) (do
   n ← number
   gives (record o { priority = Some n }))
 
+-- the capacity of a task's messages
 abbrev pub capacity_option : Owner → Options → Language Options
 capacity_option owner o = only_if (is_task owner && is_none o.capacity) (do
   word (codes "capacity")
@@ -65,6 +71,7 @@ listed =
     (do at ← sign (codes "&"); x ← name; gives (record { name = x; by_ref = true; at = at }))
     or (do x ← name; gives (record { name = x; by_ref = false; at = x.at }))
 
+-- the shared resources that a body other than `init` lists
 abbrev pub shared_option : Owner → Options → Language Options
 shared_option owner o = only_if (not (is_init owner) && is_none o.shared) (do
   word (codes "shared")
@@ -73,6 +80,7 @@ shared_option owner o = only_if (not (is_init owner) && is_none o.shared) (do
   xs ← list (codes "]") (adds (λ before. listed)) []
   gives (record o { shared = Some xs }))
 
+-- the local resources that a body lists
 abbrev pub local_option : Owner → Options → Language Options
 local_option owner o = only_if (is_none o.local) (do
   word (codes "local")
@@ -80,10 +88,12 @@ local_option owner o = only_if (is_none o.local) (do
   xs ← names
   gives (record o { local = Some xs }))
 
+-- one option more, which is none of those so far
 abbrev pub option : Owner → Options → Language Options
 option owner o =
     binds_option owner o or priority_option owner o or capacity_option owner o or shared_option owner o
     or local_option owner o
 
+-- the options in parentheses, or nothing
 abbrev pub options : Owner → Language Options
 options owner = or_else no_options (sign (codes "(") >> list (codes ")") (option owner) no_options)

@@ -6,6 +6,7 @@ use Rattle.rt_grammar.specs.Mark.{Mark, Takes, Ends}
 use Rattle.rt_grammar.specs.Language.{Language}
 use Rattle.rt_grammar.specs.Expression.{Signs, comparisons, strengths}
 
+-- whether a token is one of these operators
 abbrev pub is_of : Signs → Token → Bool
 is_of signs t = list_any (λ x. is_this_sign x.0 t) signs
 
@@ -13,6 +14,7 @@ is_of signs t = list_any (λ x. is_this_sign x.0 t) signs
 abbrev pub goes_on : Bool → Token → Bool
 goes_on compares t = list_any (λ signs. is_of signs t) strengths || (not compares && is_of comparisons t)
 
+-- whether the text goes on with an expression at its next token
 abbrev pub expression_goes_on : Bool → List Token → Bool
 expression_goes_on compares [] = false
 expression_goes_on compares (t ∷ tokens) = goes_on compares t

@@ -14,6 +14,7 @@ use Rattle.rt_grammar.specs.Language.{Language, gives, ◌>>=◌, ◌>>◌, ◌o
 use Rattle.rt_grammar.specs.Tokens.{word, limited_word, sign, name, limited_name, number, limited_number, list, adds}
 use Rattle.rt_grammar.specs.Limits.{within, at_most}
 
+-- the declaration of an interrupt, where so many stand before it
 abbrev pub interrupt : ℕ → Language IrqTree
 interrupt before = do
   x ← limited_name (at_most IRQS limit.Interrupts before)
@@ -21,12 +22,14 @@ interrupt before = do
   n ← limited_number (within 0 (IRQ_NUMBERS - 1) limit.Interrupt)
   gives (record { name = x; number = n })
 
+-- the declared interrupts, which every application has
 abbrev pub interrupts : Language (List IrqTree)
 interrupts = do
   word (codes "interrupts")
   sign (codes "{")
   list (codes "}") (adds interrupt) []
 
+-- the monotonic, or nothing
 abbrev pub monotonic : Language (Option MonoTree)
 monotonic = or_else None (do
   word (codes "monotonic")
@@ -42,12 +45,14 @@ monotonic = or_else None (do
   sign (codes ";")
   gives (Some (record { binds = irq; priority = n })))
 
+-- the first value of a resource
 abbrev pub first_value : Language ℕ
 first_value = do
   sign (codes "=")
   n ← number
   gives n.value
 
+-- a shared resource that is `lock_free`, where so many stand before it
 abbrev pub lock_free : ℕ → Language SharedTree
 lock_free before = do
   limited_word (codes "lock_free") (at_most SHARED limit.Shared before)
@@ -55,24 +60,28 @@ lock_free before = do
   n ← first_value
   gives (record { name = x; first = n; lock_free = true })
 
+-- a shared resource that is accessed under its lock, where so many stand before it
 abbrev pub locked : ℕ → Language SharedTree
 locked before = do
   x ← limited_name (at_most SHARED limit.Shared before)
   n ← first_value
   gives (record { name = x; first = n; lock_free = false })
 
+-- the shared resources, or nothing
 abbrev pub shared : Language (List SharedTree)
 shared = or_else [] (do
   word (codes "shared")
   sign (codes "{")
   list (codes "}") (adds (λ before. lock_free before or locked before)) [])
 
+-- a local resource, where so many stand before it
 abbrev pub local : ℕ → Language LocalTree
 local before = do
   x ← limited_name (at_most LOCALS limit.Locals before)
   n ← first_value
   gives (record { name = x; first = n })
 
+-- the local resources, or nothing
 abbrev pub locals : Language (List LocalTree)
 locals = or_else [] (do
   word (codes "local")

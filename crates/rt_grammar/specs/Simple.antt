@@ -14,6 +14,7 @@ use Rattle.rt_grammar.specs.Spawn.{spawn, value}
 abbrev pub Counted : Type 0 → Type 0
 Counted A = A × ℕ
 
+-- a `let`
 abbrev pub bind : ℕ → ℕ → Language (Counted Statement)
 bind most before = do
   limited_word (codes "let") (counted before)
@@ -23,6 +24,7 @@ bind most before = do
   sign (codes ";")
   gives (Bind x v, suc before)
 
+-- an assignment
 abbrev pub assign : ℕ → ℕ → Language (Counted Statement)
 assign most before = do
   x ← limited_name (counted before)
@@ -31,6 +33,7 @@ assign most before = do
   sign (codes ";")
   gives (Assign x e, suc before)
 
+-- an `emit`
 abbrev pub emit : ℕ → ℕ → Language (Counted Statement)
 emit most before = do
   limited_word (codes "emit") (counted before)
@@ -38,6 +41,7 @@ emit most before = do
   sign (codes ";")
   gives (Emit e, suc before)
 
+-- a `pend`
 abbrev pub pend : ℕ → Language (Counted Statement)
 pend before = do
   limited_word (codes "pend") (counted before)
@@ -45,6 +49,7 @@ pend before = do
   sign (codes ";")
   gives (Pend irq, suc before)
 
+-- a spawn, a cancel or a reschedule whose answer is not kept
 abbrev pub call : ℕ → ℕ → Language (Counted Statement)
 call most before = do
   s ← spawn most (counted before)

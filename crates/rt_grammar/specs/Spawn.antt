@@ -9,9 +9,11 @@ use Rattle.rt_grammar.specs.Language.{Language, gives, ◌>>=◌, ◌>>◌, ◌o
 use Rattle.rt_grammar.specs.Tokens.{free, word, limited_word, sign, name, list, adds}
 use Rattle.rt_grammar.specs.Expression.{expression}
 
+-- the arguments of a message, in parentheses
 abbrev pub arguments : ℕ → Language (List Expression)
 arguments most = sign (codes "(") >> list (codes ")") (adds (λ before. expression most)) []
 
+-- a `spawn`, whose first word may pass this limit
 abbrev pub soon : ℕ → Option Limit → Language Spawn
 soon most what = do
   limited_word (codes "spawn") what
@@ -19,6 +21,7 @@ soon most what = do
   args ← arguments most
   gives (Soon task args)
 
+-- a `spawn_after`, whose first word may pass this limit
 abbrev pub after : ℕ → Option Limit → Language Spawn
 after most what = do
   at ← limited_word (codes "spawn_after") what
@@ -37,6 +40,7 @@ handle most = do
   sign (codes ")")
   gives e
 
+-- a `cancel`, whose first word may pass this limit
 abbrev pub cancel : ℕ → Option Limit → Language Spawn
 cancel most what = do
   at ← limited_word (codes "cancel") what
@@ -44,6 +48,7 @@ cancel most what = do
   h ← handle most
   gives (Cancel at task h)
 
+-- a `reschedule_after`, whose first word may pass this limit
 abbrev pub move : ℕ → Option Limit → Language Spawn
 move most what = do
   at ← limited_word (codes "reschedule_after") what
@@ -58,6 +63,7 @@ move most what = do
 abbrev pub spawn : ℕ → Option Limit → Language Spawn
 spawn most what = soon most what or after most what or cancel most what or move most what
 
+-- the value of a `let`
 abbrev pub value : ℕ → Language Value
 value most =
     (do at ← word (codes "now"); gives (Now at))

@@ -17,6 +17,7 @@ use Rattle.rt_grammar.specs.Simple.{Counted, bind, assign, emit, pend, call}
 abbrev pub Blocks : Type 1
 Blocks = ℕ → ℕ → Language (Counted Block)
 
+-- an `if`, with or without an `else`
 abbrev pub branch : ℕ → Blocks → ℕ → ℕ → Language (Counted Statement)
 branch most block nesting before = do
   limited_word (codes "if") (counted before)
@@ -25,6 +26,7 @@ branch most block nesting before = do
   second ← or_else (Empty, first.1) (word (codes "else") >> block (suc nesting) first.1)
   gives (Branch e first.0 second.0, second.1)
 
+-- a `for` over a range of numbers
 abbrev pub loop : Blocks → ℕ → ℕ → Language (Counted Statement)
 loop block nesting before = do
   limited_word (codes "for") (counted before)
@@ -52,11 +54,13 @@ lock inside nesting before = do
   inner ← inside (suc nesting) (suc before)
   gives (Locked r inner.0, inner.1)
 
+-- a statement, whose inner blocks and whose rest behind a lock's name are these
 abbrev pub statement : ℕ → Blocks → Blocks → ℕ → ℕ → Language (Counted Statement)
 statement most block inside nesting before =
     bind most before or assign most before or branch most block nesting before or loop block nesting before
     or lock inside nesting before or emit most before or pend before or call most before
 
+-- the block of a list of statements
 abbrev pub block_of : List Statement → Block
 block_of [] = Empty
 block_of (s ∷ statements) = Then s (block_of statements)
@@ -67,6 +71,7 @@ one_more most block inside nesting so_far = do
   s ← statement most block inside nesting so_far.1
   gives (so_far.0 ++ s.0 ∷ [], s.1)
 
+-- statements in braces, which pass the limit on nesting where they stand too deep
 abbrev pub braced : ℕ → Blocks → Blocks → Blocks
 braced most block inside nesting before = do
   limited_sign (codes "{") (nested nesting)
@@ -80,6 +85,7 @@ abbrev mutual
   block most zero nesting before = never
   block most (suc deep) nesting before = braced most (block most deep) (inside most deep) nesting before
 
+  -- what is behind a lock's name, with at most so many blocks inside each other
   pub inside : ℕ → ℕ → Blocks
   inside most zero nesting before = never
   inside most (suc deep) nesting before =

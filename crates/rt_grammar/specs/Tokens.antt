@@ -25,10 +25,11 @@ abbrev pub first_of : Option Limit → Option Limit → Option Limit
 first_of None other = other
 first_of (Some what) other = Some what
 
--- a word or a sign means its offset
+-- the offset of a token that is this word
 abbrev pub word_of : List ℕ → Token → Option ℕ
 word_of text t = if is_this_word text t then Some t.at else None
 
+-- the offset of a token that is this sign
 abbrev pub sign_of : List ℕ → Token → Option ℕ
 sign_of text t = if is_this_sign text t then Some t.at else None
 
@@ -36,32 +37,41 @@ sign_of text t = if is_this_sign text t then Some t.at else None
 abbrev pub name_of : List ℕ → Token → Option ℕ
 name_of text t = if is_this_name text t then Some t.at else None
 
+-- bytes of this kind as a name with its offset, where they are a name
 abbrev pub ident_at : Kind → List ℕ → ℕ → Option Ident
 ident_at kind.Name text at = Some (record { name = text; at = at })
 ident_at other text at = None
 
+-- the name that a token is, where it is one
 abbrev pub ident_of : Token → Option Ident
 ident_of t = ident_at t.kind t.text t.at
 
+-- bytes of this kind as a number with its offset, where they are a number
 abbrev pub number_at : Kind → List ℕ → ℕ → Option Number
 number_at kind.Num text at = Some (record { value = number_value text; at = at })
 number_at other text at = None
 
+-- the number that a token is, where it is one
 abbrev pub number_of : Token → Option Number
 number_of t = number_at t.kind t.text t.at
 
+-- this word, which may pass this limit
 abbrev pub limited_word : List ℕ → Option Limit → Language ℕ
 limited_word text what = token (word_of text) (λ _. what)
 
+-- this word, which means its offset
 abbrev pub word : List ℕ → Language ℕ
 word text = limited_word text free
 
+-- this name, which means its offset
 abbrev pub this_name : List ℕ → Language ℕ
 this_name text = token (name_of text) (λ _. free)
 
+-- this sign, which may pass this limit
 abbrev pub limited_sign : List ℕ → Option Limit → Language ℕ
 limited_sign text what = token (sign_of text) (λ _. what)
 
+-- this sign, which means its offset
 abbrev pub sign : List ℕ → Language ℕ
 sign text = limited_sign text free
 
@@ -69,9 +79,11 @@ sign text = limited_sign text free
 abbrev pub name_limit : Option Limit → Ident → Option Limit
 name_limit what x = first_of (limit_if (nat_lt NAME_BYTES (length x.name)) limit.Name) what
 
+-- a name that may pass this limit, besides the one on the length of names
 abbrev pub limited_name : Option Limit → Language Ident
 limited_name what = token ident_of (name_limit what)
 
+-- a name
 abbrev pub name : Language Ident
 name = limited_name free
 
@@ -79,9 +91,11 @@ name = limited_name free
 abbrev pub number_limit : (ℕ → Option Limit) → Number → Option Limit
 number_limit what n = first_of (limit_if (not (nat_lt n.value (2 ^ 32))) limit.Number) (what n.value)
 
+-- a number that may pass this limit, which goes by its value, besides the one on the size of numbers
 abbrev pub limited_number : (ℕ → Option Limit) → Language Number
 limited_number what = token number_of (number_limit what)
 
+-- a number
 abbrev pub number : Language Number
 number = limited_number (λ _. free)
 
@@ -99,5 +113,6 @@ adds item xs = do
   x ← item (length xs)
   gives (xs ++ x ∷ [])
 
+-- a list of names in brackets
 abbrev pub names : Language (List Ident)
 names = sign (codes "[") >> list (codes "]") (adds (λ before. name)) []

@@ -9,6 +9,7 @@ use Rattle.rt_ids.specs.Holder.{Guarded}
 use Rattle.rt_ids.specs.Content.{Message, Number, Messages, Delays, Values, number, messages, timed, put_at}
 use Rattle.rt_ids.specs.Content.{with_armed, with_fired, with_cancelled, with_moved}
 
+-- a visible action of a body, as a label of a transition system; its sections are the critical sections of Baker (1991)
 pub data Action : Type 0 where
   -- it enters a section, which takes so many core steps at most, the entering and the leaving counted
   Enters : (section : Section) → (cost : ℕ) → Action

@@ -27,6 +27,7 @@ pub record Timed : Type 0 where
   -- the armed messages, in order of their last arming; to be put to another instant counts as an arming
   pub armed : List Armed
 
+-- what a holder holds: a number, ready messages, or the timer queue
 pub data Content : Type 0 where
   -- a resource has a value; of the places of a task so many are out
   Number : (n : ℕ) → Content
@@ -34,6 +35,7 @@ pub data Content : Type 0 where
   Messages : (messages : List Message) → Content
   Delays : (timed : Timed) → Content
 
+-- what every holder holds at one moment
 abbrev pub Values : Type 0
 Values = Holder → Content
 
@@ -41,17 +43,19 @@ Values = Holder → Content
 abbrev pub nothing_armed : Timed
 nothing_armed = record { given = 0; moved = 0; armed = [] }
 
--- the number, the messages, the timer queue of a content that has such
+-- the number that a content is, and 0 where it is none
 abbrev pub number : Content → ℕ
 number (Number n) = n
 number (Messages messages) = 0
 number (Delays timed) = 0
 
+-- the ready messages that a content is, and no message where it is none such
 abbrev pub messages : Content → List Message
 messages (Number n) = []
 messages (Messages ms) = ms
 messages (Delays timed) = []
 
+-- the timer queue that a content is, and one with nothing armed where it is none
 abbrev pub timed : Content → Timed
 timed (Number n) = nothing_armed
 timed (Messages messages) = nothing_armed
@@ -71,6 +75,7 @@ MayArm (Delays t) = t.given + t.moved < 2 ^ 31
 abbrev pub put_at : Values → Holder → Content → Values
 put_at values holder content other = if is_same_holder holder other then content else values other
 
+-- the lesser of a number and of one that may not be there
 abbrev pub lesser : ℕ → Option ℕ → ℕ
 lesser i None = i
 lesser i (Some j) = min i j
@@ -80,45 +85,52 @@ abbrev pub least_instant : List Armed → Option ℕ
 least_instant [] = None
 least_instant (a ∷ armed) = Some (lesser a.instant (least_instant armed))
 
+-- whether an armed message is for this instant, where there is an instant
 abbrev pub has_instant : Option ℕ → Armed → Bool
 has_instant None a = false
 has_instant (Some i) a = a.instant == i
 
--- the first that was armed of those of the least instant, and the armed messages without it
+-- the first that was armed of those of the least instant
 abbrev pub least : List Armed → Option Armed
 least armed = find (has_instant (least_instant armed)) armed
 
+-- the armed messages without the first of those of the least instant
 abbrev pub without_least : List Armed → List Armed
 without_least armed = remove armed (position_or_len (has_instant (least_instant armed)) armed)
 
--- the armed message of a task that has a handle, and the armed messages without it
+-- whether an armed message is of this task and has this handle
 abbrev pub has_handle : ℕ → ℕ → Armed → Bool
 has_handle task handle a = (a.message.task == task) && (a.handle == handle)
 
+-- the armed message of a task that has a handle, where there is one
 abbrev pub armed_as : ℕ → ℕ → List Armed → Option Armed
 armed_as task handle armed = find (has_handle task handle) armed
 
+-- the armed messages without the one of a task that has a handle
 abbrev pub without_handle : ℕ → ℕ → List Armed → List Armed
 without_handle task handle armed = remove armed (position_or_len (has_handle task handle) armed)
 
--- A message more is armed for an instant, with the next handle; the least armed message leaves; the message of a handle
--- leaves, or goes last for another instant and keeps its handle.
+-- the timer queue after a message more is armed for an instant: it goes last, with the next handle
 abbrev pub with_armed : ℕ → Message → Timed → Timed
 with_armed instant message t = record t {
   given = t.given + 1;
   armed = t.armed ++ record { instant = instant; message = message; handle = t.given + 1 } ∷ [];
 }
 
+-- the timer queue after its first message of the least instant leaves
 abbrev pub with_fired : Timed → Timed
 with_fired t = record t { armed = without_least t.armed }
 
+-- the timer queue after the message of a task and a handle leaves
 abbrev pub with_cancelled : ℕ → ℕ → Timed → Timed
 with_cancelled task handle t = record t { armed = without_handle task handle t.armed }
 
+-- a message that was found, for another instant, and nothing where none was found
 abbrev pub postponed : ℕ → Option Armed → List Armed
 postponed instant None = []
 postponed instant (Some a) = record a { instant = instant } ∷ []
 
+-- the timer queue after the message of a task and a handle goes last, for another instant; it keeps its handle
 abbrev pub with_moved : ℕ → ℕ → ℕ → Timed → Timed
 with_moved task handle instant t = record t {
   moved = t.moved + 1;

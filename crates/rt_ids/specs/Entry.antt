@@ -3,11 +3,13 @@
 -- copied.
 use Rattle.std.specs.Prelude.{ℕ, ◌==◌, ◌&&◌, Bool, List, count_by}
 
+-- a place of a software task in a queue: a slot of the task's message pool
 pub record Entry : Type 0 where
   pub task : ℕ
   -- from 0 to its task's capacity
   pub place : ℕ
 
+-- whether two entries are one place of one task
 abbrev pub is_same_entry : Entry → Entry → Bool
 is_same_entry a b = (a.task == b.task) && (a.place == b.place)
 

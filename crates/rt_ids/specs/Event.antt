@@ -2,6 +2,7 @@
 -- takes one step of its own (one exception entry or one instruction).
 use Rattle.std.specs.Prelude.{ℕ, List, [], ◌∷◌, suc, zero}
 
+-- one thing that happens to a core: the request of an interrupt, a tick of the system timer, or a step of the core
 pub data Event : Type 0 where
   Arrive : (irq : ℕ) → Event
   Tick : Event

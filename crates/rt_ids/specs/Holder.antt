@@ -4,6 +4,7 @@ use Rattle.std.specs.Prelude.{ℕ, Bool, true, false, ◌==◌}
 use Rattle.rt_ids.specs.declared.ids.Section.{Section}
 use Rattle.rt_ids.specs.declared.ids.Section.TheVariants as section
 
+-- something that holds a value or a queue: what a section guards, or a local resource
 pub data Holder : Type 0 where
   Guarded : (section : Section) → Holder
   -- a local resource, by its place in the order of declaration
@@ -17,6 +18,7 @@ is_same_section (section.Ready a) (section.Ready b) = a == b
 is_same_section section.Timer section.Timer = true
 is_same_section a b = false
 
+-- whether two holders are one
 abbrev pub is_same_holder : Holder → Holder → Bool
 is_same_holder (Guarded a) (Guarded b) = is_same_section a b
 is_same_holder (Own a) (Own b) = a == b

@@ -6,6 +6,7 @@ use Rattle.std.specs.Prelude.{None, if◌then◌else◌}
 abbrev pub AreDifferent : {A : Type 0} → List A → Type 0
 AreDifferent xs = (i j : ℕ) (x : _) → slice_get xs i ≡ Some x → slice_get xs j ≡ Some x → i ≡ j
 
+-- whether a list has no item
 abbrev pub is_empty : {A : Type 0} → List A → Bool
 is_empty [] = true
 is_empty (x ∷ xs) = false

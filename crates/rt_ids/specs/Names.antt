@@ -7,6 +7,7 @@ use Rattle.rt_ids.specs.Lists.{AreDifferent}
 use Rattle.rt_ids.specs.Word.{IsName}
 use Rattle.rt_ids.specs.declared.limits.TheConstants.{IRQS, TASKS, SHARED}
 
+-- the names that an application declares, by their kinds
 pub record Names : Type 0 where
   -- the declared interrupts, each with its number
   pub irqs : List (List ℕ × ℕ)
@@ -42,12 +43,14 @@ resource_of names name = position (bytes_eq name) names.shared
 abbrev pub no_names : Names
 no_names = record { irqs = []; tasks = []; shared = [] }
 
--- an interrupt, a task, a shared resource more
+-- the names with an interrupt more, of this number
 abbrev pub with_irq : Names → List ℕ → ℕ → Names
 with_irq names name number = record names { irqs = names.irqs ++ (name, number) ∷ [] }
 
+-- the names with a task more
 abbrev pub with_task : Names → List ℕ → Names
 with_task names name = record names { tasks = names.tasks ++ name ∷ [] }
 
+-- the names with a shared resource more
 abbrev pub with_resource : Names → List ℕ → Names
 with_resource names name = record names { shared = names.shared ++ name ∷ [] }

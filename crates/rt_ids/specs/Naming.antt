@@ -12,20 +12,25 @@ use Rattle.rt_ids.specs.declared.ids.Section.TheVariants as section
 abbrev pub irq_named : Names → ℕ → Option (List ℕ × ℕ)
 irq_named names number = find (λ irq. irq.1 == number) names.irqs
 
+-- the name of the declared interrupt of this number, and the empty text where none is declared
 abbrev pub irq_name : Names → ℕ → List ℕ
 irq_name names number = unwrap_or (option_map (λ irq. irq.0) (irq_named names number)) []
 
+-- the name of a task, given by its place in the order of declaration
 abbrev pub task_name : Names → ℕ → List ℕ
 task_name names task = slice_index_or names.tasks task []
 
+-- the name of a shared resource, given by its place in the order of declaration
 abbrev pub resource_name : Names → ℕ → List ℕ
 resource_name names resource = slice_index_or names.shared resource []
 
+-- the name of a body: `init`, `idle` or that of its task
 abbrev pub body_name : Names → BodyId → List ℕ
 body_name names body.Init = codes "init"
 body_name names body.Idle = codes "idle"
 body_name names (body.Task t) = task_name names t
 
+-- the name of a section: that of its resource, or that of its queue
 abbrev pub section_name : Names → Section → List ℕ
 section_name names (section.Res r) = resource_name names r
 section_name names (section.Free t) = codes "free." ++ task_name names t

@@ -15,6 +15,7 @@ wrapped n = n % 2 ^ 32
 abbrev pub number_of : Bool → ℕ
 number_of holds = if holds then 1 else 0
 
+-- what an operation gives on two numbers of 32 bits: again a number of 32 bits
 abbrev pub operate : Op → ℕ → ℕ → ℕ
 operate op.Add a b = wrapped (a + b)
 operate op.Sub a b = wrapped (a + (2 ^ 32 - b))

@@ -20,6 +20,8 @@ pub data Runner : Type 0 where
   Starting : Runner
   AtLevel : (level : ℕ) → Runner
 
+-- a memory layout with all that code correctness asks of it: homes of cells, contents, ceilings, and what is kept
+-- without a section
 pub record Storage : Type 1 where
   pub home : ℕ → Home
   -- the cells spell this content of a holder, where the entries in its queue are these

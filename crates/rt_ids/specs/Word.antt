@@ -16,6 +16,7 @@ words =
     ∷ codes "spawn"
     ∷ codes "spawn_after" ∷ codes "now" ∷ codes "cancel" ∷ codes "reschedule_after" ∷ []
 
+-- whether a text is one of the words of the language
 abbrev pub is_word : List ℕ → Bool
 is_word text = list_any (λ w. bytes_eq text w) words
 

@@ -60,6 +60,7 @@ module _ (app : App) (s : State) (job : Job) (others : List Job) where
   changed Returns vs rest = record s { jobs = others }
   changed action vs rest = runs_on (record (spent job) { rest = rest }) vs
 
+  -- the state behind the running job's next action, and the same state where nothing is left to do
   abbrev pub acted : Doing Values → State
   acted over = s
   acted (does action made next) =

@@ -30,6 +30,7 @@ pub record Turn (app : App) (s : State) : Type 0 where
   pub quiet : candidate app s ≡ None
   pub step : MayStep s.jobs
 
+-- this label may come next; a take may where the preemption test selects its interrupt (Baker 1991)
 abbrev pub May : App → State → Label → Type 0
 May app s (Arrived irq) = (s.owing ≡ false) × (is_declared app irq ≡ true)
 May app s Ticked = s.owing ≡ false
@@ -49,15 +50,17 @@ started app s irq (Some v) =
           reached rest s.values;
     }
 
--- the running job, which is the last started, takes a silent step, or does its next action
+-- the running job, which is the last started, takes a silent step
 abbrev pub stepped : State → List Job → State
 stepped s [] = s
 stepped s (job ∷ others) = record s { jobs = spent job ∷ others }
 
+-- the running job does its next action
 abbrev pub given : App → State → List Job → State
 given app s [] = s
 given app s (job ∷ others) = acted app s job others job.rest
 
+-- the state behind a label
 abbrev pub after : App → State → Label → State
 after app s (Arrived irq) = pended irq s
 after app s Ticked = record s { time = suc s.time; owing = is_due (suc s.time) s.alarm }

@@ -28,6 +28,7 @@ abbrev pub after_all : App → State → List Label → State
 after_all app s [] = s
 after_all app s (label ∷ labels) = after_all app (after app s label) labels
 
+-- so many silent steps
 abbrev pub silent : ℕ → List Label
 silent n = replicate n (Stepped None)
 
@@ -37,6 +38,7 @@ pub record Comes (app : App) (s : State) (n : ℕ) (item : Item) : Type 0 where
   pub quiet : RunsOn app s (silent (item.step - n))
   pub allowed : May app (after_all app s (silent (item.step - n))) (label_of s.owing item.what)
 
+-- the state behind an item, with the silent steps before it
 abbrev pub after_item : App → State → ℕ → Item → State
 after_item app s n item = after app (after_all app s (silent (item.step - n))) (label_of s.owing item.what)
 

@@ -12,6 +12,7 @@ use Rattle.rt_laws.specs.Run.{RunsOn}
 use Rattle.rt_laws.specs.ByItems.{after_all}
 use Rattle.rt_laws.specs.Allowed.{after}
 
+-- the time and the counts of a state are n at most
 pub record AreWithin (n : ℕ) (s : State) : Type 0 where
   pub time : s.time ≤ n
   pub given : (timed (s.values (Guarded section.Timer))).given ≤ n

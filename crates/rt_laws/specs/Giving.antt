@@ -35,6 +35,7 @@ return_item (Serving irq) = Some (what.Ret irq)
 return_item role = None
 
 module _ (s : State) (role : Role) where
+  -- the item that an action gives, in this state and of a job of this role
   abbrev pub item_of : Action → Option What
   item_of (Enters x cost) = Some (what.Enter x)
   item_of (Leaves x) = Some (what.Leave x (left_value s.values x))
@@ -55,6 +56,7 @@ module _ (s : State) (role : Role) where
   item_of (Ends b) = Some (what.End b)
   item_of Returns = return_item role
 
+  -- the item of the next action of what is left to do, where there is one
   abbrev pub next_item : Doing Values → Option What
   next_item over = None
   next_item (does action made next) = item_of action
@@ -64,5 +66,6 @@ abbrev pub item_given : State → List Job → Option What
 item_given s [] = None
 item_given s (job ∷ others) = next_item s job.role job.rest
 
+-- the item that comes next in a state, where the running job has a next action that shows one
 abbrev pub gives : State → Option What
 gives s = item_given s s.jobs

@@ -6,5 +6,6 @@ use Rattle.rt_ids.specs.declared.ids.Section.TheVariants as section
 use Rattle.rt_app.specs.Handled.{AreHandled}
 use Rattle.rt_laws.specs.State.{State}
 
+-- the armed messages of a state have handles that were given, and no two have one handle
 abbrev pub KeepsHandles : State → Type 0
 KeepsHandles s = AreHandled (timed (s.values (Guarded section.Timer)))

@@ -15,10 +15,11 @@ use Rattle.rt_laws.specs.Allowed.{May, after}
 use Rattle.rt_laws.specs.Run.{RunsOn}
 use Rattle.rt_laws.specs.ByItems.{after_all}
 
--- the timer queue of a state, and the armed messages in order of their last arming
+-- the timer queue of a state
 abbrev pub timer_queue : State → Timed
 timer_queue s = timed (s.values (Guarded section.Timer))
 
+-- the armed messages of a state, in order of their last arming
 abbrev pub armed : State → List Armed
 armed s = delays (s.values (Guarded section.Timer))
 
@@ -45,11 +46,12 @@ pub record FiresFirst (all : List Armed) (a : Armed) : Type 0 where
   pub later : AllByRecursion (λ b. a.instant < b.instant) before
   pub no_earlier : AllByRecursion (λ b. a.instant ≤ b.instant) behind
 
--- in a state each arming that is allowed next puts its message last, and so does each move
+-- in a state each arming that is allowed next puts its message last
 abbrev pub NextArmsLast : App → State → Type 0
 NextArmsLast app s = (t i : ℕ) → May app s (Stepped (Some (what.Arm t i)))
     → ArmsLast s (after app s (Stepped (Some (what.Arm t i)))) t i
 
+-- in a state each move that is allowed next puts its message last
 abbrev pub NextMovesLast : App → State → Type 0
 NextMovesLast app s = (t h i : ℕ) → May app s (Stepped (Some (what.Move t h i)))
     → MovesLast s (after app s (Stepped (Some (what.Move t h i)))) t h i

@@ -18,6 +18,8 @@ use Rattle.rt_laws.specs.Served.{ServesReady, ServesDue}
 abbrev pub state_at : App → List Label → ℕ → State
 state_at app labels n = after_all app (first app) (take n labels)
 
+-- at each moment behind these labels messages are in order, have handles of their own, lie in places that are counted,
+-- and are served
 pub record KeepsMessages (app : App) (labels : List Label) : Type 0 where
   pub in_order : (n : ℕ) → KeepsQueues app (state_at app labels n)
   pub handled : (n : ℕ) → KeepsHandles (state_at app labels n)

@@ -35,6 +35,7 @@ abbrev pub on_first : What → List Hand → List Hand
 on_first w [] = []
 on_first w (hand ∷ hands) = hand_behind hand w ∷ hands
 
+-- the hands of the started jobs behind a label: a take begins with empty hands, a return leaves with its own
 abbrev pub hands_behind : List Hand → Label → List Hand
 hands_behind hands (Stepped (Some (what.Take irq depth))) = None ∷ hands
 hands_behind hands (Stepped (Some (what.Ret irq))) = drop 1 hands
@@ -46,16 +47,19 @@ abbrev pub hands_from : List Hand → List Label → List Hand
 hands_from hands [] = hands
 hands_from hands (label ∷ labels) = hands_from (hands_behind hands label) labels
 
+-- the hands of the started jobs behind these labels of a run
 abbrev pub hands_after : List Label → List Hand
 hands_after labels = hands_from (None ∷ []) labels
 
--- the places of a task that are in transit, armed and ready
+-- the places of a task that are in transit
 abbrev pub in_transit : ℕ → List Hand → ℕ
 in_transit t hands = count_by (is_some_and (λ u. u == t)) hands
 
+-- the places of a task that are armed
 abbrev pub armed_of : ℕ → Values → ℕ
 armed_of t vs = count_by (λ a. a.message.task == t) (delays (vs (Guarded section.Timer)))
 
+-- the places of a task that are ready
 abbrev pub ready_of : App → ℕ → Values → ℕ
 ready_of app t vs = count_by (λ m. m.task == t) (messages (vs (Guarded (section.Ready (task_priority app t)))))
 

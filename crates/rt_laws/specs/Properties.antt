@@ -27,12 +27,15 @@ abbrev pub FindsFree : Sight → Label → Type 0
 FindsFree v (Stepped (Some (what.Enter x))) = AllByRecursion (λ job. ¬ IsIn job.inside x) v.jobs
 FindsFree v label = Unit {0}
 
+-- mutual exclusion: at every moment no two jobs are inside one section
 abbrev pub Exclusive : App → List Label → Type 0
 Exclusive app labels = AtEach (λ v label behind. AreExclusive (sees app v label).jobs) app (first_sight app) labels
 
+-- no contended lock: wherever a section is entered, no job is inside it
 abbrev pub NeverWaits : App → List Label → Type 0
 NeverWaits app labels = AtEach (λ v label behind. FindsFree v label) app (first_sight app) labels
 
+-- bounded blocking: an interrupt waits for one section of one lower job at most, and once started for none
 abbrev pub OneSection : App → List Label → Type 0
 OneSection app labels = AtEach (λ v label behind. WaitsWell app v label behind × ServesWell app v label behind) app
     (first_sight app) labels
@@ -43,9 +46,11 @@ LeavesInnermost v (Stepped (Some (what.Leave x value))) =
     AllByRecursion (λ job. slice_get job.inside 0 ≡ Some x) (take 1 v.jobs)
 LeavesInnermost v label = Unit {0}
 
+-- sections nest: a job leaves the one that it entered last
 abbrev pub SectionsNest : App → List Label → Type 0
 SectionsNest app labels = AtEach (λ v label behind. LeavesInnermost v label) app (first_sight app) labels
 
+-- the three properties of a run
 pub record KeepsLaws (app : App) (labels : List Label) : Type 0 where
   pub exclusive : Exclusive app labels
   pub never_waits : NeverWaits app labels

@@ -47,6 +47,7 @@ KeepsOrder app time vs (Cancels n h) = HasHandle n h vs
 KeepsOrder app time vs (Moves n h i) = HasHandle n h vs
 KeepsOrder app time vs action = Unit {0}
 
+-- the next action of what is left to do is inside the section of its queue, and keeps the queue's order
 abbrev pub NextKeepsOrder : App → ℕ → Values → List Section → Doing Values → Type 0
 NextKeepsOrder app time vs sections over = Unit {0}
 NextKeepsOrder app time vs sections (does action made next) = InQueue sections action × KeepsOrder app time vs action
@@ -57,5 +58,6 @@ AllKeepOrder app time vs [] = Unit {0}
 AllKeepOrder app time vs (job ∷ others) =
     NextKeepsOrder app time vs job.sections job.rest × AllKeepOrder app time vs others
 
+-- in a state the next actions of all jobs keep the order of their queues
 abbrev pub KeepsQueues : App → State → Type 0
 KeepsQueues app s = AllKeepOrder app s.time s.values s.jobs

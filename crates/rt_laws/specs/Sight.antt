@@ -19,6 +19,7 @@ pub record Seen : Type 0 where
   pub inside : List Section
   pub since : List ℕ
 
+-- what an observer knows at one moment: the jobs, the pending interrupts, and how many core steps were taken
 pub record Sight : Type 0 where
   -- the last taken first, the thread last; the first of them runs
   pub jobs : List Seen
@@ -40,13 +41,15 @@ abbrev pub on_running : (Seen → Seen) → List Seen → List Seen
 on_running f [] = []
 on_running f (job ∷ others) = f job ∷ others
 
+-- an interrupt is seen to be pending from now on
 abbrev pub is_pended : ℕ → Sight → Sight
 is_pended irq v = record v { pending = slice_set v.pending irq true }
 
--- a section is entered in this step; sections nest, so the one that is left is the innermost
+-- a section is entered in this step
 abbrev pub entering : Section → ℕ → Seen → Seen
 entering x step job = record job { inside = x ∷ job.inside; since = step ∷ job.since }
 
+-- the innermost section is left, because sections nest
 abbrev pub leaving : Seen → Seen
 leaving job = record job { inside = drop 1 job.inside; since = drop 1 job.since }
 
@@ -64,6 +67,7 @@ module _ (app : App) where
   told v (what.End body.Init) = record v { jobs = on_running (λ job. record job { priority = 0 }) v.jobs }
   told v w = v
 
+  -- what is known behind a label
   abbrev pub sees : Sight → Label → Sight
   sees v (Arrived irq) = is_pended irq v
   sees v Ticked = v

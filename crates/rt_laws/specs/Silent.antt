@@ -22,6 +22,7 @@ MaySpend k (job ∷ others) = HasSteps job.role job.left k × AllByRecursion (λ
 abbrev pub spent_by : ℕ → Job → Job
 spent_by k job = record job { left = job.left - k; lefts = map (λ n. n - k) job.lefts }
 
+-- so many steps of the running job are spent
 abbrev pub spending : ℕ → List Job → List Job
 spending k [] = []
 spending k (job ∷ others) = spent_by k job ∷ others

@@ -22,6 +22,7 @@ pub data Role : Type 0 where
   Waiting : Role
   Serving : (irq : ℕ) → Role
 
+-- a job of the stack (Baker 1991): its priority, what it has left to do and in how many steps, and its open sections
 pub record Job : Type 0 where
   pub role : Role
   pub priority : ℕ
@@ -33,6 +34,7 @@ pub record Job : Type 0 where
   pub sections : List Section
   pub lefts : List ℕ
 
+-- a state of Baker's machine: the stack of jobs, the pending interrupts, the contents of resources and queues, and time
 pub record State : Type 0 where
   -- the started jobs, the last started first
   pub jobs : List Job

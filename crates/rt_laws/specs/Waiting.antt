@@ -32,10 +32,12 @@ steppers app ends v (label ∷ labels) =
 abbrev pub lower : ℕ → List Seen → List Seen
 lower p jobs = filter (λ job. nat_lt job.priority p) jobs
 
+-- whether a label is the take of this interrupt
 abbrev pub is_take : ℕ → Label → Bool
 is_take irq (Stepped (Some (what.Take taken depth))) = taken == irq
 is_take irq label = false
 
+-- whether a label is the return from this interrupt
 abbrev pub is_return : ℕ → Label → Bool
 is_return irq (Stepped (Some (what.Ret left))) = left == irq
 is_return irq label = false
@@ -58,6 +60,7 @@ pub record LieInOneSection (app : App) (p : ℕ) (steps : List Seen) : Type 0 wh
   pub inside : AllByRecursion (λ job. outermost app p job.inside job.since ≡ Some entered) steps
   pub few : length steps ≤ waiting_bound app p
 
+-- whether an interrupt is pending, as far as is seen
 abbrev pub is_pending : Sight → ℕ → Bool
 is_pending v irq = slice_index_or v.pending irq false
 

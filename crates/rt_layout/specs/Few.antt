@@ -4,5 +4,6 @@ use Rattle.rt_app.specs.Tree.{App}
 use Rattle.rt_app.specs.Accepted.{IsAccepted}
 use Rattle.rt_app.specs.Layout.{memory}
 
+-- the memory of an accepted application has fewer than 2^14 cells
 abbrev pub CellsAreFew : Type 0
 CellsAreFew = (app : App) → IsAccepted app → length (memory app) < 16384

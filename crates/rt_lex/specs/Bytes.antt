@@ -6,6 +6,7 @@ use Rattle.rt_ids.specs.Byte.{is_digit, is_lower}
 abbrev pub is_blank : ℕ → Bool
 is_blank b = (b == 32) || (b == 9) || (b == 10) || (b == 13)
 
+-- a digit, or a letter from a to f of either case
 abbrev pub is_hex_digit : ℕ → Bool
 is_hex_digit b = is_digit b || (nat_le 97 b && nat_le b 102) || (nat_le 65 b && nat_le b 70)
 

@@ -14,9 +14,11 @@ pub record Front : Type 0 where
   pub len : ℕ
   pub kind : Option Kind
 
+-- so many bytes that are no token
 abbrev pub skips : ℕ → Front
 skips len = record { len = len; kind = None }
 
+-- so many bytes that are a token of this kind
 abbrev pub makes : ℕ → Kind → Front
 makes len k = record { len = len; kind = Some k }
 
@@ -24,6 +26,7 @@ makes len k = record { len = len; kind = Some k }
 abbrev pub comment : List ℕ → List ℕ
 comment text = take_while (λ b. not (b == 10)) text
 
+-- a token of these bytes: a word where the language has it as one, else a name
 abbrev pub name_front : List ℕ → Front
 name_front name = makes (length name) (if is_word name then kind.Word else kind.Name)
 
@@ -35,6 +38,7 @@ hex_digits text = if starts_with nat_eq text (codes "0x") then take_while is_hex
 abbrev pub number_front : List ℕ → List ℕ → Front
 number_front digits hex = makes (if length hex == 0 then length digits else 2 + length hex) kind.Num
 
+-- a sign of two bytes where there is one, else one of the first byte; a byte that is no sign is foreign
 abbrev pub sign_front : ℕ → List ℕ → Front
 sign_front b two = if is_long_sign two then makes 2 kind.Sign
     else makes 1 (if is_short_sign b then kind.Sign else kind.Foreign)

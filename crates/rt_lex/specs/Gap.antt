@@ -13,6 +13,7 @@ pub data Standing : Type 0 where
   Inside : Standing
   Lost : Standing
 
+-- where the reading stands behind one byte more
 abbrev pub after_byte : Standing → ℕ → Standing
 after_byte Outside b = if is_blank b then Outside else if b == 47 then Slash else Lost
 after_byte Slash b = if b == 47 then Inside else Lost

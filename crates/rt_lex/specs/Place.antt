@@ -10,5 +10,6 @@ line_at src at = 1 + count_by (λ b. b == 10) (take at src)
 abbrev pub column_at : List ℕ → ℕ → ℕ
 column_at src at = 1 + length (take_while (λ b. not (b == 10)) (reverse (take at src)))
 
+-- the line and the column of an offset
 abbrev pub place_of : List ℕ → ℕ → Place
 place_of src at = record { line = line_at src at; col = column_at src at }

@@ -16,12 +16,15 @@ abbrev pub is_run : (ℕ → Bool) → List ℕ → Bool
 is_run passes [] = false
 is_run passes (b ∷ text) = passes b && list_all passes text
 
+-- 0x and at least one hexadecimal digit
 abbrev pub is_hex : List ℕ → Bool
 is_hex text = starts_with nat_eq text (codes "0x") && is_run is_hex_digit (drop 2 text)
 
+-- whether a text is a number, decimal or hexadecimal
 abbrev pub is_number : List ℕ → Bool
 is_number text = is_run is_digit text || is_hex text
 
+-- whether a text is a sign, of one byte or of two
 abbrev pub is_sign : List ℕ → Bool
 is_sign [] = false
 is_sign (b ∷ []) = is_short_sign b

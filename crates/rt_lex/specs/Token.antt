@@ -4,6 +4,7 @@ use Rattle.rt_lex.specs.declared.token.Kind.{Kind}
 use Rattle.rt_lex.specs.declared.token.Kind.TheVariants as kind
 use Rattle.rt_lex.specs.declared.token.Token as code
 
+-- a token: its offset, its kind and its bytes
 pub record Token : Type 0 where
   -- bytes before it
   pub at : ℕ
@@ -14,14 +15,17 @@ pub record Token : Type 0 where
 abbrev pub view : code.Token → Token
 view t = record { at = t.at; kind = t.kind; text = t.text.now }
 
+-- this, for a token that is a word of the language, and false for any other
 abbrev pub if_word : Kind → Bool → Bool
 if_word kind.Word same = same
 if_word other same = false
 
+-- this, for a token that is a name, and false for any other
 abbrev pub if_name : Kind → Bool → Bool
 if_name kind.Name same = same
 if_name other same = false
 
+-- this, for a token that is a sign, and false for any other
 abbrev pub if_sign : Kind → Bool → Bool
 if_sign kind.Sign same = same
 if_sign other same = false

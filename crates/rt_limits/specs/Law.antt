@@ -4,5 +4,6 @@ use Rattle.rt_ast.specs.Tree.{App}
 use Rattle.rt_ast.specs.Printable.{IsPrintable}
 use Rattle.rt_grammar.specs.Text.{IsText}
 
+-- the tree of every application text keeps the limits, so it has a canonical text
 abbrev pub TextsKeepLimits : Type 0
 TextsKeepLimits = (src : List ℕ) (app : App) → IsText src app → IsPrintable app

@@ -16,9 +16,11 @@ lines_of_parts [] = []
 lines_of_parts (x ∷ []) = if is_empty x then [] else x ∷ []
 lines_of_parts (x ∷ y ∷ more) = x ∷ lines_of_parts (y ∷ more)
 
+-- the lines of a text
 abbrev pub lines : List ℕ → List (List ℕ)
 lines text = lines_of_parts (parts 10 text)
 
+-- the words of a line
 abbrev pub words : List ℕ → List (List ℕ)
 words line = parts 32 line
 

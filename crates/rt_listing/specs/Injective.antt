@@ -5,6 +5,7 @@ use Rattle.rt_code.specs.Listable.{IsListable}
 use Rattle.rt_listing.specs.Listing.{listing}
 use Rattle.rt_listing.specs.Numbers.{HasShortNumbers}
 
+-- two images over the same names that have one listing are one image
 abbrev pub TellsImagesApart : Type 0
 TellsImagesApart =
     (a b : Image) → IsListable a → IsListable b → HasShortNumbers a → HasShortNumbers b → a.names ≡ b.names → listing a

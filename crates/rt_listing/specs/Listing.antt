@@ -54,6 +54,7 @@ body_line names row =
 abbrev pub code_line : Names → ℕ → Instr × Option Note → List ℕ
 code_line names n line = codes "code" ++ spaced n ++ 32 ∷ instr_text names line.0 ++ note_text names line.1 ++ 10 ∷ []
 
+-- the listing of an image
 abbrev pub listing : Image → List ℕ
 listing img =
     sizes_line img ++ numbered cell_line 0 img.cells ++ flat_map irq_line img.irqs

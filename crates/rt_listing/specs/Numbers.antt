@@ -15,9 +15,11 @@ use Rattle.rt_code.specs.declared.instr.Note.TheVariants as note
 abbrev pub IsShort : ℕ → Type 0
 IsShort n = n < 2 ^ 64
 
+-- numbers of 64 bits
 abbrev pub AreShort : List ℕ → Type 0
 AreShort = AllByRecursion IsShort
 
+-- the numbers of a handler, where the interrupt is enabled
 abbrev pub handler_numbers : Option Handler → List ℕ
 handler_numbers None = []
 handler_numbers (Some h) = h.value ∷ h.entry ∷ h.frame ∷ []
@@ -43,10 +45,12 @@ instr_numbers (instr.Unmask s) = s ∷ []
 instr_numbers (instr.Call row s) = row ∷ s ∷ []
 instr_numbers i = []
 
+-- the number in the name of a section, where there is one: the level of a ready queue
 abbrev pub section_numbers : Section → List ℕ
 section_numbers (section.Ready p) = p ∷ []
 section_numbers s = []
 
+-- the numbers in a note: the level in the name of its section, or its slots
 abbrev pub note_numbers : Option Note → List ℕ
 note_numbers (Some (note.Enter s)) = section_numbers s
 note_numbers (Some (note.Leave s)) = section_numbers s
@@ -56,6 +60,7 @@ note_numbers (Some (note.Cancel t s)) = s ∷ []
 note_numbers (Some (note.Move t s a)) = s ∷ a ∷ []
 note_numbers n = []
 
+-- an image whose numbers are all of 64 bits
 pub record HasShortNumbers (img : Image) : Type 0 where
   pub bits : IsShort img.bits
   pub stack_bytes : IsShort img.stack_bytes

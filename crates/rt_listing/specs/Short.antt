@@ -7,17 +7,22 @@ use Rattle.rt_code.specs.declared.instr.Instr.{Instr}
 use Rattle.rt_code.specs.declared.instr.Note.{Note}
 use Rattle.rt_listing.specs.Numbers.{IsShort, AreShort, handler_numbers, instr_numbers, note_numbers}
 
+-- the first value of a cell is of 64 bits
 abbrev pub IsShortCell : CellRow → Type 0
 IsShortCell cell = IsShort cell.first
 
+-- the number of an interrupt and those of its handler are of 64 bits
 abbrev pub IsShortIrq : IrqRow → Type 0
 IsShortIrq row = AreShort (row.number ∷ handler_numbers row.handler)
 
+-- the entry, the frame and the arguments of a body are of 64 bits
 abbrev pub IsShortBody : BodyRow → Type 0
 IsShortBody row = AreShort (row.entry ∷ row.frame ∷ row.args ∷ [])
 
+-- the operands of an instruction are of 64 bits
 abbrev pub HasShortInstr : Instr × Option Note → Type 0
 HasShortInstr line = AreShort (instr_numbers line.0)
 
+-- the numbers in a note are of 64 bits
 abbrev pub HasShortNote : Instr × Option Note → Type 0
 HasShortNote line = AreShort (note_numbers line.1)

@@ -13,6 +13,7 @@ use Rattle.rt_code.specs.declared.instr.Note.TheVariants as note
 abbrev pub spaced : ℕ → List ℕ
 spaced n = 32 ∷ decimal n
 
+-- the word of an operation
 abbrev pub op_word : Op → List ℕ
 op_word op.Add = codes "add"
 op_word op.Sub = codes "sub"
@@ -31,6 +32,7 @@ op_word op.Le = codes "le"
 op_word op.Gt = codes "gt"
 op_word op.Ge = codes "ge"
 
+-- the words of an instruction: its own, and then its operands
 abbrev pub instr_text : Names → Instr → List ℕ
 instr_text names (instr.Set d v) = codes "set" ++ spaced d ++ spaced v
 instr_text names (instr.Copy d s) = codes "copy" ++ spaced d ++ spaced s
@@ -57,6 +59,7 @@ instr_text names (instr.Call row s) = codes "call" ++ spaced row ++ spaced s
 instr_text names instr.Back = codes "back"
 instr_text names instr.Ret = codes "ret"
 
+-- the words of a note: its own, and then what it names
 abbrev pub note_words : Names → Note → List ℕ
 note_words names (note.Enter s) = codes "enter " ++ section_name names s
 note_words names (note.Leave s) = codes "leave " ++ section_name names s

@@ -15,12 +15,14 @@ use Rattle.rt_work.specs.Work.{Work, IsSettled}
 use Rattle.rt_moves.specs.declared.job.Role.{Role}
 use Rattle.rt_moves.specs.declared.job.Role.TheVariants as role
 
+-- the role that the code's role is
 abbrev pub role_of : Role → laws.Role
 role_of role.Init = laws.Init
 role_of role.Idle = laws.Idle
 role_of role.Waiting = laws.Waiting
 role_of (role.Serving irq) = laws.Serving irq
 
+-- what an auditor keeps of a job
 pub record Kept : Type 0 where
   pub role : laws.Role
   pub priority : ℕ
@@ -41,6 +43,7 @@ module _ (app : App) where
   abbrev pub rest_of : Kept → Values → Doing Values
   rest_of j vs = behind app j.work.todos (finish j.role) j.work.vars vs
 
+  -- the job that is kept, where this is left to do
   abbrev pub with_rest : Kept → Doing Values → laws.Job
   with_rest j rest = record {
     role = j.role;

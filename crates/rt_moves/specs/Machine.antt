@@ -19,6 +19,7 @@ IsServed app (Some s) (Some v) =
     (handler_of s.handler ≡ v.handler) × (s.level ≡ v.level) × (s.cost ≡ handler_cost app v.handler)
 IsServed app a b = ⊥
 
+-- the tables hold what the definitions say of the application: what serves each interrupt, and the ceilings
 pub record IsMachine (m : Machine) : Type 0 where
   pub code : IsCode m.code.now
   -- what serves the interrupts, by number

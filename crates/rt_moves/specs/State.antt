@@ -7,6 +7,7 @@ use Rattle.rt_work.specs.Store.{Store, contents, HasRoom}
 use Rattle.rt_moves.specs.Job.{Kept, JobIs}
 use Rattle.rt_moves.specs.Waiting.{waiting_of}
 
+-- what an auditor keeps of a state
 pub record Held : Type 0 where
   -- the last started first
   pub jobs : List Kept
@@ -36,12 +37,14 @@ with_jobs s jobs = record {
   owing = s.owing;
 }
 
+-- these jobs are kept, one by one
 abbrev pub JobsAre : App → List Kept → List laws.Job → Type 0
 JobsAre app [] [] = Unit {0}
 JobsAre app [] (k ∷ ks) = ⊥
 JobsAre app (j ∷ js) [] = ⊥
 JobsAre app (j ∷ js) (k ∷ ks) = JobIs app j k × JobsAre app js ks
 
+-- this state is kept
 pub record StateIs (app : App) (s : Held) (t : laws.State) : Type 0 where
   pub jobs : JobsAre app s.jobs t.jobs
   pub is : t ≡ with_jobs s t.jobs

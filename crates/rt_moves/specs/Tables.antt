@@ -11,6 +11,7 @@ use Rattle.rt_laws.specs.Services.{service_at}
 use Rattle.rt_moves.specs.declared.tables.Tables.{Tables}
 use Rattle.rt_moves.specs.Machine.{IsServed}
 
+-- the tables hold what the definitions say of the application
 pub record AreTables (app : App) (t : Tables) : Type 0 where
   -- core steps are counted by its measure
   pub measured : t.measure ≡ cost_measure app

@@ -9,6 +9,8 @@ use Rattle.rt_ids.specs.declared.limits.TheConstants.{IRQ_NUMBERS, THREAD_VALUE}
 use Rattle.rt_ids.specs.Choice.{best}
 use Rattle.rt_nvic.specs.declared.sizes.TheConstants.{ACTIVE}
 
+-- the external interrupts of the controller: the enabled ones with their priority values, the pending and the active
+-- ones
 pub record Nvic : Type 0 where
   -- by number, the priority value of an enabled interrupt, and None for another
   pub priorities : List (Option ℕ)
@@ -17,11 +19,13 @@ pub record Nvic : Type 0 where
   -- their numbers, last entered first
   pub active : List ℕ
 
+-- the lists of a controller are as long as they have to be
 pub record IsSized (n : Nvic) : Type 0 where
   pub priorities : length n.priorities ≡ IRQ_NUMBERS
   pub pending : length n.pending ≡ IRQ_NUMBERS
   pub active : length n.active ≤ ACTIVE
 
+-- whether an interrupt is pending
 abbrev pub is_pending : Nvic → ℕ → Bool
 is_pending n irq = slice_index_or n.pending irq false
 
@@ -33,6 +37,7 @@ priority_of n irq = slice_index_or n.priorities irq None
 abbrev pub value_of : Nvic → ℕ → ℕ
 value_of n irq = unwrap_or (priority_of n irq) THREAD_VALUE
 
+-- the priority value of the first of these, and that of the thread where there is none
 abbrev pub value_of_first : Nvic → List ℕ → ℕ
 value_of_first n [] = THREAD_VALUE
 value_of_first n (irq ∷ irqs) = value_of n irq
@@ -53,15 +58,19 @@ Precedes n irq other = (value_of n irq < value_of n other) ⊎ ((value_of n irq 
 
 -- The same choice as one function: of those that pass the test, the one that no later one beats.
 
+-- whether an interrupt with this priority value is enabled, and of a higher priority than the execution priority
 abbrev pub is_below : Option ℕ → ℕ → Bool
 is_below None exec = false
 is_below (Some value) exec = nat_lt value exec
 
+-- whether an interrupt may be taken at this execution priority
 abbrev pub is_ready : Nvic → ℕ → ℕ → Bool
 is_ready n exec irq = is_pending n irq && is_below (priority_of n irq) exec
 
+-- whether an interrupt is taken before a later one, which has a greater number
 abbrev pub beats : Nvic → ℕ → ℕ → Bool
 beats n irq later = nat_le (value_of n irq) (value_of n later)
 
+-- the interrupt that is taken at this execution priority
 abbrev pub picked : Nvic → ℕ → Option ℕ
 picked n exec = best (is_ready n exec) (beats n) (numbers_below IRQ_NUMBERS)

@@ -7,6 +7,7 @@ pub record MovesTold (before after buffer : List ℕ) (n : ℕ) : Type 0 where
   pub moved : before ≡ take n buffer ++ after
   pub end : n ≡ 0 → 0 < length buffer → before ≡ []
 
+-- a read moved n bytes into the buffer's front, as far as the bytes are told
 abbrev pub Moves : Option (List ℕ) → Option (List ℕ) → List ℕ → ℕ → Type 0
 Moves None None buffer n = Unit {0}
 Moves (Some before) (Some after) buffer n = MovesTold before after buffer n

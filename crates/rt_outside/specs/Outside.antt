@@ -15,6 +15,7 @@ pub record FileInput : Type 0 where
   pub opening : Opening
   pub faults : ℕ
 
+-- whether the file in this state opened
 abbrev pub opening_of : {F : Type 0} → State F → Opening
 opening_of state.Closed = Untried
 opening_of (state.Open file) = Opened

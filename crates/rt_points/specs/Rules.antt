@@ -112,10 +112,12 @@ StandsOn owner inside (Some (note.End body.Init)) i = i ≡ instr.Serve
 StandsOn owner inside (Some (note.End body.Idle)) i = JumpsInThread owner i
 StandsOn owner inside (Some n) i = ⊥
 
+-- a note is that of the entering of a section
 abbrev pub IsEnter : Option Note → Type 0
 IsEnter (Some (note.Enter x)) = Unit {0}
 IsEnter told = ⊥
 
+-- a note is that of the leaving of a section
 abbrev pub IsLeave : Option Note → Type 0
 IsLeave (Some (note.Leave x)) = Unit {0}
 IsLeave told = ⊥
@@ -147,10 +149,12 @@ Saves Mark d = ⊥
 Saves (Raise slot value) d = d ≡ slot
 Saves (Mask slot) d = d ≡ slot
 
+-- a slot that is written, if one is, holds no mask of an open section
 abbrev pub IsUnsaved : List Opened → Option ℕ → Type 0
 IsUnsaved inside None = Unit {0}
 IsUnsaved inside (Some d) = AllByRecursion (λ o. ¬ Saves o.kind d) inside
 
+-- a section of this kind masks by PRIMASK
 abbrev pub IsMask : Kind → Type 0
 IsMask Mark = ⊥
 IsMask (Raise slot value) = ⊥
@@ -163,6 +167,7 @@ MasksWell img p (instr.Raise d v) = (0 < v) × (v < level_value img p.owner p.in
 MasksWell img p (instr.Mask d) = (p.owner ≢ Starting) × AllByRecursion (λ o. ¬ IsMask o.kind) p.inside
 MasksWell img p i = Unit {0}
 
+-- at a point the note and the instruction fit each other and what is open there
 pub record IsNotedWell (img : Image) (p : Point) (i : Instr) (told : Option Note) : Type 0 where
   pub stands : StandsOn p.owner p.inside told i
   pub has : HasItsNote i told
@@ -184,6 +189,7 @@ pub record HoldsOff (img : Image) (p : Point) (i : Instr) (x : Section) : Type 0
   pub others : (q : Point) (j : Instr) → q.owner ≢ Starting → EntersAt img q j x
       → level_value img p.owner (inside_after i (Some (note.Enter x)) p.inside) ≤ owner_value img q.owner
 
+-- at each point where a section is entered it is free, and holds off all others that enter it
 abbrev pub EntersWell : Image → Type 0
 EntersWell img = (p : Point) (i : Instr) (x : Section) → EntersAt img p i x → HoldsOff img p i x
 
@@ -197,6 +203,7 @@ pub record Touches (img : Image) (cell : ℕ) (p : Point) : Type 0 where
   pub by : touched instr ≡ Some access
   pub touches : cell_of access ≡ cell
 
+-- an access that writes
 abbrev pub IsStore : Access → Type 0
 IsStore (Loads cell) = ⊥
 IsStore (Stores cell) = Unit {0}

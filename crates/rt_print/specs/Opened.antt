@@ -1,10 +1,12 @@
 -- Options as they are written one behind the other, the parenthesis being open once there is one.
 use Rattle.std.specs.Prelude.{ℕ, Bool, true, false, codes, List, [], ◌∷◌, ◌++◌, if◌then◌else◌}
 
+-- whether there is an option
 abbrev pub has_any : List (List ℕ) → Bool
 has_any [] = false
 has_any (o ∷ os) = true
 
+-- what stands before an option: a comma behind others, else the opening parenthesis
 abbrev pub opening : Bool → List ℕ
 opening opened = if opened then codes ", " else codes "("
 
@@ -13,5 +15,6 @@ abbrev pub opened_text : Bool → List (List ℕ) → List ℕ
 opened_text opened [] = []
 opened_text opened (o ∷ os) = opening opened ++ o ++ opened_text true os
 
+-- the closing parenthesis, where one is open
 abbrev pub closing : Bool → List ℕ
 closing opened = if opened then codes ")" else []

@@ -26,5 +26,6 @@ ReadsBack app = (u : App) × IsReadAs (canonical app) u × (bare u ≡ bare app)
 abbrev pub IsTextAgain : App → Type 0
 IsTextAgain app = length (canonical app) ≤ TEXT_BYTES → (u : App) × IsText (canonical app) u × (bare u ≡ bare app)
 
+-- the canonical text of each printable application is read as its tree, offsets aside
 abbrev pub CanonicalTextsAreReadAsTheirTrees : Type 0
 CanonicalTextsAreReadAsTheirTrees = (app : App) → IsPrintable app → ReadsBack app × IsTextAgain app

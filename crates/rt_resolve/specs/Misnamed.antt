@@ -21,9 +21,11 @@ is_taken names name =
     is_some (shared_named names.app name)
     || (is_some (local_named names.app name) || list_any (is_variable name) names.scope.variables)
 
+-- a variable whose name is taken
 abbrev pub if_taken : Names → Ident → List Violation
 if_taken names x = when (is_taken names x.name) rule.DeclaredTwice x.at
 
+-- the names in an expression that mean nothing there
 abbrev pub expression_faults : Names → Expression → List Violation
 expression_faults names (Num n) = []
 expression_faults names (Read x) = if_unknown (meaning names x.name) x.at
@@ -39,13 +41,14 @@ abbrev pub message_faults : Names → Ident → Expression → List Violation
 message_faults names task handle =
     if_unknown (task_named names.app task.name) task.at ++ expression_faults names handle
 
--- of a spawn, in order of the text
+-- the wrong names of a spawn, a cancel or a reschedule, in order of the text
 abbrev pub spawn_faults : Names → Spawn → List Violation
 spawn_faults names (Soon task args) = call_faults names task args
 spawn_faults names (After word delay task args) = expression_faults names delay ++ call_faults names task args
 spawn_faults names (Cancel word task handle) = message_faults names task handle
 spawn_faults names (Move word delay task handle) = expression_faults names delay ++ message_faults names task handle
 
+-- the wrong names of the value of a `let`
 abbrev pub value_faults : Names → Value → List Violation
 value_faults names (Calc e) = expression_faults names e
 value_faults names (Now at) = []
@@ -67,6 +70,7 @@ abbrev mutual
   statement_faults names n (Pend i) = if_unknown (irq_named names.app i.name) i.at
   statement_faults names n (Spawns s) = spawn_faults names s
 
+  -- the wrong names of a block, each statement judged with the variables before it
   pub block_faults : Names → ℕ → Block → List Violation
   block_faults names n Empty = []
   block_faults names n (Then s rest) =

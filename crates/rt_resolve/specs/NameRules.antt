@@ -30,6 +30,7 @@ abbrev pub listing_of : Option ℕ → ℕ → List Used
 listing_of None at = []
 listing_of (Some n) at = record { number = n; at = at } ∷ []
 
+-- the resources that a body lists and that are not declared, or that it lists twice
 abbrev pub listing_faults : App → Body → List Violation
 listing_faults app b =
     flat_map (λ l. if_unknown (shared_named app l.name.name) l.name.at) b.shared
@@ -48,20 +49,25 @@ code_faults app args b =
     argument_faults (body_names app b) 0 args
     ++ block_faults (inside (with_arguments (body_names app b) 0 args)) (length args) b.block
 
+-- what is wrong with the names of a body that has these arguments
 abbrev pub body_faults : App → List Ident → Body → List Violation
 body_faults app args b = listing_faults app b ++ code_faults app args b
 
+-- what is wrong with the names of `init` or `idle`, where there is one
 abbrev pub thread_faults : App → Option Body → List Violation
 thread_faults app None = []
 thread_faults app (Some b) = body_faults app [] b
 
+-- an interrupt that a task is bound to and that is not declared
 abbrev pub binds_fault : App → Option Ident → List Violation
 binds_fault app None = []
 binds_fault app (Some x) = if_unknown (irq_named app x.name) x.at
 
+-- what is wrong with the names of a task
 abbrev pub task_faults : App → Task → List Violation
 task_faults app t = binds_fault app t.binds ++ body_faults app t.args t.body
 
+-- an interrupt that the monotonic is bound to and that is not declared
 abbrev pub mono_fault : App → Option MonoTree → List Violation
 mono_fault app None = []
 mono_fault app (Some m) = if_unknown (irq_named app m.binds.name) m.binds.at
@@ -73,6 +79,7 @@ declaration_faults app =
     ++ (declared_twice [] (map (λ r. r.name) app.shared ++ map (λ r. r.name) app.locals)
     ++ declared_twice [] (map (λ t. t.name) app.tasks))
 
+-- everything that is wrong with the names of an application
 abbrev pub name_violations : App → List Violation
 name_violations app =
     declaration_faults app

@@ -19,9 +19,11 @@ use Rattle.rt_app.specs.Tree as tree
 use Rattle.rt_resolve.specs.Scope.{Names, irq_named, shared_named, local_named, or_unknown, inside, with_variable}
 use Rattle.rt_resolve.specs.Resolving.{block}
 
+-- a declared interrupt, with its offsets
 abbrev pub irq : IrqTree → IrqDecl
 irq d = record { name = d.name.name; number = d.number.value; at = d.name.at; number_at = d.number.at }
 
+-- a dispatcher with the number of its interrupt in the order of declaration
 abbrev pub dispatcher : App → Ident → Dispatcher
 dispatcher app x = record { irq = or_unknown (irq_named app x.name); at = x.at }
 
@@ -29,6 +31,7 @@ dispatcher app x = record { irq = or_unknown (irq_named app x.name); at = x.at }
 abbrev pub stored : ℕ → ℕ
 stored n = min n 255
 
+-- the monotonic with the number of its interrupt in the order of declaration
 abbrev pub mono : App → MonoTree → Mono
 mono app m = record {
   irq = or_unknown (irq_named app m.binds.name);
@@ -37,15 +40,19 @@ mono app m = record {
   priority_at = m.priority.at;
 }
 
+-- a shared resource: its name, its first value, and whether it is `lock_free`
 abbrev pub shared : SharedTree → Shared
 shared r = record { name = r.name.name; first = r.first; lock_free = r.lock_free }
 
+-- a local resource: its name and its first value
 abbrev pub local : LocalTree → Local
 local r = record { name = r.name.name; first = r.first }
 
+-- a listing of a shared resource, with the number of the resource
 abbrev pub listed : App → ListedTree → Listed
 listed app l = record { resource = or_unknown (shared_named app l.name.name); by_ref = l.by_ref; at = l.at }
 
+-- a listing of a local resource, with the number of the resource
 abbrev pub owned : App → Ident → Owned
 owned app x = record { local = or_unknown (local_named app x.name); at = x.at }
 
@@ -58,9 +65,11 @@ with_arguments names n (x ∷ xs) = with_arguments (with_variable names x n) (n 
 abbrev pub body_names : App → Body → Names
 body_names app b = record { app = app; local = b.local; scope = record { variables = []; here = 0 } }
 
+-- the block of a body that has these arguments, with numbers in place of names
 abbrev pub body_block : App → List Ident → Body → tree.Block
 body_block app args b = block (inside (with_arguments (body_names app b) 0 args)) (length args) b.block
 
+-- a body that has these arguments, with numbers in place of names
 abbrev pub body : App → List Ident → Body → tree.Body
 body app args b = record {
   shared = map (listed app) b.shared;
@@ -69,22 +78,27 @@ body app args b = record {
   at = b.at;
 }
 
+-- the priority of a task, which is 1 where none is given, as in RTIC 1
 abbrev pub priority_or_one : Option Number → ℕ
 priority_or_one None = 1
 priority_or_one (Some n) = stored n.value
 
+-- the offset of a number, and 0 where there is none
 abbrev pub number_at : Option Number → ℕ
 number_at None = 0
 number_at (Some n) = n.at
 
+-- the capacity of a task, which is 1 where none is given, as in RTIC 1
 abbrev pub capacity_or_one : Option ℕ → ℕ
 capacity_or_one None = 1
 capacity_or_one (Some n) = n
 
+-- the offset of a name, and 0 where there is none
 abbrev pub ident_at : Option Ident → ℕ
 ident_at None = 0
 ident_at (Some x) = x.at
 
+-- a task with numbers in place of names
 abbrev pub task : App → Task → tree.Task
 task app t = record {
   name = t.name.name;
@@ -99,6 +113,7 @@ task app t = record {
   body = body app t.args t.body;
 }
 
+-- the application that a tree declares, with numbers in place of names
 abbrev pub resolved : App → tree.App
 resolved app = record {
   bits = app.bits;

@@ -8,11 +8,13 @@ use Rattle.rt_app.specs.Tree as tree
 use Rattle.rt_resolve.specs.Scope.{Names, irq_named, task_named, shared_named, or_unknown, inside, with_variable}
 use Rattle.rt_resolve.specs.Scope.{atom_named}
 
+-- an expression with what its names stand for
 abbrev pub expression : Names → written.Expression → tree.Expression
 expression names (written.Num n) = tree.Num n
 expression names (written.Read x) = tree.Read (atom_named names x.name) x.at
 expression names (written.Oper o left right) = tree.Oper o (expression names left) (expression names right)
 
+-- a spawn, a cancel or a reschedule with the number of its task, and its expressions with what their names stand for
 abbrev pub spawn : Names → written.Spawn → tree.Spawn
 spawn names (written.Soon task args) =
     tree.Soon (or_unknown (task_named names.app task.name)) (map (expression names) args) task.at
@@ -25,6 +27,7 @@ spawn names (written.Move word delay task handle) =
     tree.Move word (expression names delay) (or_unknown (task_named names.app task.name)) (expression names handle)
     task.at
 
+-- the value of a `let` with what its names stand for
 abbrev pub value : Names → written.Value → tree.Value
 value names (written.Calc e) = tree.Calc (expression names e)
 value names (written.Now at) = tree.Now at
@@ -42,6 +45,7 @@ abbrev mutual
   binders_in (Pend i) = 0
   binders_in (Spawns s) = 0
 
+  -- the variables that a block brings in, those of inner blocks included
   pub binders : Block → ℕ
   binders Empty = 0
   binders (Then s rest) = binders_in s + binders rest
@@ -75,6 +79,7 @@ abbrev mutual
   statement names n (Pend i) = tree.Pend (or_unknown (irq_named names.app i.name))
   statement names n (Spawns s) = tree.Spawns (spawn names s)
 
+  -- the statements of a block, each with the names that hold behind those before it
   pub block : Names → ℕ → Block → tree.Block
   block names n Empty = tree.Empty
   block names n (Then s rest) = tree.Then (statement names n s) (block (behind names n s) (n + binders_in s) rest)

@@ -10,19 +10,23 @@ use Rattle.rt_app.specs.declared.TheConstants.{UNKNOWN}
 use Rattle.rt_app.specs.declared.expr.Atom.{Atom}
 use Rattle.rt_app.specs.declared.expr.Atom.TheVariants as atom
 
+-- whether a declaration has this name
 abbrev pub is_named : List ℕ → Ident → Bool
 is_named name x = bytes_eq x.name name
 
--- of two declarations of a name, it means the first
+-- the number of a declared interrupt by its name: of two declarations of a name, it means the first
 abbrev pub irq_named : App → List ℕ → Option ℕ
 irq_named app name = position (λ d. is_named name d.name) app.irqs
 
+-- the number of a declared task by its name
 abbrev pub task_named : App → List ℕ → Option ℕ
 task_named app name = position (λ t. is_named name t.name) app.tasks
 
+-- the number of a declared shared resource by its name
 abbrev pub shared_named : App → List ℕ → Option ℕ
 shared_named app name = position (λ r. is_named name r.name) app.shared
 
+-- the number of a declared local resource by its name
 abbrev pub local_named : App → List ℕ → Option ℕ
 local_named app name = position (λ r. is_named name r.name) app.locals
 
@@ -30,6 +34,7 @@ local_named app name = position (λ r. is_named name r.name) app.locals
 abbrev pub or_unknown : Option ℕ → ℕ
 or_unknown found = unwrap_or found UNKNOWN
 
+-- a variable of a body: its name, and its number among the variables of the body
 pub record Variable : Type 0 where
   pub name : List ℕ
   pub number : ℕ
@@ -39,6 +44,7 @@ pub record Scope : Type 0 where
   pub variables : List Variable
   pub here : ℕ
 
+-- whether a variable has this name
 abbrev pub is_variable : List ℕ → Variable → Bool
 is_variable name v = bytes_eq v.name name
 
@@ -60,12 +66,15 @@ pub record Names : Type 0 where
   pub local : List Ident
   pub scope : Scope
 
+-- the names inside a block that begins here
 abbrev pub inside : Names → Names
 inside names = record { app = names.app; local = names.local; scope = entered names.scope }
 
+-- the names with a variable more, of this number
 abbrev pub with_variable : Names → Ident → ℕ → Names
 with_variable names x n = record { app = names.app; local = names.local; scope = declared names.scope x.name n }
 
+-- the variable in scope that a name means: the one declared last
 abbrev pub variable_named : Names → List ℕ → Option Atom
 variable_named names name = option_map (λ v. atom.Var v.number) (find (is_variable name) names.scope.variables)
 
@@ -80,5 +89,6 @@ meaning names name =
     option_or (variable_named names name)
     (option_or (option_map atom.Shared (shared_named names.app name)) (owned_named names name))
 
+-- what a name stands for, and an unknown shared resource where it means nothing
 abbrev pub atom_named : Names → List ℕ → Atom
 atom_named names name = unwrap_or (meaning names name) (atom.Shared UNKNOWN)

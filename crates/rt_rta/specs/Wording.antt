@@ -25,6 +25,7 @@ irq_of irqs name = option_map (λ d. d.number) (find (λ d. bytes_eq d.name name
 abbrev pub if_bound : App → ℕ → Option ℕ
 if_bound app irq = if is_bound app irq then Some irq else None
 
+-- the interrupt of a name, where it is declared and a task binds it
 abbrev pub bound_irq : App → List ℕ → Option ℕ
 bound_irq app name = then_from (irq_of app.irqs name) (if_bound app)
 
@@ -32,6 +33,7 @@ bound_irq app name = then_from (irq_of app.irqs name) (if_bound app)
 abbrev pub if_some : ℕ → Result ℕ Wrong
 if_some n = if nat_le 1 n then Ok n else Err wrong.Form
 
+-- a least distance between requests, where it is a number and at least 1
 abbrev pub distance_of : Option ℕ → Result ℕ Wrong
 distance_of None = Err wrong.Form
 distance_of (Some n) = if_some n
@@ -43,6 +45,7 @@ limit_for limits every (Some irq) =
     if is_some (every_of limits irq) then Err wrong.Form else Ok (record { irq = irq; every = every })
 
 module _ (app : App) (limits : List Limit) where
+  -- the limit that the name of an interrupt and a number tell
   abbrev pub limit_of : List ℕ → List ℕ → Result Limit Wrong
   limit_of name count =
       and_then (distance_of (short_number count)) (λ every. limit_for limits every (bound_irq app name))

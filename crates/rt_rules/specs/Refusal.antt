@@ -8,6 +8,7 @@ use Rattle.rt_lex.specs.Place.{place_of}
 use Rattle.rt_app.specs.declared.violation.Violation.{Violation}
 use Rattle.rt_app.specs.Violation.{IsFirst}
 
+-- a violation as a refusal, at the line and the column of its offset
 abbrev pub fault_at : List ℕ → Violation → Fault
 fault_at src v = record { place = place_of src v.at; refusal = refusal.Rule v.rule }
 

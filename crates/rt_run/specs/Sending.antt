@@ -15,6 +15,7 @@ use Rattle.rt_run.specs.Done.{Leads}
 abbrev pub shown_items : Machine → List Event → List Item
 shown_items m events = items_of m.steps (labels m.image m.core events)
 
+-- the lines of what events show
 abbrev pub lines_of : Machine → List Event → List ℕ
 lines_of m events = flat_map (text m.image.names) (shown_items m events)
 

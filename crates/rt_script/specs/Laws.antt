@@ -6,6 +6,7 @@ use Rattle.rt_ids.specs.declared.limits.TheConstants.{SCRIPT_BYTES}
 use Rattle.rt_script.specs.Text.{IsScriptText, IsFirstWrong, Fault}
 use Rattle.rt_script.specs.declared.line.Line.{Line}
 
+-- each text has one script, or one first wrong line with one fault, and never both
 pub record AreReadOneWay : Type 0 where
   pub one_script : (names : Names) (text : List ℕ) (s t : List Line) → IsScriptText names text s
       → IsScriptText names text t → s ≡ t

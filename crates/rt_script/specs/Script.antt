@@ -36,6 +36,7 @@ HasName names (Pends irq n) = IsSome (irq_named names irq)
 HasName names (Device d irq n) = IsSome (irq_named names irq)
 HasName names line = Unit {0}
 
+-- each interrupt that a line requests has a name
 abbrev pub HasNames : Names → List Line → Type 0
 HasNames names script = AllByRecursion (HasName names) script
 
@@ -55,6 +56,7 @@ abbrev pub core_line_events : Line → List Event
 core_line_events (Device d irq n) = []
 core_line_events line = line_events line
 
+-- the events of the core's own lines, the devices' left out
 abbrev pub core_events : List Line → List Event
 core_events script = flat_map core_line_events script
 
@@ -63,5 +65,6 @@ abbrev pub line_pends : ℕ → Line → List ℕ
 line_pends device (Device d irq n) = if d == device then replicate n irq else []
 line_pends device line = []
 
+-- the interrupts that a device requests in the whole script, in order
 abbrev pub pends : List Line → ℕ → List ℕ
 pends script device = flat_map (line_pends device) script

@@ -22,6 +22,7 @@ pub record Says (names : Names) (ls : List (List ℕ)) (script : List Line) : Ty
   pub all : script ≡ flat_map option_to_list asked
   pub few : count script ≤ SCRIPT_EVENTS
 
+-- a text that is not too long, whose lines ask for this script
 pub record IsScriptText (names : Names) (text : List ℕ) (script : List Line) : Type 0 where
   pub short : length text ≤ SCRIPT_BYTES
   pub says : Says names (lines text) script
@@ -33,6 +34,7 @@ pub data Fault : Type 0 where
   -- the events up to it are too many
   Events : Fault
 
+-- a line behind lines that ask for this has this fault: it is wrong by itself, or asks for too many events
 abbrev pub HasFault : Names → List Line → List ℕ → Fault → Type 0
 HasFault names script line (Alone w) = line_of names line ≡ Err w
 HasFault names script line Events =

@@ -21,6 +21,7 @@ use Rattle.rt_script.specs.declared.words.Wrong.TheVariants as wrong
 abbrev pub is_blank : List ℕ → Bool
 is_blank line = list_all (λ b. (b == 32) || (b == 9)) line
 
+-- a line that begins with `#`
 abbrev pub is_comment : List ℕ → Bool
 is_comment [] = false
 is_comment (b ∷ line) = b == 35
@@ -39,6 +40,7 @@ abbrev pub count_or_one : List (List ℕ) → Result ℕ Wrong
 count_or_one [] = Ok 1
 count_or_one words = only_count words
 
+-- the declared interrupt that a word names
 abbrev pub irq_at : Names → List ℕ → Result ℕ Wrong
 irq_at names word = if is_identifier word then ok_or (irq_of names word) wrong.Interrupt else Err wrong.Form
 
@@ -47,9 +49,11 @@ abbrev pub pends_of : Names → List (List ℕ) → Result (ℕ × ℕ) Wrong
 pends_of names [] = Err wrong.Form
 pends_of names (i ∷ more) = and_then (count_or_one more) (λ n. and_make (irq_at names i) (λ irq. (irq, n)))
 
+-- what the line of a device asks for, where there is a device of this number
 abbrev pub in_range : ℕ → ℕ × ℕ → Result Line Wrong
 in_range device pends = if nat_lt device DEVICES then Ok (Device device pends.0 pends.1) else Err wrong.Device
 
+-- what the words behind `device` ask for
 abbrev pub device_of : Names → List (List ℕ) → Result Line Wrong
 device_of names (d ∷ verb ∷ words) =
     if bytes_eq verb (codes "pend")

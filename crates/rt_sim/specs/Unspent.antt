@@ -11,6 +11,7 @@ use Rattle.rt_core.specs.Trace.{labels}
 use Rattle.rt_laws.specs.Unspent.{NoneIsSpent}
 use Rattle.rt_sim.specs.Good.{AreDeclared}
 
+-- in no trace of an image of an accepted application is a job's cost spent before the job has ended
 abbrev pub ImagesLeaveSteps : Type 0
 ImagesLeaveSteps = (app : App) (img : Image) → IsAccepted app → IsImageOf app img → (events : List Event)
     → length events < 2 ^ 31 → AreDeclared app events → NoneIsSpent app (labels img (reset img) events)

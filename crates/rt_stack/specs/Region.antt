@@ -4,15 +4,18 @@
 -- words in use, in a vector that has room for all from the start.
 use Rattle.std.specs.Prelude.{ℕ, ◌+◌, ◌-◌, ◌≤◌, List, [], ◌++◌, length, take, drop, replicate}
 
+-- the stack region: the words in use, and how many have room
 pub record Region : Type 0 where
   -- the words in use, each below 2 ^ 32, in the order in which they were pushed
   pub words : List ℕ
   -- how many words have room
   pub size : ℕ
 
+-- a region of this size with no words in use
 abbrev pub empty : ℕ → Region
 empty size = record { words = []; size = size }
 
+-- how many words are in use
 abbrev pub used : Region → ℕ
 used r = length r.words
 

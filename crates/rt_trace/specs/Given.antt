@@ -12,6 +12,7 @@ padded-take count values h =
     ap (λ k. take count values ++ replicate (4 - k) 0) (length_of_values count values h)
     ∙ ap (λ rest. take count values ++ rest) (sym h.rest) ∙ take-append-drop count values
 
+-- a fixed array of four with its count is given back by the values in front of the zeros
 pub args_given_back : (a : Inside) → IsPadded a.count a.values
     → record { count = length (take a.count a.values); values = padded (take a.count a.values) } ≡ a
 args_given_back a h = λ i. record {

@@ -5,6 +5,7 @@ use Rattle.rt_trace.specs.declared.item.Item.{Item}
 use Rattle.rt_trace.specs.declared.item.What.{What}
 use Rattle.rt_trace.specs.declared.item.What.TheVariants as what
 
+-- a label of a transition: an arrival, a tick, an alarm, or a step of the core with the item that it shows
 pub data Label : Type 0 where
   -- an interrupt request arrives
   Arrived : (irq : ℕ) → Label

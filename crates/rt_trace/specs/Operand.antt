@@ -30,13 +30,15 @@ number_at bound word = ok_or (number_below bound word) wrong.Form
 abbrev pub found : List ℕ → Option ℕ → Result ℕ Wrong
 found word place = if is_identifier word then ok_or place wrong.Name else Err wrong.Form
 
--- the interrupt, the task and the shared resource of this name
+-- the interrupt of this name
 abbrev pub irq_at : Names → List ℕ → Result ℕ Wrong
 irq_at names word = found word (irq_of names word)
 
+-- the task of this name
 abbrev pub task_at : Names → List ℕ → Result ℕ Wrong
 task_at names word = found word (task_of names word)
 
+-- the shared resource of this name
 abbrev pub resource_at : Names → List ℕ → Result ℕ Wrong
 resource_at names word = found word (resource_of names word)
 

@@ -5,11 +5,13 @@ use Rattle.rt_words.specs.declared.call.Pended.TheVariants.{Raised, Merged}
 use Rattle.rt_words.specs.declared.call.Call.{Call}
 use Rattle.rt_words.specs.declared.call.Call.TheVariants.{Pend, Latch}
 
+-- whether a call set the interrupt's bit, which was clear
 abbrev pub raises : ℕ → Call → Bool
 raises irq (Pend n Raised) = n == irq
 raises irq (Pend n Merged) = false
 raises irq (Latch k word) = false
 
+-- whether a call found the interrupt's bit set
 abbrev pub merges : ℕ → Call → Bool
 merges irq (Pend n Raised) = false
 merges irq (Pend n Merged) = n == irq
@@ -20,11 +22,14 @@ abbrev pub latches : ℕ → Call → Bool
 latches irq (Pend n answer) = false
 latches irq (Latch k word) = (k == irq / 32) && (bit_at word (irq % 32) == 1)
 
+-- how often an interrupt was raised by these calls
 abbrev pub raised : ℕ → List Call → ℕ
 raised irq calls = count_by (raises irq) calls
 
+-- how often a request of an interrupt was merged by these calls
 abbrev pub merged : ℕ → List Call → ℕ
 merged irq calls = count_by (merges irq) calls
 
+-- how often an interrupt was latched by these calls
 abbrev pub latched : ℕ → List Call → ℕ
 latched irq calls = count_by (latches irq) calls

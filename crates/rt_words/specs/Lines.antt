@@ -28,6 +28,7 @@ pub record Core : Type 0 where
   pub gathered : List Part
   pub since : ℕ
 
+-- the numbers of the lines of these parts
 abbrev pub numbers : List Part → List ℕ
 numbers parts = map (λ p. p.line) parts
 

@@ -5,6 +5,7 @@ use Rattle.rt_ids.specs.declared.ids.BodyId.TheVariants as body
 use Rattle.rt_work.specs.declared.action.Action.{Action}
 use Rattle.rt_work.specs.declared.action.Action.TheVariants as code
 
+-- the action that the code's action is
 abbrev pub action_of : Action → action.Action
 action_of (code.Enter x cost) = action.Enters x cost
 action_of (code.Leave x) = action.Leaves x

@@ -10,11 +10,13 @@ use Rattle.rt_work.specs.declared.code.Handler.{Handler}
 use Rattle.rt_work.specs.declared.code.Handler.TheVariants as handler
 use Rattle.rt_work.specs.declared.code.Code.{Code}
 
+-- the handler that the code's handler is
 abbrev pub handler_of : Handler → handlers.Handler
 handler_of (handler.Runs n) = handlers.Runs n
 handler_of (handler.Dispatches p) = handlers.Dispatches p
 handler_of handler.Times = handlers.Times
 
+-- the tables hold what the definitions say of an accepted application
 pub record IsCode (code : Code) : Type 0 where
   pub accepted : IsAccepted (app_of code.app.now)
   -- core steps are counted by its measure

@@ -6,6 +6,7 @@ use Rattle.rt_ids.specs.Holder.{Guarded, Own}
 use Rattle.rt_ids.specs.Content.{Message, Timed, Number, Messages, Delays, Values}
 use Rattle.rt_ids.specs.declared.ids.Section.TheVariants as section
 
+-- what an auditor keeps of resources and queues
 pub record Store : Type 0 where
   -- the values of resources
   pub shared : List ℕ

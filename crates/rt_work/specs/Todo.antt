@@ -56,6 +56,7 @@ module _ (app : App) where
   entered None args later vars = later vars
   entered (Some b) args later vars = run_block app b.block later (args ++ replicate (variables b.block) 0)
 
+  -- the body of a task, where there is such a task
   abbrev pub task_body : ℕ → Option Body
   task_body n = then_from (slice_get app.tasks n) (λ t. Some t.body)
 
@@ -101,6 +102,7 @@ module _ (app : App) where
       (λ vars. leave_timer app (given variable 0 later vars)) vars)
       else act (Leaves section.Timer) (given variable 1 later vars) vs
 
+  -- what a thing to do comes to, and behind it what is left
   abbrev pub meaning : Todo → Later → Later
   meaning (todo.Run stmts) later vars vs = run_block app (block_of stmts.now) later vars vs
   meaning (todo.Turns x i last stmts) later vars vs = turns_from (last - i) x i (run_block app (block_of

@@ -8,6 +8,7 @@ use Rattle.rt_work.specs.declared.todo.Todo.TheVariants as todo
 use Rattle.rt_work.specs.Store.{Store, contents}
 use Rattle.rt_work.specs.Todo.{behind}
 
+-- what is left to do of a body: a list of things, and the body's variables
 pub record Work : Type 0 where
   -- the next thing last
   pub todos : List Todo

@@ -10,6 +10,7 @@ use Rattle.rt_trace.specs.declared.item.What.{What}
 use Rattle.rt_core.specs.Core.{Core}
 use Rattle.rt_core.specs.Outcome.{Outcome, Trapped, Done}
 
+-- what the code answers, with the core that it leaves, is this outcome
 abbrev pub Comes : Result (Option What) Trap → Core → Outcome → Type 0
 Comes (Ok shown) after outcome = outcome ≡ Done after shown
 Comes (Err trap) after outcome = outcome ≡ Trapped after trap

@@ -28,6 +28,7 @@ contexts priorities (irq ∷ active) (s ∷ below) =
     }
     ∷ contexts priorities active below
 
+-- the core that these parts are
 abbrev pub core : Inside → Core
 core c = record {
   time = c.time;
@@ -39,6 +40,7 @@ core c = record {
   stopped = c.stopped;
 }
 
+-- the machine that these parts are
 abbrev pub machine : Inside → Machine
 machine c = record { image = c.program; core = core c; steps = c.steps }
 
@@ -52,6 +54,7 @@ IsFalling (x ∷ below) = (x.value < running_value below) × (x.value % 2 ≡ 0)
 abbrev pub HasPriorities : Image → Nvic → Type 0
 HasPriorities img n = (irq : ℕ) → irq < IRQ_NUMBERS → priority_of n irq ≡ option_map (λ h. h.value) (handler_of img irq)
 
+-- the parts of the code agree: frames and controller have the same handlers, with the priorities of the image
 pub record IsSound (c : Inside) : Type 0 where
   pub runnable : IsRunnable c.program
   pub frames : c.frames ≡ frames_of c.program (core c)

@@ -3,6 +3,7 @@ use Rattle.std.specs.Prelude.{ℕ, Bool, bytes_eq, ◌==◌, List, slice_index, 
 use Rattle.std.specs.List.{list_any}
 use Rattle.rt_ids.specs.Word.{words}
 
+-- whether a text is one of these
 abbrev pub is_one_of : List (List ℕ) → List ℕ → Bool
 is_one_of texts text = list_any (λ w. bytes_eq text w) texts
 

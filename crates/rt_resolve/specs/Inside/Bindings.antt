@@ -10,9 +10,11 @@ use Rattle.rt_resolve.specs.declared.variables.Meaning.{Meaning}
 use Rattle.rt_resolve.specs.declared.variables.Binding.{Binding}
 use Rattle.rt_resolve.specs.Scope.{Variable, Scope}
 
+-- the map from a name to what it means among the variables in scope
 abbrev pub Meanings : Type 0
 Meanings = HashMap (Bor (List ℕ)) Meaning (BuildHasherDefault FoldHasher)
 
+-- the variable that the code's binding is
 abbrev pub variable_of : Binding → Variable
 variable_of b = record { name = b.name.now; number = b.number }
 
@@ -24,6 +26,7 @@ scope_of bindings outer = record { variables = map variable_of (reverse bindings
 abbrev pub left : Scope → ℕ → Scope
 left s outer = let rest = drop s.here s.variables in record { variables = rest; here = length rest - outer }
 
+-- what a name means in a map
 abbrev pub meaning_at : Meanings → List ℕ → Option Meaning
 meaning_at m name = get_by (λ k. bytes_eq name k.now) m
 
@@ -38,11 +41,13 @@ abbrev pub AreHiding : List Binding → Type 0
 AreHiding [] = Unit {0}
 AreHiding (b ∷ bs) = (b.hidden ≡ meaning_in b.name.now bs) × AreHiding bs
 
+-- the map has what each name means among these variables, and each variable keeps what it hides
 pub record AreIndexed (bindings : List Binding) (m : Meanings) (outer : ℕ) : Type 0 where
   pub within : outer ≤ length bindings
   pub hiding : AreHiding (reverse bindings)
   pub meanings : (name : List ℕ) → meaning_at m name ≡ meaning_in name (reverse bindings)
 
+-- a name means something in a map
 abbrev pub IsKnown : Meanings → List ℕ → Type 0
 IsKnown m name = IsSome (meaning_at m name)
 

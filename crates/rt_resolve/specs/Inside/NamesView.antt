@@ -9,9 +9,11 @@ use Rattle.rt_app.specs.Declarations.{Used}
 use Rattle.rt_resolve.specs.declared.listing.Listing.{Listing}
 use Rattle.rt_resolve.specs.Scope.{Names}
 
+-- the names of the definitions that the code's names are
 abbrev pub names_of : code.Names → Names
 names_of n = record { app = app_of n.app.now; local = n.local.now; scope = n.variables }
 
+-- the use of a resource that the code's listing is
 abbrev pub use_of : Listing → Used
 use_of l = record { number = l.number; at = l.at }
 
