@@ -17,7 +17,7 @@ use Rattle.rt_app.specs.Rules.{violations}
 
 -- in a body that lists these local resources
 module _ (app : App) (listed : List ℕ) where
-  -- with these variables in scope
+  -- a name stands for a variable that is in scope, for a shared resource, or for a local one that the body lists
   abbrev pub IsMeant : List ℕ → Atom → Type 0
   IsMeant visible (Var x) = Contains visible x
   IsMeant visible (Shared r) = r < length app.shared
@@ -38,7 +38,7 @@ module _ (app : App) (listed : List ℕ) where
   IsSpawnPlaced visible (Move word delay task handle at) =
       AreMeant visible delay × (task < length app.tasks) × AreMeant visible handle
 
-  -- of the value of a `let`
+  -- what the value of a `let` holds is meant
   abbrev pub IsValuePlaced : List ℕ → Value → Type 0
   IsValuePlaced visible (Calc e) = AreMeant visible e
   IsValuePlaced visible (Now at) = Unit {0}
@@ -55,7 +55,7 @@ module _ (app : App) (listed : List ℕ) where
   behind n visible (Pend i) = visible
   behind n visible (Spawns s) = visible
 
-  -- behind so many variables of the body, and with these in scope
+  -- a statement is placed, behind so many variables of the body, and with these in scope
   abbrev mutual
     pub IsStatementPlaced : ℕ → List ℕ → Statement → Type 0
     IsStatementPlaced n visible (Bind x v) = (x ≡ n) × IsValuePlaced visible v
@@ -99,7 +99,7 @@ module _ (app : App) where
   IsBindingPlaced None = Unit {0}
   IsBindingPlaced (Some irq) = irq < length app.irqs
 
-  -- so is the interrupt of the monotonic
+  -- the interrupt of the monotonic is declared
   abbrev pub IsMonoPlaced : Option Mono → Type 0
   IsMonoPlaced None = Unit {0}
   IsMonoPlaced (Some mono) = mono.irq < length app.irqs

@@ -34,7 +34,7 @@ body_at app body.Init = app.init
 body_at app body.Idle = app.idle
 body_at app (body.Task n) = option_map (λ t. t.body) (slice_get app.tasks n)
 
--- and the member that it is
+-- a body as a member, where it is declared
 abbrev pub member_at : App → BodyId → Option Member
 member_at app body.Init = option_map (λ b. record { id = body.Init; priority = 0; args = 0; body = b }) app.init
 member_at app body.Idle = option_map (λ b. record { id = body.Idle; priority = 0; args = 0; body = b }) app.idle

@@ -18,7 +18,7 @@ cost_measure app = record { messages = armed_messages app; is_size = false }
 abbrev pub size_measure : App → Measure
 size_measure app = record { messages = min (armed_messages app) SIZED_MESSAGES; is_size = true }
 
--- its block and its end
+-- the cost or the size of a body: its block and its end
 abbrev pub body_cost : Measure → Body → ℕ
 body_cost m b = capped (block_cost m b.block + 1)
 
@@ -35,11 +35,11 @@ dispatcher_section_cost app p = READY_COST + READY_TASK_COST * tasks_of_level ap
 abbrev pub timer_section_cost : App → ℕ
 timer_section_cost app = TIMER_SECTION_COST + MESSAGE_COST * armed_messages app
 
--- and in a `cancel` and a `reschedule_after`, which look for the message of a handle
+-- a section of the timer queue, in a `cancel` and a `reschedule_after`, which look for the message of a handle
 abbrev pub handle_section_cost : App → ℕ
 handle_section_cost app = HANDLE_SECTION_COST + HANDLE_MESSAGE_COST * armed_messages app
 
--- it runs one body of its level, and this sum does not stop
+-- the cost of a dispatcher, which runs one body of its level; this sum does not stop
 abbrev pub dispatcher_cost : App → ℕ → ℕ
 dispatcher_cost app p =
     DISPATCHER_COST + READY_TASK_COST * tasks_of_level app p

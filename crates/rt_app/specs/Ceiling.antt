@@ -70,7 +70,7 @@ ceiling app (section.Free n) = free_ceiling app n
 ceiling app (section.Ready p) = ready_ceiling app p
 ceiling app section.Timer = timer_ceiling app
 
--- of the tasks from this number on
+-- the ceilings of the free places of the tasks from this number on, where they are software tasks
 abbrev pub free_ceilings : App → ℕ → List Task → List (Option ℕ)
 free_ceilings app n [] = []
 free_ceilings app n (t ∷ ts) =

@@ -8,24 +8,24 @@ use Rattle.rt_app.specs.declared.costs.TheConstants.{HANDLE_COST, HANDLE_MESSAGE
 use Rattle.rt_app.specs.Tree.{Expression, Num, Read, Oper, Spawn, Soon, After, Cancel, Move, Value, Calc, Now, Call}
 use Rattle.rt_app.specs.Tree.{Statement, Bind, Assign, Branch, Repeat, Locked, Emit, Pend, Spawns, Block, Empty, Then}
 
--- what is counted
+-- what is counted: core steps or instructions
 pub record Measure : Type 0 where
   -- the messages that may be armed at once
   pub messages : ℕ
   -- whether code is counted, both blocks of a branch and one turn of a loop, and not steps
   pub is_size : Bool
 
--- up to one above the greatest cost that a body may have
+-- a number up to one above the greatest cost that a body may have
 abbrev pub capped : ℕ → ℕ
 capped n = min n (BODY_COST + 1)
 
--- one for each name, number and operation
+-- the cost of an expression: one for each name, number and operation
 abbrev pub expression_cost : Expression → ℕ
 expression_cost (Num n) = 1
 expression_cost (Read atom at) = 1
 expression_cost (Oper o left right) = capped (expression_cost left + expression_cost right + 1)
 
--- of the arguments of a spawn
+-- the cost of the arguments of a spawn
 abbrev pub expressions_cost : List Expression → ℕ
 expressions_cost [] = 0
 expressions_cost (e ∷ es) = capped (expression_cost e + expressions_cost es)
@@ -40,7 +40,7 @@ spawn_cost m (Cancel word task handle at) =
 spawn_cost m (Move word delay task handle at) =
     capped (HANDLE_COST + HANDLE_MESSAGE_COST * m.messages + expression_cost delay + expression_cost handle)
 
--- of `let x =` and this value
+-- the cost of `let x =` and this value
 abbrev pub bind_cost : Measure → Value → ℕ
 bind_cost m (Calc e) = capped (expression_cost e + 1)
 bind_cost m (Now at) = 2
@@ -54,7 +54,7 @@ branch_cost m first second = if m.is_size then first + second else max first sec
 abbrev pub turns : Measure → ℕ → ℕ → ℕ
 turns m first last = if m.is_size then 1 else last - first
 
--- of a lock, and of its section, round a block of this cost
+-- the cost of a lock, and of its section, round a block of this cost
 abbrev pub lock_cost : ℕ → ℕ
 lock_cost inner = capped (2 + inner)
 

@@ -21,12 +21,12 @@ is_known n = not (n == UNKNOWN)
 abbrev pub is_priority : ℕ → ℕ → Bool
 is_priority bits p = nat_le 1 p && nat_le p (2 ^ bits)
 
--- of the monotonic, where there is one
+-- the monotonic's priority is out of range
 abbrev pub mono_priority : ℕ → Option Mono → List Violation
 mono_priority bits None = []
 mono_priority bits (Some mono) = when (not (is_priority bits mono.priority)) rule.PriorityOutOfRange mono.priority_at
 
--- of a task
+-- a task's priority is out of range
 abbrev pub task_priority : ℕ → Task → List Violation
 task_priority bits t = when (not (is_priority bits t.priority)) rule.PriorityOutOfRange t.priority_at
 
@@ -65,7 +65,7 @@ interrupt_uses app =
     flat_map (λ d. use_of d.irq d.at) app.dispatchers
     ++ (mono_use app.mono ++ flat_map (λ t. bound_use t.binds t.binds_at) app.tasks)
 
--- and no two have one number
+-- the numbers of the declared interrupts, no two of which may be one
 abbrev pub number_uses : App → List Used
 number_uses app = map (λ d. record { number = d.number; at = d.number_at }) app.irqs
 

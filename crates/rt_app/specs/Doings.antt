@@ -79,7 +79,7 @@ module _ (app : App) where
       act (Enters section.Timer cost)
       (λ vs. does Clocks vs (λ time vs. fire_doing (due time (delays (vs (Guarded section.Timer)))) vs))
 
-  -- with the section's own cost
+  -- the timer handler, with a section of the cost that is counted for it
   abbrev pub timer_doing : Rest
   timer_doing = timer_doing_in (timer_section_cost app)
 

@@ -22,7 +22,7 @@ spawn_depth (After word delay task args at) = max (depth delay) (greatest (map d
 spawn_depth (Cancel word task handle at) = depth handle
 spawn_depth (Move word delay task handle at) = max (depth delay) (depth handle)
 
--- and of the value of a `let`; `now` has none
+-- the greatest depth of the expressions of the value of a `let`; `now` has none
 abbrev pub value_depth : Value → ℕ
 value_depth (Calc e) = depth e
 value_depth (Now at) = 0
@@ -83,7 +83,7 @@ abbrev mutual
 abbrev pub spawn_words : Spawn → ℕ
 spawn_words s = if uses_timer s then TIMER_QUEUE_WORDS else SPAWN_WORDS
 
--- where expressions are evaluated; a loop alone needs a word for its test
+-- the words where expressions are evaluated; a loop alone needs a word for its test
 abbrev pub expression_words : Block → ℕ
 expression_words b = max (block_depth b) (if has_loop b then 1 else 0)
 
@@ -105,6 +105,6 @@ first_lock_slot args b = first_expression_slot args b + expression_words b.block
 abbrev pub first_spawn_slot : ℕ → Body → ℕ
 first_spawn_slot args b = first_lock_slot args b + locks b.block
 
--- all words, as an even number
+-- all words of the frame of a body, as an even number
 abbrev pub frame_words : ℕ → Body → ℕ
 frame_words args b = even (first_spawn_slot args b + greatest (map spawn_words (spawns b.block)))

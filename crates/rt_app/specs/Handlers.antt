@@ -31,7 +31,7 @@ abbrev pub bound_service : ℕ → Task → Option ℕ → List Service
 bound_service n t None = []
 bound_service n t (Some irq) = record { irq = irq; handler = Runs n; level = t.priority } ∷ []
 
--- of the tasks from this number on
+-- what serves the interrupts that the tasks from this number on bind
 abbrev pub task_services : ℕ → List Task → List Service
 task_services n [] = []
 task_services n (t ∷ ts) = bound_service n t t.binds ++ task_services (n + 1) ts

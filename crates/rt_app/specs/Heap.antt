@@ -10,7 +10,7 @@ use Rattle.rt_ids.specs.Entry.{Entry, count}
 abbrev pub above : ℕ → ℕ
 above i = (i - 1) / 2
 
--- of so many places each but the first has a key no less than the place above it
+-- a binary heap: of so many places each but the first has a key no less than the place above it
 abbrev pub IsHeap : ℕ → (ℕ → ℕ) → Type 0
 IsHeap n key = (j : ℕ) → 0 < j → j < n → key (above j) ≤ key j
 

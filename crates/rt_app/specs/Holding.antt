@@ -136,7 +136,7 @@ module _ (app : App) where
   IsHeld (Guarded section.Timer) = IsSome app.mono
   IsHeld (Own n) = n < length app.locals
 
-  -- all of it
+  -- the storage of an application: its layout, its ceilings, and what is kept
   unfoldable pub storage : Storage
   storage = record {
     home = home_of app;

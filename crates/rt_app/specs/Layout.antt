@@ -31,7 +31,7 @@ resource_cells r [] = []
 resource_cells r (s ∷ more) =
     record { name = s.name; first = s.first; home = At (Guarded (section.Res r)) } ∷ resource_cells (r + 1) more
 
--- local resources, likewise
+-- local resources, the first of which has this number
 abbrev pub local_cells : ℕ → List Local → List Cell
 local_cells n [] = []
 local_cells n (l ∷ more) =
@@ -52,7 +52,7 @@ place_cells n t place =
     map (λ k. record { name = front ++ decimal k; first = 0; home = In (record { task = n; place = place }) })
     (range_with_len 0 t.args)
 
--- of tasks, the first of which has this number; a hardware task has none
+-- the cells of tasks, the first of which has this number; a hardware task has none
 abbrev pub task_cells : ℕ → List Task → List Cell
 task_cells n [] = []
 task_cells n (t ∷ more) =
@@ -92,7 +92,7 @@ timer_queue_cells app =
     ∷ (timer_column app (codes "at") ++ (timer_column app (codes "arming")
     ++ (timer_column app (codes "handle") ++ timer_column app (codes "heap"))))
 
--- where there is a monotonic
+-- the cells of the timer queue, where there is a monotonic
 abbrev pub timer_cells : App → Option Mono → List Cell
 timer_cells app None = []
 timer_cells app (Some mono) = timer_queue_cells app
@@ -181,16 +181,16 @@ pub record Layout : Type 0 where
 abbrev pub row_of : Cell → CellRow
 row_of cell = record { name = cell.name; first = cell.first }
 
--- one that has input cells
+-- whether a task has cells for arguments
 abbrev pub has_inputs : Task → Bool
 has_inputs t = is_software t && nat_lt 0 t.args
 
--- of tasks that pass
+-- the numbers of first cells by task, for the tasks that pass, and 0 for any other
 abbrev pub numbers_of : (Task → Bool) → (ℕ → ℕ) → ℕ → List Task → List ℕ
 numbers_of test at n [] = []
 numbers_of test at n (t ∷ more) = (if test t then at n else 0) ∷ numbers_of test at (n + 1) more
 
--- of an application
+-- the layout of an application
 abbrev pub layout : App → Layout
 layout app = record {
   cells = map row_of (memory app);

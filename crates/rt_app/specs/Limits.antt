@@ -48,20 +48,20 @@ ExpressionFits (Num n) = n < 2 ^ 32
 ExpressionFits (Read atom at) = Unit {0}
 ExpressionFits (Oper o left right) = ExpressionFits left × ExpressionFits right
 
--- of the arguments of a spawn, of its delay and of its handle
+-- the numbers in the arguments of a spawn, in its delay and in its handle are of 32 bits
 abbrev pub SpawnFits : Spawn → Type 0
 SpawnFits (Soon task args at) = AllByRecursion ExpressionFits args
 SpawnFits (After word delay task args at) = ExpressionFits delay × AllByRecursion ExpressionFits args
 SpawnFits (Cancel word task handle at) = ExpressionFits handle
 SpawnFits (Move word delay task handle at) = ExpressionFits delay × ExpressionFits handle
 
--- of the value of a `let`
+-- the numbers in the value of a `let` are of 32 bits
 abbrev pub ValueFits : Value → Type 0
 ValueFits (Calc e) = ExpressionFits e
 ValueFits (Now at) = Unit {0}
 ValueFits (Call s) = SpawnFits s
 
--- and no loop has more turns than a `for` may
+-- the numbers in a statement are of 32 bits, and no loop has more turns than a `for` may
 abbrev mutual
   pub StatementFits : Statement → Type 0
   StatementFits (Bind x v) = ValueFits v
@@ -86,7 +86,7 @@ pub record KeepsBodyLimits (b : Body) : Type 0 where
   pub depth : block_depth b.block ≤ DEPTH
   pub numbers : BlockFits b.block
 
--- of `init` and `idle`, where they are declared
+-- `init` or `idle` keeps the limits of bodies, where it is declared
 abbrev pub KeepsThreadLimits : Option Body → Type 0
 KeepsThreadLimits None = Unit {0}
 KeepsThreadLimits (Some b) = KeepsBodyLimits b
@@ -98,7 +98,7 @@ pub record KeepsTaskLimits (t : Task) : Type 0 where
   pub most_capacity : t.capacity ≤ CAPACITY
   pub body : KeepsBodyLimits t.body
 
--- of a whole application
+-- a whole application keeps the limits
 pub record KeepsLimits (app : App) : Type 0 where
   pub least_bits : LEAST_BITS ≤ app.bits
   pub most_bits : app.bits ≤ MOST_BITS

@@ -17,7 +17,7 @@ pub record Listing : Type 0 where
   pub listed : Listed
   pub priority : ℕ
 
--- those of a body
+-- the listings of a body
 abbrev pub listings_of : Member → List Listing
 listings_of m = map (λ l. record { listed = l; priority = m.priority }) m.body.shared
 

@@ -8,7 +8,7 @@ use Rattle.rt_ids.specs.Lists.{AreDifferent}
 use Rattle.rt_ids.specs.Names.{Names}
 use Rattle.rt_app.specs.Tree.{App}
 
--- those of the interrupts, with their numbers, of the tasks and of the shared resources, in order of declaration
+-- the declared names: those of the interrupts, with their numbers, of the tasks and of the shared resources
 abbrev pub names_of : App → Names
 names_of app = record {
   irqs = map (λ d. (d.name, d.number)) app.irqs;

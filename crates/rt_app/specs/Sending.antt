@@ -87,7 +87,8 @@ module _ (app : App) where
       (act_all (Enters (section.Free n) FREE_COST ∷ Frees n ∷ Leaves (section.Free n) ∷ []) cancelled)) vs
       else act (Leaves section.Timer) missing vs)
 
-  -- likewise an armed message is put to an instant so many ticks from now
+  -- In a section of this cost an armed message is put to an instant so many ticks from now; the rest is then the first.
+  -- Where no armed message of the task has the handle, it is the second.
   abbrev pub move_actions : ℕ → ℕ → ℕ → ℕ → Rest → Rest → Rest
   move_actions cost delay n handle moved missing =
       act (Enters section.Timer cost)

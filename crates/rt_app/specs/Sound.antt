@@ -30,13 +30,14 @@ module _ (app : App) (m : Member) where
       ⊎ ((is_free app m r ≡ true) ⊎ ((is_lockable app m r ≡ true) × Contains locked r)))
   IsReached locked (atom.Local n) = (n < length app.locals) × Contains (map (λ o. o.local) m.body.local) n
 
-  -- it may change it too: no variable of a loop round it, and nothing that it lists to be read alone
+  -- the body may change what a name stands for: no variable of a loop round it, and nothing that it lists to be read
+  -- alone
   abbrev pub IsChangeable : List ℕ → Atom → Type 0
   IsChangeable fixed (atom.Var x) = ¬ Contains fixed x
   IsChangeable fixed (atom.Shared r) = (is_init m.id ≡ true) ⊎ (is_some_and (λ l. l.by_ref) (listing_in m r) ≡ false)
   IsChangeable fixed (atom.Local n) = Unit {0}
 
-  -- of an expression: it may read all that its names stand for, and its literals are of 32 bits
+  -- the body may read all that the names of an expression stand for, and the literals are of 32 bits
   abbrev pub AreReached : List ℕ → Expression → Type 0
   AreReached locked (Num n) = n < 2 ^ 32
   AreReached locked (Read x at) = IsReached locked x
@@ -72,7 +73,7 @@ module _ (app : App) (m : Member) where
   IsSoundSpawn locked (Move word delay n handle at) =
       (t : Task) × AddressesMessage locked n handle t × AreReached locked delay
 
-  -- of what a variable is bound to: `now` wants a monotonic
+  -- what a variable is bound to is sound: `now` wants a monotonic
   abbrev pub IsSoundValue : List ℕ → Value → Type 0
   IsSoundValue locked (Calc e) = AreReached locked e
   IsSoundValue locked (Now at) = (mono : Mono) × (app.mono ≡ Some mono)
@@ -86,7 +87,8 @@ module _ (app : App) (m : Member) where
     pub within : m.priority ≤ ceiling app (section.Res r)
     pub once : ¬ Contains locked r
 
-  -- behind so many variables of the body, inside sections of these resources, and in loops of these variables
+  -- a statement is sound, behind so many variables of the body, inside sections of these resources, and in loops of
+  -- these variables
   abbrev mutual
     pub IsSoundStatement : ℕ → List ℕ → List ℕ → Statement → Type 0
     IsSoundStatement n locked fixed (Bind x v) = (x ≡ n) × IsSoundValue locked v

@@ -4,7 +4,7 @@ use Rattle.std.specs.Prelude.{ℕ, Bool, true, false, List, [], ◌∷◌, ◌++
 use Rattle.rt_app.specs.Tree.{Spawn, Soon, After, Cancel, Move, Value, Calc, Now, Call, Statement, Bind, Assign, Branch}
 use Rattle.rt_app.specs.Tree.{Repeat, Locked, Emit, Pend, Spawns, Block, Empty, Then}
 
--- of the value of a `let`
+-- the spawn of the value of a `let`, where it is one
 abbrev pub value_spawns : Value → List Spawn
 value_spawns (Calc e) = []
 value_spawns (Now at) = []

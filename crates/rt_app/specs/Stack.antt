@@ -44,12 +44,12 @@ need app p = max (greatest (frames_of (is_bound_at p) app)) (max (dispatcher_nee
 abbrev pub level_bytes : App → ℕ → ℕ
 level_bytes app p = if has_handler app p then 4 * (entry_words app.fpu + need app p) else 0
 
--- of the levels below this one
+-- what the levels below this one take together
 unfoldable pub bytes_below : App → ℕ → ℕ
 bytes_below app zero = 0
 bytes_below app (suc p) = bytes_below app p + level_bytes app p
 
--- of `init` or `idle`, where it is declared
+-- the frame of `init` or `idle`, where it is declared
 abbrev pub thread_frame : Option Body → ℕ
 thread_frame None = 0
 thread_frame (Some b) = frame_words 0 b

@@ -8,13 +8,13 @@ use Rattle.rt_app.specs.Tree.{Statement, Bind, Assign, Branch, Repeat, Locked, E
 use Rattle.rt_app.specs.Cost.{Measure, capped, branch_cost, turns, expression_cost, spawn_cost, statement_cost}
 use Rattle.rt_app.specs.Cost.{block_cost}
 
--- one for each name, number and operation
+-- the steps of an expression: one for each name, number and operation
 abbrev pub expression_steps : Expression → ℕ
 expression_steps (Num n) = 1
 expression_steps (Read atom at) = 1
 expression_steps (Oper o left right) = expression_steps left + expression_steps right + 1
 
--- of the arguments of a spawn
+-- the steps of the arguments of a spawn
 abbrev pub expressions_steps : List Expression → ℕ
 expressions_steps [] = 0
 expressions_steps (e ∷ es) = expression_steps e + expressions_steps es
@@ -28,7 +28,7 @@ spawn_steps m (Cancel word task handle at) = HANDLE_COST + HANDLE_MESSAGE_COST *
 spawn_steps m (Move word delay task handle at) =
     HANDLE_COST + HANDLE_MESSAGE_COST * m.messages + expression_steps delay + expression_steps handle
 
--- of `let x =` and this value
+-- the steps of `let x =` and this value
 abbrev pub bind_steps : Measure → Value → ℕ
 bind_steps m (Calc e) = expression_steps e + 1
 bind_steps m (Now at) = 2

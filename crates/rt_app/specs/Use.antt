@@ -20,7 +20,7 @@ pub record Placed : Type 0 where
   pub locked : List ℕ
 
 module _ (locked : List ℕ) where
-  -- with these resources locked
+  -- a use with these resources locked
   abbrev pub placed : Use → Placed
   placed u = record { what = u; locked = locked }
 
@@ -39,7 +39,7 @@ module _ (locked : List ℕ) where
   spawn_uses (Move word delay task handle at) =
       placed (MakesSpawn (Move word delay task handle at)) ∷ (reads delay ++ reads handle)
 
-  -- of the value of a `let`
+  -- the uses of the value of a `let`
   abbrev pub value_uses : Value → List Placed
   value_uses (Calc e) = reads e
   value_uses (Now at) = placed (AsksTime at) ∷ []

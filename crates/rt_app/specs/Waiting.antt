@@ -61,7 +61,7 @@ module _ (app : App) (level : ℕ) where
     spawn_sections (Cancel word task handle at) = timer_section (handle_section_cost app) ∷ free_section task ∷ []
     spawn_sections (Move word delay task handle at) = timer_section (handle_section_cost app) ∷ []
 
-    -- of the value of a `let`
+    -- the sections of the value of a `let`
     abbrev pub value_sections : Value → List Critical
     value_sections (Calc e) = []
     value_sections (Now at) = []
@@ -86,7 +86,7 @@ module _ (app : App) (level : ℕ) where
     block_sections outer (Then s rest) = statement_sections outer s ++ block_sections outer rest
 
 module _ (app : App) where
-  -- of `idle`, where it is declared
+  -- the sections of `idle`, where it is declared
   abbrev pub idle_sections : Option Body → List Critical
   idle_sections None = []
   idle_sections (Some b) = block_sections app 0 0 b.block
@@ -97,7 +97,7 @@ module _ (app : App) where
       let ready = ready_section app t.priority 0 t.priority (dispatcher_section_cost app t.priority) in
       if is_software t then ready ∷ free_section app t.priority 0 n ∷ [] else []
 
-  -- of the tasks from this number on
+  -- the sections of the tasks from this number on, with those of dispatchers that belong to them
   abbrev pub tasks_sections : ℕ → List Task → List Critical
   tasks_sections n [] = []
   tasks_sections n (t ∷ ts) =
@@ -110,7 +110,7 @@ module _ (app : App) where
       (if is_software t && is_armed app n then ready_section app level 0 t.priority READY_COST ∷ [] else [])
       ++ moved_sections level (n + 1) ts
 
-  -- of the timer handler, where there is a monotonic
+  -- the sections of the timer handler, where there is a monotonic
   abbrev pub handler_sections : Option Mono → List Critical
   handler_sections None = []
   handler_sections (Some mono) =
@@ -120,7 +120,7 @@ module _ (app : App) where
 abbrev pub sections : App → List Critical
 sections app = idle_sections app app.idle ++ (tasks_sections app 0 app.tasks ++ handler_sections app app.mono)
 
--- it may hold off a job of this priority, as the outermost of its body that does
+-- a section may hold off a job of this priority, as the outermost of its body that does
 abbrev pub holds_off : ℕ → Critical → Bool
 holds_off p s = nat_lt s.level p && nat_lt s.outer p && nat_le p s.ceiling
 

@@ -83,7 +83,7 @@ task_text t =
     codes "task " ++ name_text t.name ++ options_text (task_options t) ++ arguments_text t.args ++ codes " "
     ++ block_text [] t.body.block ++ newline
 
--- the whole text
+-- the canonical text of an application
 abbrev pub canonical : App → List ℕ
 canonical a =
     head_text a ++ irqs_text a.irqs ++ mono_text a.mono ++ shared_text a.shared ++ locals_text a.locals

@@ -14,7 +14,7 @@ use Rattle.rt_ast.specs.declared.app.ListedTree.{ListedTree}
 use Rattle.rt_ast.specs.Tree.{Body, Task, App, Block}
 use Rattle.rt_ast.specs.PrintableBody.{IsPrintableName, IsPrintableNumber, ArePrintable, blocks_of, statements_of}
 
--- this of what is there
+-- a property holds of what is there
 abbrev pub IfThere : {A : Type 0} → (A → Type 0) → Option A → Type 0
 IfThere P None = Unit {0}
 IfThere P (Some x) = P x

@@ -20,7 +20,7 @@ pub record Entries : Type 0 where
   pub dispatcher : ℕ → ℕ
   pub timer : ℕ
 
--- that of a handler
+-- the address of the first instruction of a handler
 abbrev pub entry_of : Entries → Handler → ℕ
 entry_of at (Runs n) = at.task n
 entry_of at (Dispatches p) = at.dispatcher p

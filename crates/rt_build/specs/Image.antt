@@ -72,7 +72,8 @@ module _ (app : App) (at : Entries) where
         → StandsFrom (storage app) img.code bodies thread (AtLevel mono.priority) (length (memory app)) TIMER_WORDS
         at.timer (timer_cost app) (timer_doing app)
 
--- with entries that its tables lead to, and where its code stands
+-- An image of an application: for some entries its tables lead to them, its code stands at them, and the parts of the
+-- code lie in their order.
 pub record IsImageOf (app : App) (img : Image) : Type 0 where
   pub at : Entries
   pub tables : HasTables app at img

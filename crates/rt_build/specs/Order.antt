@@ -25,7 +25,7 @@ pub data Part : Type 0 where
   -- the timer handler
   OfTimer : Part
 
--- where a part begins
+-- the address where a part of the code begins
 abbrev pub begin_of : Entries → Part → ℕ
 begin_of at (OfBody body.Init) = 0
 begin_of at (OfBody body.Idle) = at.idle
@@ -44,7 +44,8 @@ abbrev pub IsIdleFormed : App → Option Body → ℕ → List Line → Type 0
 IsIdleFormed app None entry lines = lines ≡ plain instr.Wait ∷ []
 IsIdleFormed app (Some b) entry lines = HasForm app body.Idle entry lines
 
--- its lines from an address on, as far as they are fixed: those of a dispatcher and of the timer handler are not
+-- the lines of a part from an address on, as far as they are fixed: those of a dispatcher and of the timer handler are
+-- not
 abbrev pub IsFormed : App → Part → ℕ → List Line → Type 0
 IsFormed app (OfBody body.Init) entry lines = HasForm app body.Init entry lines
 IsFormed app (OfBody body.Idle) entry lines = IsIdleFormed app app.idle entry lines
@@ -66,7 +67,7 @@ timer_parts (Some mono) = OfTimer ∷ []
 abbrev pub fixed_parts : App → List Part
 fixed_parts app = OfBody body.Init ∷ OfBody body.Idle ∷ task_parts (λ t. not (is_software t)) 0 app.tasks
 
--- those behind them
+-- the parts behind those whose order is fixed
 abbrev pub free_parts : App → List Part
 free_parts app = task_parts is_software 0 app.tasks ++ (map OfLevel (levels app) ++ timer_parts app.mono)
 

@@ -61,7 +61,7 @@ done (instr.Call row s) time p = Leads p (request.Call row s)
 done instr.Back time p = Leads p request.Back
 done instr.Ret time p = Leads p request.Return
 
--- one instruction: of several traps the lowest number
+-- the effect of one instruction: of several traps the lowest number
 abbrev pub effect : Instr → ℕ → Processor → Effect
 effect i time p =
     if not (are_there (cells_of i p) p.cells) then Traps trap.Address

@@ -41,7 +41,7 @@ module _ (st : Storage) (code : List (Instr × Option Note)) (bodies : List Body
     pub on : let frame : List ℕ = stack.caller_frame s.slots (suc s.address) in
         later (record s { address = called.entry; slots = stack.body_frame frame called from; caller = Some frame })
 
-  -- and its end leads back there
+  -- the end of a called body leads back to the handler's frame, behind the call
   pub record ComesBack (t : ℕ) (s : Spot) (later : Spot → Type 0) : Type 0 where
     pub frame : List ℕ
     pub caller : s.caller ≡ Some frame

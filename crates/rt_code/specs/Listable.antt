@@ -85,7 +85,7 @@ HasNote names (Some (note.Move t s a)) = HasTask names t
 HasNote names (Some (note.End b)) = HasBody names b
 HasNote names None = Unit {0}
 
--- an image that its text tells from every other over the same names
+-- an image each of whose names is in the tables, and is one word of its text
 pub record IsListable (img : Image) : Type 0 where
   pub names : AreWritable img.names
   -- the name of a cell is one word

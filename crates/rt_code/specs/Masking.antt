@@ -60,7 +60,7 @@ module _ (st : Storage) (who : Runner) where
   NobodyKeeps (AtLevel p) x =
       (q : ℕ) → (st.is_kept (AtLevel q) (Guarded x) ≡ false) × (st.is_constant (AtLevel q) (Guarded x) ≡ false)
 
-  -- behind the opening of a section, with memory and queues as they then are
+  -- the job behind the opening of a section, with memory and queues as they then are
   abbrev pub inside : Section → Kind → ℕ → ℕ → Doing Values → List ℕ → (Holder → List Entry) → Spot → Spot
   inside x kind saved cost rest cells queues s = record s {
     held = record { section = x; kind = kind } ∷ s.held;

@@ -64,7 +64,7 @@ module _ (st : Storage) (code : List (Instr × Option Note)) (bodies : List Body
   Asks request.Back None s later = ⊥
   Asks asked (Some told) s later = ⊥
 
-  -- it does not trap, and leaves the masks and what sections saved
+  -- an instruction with this effect does not trap, and leaves the masks and what sections saved
   abbrev pub Goes : Option Note → ℕ → Bool → Spot → (Spot → Type 0) → Effect → Type 0
   Goes told basepri primask s later (Traps trap) = ⊥
   Goes told basepri primask s later (Leads p asked) =

@@ -12,7 +12,7 @@ use Rattle.rt_code.specs.declared.image.BodyRow.{BodyRow}
 use Rattle.rt_code.specs.declared.instr.Instr.{Instr}
 use Rattle.rt_code.specs.declared.instr.Note.{Note}
 
--- one number for another, none of them less
+-- two lists of one length, the second of which is nowhere less
 abbrev pub AreAtLeast : List ℕ → List ℕ → Type 0
 AreAtLeast [] [] = Unit {0}
 AreAtLeast (n ∷ ns) (m ∷ ms) = (n ≤ m) × AreAtLeast ns ms
@@ -25,7 +25,7 @@ IsSpelledBy st h entries c =
     (st.home c ≡ At h)
     ⊎ (((who : Runner) → st.is_kept who h ≡ false) × ((e : Entry) × (st.home c ≡ In e) × (0 < count e entries)))
 
--- what cells spell for a holder goes by the holder's own cells alone
+-- what cells spell for a holder stays the same where the cells that it goes by do
 abbrev pub SpellsByItsOwn : Storage → Type 0
 SpellsByItsOwn st = (h : Holder) (before after : ℕ → ℕ) (entries : List Entry) (content : Content)
     → ((c : ℕ) → IsSpelledBy st h entries c → after c ≡ before c)

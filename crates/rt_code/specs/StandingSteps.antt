@@ -51,7 +51,7 @@ module _ (st : Storage) (code : List (Instr × Option Note)) (bodies : List Body
     pub opens : i ≡ opening (st.value (st.ceiling x)) kind
     pub slot : AllByRecursion (λ d. (d < length s.slots) × (¬ Contains (saved_slots s.held) d)) (saved_slot kind)
 
-  -- and the innermost one closes by the kind that it opened by
+  -- the innermost section closes by the kind that it opened by
   pub record ClosesByKind (x : Section) (i : Instr) : Type 0 where
     pub kind : Kind
     pub outer : List Held

@@ -28,11 +28,12 @@ resumed f found = (record f { slots = found.0.slots; caller = found.0.caller; be
 abbrev pub left : Frames → Option (Frames × ℕ)
 left f = option_map (resumed f) (stack.interrupted f.caller f.below)
 
--- whether what runs may call a body
+-- whether what runs may call a body: it is a handler's own code, whose frame has a slot for the return address
 abbrev pub may_call : Frames → Bool
 may_call f = stack.may_call f.caller f.slots f.below
 
--- whether the arguments of a body are in the running frame, from this slot on, and its own frame has room
+-- whether the arguments of a body are in the running frame, from this slot on, and fit into the body's own, for which
+-- there is room
 abbrev pub call_fits : Frames → BodyRow → ℕ → Bool
 call_fits f row from = stack.arguments_fit f.slots row from && has_room f row.frame
 

@@ -42,14 +42,14 @@ at_address c address = with_processor c (record c.processor { address = address 
 abbrev pub served : Core → ℕ → Core
 served c address = with_processor c (record c.processor { address = address; primask = false })
 
--- behind a called body, in its handler's frame
+-- the core behind a called body, in its handler's frame
 abbrev pub in_frame : Core → List ℕ → Core
 in_frame c frame = record c {
   processor = record c.processor { address = stack.return_address frame; slots = frame };
   caller = None;
 }
 
--- behind a handler, where it interrupted what runs on
+-- the core behind a handler, where it interrupted what runs on
 abbrev pub in_context : Core → Context → List Context → Core
 in_context c x others = record c {
   processor = record c.processor { address = x.address; slots = x.slots };

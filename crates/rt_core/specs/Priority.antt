@@ -27,15 +27,15 @@ base_value basepri = if basepri == 0 then THREAD_VALUE else basepri
 abbrev pub mask_value : Bool → ℕ
 mask_value primask = if primask then 0 else THREAD_VALUE
 
--- the execution priority
+-- the execution priority: the most urgent of what runs, BASEPRI and PRIMASK
 abbrev pub execution : Core → ℕ
 execution c = min (running_value c.below) (min (base_value c.processor.basepri) (mask_value c.processor.primask))
 
--- pending, enabled and of a priority strictly higher than the execution priority
+-- an interrupt is pending, enabled and of a priority strictly higher than the execution priority
 abbrev pub can_preempt : Core → IrqRow → Bool
 can_preempt c row = slice_index_or c.pending row.number false && nat_lt (value_or_none row.handler) (execution c)
 
--- of a higher priority, and of equal ones with the lower exception number
+-- an interrupt is of a higher priority than another, or of an equal one with the lower exception number
 abbrev pub precedes : IrqRow → IrqRow → Bool
 precedes row other =
     nat_lt (value_or_none row.handler) (value_or_none other.handler)

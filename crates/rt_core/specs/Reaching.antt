@@ -9,7 +9,7 @@ use Rattle.rt_core.specs.Core.{Core}
 use Rattle.rt_core.specs.Machine.{Machine}
 use Rattle.rt_core.specs.Trace.{core_after, labels}
 
--- so many steps, and one more where there is an item
+-- so many silent steps, and one more where there is an item
 abbrev pub and_the_last : ℕ → Option What → ℕ
 and_the_last silent None = silent
 and_the_last silent (Some w) = suc silent

@@ -36,7 +36,7 @@ module _ (img : Image) (st : Storage) (thread : ℕ) (who : Runner) (c : Core) (
   abbrev pub ActsBehind : Processor → Action → ℕ → Type 0
   ActsBehind p action answer = Acts st img.bodies who action answer (moved (passed s) p) later
 
-  -- this action is the end of the job, and the job is where it may end
+  -- this action ends the job here, with no section open and nothing in its hands
   abbrev pub EndsHere : Action → Type 0
   EndsHere action = Finishes st img.code img.bodies thread who action (passed s)
 

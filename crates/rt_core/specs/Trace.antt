@@ -30,6 +30,7 @@ unfoldable pub core_after : Image → Core → List Event → Core
 core_after img c [] = c
 core_after img c (e ∷ events) = core_after img (happen img c e).0 events
 
+-- what events show, label by label
 unfoldable pub labels : Image → Core → List Event → List Label
 labels img c [] = []
 labels img c (e ∷ events) = (happen img c e).1 ++ labels img (happen img c e).0 events

@@ -19,7 +19,7 @@ has_room img c n = stack.has_room (img.stack_bytes / 4) (used img c) n
 abbrev pub pended : Core → ℕ → Core
 pended c irq = record c { pending = slice_set c.pending irq true }
 
--- exception entry
+-- the core behind exception entry (ARMv7-M Architecture Reference Manual, section B1.5.6)
 abbrev pub entered : Core → ℕ → Handler → Core
 entered c irq h = record c {
   pending = slice_set c.pending irq false;
@@ -38,7 +38,7 @@ enter img c irq (Some h) =
     if has_room img c (entry_words img + h.frame)
     then Done (entered c irq h) (Some (what.Take irq (depth img (entered c irq h)))) else Trapped c trap.Stack
 
--- exception return: what was interrupted runs on
+-- the core behind exception return (section B1.5.8): what was interrupted runs on
 abbrev pub resumed : Core → Option (Context × List Context) → Outcome
 resumed c None = Trapped c trap.Stack
 resumed c (Some found) =
@@ -50,11 +50,12 @@ resumed c (Some found) =
 abbrev pub return : Core → Outcome
 return c = resumed c (stack.interrupted c.caller c.below)
 
--- whether what runs may call a body
+-- whether what runs may call a body: it is a handler's own code, whose frame has a slot for the return address
 abbrev pub may_call : Core → Bool
 may_call c = stack.may_call c.caller c.processor.slots c.below
 
--- whether the arguments of a body are in the frame, from this slot on, and its own frame has room
+-- whether the arguments of a body are in the frame, from this slot on, and fit into the body's own, for which there is
+-- room
 abbrev pub call_fits : Image → Core → BodyRow → ℕ → Bool
 call_fits img c row from = stack.arguments_fit c.processor.slots row from && has_room img c row.frame
 

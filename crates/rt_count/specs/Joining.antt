@@ -2,7 +2,7 @@
 use Rattle.std.specs.Prelude.{ℕ, ◌+◌, ◌%◌, ◌<◌, ◌≤◌, ◌^◌, max}
 use Rattle.rt_count.specs.declared.summary.Summary.{Summary}
 
--- of some runs and of other runs behind them
+-- the summary of some runs and of other runs behind them, of which these are the summaries
 abbrev pub joined : Summary → Summary → Summary
 joined s t = record {
   runs = s.runs + t.runs;

@@ -32,7 +32,7 @@ abbrev pub depth_of : What → ℕ
 depth_of (what.Take irq depth) = depth
 depth_of w = 0
 
--- of so many runs, which show these items one run after another
+-- the summary of so many runs, which show these items one run after another
 abbrev pub summary_of : ℕ → List Item → Summary
 summary_of runs items = record {
   runs = runs;

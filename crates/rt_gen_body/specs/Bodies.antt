@@ -20,7 +20,7 @@ use Rattle.rt_code.specs.declared.image.BodyRow.{BodyRow}
 use Rattle.rt_gen_queue.specs.Line.{Line}
 use Rattle.rt_gen_queue.specs.Called.{row_for, CalledBodyStands}
 
--- of a task that is bound to an interrupt, wherever the thread goes on
+-- the code of a task that is bound to an interrupt stands at an address, wherever the thread goes on
 abbrev pub TaskStands : App → ℕ → Option Task → List Line → ℕ → Type 0
 TaskStands app n None code entry = ⊥
 TaskStands app n (Some t) code entry =
@@ -28,14 +28,14 @@ TaskStands app n (Some t) code entry =
     → StandsFrom (storage app) code bodies thread (AtLevel t.priority) (length (memory app))
     (frame_words t.args t.body) entry (body_cost (cost_measure app) t.body) (task_doing app n [] (act Returns nothing))
 
--- of a task that is declared: in its interrupt, or where its level's dispatcher calls it
+-- the code of a declared task stands at an address: in its interrupt, or where its level's dispatcher calls it
 pub record DeclaredStands (app : App) (n : ℕ) (code : List Line) (entry : ℕ) : Type 0 where
   pub bound : (t : Task) → slice_get app.tasks n ≡ Some t → is_software t ≡ false → TaskStands app n (Some t) code entry
   pub called : (t : Task) → slice_get app.tasks n ≡ Some t → is_software t ≡ true
       → CalledBodyStands app n code (row_for (λ k. entry) n t)
 
--- in this code, which goes as far as the end of the body, and with more behind it: `init` leads to what stands behind
--- it, and `idle` to its own entry
+-- A body stands in this code, which goes as far as its end, and with more behind it: `init` leads to what stands behind
+-- it, and `idle` to its own entry.
 abbrev pub BodyStands : App → BodyId → List Line → ℕ → Type 0
 BodyStands app body.Init code entry =
     (more : List Line) (bodies : List BodyRow)

@@ -32,7 +32,7 @@ fixed_block app (Then (Pend irq) rest) =
     option_map (λ lines. plain (instr.Post (or_zero (irq_number app irq))) ∷ lines) (fixed_block app rest)
 fixed_block app (Then other rest) = None
 
--- likewise of a body without arguments, before its end; a body that is not declared has none
+-- the lines of such a body without arguments, before its end; a body that is not declared has none
 abbrev pub fixed_body : App → Option Member → Option (List Line)
 fixed_body app None = Some []
 fixed_body app (Some m) = if m.args == 0 then fixed_block app m.body.block else None

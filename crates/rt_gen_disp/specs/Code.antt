@@ -84,12 +84,12 @@ last_from level found n [] = found
 last_from level found n (t ∷ more) = last_from level (if is_of_level level t then n else found) (n + 1) more
 
 module _ (app : App) (level : ℕ) (exit : Exit) where
-  -- from an address on: a task of the level
+  -- the code of the choice of a task of the level, from an address on
   abbrev pub choice_code : ℕ → ℕ → ℕ → Task → List Line
   choice_code at n row t =
       choice_lines (queue_at app level) (called_at app n row t) (next_for exit n (at + (17 + t.args))) at
 
-  -- from an address on: the tasks of the level among these, the first of which has this number, with the rows of
+  -- the code of the choices among these tasks, the first of which has this number, from an address on, with the rows of
   -- software tasks from another on
   abbrev pub choices_code : ℕ → ℕ → ℕ → List Task → List Line
   choices_code at n row [] = []
@@ -102,7 +102,7 @@ module _ (app : App) (level : ℕ) (exit : Exit) where
 abbrev pub exit_of : App → ℕ → ℕ → Exit
 exit_of app level at = record { address = at + 4; last = last_from level 0 0 app.tasks }
 
--- all of it, from an address on
+-- the code of the dispatcher of a level, from an address on
 abbrev pub dispatcher_code : App → ℕ → ℕ → List Line
 dispatcher_code app level at =
     front_lines (queue_at app level) at ++ choices_code app level (exit_of app level at) (at + 18) 0 0 app.tasks

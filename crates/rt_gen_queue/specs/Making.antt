@@ -6,6 +6,6 @@ use Rattle.rt_gen_queue.specs.Line.{Line}
 pub record Made : Type 0 where
   pub lines : List Line
 
--- it is longer by these lines
+-- what is made is longer by these lines
 abbrev pub Appends : Made → Made → List Line → Type 0
 Appends before after lines = after ≡ record { lines = before.lines ++ lines }

@@ -45,6 +45,6 @@ module _ (app : App) where
   abbrev pub end_code : ℕ → ℕ → ℕ → ℕ → List Line
   end_code task level slot end = end_lines (target_of task) level slot end
 
-  -- All of it, from an address on: 28 lines, and one for each argument.
+  -- the code of a spawn, from an address on: 28 lines, and one for each argument
   abbrev pub spawn_code : ℕ → ℕ → ℕ → ℕ → List Line
   spawn_code task level slot at = spawn_lines (target_of task) level slot at

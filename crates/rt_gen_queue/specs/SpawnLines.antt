@@ -31,7 +31,7 @@ module _ (c : Target) (level slot : ℕ) where
       ∷ noted (instr.LoadAt (slot + 6) (c.free + 1) (slot + 4)) (note.Placed c.task)
       ∷ leave_line (section.Free c.task) c.guard level (slot + 8) ∷ []
 
-  -- its arguments into its cells, and the word of its message
+  -- the arguments go into the cells of the place, and the word of the message is made
   abbrev pub fill_lines : List Line
   fill_lines =
       plain (instr.Set (slot + 7) c.args)
@@ -63,7 +63,7 @@ module _ (c : Target) (level slot : ℕ) where
       ∷ noted (instr.Set slot 0) (note.Full c.task)
       ∷ leave_line (section.Free c.task) c.guard level (slot + 8) ∷ []
 
-  -- all of it, from an address on
+  -- the lines of a spawn, from an address on
   abbrev pub spawn_lines : ℕ → List Line
   spawn_lines at =
       let full : ℕ = at + (26 + c.args) in

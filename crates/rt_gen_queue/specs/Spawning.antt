@@ -55,7 +55,7 @@ module _ (app : App) (who : Runner) where
     pub own : LeavesMine (storage app) who s cells queues
     pub agree : Agree (storage app) who s.held ws vs
 
-  -- where it then is, with this left to do
+  -- where a job is behind these lines of a spawn, with this left to do
   abbrev pub behind : Spot → List Line → ℕ → List ℕ → List ℕ → (Holder → List Entry) → Rest → Values → Spot
   behind s lines used slots cells queues rest ws = record s {
     lefts = map (λ n. n - used) s.lefts;

@@ -292,7 +292,7 @@ module _ (q : TimerQueue) (slot : ℕ) where
     abbrev pub open_lines : List Line
     open_lines = enter_timer ∷ (constant_lines ++ load COUNT q.at ∷ copy HOLE COUNT ∷ [])
 
-    -- and the message of a task whose handle is in a slot is looked for. 17 lines.
+    -- the section opens, and the message of a task whose handle is in a slot is looked for. 17 lines.
     abbrev pub find_lines : ArmedTask → ℕ → ℕ → ℕ → List Line
     find_lines a handle missing at =
         open_lines ++ (search_lines handle missing (at + 5) ++ own_lines a missing)

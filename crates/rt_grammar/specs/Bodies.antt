@@ -29,7 +29,7 @@ thread_body most owner text = or_else None (do
   b ← block most most 1 0
   gives (Some (body_of o b.0 at)))
 
--- one more argument
+-- one more argument of a task, behind these
 abbrev pub argument : List Ident → Language (List Ident)
 argument xs = do
   sign (codes ",")

@@ -31,7 +31,7 @@ fpu = or_else false (do
   this_name (codes "on")
   gives true)
 
--- the first declaration
+-- what the first declaration says
 pub record Head : Type 0 where
   pub name : Ident
   pub bits : ℕ

@@ -56,7 +56,7 @@ chain signs operand = do
   first ← operand
   repeat (λ left. do o ← operator signs; right ← operand; gives (joined o left right)) first
 
--- of these strengths, the weakest outermost
+-- operands with operators of these strengths between them, the weakest outermost
 abbrev pub chains : List Signs → Language Operand → Language Operand
 chains [] atom = atom
 chains (signs ∷ stronger) atom = chain signs (chains stronger atom)

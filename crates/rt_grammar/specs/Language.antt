@@ -19,13 +19,13 @@ abbrev pub ◌>>=◌ : {A B : Type 0} → Language A → (A → Language B) → 
 (first >>= next) marks y =
     (x : _) × (front : List Mark) × (back : List Mark) × first front x × next x back y × (marks ≡ front ++ back)
 
-infixl 10 ◌>>◌
 -- a form, and behind it another, which alone has a meaning
+infixl 10 ◌>>◌
 abbrev pub ◌>>◌ : {A B : Type 0} → Language A → Language B → Language B
 first >> next = first >>= λ _. next
 
-infixr 8 ◌or◌
 -- a choice: one form, or the other
+infixr 8 ◌or◌
 abbrev pub ◌or◌ : {A : Type 0} → Language A → Language A → Language A
 (one or other) marks x = one marks x ⊎ other marks x
 

@@ -65,7 +65,7 @@ abbrev pub block_of : List Statement → Block
 block_of [] = Empty
 block_of (s ∷ statements) = Then s (block_of statements)
 
--- one more statement
+-- one more statement behind those so far
 abbrev pub one_more : ℕ → Blocks → Blocks → ℕ → Counted (List Statement) → Language (Counted (List Statement))
 one_more most block inside nesting so_far = do
   s ← statement most block inside nesting so_far.1

@@ -18,7 +18,7 @@ use Rattle.rt_grammar.specs.Language.{Language}
 use Rattle.rt_grammar.specs.Declaration.{application}
 use Rattle.rt_grammar.specs.Reach.{Fits, Reaches}
 
--- the grammar
+-- the grammar of application texts
 abbrev pub text : Language App
 text marks app = (most : ℕ) × application most marks app
 

@@ -22,7 +22,7 @@ arrivals_below k bits places = map (λ bit. 32 * k + bit) (filter (λ bit. bit_a
 abbrev pub arrivals : ℕ → ℕ → List ℕ
 arrivals k bits = arrivals_below k bits 32
 
--- with these pending too
+-- the pending interrupts with these too
 abbrev pub pended : List ℕ → List Bool → List Bool
 pended [] pending = pending
 pended (irq ∷ irqs) pending = pended irqs (slice_set pending irq true)

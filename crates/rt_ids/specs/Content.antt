@@ -61,7 +61,7 @@ timed (Number n) = nothing_armed
 timed (Messages messages) = nothing_armed
 timed (Delays t) = t
 
--- its armed messages
+-- the armed messages of a content
 abbrev pub delays : Content → List Armed
 delays content = (timed content).armed
 

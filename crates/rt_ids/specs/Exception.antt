@@ -4,6 +4,6 @@
 use Rattle.std.specs.Prelude.{ℕ, Bool, if◌then◌else◌}
 use Rattle.rt_ids.specs.declared.exception.TheConstants.{BASIC_FRAME_WORDS, EXTENDED_FRAME_WORDS}
 
--- in words, with the floating-point extension or without it
+-- the words that exception entry pushes, with the floating-point extension or without it
 abbrev pub entry_words : Bool → ℕ
 entry_words fpu = if fpu then EXTENDED_FRAME_WORDS else BASIC_FRAME_WORDS

@@ -7,7 +7,7 @@ use Rattle.rt_ids.specs.declared.limits.TheConstants.{NAME_BYTES, STATEMENTS, BO
 use Rattle.rt_ids.specs.declared.limits.TheConstants.{MOST_BITS}
 use Rattle.rt_ids.specs.declared.exception.TheConstants.{BASIC_FRAME_WORDS, EXTENDED_FRAME_WORDS}
 
--- of application texts, scripts, traces and applications
+-- the limits of application texts, scripts, traces and applications, as numbers
 pub record TellLimits : Type 0 where
   pub text_bytes : TEXT_BYTES ≡ 262144
   pub script_bytes : SCRIPT_BYTES ≡ 1048576
@@ -34,7 +34,7 @@ pub record TellLimits : Type 0 where
   pub least_bits : LEAST_BITS ≡ 3
   pub most_bits : MOST_BITS ≡ 7
 
--- and of exception frames
+-- the sizes of exception frames, as numbers of words
 pub record TellFrames : Type 0 where
   pub basic : BASIC_FRAME_WORDS ≡ 8
   pub extended : EXTENDED_FRAME_WORDS ≡ 26

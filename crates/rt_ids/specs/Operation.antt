@@ -11,7 +11,7 @@ use Rattle.rt_ids.specs.declared.op.Op.TheVariants as op
 abbrev pub wrapped : ℕ → ℕ
 wrapped n = n % 2 ^ 32
 
--- 1 for true
+-- a test as a number: 1 for true, and 0 for false
 abbrev pub number_of : Bool → ℕ
 number_of holds = if holds then 1 else 0
 

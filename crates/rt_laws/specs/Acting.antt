@@ -42,7 +42,7 @@ module _ (app : App) (s : State) (job : Job) (others : List Job) where
   abbrev pub runs_on : Job → Values → State
   runs_on j vs = record s { jobs = j ∷ others; values = reached j.rest vs }
 
-  -- behind an action, with these values, it has this left to do
+  -- the state behind an action, with these values, where the job has this left to do
   abbrev pub changed : Action → Values → Doing Values → State
   changed (Enters x cost) vs rest =
       runs_on (record (spent job) {

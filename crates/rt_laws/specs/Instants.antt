@@ -56,7 +56,8 @@ abbrev pub NextMovesLast : App → State → Type 0
 NextMovesLast app s = (t h i : ℕ) → May app s (Stepped (Some (what.Move t h i)))
     → MovesLast s (after app s (Stepped (Some (what.Move t h i)))) t h i
 
--- at every moment of a run of an accepted application; and which of the armed messages is the least, which fires
+-- at every moment of a run of an accepted application armings and moves put their messages last; and of the armed
+-- messages the one that fires is the first of the least instant
 pub record EqualInstantsFireInOrder : Type 0 where
   pub arm : (app : App) → IsAccepted app → (labels : List Label) → RunsOn app (first app) labels
       → NextArmsLast app (after_all app (first app) labels)

@@ -18,7 +18,7 @@ abbrev pub RunsKeepLaws : Type 0
 RunsKeepLaws = (app : App) → IsAccepted app → (labels : List Label) → RunsOn app (first app) labels
     → KeepsLaws app labels
 
--- so does every trace that is judged right
+-- in every trace that is judged right the three properties hold too
 abbrev pub JudgedTracesKeepLaws : Type 0
 JudgedTracesKeepLaws =
     (app : App) (trace : Trace) → IsAccepted app → (judged : Judged app trace) → KeepsLaws app judged.run.labels
@@ -57,7 +57,7 @@ RunsServeReady =
     (app : App) → IsAccepted app → (labels : List Label) → RunsOn app (first app) labels
     → ServesReady app (after_all app (first app) labels)
 
--- and so are messages that are due
+-- messages that are due are served: see `Served`
 abbrev pub RunsServeDue : Type 0
 RunsServeDue =
     (app : App) → IsAccepted app → (labels : List Label) → RunsOn app (first app) labels

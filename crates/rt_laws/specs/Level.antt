@@ -23,7 +23,7 @@ level app jobs = greatest (map (λ job. max job.priority (greatest_ceiling app j
 abbrev pub may_start : App → State → ℕ → Bool
 may_start app s irq = slice_index_or s.pending irq false && nat_lt (level app s.jobs) (priority_of app irq)
 
--- of a greater priority, and of equal ones with the lower number
+-- an interrupt is of a greater priority than another, or of an equal one with the lower number
 abbrev pub goes_before : App → ℕ → ℕ → Bool
 goes_before app irq other =
     nat_lt (priority_of app other) (priority_of app irq)
@@ -33,12 +33,13 @@ goes_before app irq other =
 abbrev pub candidate : App → State → Option ℕ
 candidate app s = best (may_start app s) (goes_before app) (map (λ d. d.number) app.irqs)
 
--- of a greater priority, or of an equal one and no greater number
+-- an interrupt is of a greater priority than another, or of an equal one and no greater number
 abbrev pub IsNoLater : App → ℕ → ℕ → Type 0
 IsNoLater app irq other =
     (priority_of app other < priority_of app irq) ⊎ ((priority_of app irq ≡ priority_of app other) × (irq ≤ other))
 
--- of those that may start it is the one of greatest priority, and of equal ones the one with the lowest number
+-- the candidate is, of the interrupts that may start, the one of greatest priority, and of equal ones the one with the
+-- lowest number
 abbrev pub CandidateIsHighest : Type 0
 CandidateIsHighest = (app : App) (s : State)
     → IsBest (may_start app s) (IsNoLater app) (map (λ d. d.number) app.irqs) (candidate app s)

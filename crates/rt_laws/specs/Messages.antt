@@ -27,7 +27,7 @@ pub record KeepsMessages (app : App) (labels : List Label) : Type 0 where
   pub ready_served : (n : ℕ) → ServesReady app (state_at app labels n)
   pub due_served : (n : ℕ) → ServesDue app (state_at app labels n)
 
--- so does every run of an accepted application
+-- every run of an accepted application keeps its messages so
 abbrev pub RunsKeepMessages : Type 0
 RunsKeepMessages =
     (app : App) → IsAccepted app → (labels : List Label) → RunsOn app (first app) labels → KeepsMessages app labels

@@ -30,7 +30,7 @@ hand_behind hand (what.Arm t instant) = None
 hand_behind hand (what.Free t) = None
 hand_behind hand w = hand
 
--- of the jobs that have started, the last started first; the first of them runs
+-- the hands of the started jobs, the last started first, behind an item of the first of them, which runs
 abbrev pub on_first : What → List Hand → List Hand
 on_first w [] = []
 on_first w (hand ∷ hands) = hand_behind hand w ∷ hands
@@ -42,7 +42,7 @@ hands_behind hands (Stepped (Some (what.Ret irq))) = drop 1 hands
 hands_behind hands (Stepped (Some w)) = on_first w hands
 hands_behind hands label = hands
 
--- behind labels, from the thread alone, whose hands are empty, on
+-- the hands of the started jobs behind labels, from these hands on
 abbrev pub hands_from : List Hand → List Label → List Hand
 hands_from hands [] = hands
 hands_from hands (label ∷ labels) = hands_from (hands_behind hands label) labels

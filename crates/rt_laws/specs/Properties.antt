@@ -11,7 +11,7 @@ use Rattle.rt_app.specs.Tree.{App}
 use Rattle.rt_laws.specs.Sight.{Seen, Sight, first_sight, sees}
 use Rattle.rt_laws.specs.Waiting.{WaitsWell, ServesWell}
 
--- at each label, by what is seen before it and by the labels behind it
+-- a property holds at each label, of what is seen before it and of the labels behind it
 abbrev pub AtEach : (Sight → Label → List Label → Type 0) → App → Sight → List Label → Type 0
 AtEach P app v [] = Unit {0}
 AtEach P app v (label ∷ labels) = P v label labels × AtEach P app (sees app v label) labels
@@ -35,7 +35,7 @@ Exclusive app labels = AtEach (λ v label behind. AreExclusive (sees app v label
 abbrev pub NeverWaits : App → List Label → Type 0
 NeverWaits app labels = AtEach (λ v label behind. FindsFree v label) app (first_sight app) labels
 
--- bounded blocking: an interrupt waits for one section of one lower job at most, and once started for none
+-- bounded blocking: an interrupt waits for one section of one lower job at most, and from its take on for none
 abbrev pub OneSection : App → List Label → Type 0
 OneSection app labels = AtEach (λ v label behind. WaitsWell app v label behind × ServesWell app v label behind) app
     (first_sight app) labels

@@ -28,7 +28,7 @@ queue_of (Cancels n h) = Some section.Timer
 queue_of (Moves n h i) = Some section.Timer
 queue_of action = None
 
--- it is done inside that section
+-- an action is done inside the section of its queue
 abbrev pub InQueue : List Section → Action → Type 0
 InQueue sections action = IfSome (queue_of action) (λ x. IsIn sections x)
 
@@ -36,7 +36,7 @@ InQueue sections action = IfSome (queue_of action) (λ x. IsIn sections x)
 abbrev pub HasHandle : ℕ → ℕ → Values → Type 0
 HasHandle n h vs = (a : Armed) × (armed_as n h (delays (vs (Guarded section.Timer))) ≡ Some a)
 
--- at a time, with these contents
+-- an action keeps the order of its queue, at a time and with these contents
 abbrev pub KeepsOrder : App → ℕ → Values → Action → Type 0
 KeepsOrder app time vs (Takes n) = number (vs (Guarded (section.Free n))) < capacity_of app n
 KeepsOrder app time vs (Refuses n) = number (vs (Guarded (section.Free n))) ≡ capacity_of app n

@@ -48,7 +48,7 @@ ServesLevel app s p =
     ¬ (messages (s.values (Guarded (section.Ready p))) ≡ []) → ¬ IsOpen s.jobs (section.Ready p)
     → IsServed s (dispatcher_number app p) (section.Ready p) (dispatcher_section_cost app p)
 
--- so does each level of software tasks
+-- each level of software tasks serves its ready messages
 abbrev pub ServesReady : App → State → Type 0
 ServesReady app s = (p : ℕ) → Contains (levels app) p → ServesLevel app s p
 

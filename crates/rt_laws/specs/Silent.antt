@@ -13,12 +13,12 @@ abbrev pub HasSteps : Role → ℕ → ℕ → Type 0
 HasSteps Waiting left k = Unit {0}
 HasSteps role left k = k ≤ left
 
--- so have the running job and its open sections
+-- the running job and its open sections have so many steps left
 abbrev pub MaySpend : ℕ → List Job → Type 0
 MaySpend k [] = ⊥
 MaySpend k (job ∷ others) = HasSteps job.role job.left k × AllByRecursion (λ n. k ≤ n) job.lefts
 
--- so many steps are spent
+-- a job of which so many steps are spent
 abbrev pub spent_by : ℕ → Job → Job
 spent_by k job = record job { left = job.left - k; lefts = map (λ n. n - k) job.lefts }
 

@@ -13,6 +13,6 @@ use Rattle.rt_laws.specs.Messages.{state_at}
 abbrev pub AreUnspent : List Job → Type 0
 AreUnspent jobs = AllByRecursion (λ job. HasStep job.role job.left) jobs
 
--- so have the started jobs at every moment of a run
+-- the started jobs have a core step of their costs left at every moment of a run
 abbrev pub NoneIsSpent : App → List Label → Type 0
 NoneIsSpent app labels = (n : ℕ) → AreUnspent (state_at app labels n).jobs

@@ -11,7 +11,7 @@ use Rattle.rt_lex.specs.Spelling.{is_long_sign, is_short_sign}
 use Rattle.rt_ids.specs.Word.{is_word, is_identifier}
 use Rattle.rt_lex.specs.Token.{Token}
 
--- at least one byte, all of which pass
+-- a text of at least one byte, all of which pass
 abbrev pub is_run : (ℕ → Bool) → List ℕ → Bool
 is_run passes [] = false
 is_run passes (b ∷ text) = passes b && list_all passes text

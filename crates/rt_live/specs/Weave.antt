@@ -45,7 +45,7 @@ abbrev pub latches_from : ℕ → List ℕ → List Call
 latches_from k [] = []
 latches_from k (word ∷ words) = Latch k word ∷ latches_from (suc k) words
 
--- those of a whole look, from word 0 up
+-- the calls of a whole look that found these words, from word 0 up
 abbrev pub latches : List ℕ → List Call
 latches words = latches_from 0 words
 

@@ -8,7 +8,7 @@ use Rattle.rt_script.specs.declared.line.Line.{Line}
 use Rattle.rt_trace.specs.Text.{trace_text}
 use Rattle.rt_live.specs.Weave.{turns, weave}
 
--- of an image, under the lines of a script, where the looks found these words
+-- the text of the trace of an image, under the lines of a script, where the looks found these words
 abbrev pub live_text : Image → List Line → List (List ℕ) → List ℕ
 live_text img script found =
     trace_text img.names (record {

@@ -34,7 +34,7 @@ pub record Begins (front : List ℕ) : Type 0 where
 abbrev pub ended : List ℕ → List ℕ
 ended line = line ++ 10 ∷ []
 
--- one line
+-- bytes without a line feed, as one line
 abbrev pub IsLine : List ℕ → Type 0
 IsLine line = AllByRecursion (λ byte. byte ≢ 10) line
 

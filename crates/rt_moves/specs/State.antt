@@ -25,7 +25,7 @@ pub record IsEarly (s : Held) : Type 0 where
   pub time : s.time < 2 ^ 32 - 1
   pub store : HasRoom s.store
 
--- with these jobs
+-- a state with these jobs
 abbrev pub with_jobs : Held → List laws.Job → laws.State
 with_jobs s jobs = record {
   jobs = jobs;

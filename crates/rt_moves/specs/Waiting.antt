@@ -6,7 +6,7 @@ use Rattle.rt_app.specs.Tree.{App}
 use Rattle.rt_laws.specs.Level.{goes_before}
 use Rattle.rt_laws.specs.Services.{priority_of}
 
--- with one more, in front of the first that it beats
+-- a list with one item more, in front of the first that it beats
 abbrev pub placed : {A : Type 0} → (A → A → Bool) → A → List A → List A
 placed beats x [] = x ∷ []
 placed beats x (y ∷ ys) = if beats x y then x ∷ y ∷ ys else y ∷ placed beats x ys
@@ -17,10 +17,10 @@ ordered passes beats [] = []
 ordered passes beats (x ∷ xs) =
     if passes x then placed beats x (ordered passes beats xs) else ordered passes beats xs
 
--- it is pending, and something serves it
+-- whether an interrupt is pending, and something serves it
 abbrev pub waits : App → List Bool → ℕ → Bool
 waits app pending irq = slice_index_or pending irq false && nat_lt 0 (priority_of app irq)
 
--- those of the declared interrupts, the one that would be taken first in front
+-- the declared interrupts that are pending and served, the one that would be taken first in front
 unfoldable pub waiting_of : App → List Bool → List ℕ
 waiting_of app pending = ordered (waits app pending) (goes_before app) (map (λ d. d.number) app.irqs)

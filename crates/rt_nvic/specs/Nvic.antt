@@ -33,7 +33,7 @@ is_pending n irq = slice_index_or n.pending irq false
 abbrev pub priority_of : Nvic → ℕ → Option ℕ
 priority_of n irq = slice_index_or n.priorities irq None
 
--- and that of the thread for one that is not enabled
+-- the priority value of an interrupt, and that of the thread for one that is not enabled
 abbrev pub value_of : Nvic → ℕ → ℕ
 value_of n irq = unwrap_or (priority_of n irq) THREAD_VALUE
 

@@ -18,10 +18,10 @@ pub record Store : Type 0 where
   pub fails : List ℕ
   pub faults : ℕ
 
--- one more, and the same at the end of 32 bits
+-- a count of calls with one more, and the same at the end of 32 bits
 abbrev pub next_call : ℕ → ℕ
 next_call calls = min (calls + 1) (2 ^ 32 - 1)
 
--- one more, and the same at the end of 64 bits
+-- a count of faults with one more, and the same at the end of 64 bits
 abbrev pub next_fault : ℕ → ℕ
 next_fault faults = min (faults + 1) (2 ^ 64 - 1)

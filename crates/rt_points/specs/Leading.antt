@@ -51,7 +51,7 @@ pub record LeadsTo (img : Image) (p q : Point) : Type 0 where
   pub owner : q.owner ≡ owner_after line.0 p.owner
   pub inside : q.inside ≡ inside_after line.0 line.1 p.inside
 
--- where someone begins: with nothing open
+-- the point where someone begins, with nothing open
 abbrev pub starts_at : ℕ → Owner → Point
 starts_at address owner = record { address = address; owner = owner; inside = [] }
 

@@ -87,7 +87,7 @@ opens (instr.Raise d v) = true
 opens (instr.Mask d) = true
 opens i = false
 
--- and left on the one that undoes how it was entered
+-- the instruction on which a section is left: the one that undoes how it was entered
 abbrev pub closing : Kind → Instr
 closing Mark = instr.Mark
 closing (Raise slot value) = instr.Restore slot

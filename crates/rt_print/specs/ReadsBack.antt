@@ -22,7 +22,7 @@ pub record IsReadAs (src : List ℕ) (app : App) : Type 0 where
 abbrev pub ReadsBack : App → Type 0
 ReadsBack app = (u : App) × IsReadAs (canonical app) u × (bare u ≡ bare app)
 
--- where it is no longer than a text may be, it is the text of an application
+-- where the canonical text is no longer than a text may be, it is the text of an application
 abbrev pub IsTextAgain : App → Type 0
 IsTextAgain app = length (canonical app) ≤ TEXT_BYTES → (u : App) × IsText (canonical app) u × (bare u ≡ bare app)
 

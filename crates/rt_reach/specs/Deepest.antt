@@ -18,7 +18,7 @@ use Rattle.rt_reach.specs.Levels.{deepest_irqs}
 abbrev pub level_lines : ℕ → ℕ → List Line
 level_lines steps irq = Pends irq 1 ∷ Steps steps ∷ []
 
--- these interrupts in order: so many core steps behind the first, and one behind each other
+-- the script of these interrupts in order: so many core steps behind the first, and one behind each other
 abbrev pub script_of : ℕ → List ℕ → List Line
 script_of steps [] = []
 script_of steps (irq ∷ irqs) = level_lines steps irq ++ flat_map (level_lines 1) irqs
@@ -34,13 +34,13 @@ pub record IsFirstTake (img : Image) (irq steps : ℕ) : Type 0 where
   pub takes : IsTake (shown_behind img irq done)
   pub none : (k : ℕ) → k < done → ¬ IsTake (shown_behind img irq k)
 
--- so many core steps come behind the first request
+-- so many core steps behind the first request, the last of them is the first exception entry
 abbrev pub LeadsToTake : Image → ℕ → List ℕ → Type 0
 LeadsToTake img steps [] = Unit {0}
 LeadsToTake img steps (irq ∷ irqs) = IsFirstTake img irq steps
 
--- These lines are that script, for this image: the core steps up to the first exception entry, that one included, are
--- those of its code.
+-- These lines are the script of the deepest tasks, for this image: the core steps up to the first exception entry, that
+-- one included, are those of its code.
 pub record IsDeepest (app : App) (img : Image) (lines : List Line) : Type 0 where
   pub steps : ℕ
   pub are : lines ≡ script_of steps (deepest_irqs app)

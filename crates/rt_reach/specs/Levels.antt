@@ -16,7 +16,7 @@ deepest_task app p = find (λ t. is_bound_at p t && (frame_words t.args t.body =
 abbrev pub bound_number : App → Task → Option ℕ
 bound_number app t = then_from t.binds (irq_number app)
 
--- that of the deepest task of a level
+-- the number of the interrupt of the deepest task of a level
 abbrev pub deepest_irq : App → ℕ → Option ℕ
 deepest_irq app p = then_from (deepest_task app p) (bound_number app)
 

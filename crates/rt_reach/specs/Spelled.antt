@@ -16,11 +16,11 @@ step_line steps = codes "step " ++ decimal steps
 abbrev pub ended : List ℕ → List ℕ
 ended line = line ++ 10 ∷ []
 
--- both lines
+-- the two lines of a level: a request, and the core steps behind it
 abbrev pub level_text : Names → ℕ → ℕ → List ℕ
 level_text names steps irq = ended (pend_line names irq) ++ ended (step_line steps)
 
--- of these interrupts in order, with so many core steps behind the first
+-- the text of the script of these interrupts in order, with so many core steps behind the first
 abbrev pub script_text : Names → ℕ → List ℕ → List ℕ
 script_text names steps [] = []
 script_text names steps (irq ∷ irqs) = level_text names steps irq ++ flat_map (level_text names 1) irqs

@@ -15,7 +15,7 @@ use Rattle.rt_app.specs.Bounds.{Bounds}
 unfoldable pub line : List ℕ → List ℕ → ℕ → List ℕ
 line word name n = word ++ codes " " ++ name ++ codes " " ++ decimal n ++ codes "\n"
 
--- of resources and their ceilings, as far as both go
+-- the lines of resources and their ceilings, as far as both go
 abbrev pub shared_lines : List Shared → List ℕ → List ℕ
 shared_lines [] cs = []
 shared_lines (r ∷ rs) [] = []
@@ -26,7 +26,7 @@ abbrev pub free_line : Task → Option ℕ → List ℕ
 free_line t None = []
 free_line t (Some c) = line (codes "ceiling") (codes "free." ++ t.name) c
 
--- of tasks and the ceilings of their free places, as far as both go
+-- the lines of tasks and the ceilings of their free places, as far as both go
 abbrev pub free_lines : List Task → List (Option ℕ) → List ℕ
 free_lines [] cs = []
 free_lines (t ∷ ts) [] = []
@@ -75,6 +75,6 @@ ceiling_lines app c =
 abbrev pub bound_lines : App → Bounds → List ℕ
 bound_lines app b = flat_map (body_lines app.tasks) b.bodies ++ (flat_map wait_line b.waits ++ stack_line b.stack_bytes)
 
--- all lines
+-- all lines of `check`
 abbrev pub report : App → Ceilings → Bounds → List ℕ
 report app c b = ceiling_lines app c ++ bound_lines app b

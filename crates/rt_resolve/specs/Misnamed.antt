@@ -54,7 +54,7 @@ value_faults names (Calc e) = expression_faults names e
 value_faults names (Now at) = []
 value_faults names (Call s) = spawn_faults names s
 
--- of a statement, and of a block, that so many variables stand before
+-- the wrong names of a statement, and of a block, that so many variables stand before
 abbrev mutual
   pub statement_faults : Names → ℕ → Statement → List Violation
   statement_faults names n (Bind x v) = value_faults names v ++ if_taken names x

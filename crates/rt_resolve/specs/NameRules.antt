@@ -43,7 +43,7 @@ abbrev pub argument_faults : Names → ℕ → List Ident → List Violation
 argument_faults names n [] = []
 argument_faults names n (x ∷ xs) = if_taken names x ++ argument_faults (with_variable names x n) (n + 1) xs
 
--- those of the arguments and the statements of a body
+-- what is wrong with the names of the arguments and the statements of a body
 abbrev pub code_faults : App → List Ident → Body → List Violation
 code_faults app args b =
     argument_faults (body_names app b) 0 args

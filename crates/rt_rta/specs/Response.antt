@@ -22,7 +22,8 @@ use Rattle.rt_rta.specs.declared.response.TheConstants.{MOST_STEPS}
 abbrev pub begun_in : ℕ → ℕ → ℕ
 begun_in steps every = (steps + (every - 1)) / every
 
--- none where no distance is told, since such an interrupt is never requested
+-- how many requests fall into so many core steps: none where no distance is told, since such an interrupt is never
+-- requested
 abbrev pub requests : Option ℕ → ℕ → ℕ
 requests None steps = 0
 requests (Some every) steps = begun_in steps every

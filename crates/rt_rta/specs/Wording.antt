@@ -21,7 +21,7 @@ use Rattle.rt_rta.specs.declared.line.Wrong.TheVariants as wrong
 abbrev pub irq_of : List IrqDecl → List ℕ → Option ℕ
 irq_of irqs name = option_map (λ d. d.number) (find (λ d. bytes_eq d.name name) irqs)
 
--- where a task binds it
+-- an interrupt, where a task binds it
 abbrev pub if_bound : App → ℕ → Option ℕ
 if_bound app irq = if is_bound app irq then Some irq else None
 
@@ -29,7 +29,7 @@ if_bound app irq = if is_bound app irq then Some irq else None
 abbrev pub bound_irq : App → List ℕ → Option ℕ
 bound_irq app name = then_from (irq_of app.irqs name) (if_bound app)
 
--- at least 1
+-- a number, where it is at least 1
 abbrev pub if_some : ℕ → Result ℕ Wrong
 if_some n = if nat_le 1 n then Ok n else Err wrong.Form
 
@@ -38,7 +38,7 @@ abbrev pub distance_of : Option ℕ → Result ℕ Wrong
 distance_of None = Err wrong.Form
 distance_of (Some n) = if_some n
 
--- behind these limits: an interrupt has one at most
+-- the limit of an interrupt behind these limits, of which it has none yet
 abbrev pub limit_for : List Limit → ℕ → Option ℕ → Result Limit Wrong
 limit_for limits every None = Err wrong.Interrupt
 limit_for limits every (Some irq) =

@@ -8,7 +8,7 @@ use Rattle.rt_script.specs.Script.{events}
 use Rattle.rt_script.specs.declared.line.Line.{Line}
 use Rattle.rt_trace.specs.Text.{trace_text}
 
--- of an image, under the lines of a script
+-- the text of the trace of an image, under the lines of a script
 abbrev pub text_of : Image → List Line → List ℕ
 text_of img script =
     trace_text img.names (record { items = trace img (events script); total = Some (steps (events script)) })

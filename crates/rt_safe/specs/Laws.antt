@@ -10,6 +10,7 @@ use Rattle.rt_safe.specs.Safe.{IsSafe}
 abbrev pub CheckedImagesAreSafe : Type 0
 CheckedImagesAreSafe = (img : Image) → IsChecked img → IsSafe img
 
--- and a core runs it, where it is within the limits and has no more cells than a core takes
+-- a core runs an image that keeps all seven rules, where it is within the limits and has no more cells than a core
+-- takes
 abbrev pub CheckedImagesRun : Type 0
 CheckedImagesRun = (img : Image) → IsWithinLimits img → length img.cells < 2 ^ 31 → IsChecked img → IsRunnable img

@@ -51,7 +51,7 @@ abbrev pub IsInit : List Label → List Seen → Type 0
 IsInit labels (job ∷ []) = ¬ Contains labels (Stepped (Some (what.End body.Init)))
 IsInit labels jobs = ⊥
 
--- of a cell that is touched where these labels were shown and the jobs are seen so: by whom it is touched
+-- a touch is by a job that is inside this section, or by `init`, where these labels were shown and the jobs are seen so
 abbrev pub IsTouchedBy : List Label → List Seen → Section → Type 0
 IsTouchedBy labels jobs x = IsInside jobs x ⊎ IsInit labels jobs
 

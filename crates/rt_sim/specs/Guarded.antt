@@ -41,8 +41,8 @@ IsInit app jobs = ⊥
 abbrev pub MayStore : App → List Seen → ℕ → Type 0
 MayStore app jobs r = IsInside jobs r ⊎ (IsInit app jobs ⊎ (is_lock_free app r ≡ true))
 
--- of the access of a step: a store to the cell of a resource is one that it may do, and a load too, or the resource is
--- read alone
+-- The access of a step is guarded: a store to the cell of a resource is one that it may do, and a load too, or the
+-- resource is read alone.
 abbrev pub IsGuarded : App → Image → List Seen → Option Access → Type 0
 IsGuarded app img jobs None = Unit {0}
 IsGuarded app img jobs (Some (Loads cell)) =

@@ -18,7 +18,7 @@ pub record Inputs : Type 0 where
   pub second : Option (List ℕ)
   pub third : Option (List ℕ)
 
--- these three
+-- what three sources have left
 abbrev pub inputs : Option (List ℕ) → Option (List ℕ) → Option (List ℕ) → Inputs
 inputs first second third = record { first = first; second = second; third = third }
 
@@ -102,7 +102,7 @@ IsAnswer status.Write = ⊥
 IsAnswer status.Memory = ⊥
 IsAnswer other = Unit {0}
 
--- the source tells
+-- a source tells what it has left
 abbrev pub IsTold : Option (List ℕ) → Type 0
 IsTold None = ⊥
 IsTold (Some text) = Unit {0}
@@ -111,13 +111,13 @@ IsTold (Some text) = Unit {0}
 abbrev pub IsFirstRefused : Command → Inputs → Type 0
 IsFirstRefused c t = (text line : List ℕ) × (t.first ≡ Some text) × RefusesFirst c text line
 
--- that of the second is
+-- the application of the second text is refused
 abbrev pub IsSecondRefused : Command → Inputs → Type 0
 IsSecondRefused c t =
     (text more line : List ℕ) × (t.first ≡ Some text) × (t.second ≡ Some more)
     × RefusesSecondApplication c text more line
 
--- one of them is
+-- one of the applications is refused
 abbrev pub IsApplicationRefused : Command → Inputs → Type 0
 IsApplicationRefused c t = IsFirstRefused c t ⊎ IsSecondRefused c t
 
@@ -126,8 +126,8 @@ abbrev pub AreTold : Command → Inputs → Type 0
 AreTold c t =
     (1 ≤ reads c → IsTold t.first) × (2 ≤ reads c → IsTold t.second) × (3 ≤ reads c → IsTold t.third)
 
--- those that it has read with this status do: where an application is refused, the sources up to that one, which is
--- the first source but for a command that reads three
+-- The sources tell that the command has read with this status: where an application is refused, those up to that one,
+-- which is the first source but for a command that reads three.
 abbrev pub AreReadTold : Command → Inputs → Status → Type 0
 AreReadTold c t status.App =
     (1 ≤ reads c → IsTold t.first) × (3 ≤ reads c → IsFirstRefused c t ⊎ IsTold t.second)
@@ -137,11 +137,11 @@ AreReadTold c t ended = AreTold c t
 abbrev pub SkipsFirst : List (List ℕ) → Type 0
 SkipsFirst words = (c : Command) → Names words c → reads c ≡ 0
 
--- they name none that comes to the second
+-- the words name no command that comes to the second source
 abbrev pub SkipsSecond : List (List ℕ) → Inputs → Type 0
 SkipsSecond words t = (c : Command) → Names words c → (reads c ≤ 1) ⊎ IsFirstRefused c t
 
--- they name none that comes to the third
+-- the words name no command that comes to the third source
 abbrev pub SkipsThird : List (List ℕ) → Inputs → Type 0
 SkipsThird words t = (c : Command) → Names words c → (reads c ≤ 2) ⊎ IsApplicationRefused c t
 
@@ -149,7 +149,7 @@ SkipsThird words t = (c : Command) → Names words c → (reads c ≤ 2) ⊎ IsA
 abbrev pub WroteAll : Command → Inputs → Status → Option (List ℕ) → Option (List ℕ) → Type 0
 WroteAll c t ended before after = (bytes : List ℕ) × Defined c t ended bytes × Took before after bytes
 
--- it took a beginning of it
+-- the sink took a beginning of what is defined
 abbrev pub WrotePart : Command → Inputs → Option (List ℕ) → Option (List ℕ) → Type 0
 WrotePart c t before after =
     (ended : Status) × (bytes : List ℕ) × Defined c t ended bytes × TookPrefix before after bytes

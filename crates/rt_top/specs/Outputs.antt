@@ -106,7 +106,7 @@ pub record IsLive (text more bytes : List ℕ) : Type 0 where
 abbrev pub TellsSoak : App → ℕ → ℕ → List ℕ → Type 0
 TellsSoak app number count bytes = (s : Summary) × IsSoak app number count s × (bytes ≡ summary_text s)
 
--- `soak`: that summary
+-- `soak` writes the summary of so many runs of a good image of an accepted application
 abbrev pub IsSoaked : List ℕ → ℕ → ℕ → List ℕ → Type 0
 IsSoaked text number count bytes = (app : App) × IsApplication text app × TellsSoak app number count bytes
 

@@ -17,7 +17,7 @@ use Rattle.rt_trace.specs.declared.item.What.{What}
 use Rattle.rt_trace.specs.declared.operand.Wrong.{Wrong}
 use Rattle.rt_trace.specs.declared.operand.Wrong.TheVariants as wrong
 
--- the only word
+-- the only word, where there is one and no other
 abbrev pub only : List (List ℕ) → Result (List ℕ) Wrong
 only (word ∷ []) = Ok word
 only words = Err wrong.Form
@@ -65,14 +65,14 @@ body_at names word =
     if bytes_eq word (codes "init") then Ok body.Init
     else if bytes_eq word (codes "idle") then Ok body.Idle else and_make (task_at names word) body.Task
 
--- at most four values
+-- values of 32 bits, of which there are no more than there is room for
 abbrev pub values_at : ℕ → List (List ℕ) → Result (List ℕ) Wrong
 values_at room [] = Ok []
 values_at zero (word ∷ words) = Err wrong.Form
 values_at (suc room) (word ∷ words) =
     and_then (number_at (2 ^ 32) word) (λ v. and_make (values_at room words) (λ vs. v ∷ vs))
 
--- nothing behind
+-- an item with no words behind it
 abbrev pub bare : List (List ℕ) → What → Result What Wrong
 bare [] w = Ok w
 bare words w = Err wrong.Form

@@ -92,7 +92,7 @@ item_at names (step ∷ word ∷ words) =
     (λ n. and_then (ok_or (verb_named word) wrong.Form) (λ v. and_make (what_at names v words) (item_row n)))
 item_at names words = Err wrong.Form
 
--- what words say
+-- the row that words say: a total, or an item
 abbrev pub row_at : Names → List (List ℕ) → Result Row Wrong
 row_at names [] = Err wrong.Form
 row_at names (word ∷ words) =

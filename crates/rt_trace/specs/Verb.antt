@@ -30,7 +30,7 @@ spelling verb.Move = codes "move"
 spelling verb.End = codes "end"
 spelling verb.Trap = codes "trap"
 
--- all of them
+-- all verbs
 abbrev pub verbs : List Verb
 verbs =
     verb.Pend ∷ verb.Tick ∷ verb.Alarm ∷ verb.AlarmSet ∷ verb.Take ∷ verb.Ret ∷ verb.Enter ∷ verb.Leave ∷ verb.Emit

@@ -94,7 +94,7 @@ module _ (app : App) where
       (given variable 0 later vars))) vs
       else act (Leaves section.Timer) (given variable 1 later vars) vs
 
-  -- likewise it is put off
+  -- inside the section of the armed messages one of them is put off, where it has the handle
   abbrev pub moved : Option ℕ → ℕ → ℕ → ℕ → Later → Later
   moved variable delay n handle later vars vs =
       if is_armed_as app n handle vs

@@ -15,7 +15,7 @@ pub record Work : Type 0 where
   -- the variables of the body
   pub vars : List ℕ
 
--- nothing to do
+-- a job's work with nothing to do
 abbrev pub no_work : Work
 no_work = record { todos = []; vars = [] }
 

@@ -72,6 +72,7 @@ module _ (app : App) (lines : List Line) where
       (n : ℕ) → n < count → (t : Task) → slice_get app.tasks n ≡ Some t → is_of_kind kind t ≡ true
       → (more : List Line) → DeclaredStands app n (lines ++ more) (slice_index entries n)
 
+  -- the code of all tasks of a kind stands, from these addresses on
   abbrev pub HasTasks : Kind → List ℕ → Type 0
   HasTasks kind entries = HasTasksBelow (length entries) kind entries
 
@@ -115,9 +116,11 @@ AddsTasksBelow app count kind entries before after =
     → at.task n ≡ slice_index entries n)
     → AddsParts app at (task_parts (is_of_kind kind) 0 (take count app.tasks)) before after
 
+-- behind code all tasks of a kind were put, which begin at these addresses
 abbrev pub AddsTasks : App → Kind → List ℕ → List Line → List Line → Type 0
 AddsTasks app kind entries before after = AddsTasksBelow app (length app.tasks) kind entries before after
 
+-- behind code the dispatchers of as many levels were put, which begin at these addresses
 abbrev pub AddsDispatchers : App → List ℕ → List Line → List Line → Type 0
 AddsDispatchers app entries before after =
     (at : Entries)

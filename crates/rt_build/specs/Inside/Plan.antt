@@ -4,6 +4,7 @@ use Rattle.rt_app.specs.Accepted.{IsAccepted}
 use Rattle.rt_app.specs.Plan.{IsPlan}
 use Rattle.rt_app.specs.View.{app_of}
 
+-- the plan of an application that is accepted
 pub record IsAcceptedPlan (plan : Plan) : Type 0 where
   pub accepted : IsAccepted (app_of plan.app.now)
   pub planned : IsPlan plan

@@ -11,6 +11,7 @@ use Rattle.rt_app.specs.Level.{is_software}
 use Rattle.rt_ids.specs.Lists.{those_below}
 use Rattle.rt_ceil.specs.Inside.Tables.{level_of}
 
+-- the ceiling of a task's free places, where the task is a software task
 abbrev pub free_row : Task → ℕ → Option ℕ
 free_row t priority = if is_software t then Some (max t.priority priority) else None
 
@@ -19,6 +20,7 @@ abbrev pub free_rows : List ℕ → ℕ → List Task → List (Option ℕ)
 free_rows table n [] = []
 free_rows table n (t ∷ ts) = free_row t (slice_index table n) ∷ free_rows table (n + 1) ts
 
+-- the levels with this one marked too
 abbrev pub marked : List Bool → Option ℕ → List Bool
 marked served None = served
 marked served (Some level) = if nat_lt level (length served) then slice_set served level true else served
@@ -27,6 +29,7 @@ marked served (Some level) = if nat_lt level (length served) then slice_set serv
 abbrev pub served_levels : List Task → List Bool
 served_levels ts = fold (λ served t. marked served (level_of t)) (replicate PRIORITIES false) ts
 
+-- the ceiling of the ready queue of a level: no less than the level itself
 abbrev pub ready_row : List ℕ → ℕ → ReadyCeiling
 ready_row table level = record { level = level; ceiling = max level (slice_index table level) }
 
@@ -34,5 +37,6 @@ ready_row table level = record { level = level; ceiling = max level (slice_index
 abbrev pub ready_rows : List Bool → List ℕ → ℕ → List ReadyCeiling
 ready_rows served table n = map (ready_row table) (those_below (λ level. slice_index_or served level false) n)
 
+-- the ceiling of the timer queue, where there is a monotonic: no less than its priority
 abbrev pub timer_row : Option Mono → ℕ → Option ℕ
 timer_row mono priority = option_map (λ m. max m.priority priority) mono

@@ -10,6 +10,7 @@ use Rattle.rt_app.specs.Tree.{Block, Body, Task, App, Spawn, Soon, After, Cancel
 use Rattle.rt_app.specs.Spawned.{spawns}
 use Rattle.rt_app.specs.Level.{is_software}
 
+-- the greatest priorities found so far, of the users of each resource and each queue
 pub record Tables : Type 0 where
   -- by resource
   pub shared : List ℕ
@@ -19,9 +20,11 @@ pub record Tables : Type 0 where
   pub ready : List ℕ
   pub timer : ℕ
 
+-- tables of these parts
 abbrev pub tables : List ℕ → List ℕ → List ℕ → ℕ → Tables
 tables shared free ready timer = record { shared = shared; free = free; ready = ready; timer = timer }
 
+-- the tables before any body
 abbrev pub untouched : App → Tables
 untouched app = record {
   shared = replicate (length app.shared) 0;
@@ -35,6 +38,7 @@ abbrev pub raised : List ℕ → ℕ → ℕ → List ℕ
 raised table place priority =
     if nat_lt place (length table) then slice_set table place (max (slice_index table place) priority) else table
 
+-- with the entry of a level at least this, where there is a level
 abbrev pub raised_level : List ℕ → Option ℕ → ℕ → List ℕ
 raised_level table None priority = table
 raised_level table (Some level) priority = raised table level priority
@@ -43,6 +47,7 @@ raised_level table (Some level) priority = raised table level priority
 abbrev pub level_of : Task → Option ℕ
 level_of t = if is_software t then Some t.priority else None
 
+-- the level of a task, where it is a software task
 abbrev pub level_in : Option Task → Option ℕ
 level_in None = None
 level_in (Some t) = level_of t
@@ -97,6 +102,7 @@ abbrev pub used_by_thread : App → Tables → Option Body → Tables
 used_by_thread app t None = t
 used_by_thread app t (Some b) = used app 0 b.shared b.block t
 
+-- after the body of a task
 abbrev pub used_by_task : App → Tables → Task → Tables
 used_by_task app t task = used app task.priority task.body.shared task.body.block t
 

@@ -8,22 +8,23 @@ use Rattle.rt_context.specs.declared.sizes.TheConstants.{STACK_WORDS}
 use Rattle.rt_context.specs.declared.frames.Frames.TheInside.{Inside}
 use Rattle.rt_context.specs.Frames.{Saved, Frames, words}
 
--- the last so many words, and the words without them
+-- the last so many words
 abbrev pub last_of : ℕ → List ℕ → List ℕ
 last_of n ws = drop (length ws - n) ws
 
+-- all words but the last so many
 abbrev pub without : ℕ → List ℕ → List ℕ
 without n ws = take (length ws - n) ws
 
--- the frame of a caller, which words end with, and the words below it, by its size
+-- the frame of a caller, which words end with, by its size
 abbrev pub caller_of : Option ℕ → List ℕ → Option (List ℕ)
 caller_of size ws = option_map (λ n. last_of n ws) size
 
+-- the words below the frame of a caller
 abbrev pub below_caller : Option ℕ → List ℕ → List ℕ
 below_caller size ws = without (unwrap_or size 0) ws
 
--- what was interrupted, by its exception frame, the words below that and the size of a caller's frame; the words below
--- it
+-- what was interrupted, by its exception frame, the words below that and the size of a caller's frame
 abbrev pub saved : List ℕ → List ℕ → Option ℕ → Saved
 saved pushed under caller =
     let n = slice_index pushed LINK in record {
@@ -33,6 +34,7 @@ saved pushed under caller =
       caller = caller_of caller (without n under);
     }
 
+-- the words below what was interrupted
 abbrev pub below_saved : List ℕ → List ℕ → Option ℕ → List ℕ
 below_saved pushed under caller = below_caller caller (without (slice_index pushed LINK) under)
 
@@ -44,6 +46,7 @@ saved_of entry ws (caller ∷ callers) =
     let under = without entry ws in
     saved pushed under caller ∷ saved_of entry (below_saved pushed under caller) callers
 
+-- the frames that the code's words and sizes spell
 unfoldable pub frames : Inside → Frames
 frames c =
     let under = without c.frame c.region.words in
@@ -76,5 +79,6 @@ pub record Spells (f : Frames) (c : Inside) : Type 0 where
   pub returns : HasReturn f.caller
   pub below_return : AllByRecursion (λ s. HasReturn s.caller) f.below
 
+-- the words are those of the frames that they spell
 abbrev pub IsSpelled : Inside → Type 0
 IsSpelled c = Spells (frames c) c

@@ -54,7 +54,8 @@ IsFalling (x ∷ below) = (x.value < running_value below) × (x.value % 2 ≡ 0)
 abbrev pub HasPriorities : Image → Nvic → Type 0
 HasPriorities img n = (irq : ℕ) → irq < IRQ_NUMBERS → priority_of n irq ≡ option_map (λ h. h.value) (handler_of img irq)
 
--- the parts of the code agree: frames and controller have the same handlers, with the priorities of the image
+-- the image is one that a core runs, and the parts agree: frames and controller on the handlers, and the kept execution
+-- priority with the masks
 pub record IsSound (c : Inside) : Type 0 where
   pub runnable : IsRunnable c.program
   pub frames : c.frames ≡ frames_of c.program (core c)

@@ -4,6 +4,7 @@ use Rattle.rt_trace.specs.declared.item.What.{What}
 use Rattle.rt_trace.specs.declared.item.What.TheVariants as what
 use Rattle.rt_count.specs.declared.summary.Summary.{Summary}
 
+-- a summary with this thing counted too
 abbrev pub counted : Summary → What → Summary
 counted s (what.Take irq depth) = record s { takes = s.takes + 1; depth = max s.depth depth }
 counted s (what.Emit value) = record s { emits = s.emits + 1; sum = (s.sum + value) % 2 ^ 64 }

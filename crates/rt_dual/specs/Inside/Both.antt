@@ -40,6 +40,7 @@ pub record IsWritten (first second : Image) (both : Both) (bytes : List ℕ) : T
       ≡ (both.one.front.items ++ (both.left.trace.bytes.items ++ account_text first.names one))
       ++ (both.two.front.items ++ (both.right.trace.bytes.items ++ account_text second.names two))
 
+-- the words of both cores can be closed
 pub record CanWrite (both : Both) : Type 0 where
   pub one : CanClose both.one.words both.left.line both.right.bell both.one.rows.items
   pub two : CanClose both.two.words both.right.line both.left.bell both.two.rows.items

@@ -12,7 +12,7 @@ use Rattle.rt_dual.specs.Course.{first_events, second_events}
 use Rattle.rt_dual.specs.declared.place.Place.{Place}
 use Rattle.rt_dual.specs.declared.place.Place.TheVariants.{First, Second}
 
--- the number of a core, and the other core
+-- the number of a core
 abbrev pub number_of : Place → ℕ
 number_of First = 1
 number_of Second = 2
@@ -22,15 +22,17 @@ abbrev pub line_of : Place → List ℕ
 line_of First = codes "core 1\n"
 line_of Second = codes "core 2\n"
 
+-- the place of the other core
 abbrev pub other_of : Place → Place
 other_of First = Second
 other_of Second = First
 
--- its events of a script, and their turns
+-- its events of a script
 abbrev pub events_at : Place → List Line → List Event
 events_at First script = first_events script
 events_at Second script = second_events script
 
+-- the turns of its events
 abbrev pub own_turns : Place → List Line → List Turn
 own_turns place script = map Happens (events_at place script)
 
@@ -51,11 +53,13 @@ abbrev pub IsDeclaredAt : Place → Names → ℕ → Type 0
 IsDeclaredAt First names irq = IsDeclared names irq
 IsDeclaredAt Second names irq = Unit {0}
 
+-- the interrupt of a line has a name, where the core gets its requests
 abbrev pub HasNameAt : Place → Names → Line → Type 0
 HasNameAt place names (Steps n) = Unit {0}
 HasNameAt place names (Ticks n) = Unit {0}
 HasNameAt place names (Pends irq n) = IsDeclaredAt place names irq
 HasNameAt place names (Device d irq n) = IsDeclaredAt place names irq
 
+-- so have the interrupts of all lines
 abbrev pub HasNamesAt : Place → Names → List Line → Type 0
 HasNamesAt place names script = AllByRecursion (HasNameAt place names) script

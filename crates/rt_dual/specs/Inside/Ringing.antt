@@ -17,9 +17,11 @@ abbrev pub rung_by : List (Option ℕ) → What → Option ℕ
 rung_by routes (what.Post irq) = slice_index_or routes irq None
 rung_by routes shown = None
 
+-- the interrupt that a step pends on the other core, if it shows an item that does
 abbrev pub rung_of_shown : List (Option ℕ) → Option What → Option ℕ
 rung_of_shown routes shown = option_and_then (rung_by routes) shown
 
+-- the interrupts that these items pend on the other core, in order
 abbrev pub rung_of : List (Option ℕ) → List Item → List ℕ
 rung_of routes items = filter_map (λ item. rung_by routes item.what) items
 

@@ -16,8 +16,10 @@ use Rattle.rt_frames.specs.Inside.Saturated.{saturated}
 abbrev pub saturated_bound : Measure → BodyId → ℕ → Body → BodyBound
 saturated_bound m id args b = record { body = id; frame = saturated (frame_words args b); cost = body_cost m b }
 
+-- the bounds of a body: its frame and its cost
 abbrev pub member_bound : Measure → Member → BodyBound
 member_bound measure m = saturated_bound measure m.id m.args m.body
 
+-- the waiting bound of a level
 abbrev pub wait_of : App → Measure → Ceilings → ℕ → Wait
 wait_of app m c p = record { level = p; steps = wait_within app m c p }

@@ -21,10 +21,12 @@ pub record HasFlags (flags : List Bool) (test : ℕ → Bool) : Type 0 where
 abbrev pub armed_by : List Spawn → List ℕ
 armed_by ss = map target (filter arms_message ss)
 
+-- the spawns of `init` or `idle`, where it is declared
 abbrev pub thread_spawns : Option Body → List Spawn
 thread_spawns None = []
 thread_spawns (Some b) = spawns b.block
 
+-- the spawns of a task's body
 abbrev pub task_spawns : Task → List Spawn
 task_spawns t = spawns t.body.block
 

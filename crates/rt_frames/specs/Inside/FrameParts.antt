@@ -9,6 +9,7 @@ use Rattle.rt_app.specs.Frame.{statement_locks, locks, spawn_words}
 use Rattle.rt_frames.specs.declared.frame.Parts.{Parts}
 use Rattle.rt_frames.specs.Inside.Saturated.{saturated}
 
+-- what two pieces of a body need together
 abbrev pub both : Parts → Parts → Parts
 both a b = record {
   variables = saturated (a.variables + b.variables);
@@ -18,9 +19,11 @@ both a b = record {
   spawns = max a.spawns b.spawns;
 }
 
+-- what an expression needs
 abbrev pub expression_parts : Expression → Parts
 expression_parts e = record { variables = 0; depth = saturated (depth e); has_loop = false; locks = 0; spawns = 0 }
 
+-- what a spawn needs
 abbrev pub spawn_parts : Spawn → Parts
 spawn_parts s = record {
   variables = 0;
@@ -30,6 +33,7 @@ spawn_parts s = record {
   spawns = spawn_words s;
 }
 
+-- what the value of a `let` needs
 abbrev pub value_parts : Value → Parts
 value_parts v = record {
   variables = 0;
@@ -39,6 +43,7 @@ value_parts v = record {
   spawns = greatest (map spawn_words (value_spawns v));
 }
 
+-- what a statement needs
 abbrev pub statement_parts : Statement → Parts
 statement_parts s = record {
   variables = saturated (variables_in s);
@@ -48,6 +53,7 @@ statement_parts s = record {
   spawns = greatest (map spawn_words (statement_spawns s));
 }
 
+-- what a block needs
 abbrev pub block_parts : Block → Parts
 block_parts b = record {
   variables = saturated (variables b);

@@ -5,6 +5,7 @@ use Rattle.rt_app.specs.Tree.{Task}
 use Rattle.rt_app.specs.Level.{is_software}
 use Rattle.rt_app.specs.Frame.{frame_words}
 
+-- the words of the handler that runs a task
 abbrev pub task_need : Task → ℕ
 task_need t = if is_software t then DISPATCHER_WORDS + frame_words t.args t.body else frame_words t.args t.body
 

@@ -16,21 +16,25 @@ use Rattle.rt_app.specs.Ceiling.{Ceilings}
 use Rattle.rt_app.specs.Cost.{Measure, lock_cost, block_cost}
 use Rattle.rt_app.specs.BodyCost.{dispatcher_section_cost}
 
+-- a number that may not be there, in a place that may not be there, and 0 for none
 abbrev pub or_zero_twice : Option (Option ℕ) → ℕ
 or_zero_twice None = 0
 or_zero_twice (Some p) = or_zero p
 
+-- the ceiling of a ready queue, and 0 where there is no such queue
 abbrev pub ceiling_or_zero : Option ReadyCeiling → ℕ
 ceiling_or_zero None = 0
 ceiling_or_zero (Some r) = r.ceiling
 
--- of a resource, of the free places of a task, of the ready queue of a level
+-- the ceiling of a resource, and 0 where there is none
 abbrev pub shared_at : Ceilings → ℕ → ℕ
 shared_at c r = get_or c.shared r 0
 
+-- the ceiling of the free places of a task, and 0 where there is none
 abbrev pub free_at : Ceilings → ℕ → ℕ
 free_at c n = or_zero_twice (slice_get c.free n)
 
+-- the ceiling of the ready queue of a level, and 0 where there is none
 abbrev pub ready_at : Ceilings → ℕ → ℕ
 ready_at c p = ceiling_or_zero (find (λ r. r.level == p) c.ready)
 
@@ -64,6 +68,7 @@ module _ (app : App) (c : Ceilings) (p : ℕ) where
   moves_wait n (t ∷ ts) = max (move_wait n t) (moves_wait (n + 1) ts)
 
 module _ (app : App) (m : Measure) (c : Ceilings) (p : ℕ) where
+  -- the greatest cost of a section that counts, in a spawn, a cancel or a reschedule
   abbrev pub spawn_wait : Spawn → ℕ
   spawn_wait (Soon task args at) =
       max (if_reaches p (free_at c task) FREE_COST) (if_reaches p (ready_at c (task_priority app task)) READY_COST)
@@ -73,6 +78,7 @@ module _ (app : App) (m : Measure) (c : Ceilings) (p : ℕ) where
       max (if_reaches p (or_zero c.timer) (handle_section m)) (if_reaches p (free_at c task) FREE_COST)
   spawn_wait (Move word delay task handle at) = if_reaches p (or_zero c.timer) (handle_section m)
 
+  -- likewise in the value of a `let`
   abbrev pub value_wait : Value → ℕ
   value_wait (Calc e) = 0
   value_wait (Now at) = 0
@@ -91,14 +97,17 @@ module _ (app : App) (m : Measure) (c : Ceilings) (p : ℕ) where
     statement_wait (Pend i) = 0
     statement_wait (Spawns s) = spawn_wait s
 
+    -- likewise in a block
     pub block_wait : Block → ℕ
     block_wait Empty = 0
     block_wait (Then s rest) = max (statement_wait s) (block_wait rest)
 
+  -- likewise in `idle`, where it is declared and of lower priority
   abbrev pub idle_wait : Option Body → ℕ
   idle_wait None = 0
   idle_wait (Some b) = if nat_lt 0 p then block_wait b.block else 0
 
+  -- likewise of a task and its dispatcher, where the task is of lower priority
   abbrev pub task_wait : ℕ → Task → ℕ
   task_wait n t =
       let own = if is_software t then dispatcher_wait app c p n t else 0 in
@@ -109,11 +118,13 @@ module _ (app : App) (m : Measure) (c : Ceilings) (p : ℕ) where
   tasks_wait n [] = 0
   tasks_wait n (t ∷ ts) = max (task_wait n t) (tasks_wait (n + 1) ts)
 
+  -- likewise of the timer handler, where there is one and it is of lower priority
   abbrev pub timer_wait : Option Mono → ℕ
   timer_wait None = 0
   timer_wait (Some mono) =
       let queue = if_reaches p (or_zero c.timer) (timer_section m) in
       if nat_lt mono.priority p then max queue (moves_wait app c p 0 app.tasks) else 0
 
+  -- the waiting bound of a priority
   abbrev pub wait_within : ℕ
   wait_within = max (idle_wait app.idle) (max (tasks_wait 0 app.tasks) (timer_wait app.mono))

@@ -16,10 +16,11 @@ module _ (c : Context) where
   abbrev pub guard_at : ℕ → Guard
   guard_at r = slice_index_or c.guards r (record { ceiling = 0; value = 0 })
 
-  -- the choice behind a test, whose jump stands at an address: of one block of code, or between two
+  -- the choice behind a test, whose jump stands at an address: one block of code, or nothing
   abbrev pub one_code : ℕ → (ℕ → List Line) → List Line
   one_code at first = plain (instr.JumpZ c.expressions (at + 1 + length (first (at + 1)))) ∷ first (at + 1)
 
+  -- the choice behind a test between two blocks of code
   abbrev pub two_code : ℕ → (ℕ → List Line) → (ℕ → List Line) → List Line
   two_code at first second =
       let then_code : List Line = first (at + 1) in
@@ -28,6 +29,7 @@ module _ (c : Context) where
       plain (instr.JumpZ c.expressions else_at)
       ∷ (then_code ++ plain (instr.Jump (else_at + length else_code)) ∷ else_code)
 
+  -- the choice behind a test: between two blocks, or of one where the second is empty
   abbrev pub branch_code : ℕ → (ℕ → List Line) → (ℕ → List Line) → Block → List Line
   branch_code at first second Empty = one_code at first
   branch_code at first second other = two_code at first second
@@ -37,12 +39,13 @@ module _ (c : Context) where
   first_code at block =
       plain (instr.JumpZ c.expressions (at + 1 + length block + 1)) ∷ (block ++ plain (instr.Jump 0) ∷ [])
 
-  -- the lines before and behind the turns of a loop
+  -- the lines before the turns of a loop
   abbrev pub loop_front : ℕ → ℕ → ℕ → List Line
   loop_front x first last =
       plain (instr.Set x first) ∷ plain (instr.Set c.expressions last)
       ∷ plain (instr.Calc op.Lt c.expressions x c.expressions) ∷ []
 
+  -- the lines behind a turn: the variable rises by one, and a jump back to the head of the loop
   abbrev pub loop_back : ℕ → ℕ → List Line
   loop_back x head =
       plain (instr.Set c.expressions 1) ∷ plain (instr.Calc op.Add x x c.expressions) ∷ plain (instr.Jump head) ∷ []
@@ -78,6 +81,7 @@ module _ (c : Context) where
     statement_code level lock at (Pend i) = plain (instr.Post (slice_index c.numbers i)) ∷ []
     statement_code level lock at (Spawns s) = send_code c level at s
 
+    -- the code of a block, one statement behind the other
     pub block_code : ℕ → ℕ → ℕ → Block → List Line
     block_code level lock at Empty = []
     block_code level lock at (Then s rest) =

@@ -11,6 +11,7 @@ use Rattle.rt_gen_body.specs.Inside.Values.{Context}
 use Rattle.rt_gen_body.specs.Inside.Blocks.{block_code}
 use Rattle.rt_gen_body.specs.declared.generator.Generator.{Generator}
 
+-- the context that a generator's fields are
 abbrev pub context : Generator → Context
 context g = record {
   app = app_of g.plan.now.app.now;

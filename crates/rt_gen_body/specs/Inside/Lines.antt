@@ -3,6 +3,7 @@ use Rattle.std.specs.Prelude.{◌≡◌, ℕ, ◌+◌, ◌++◌, List, length, s
 use Rattle.rt_code.specs.declared.instr.Instr.TheVariants as instr
 use Rattle.rt_gen_queue.specs.Line.{Line, plain}
 
+-- the lines so far, and where they begin
 pub record Lines : Type 0 where
   -- the address of the first line
   pub entry : ℕ

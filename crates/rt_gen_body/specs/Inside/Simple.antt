@@ -28,13 +28,15 @@ module _ (c : Context) where
   abbrev pub is_timed : ℕ → Bool
   is_timed n = is_some c.app.mono && is_some_and is_software (slice_get c.app.tasks n)
 
-  -- likewise a `spawn_after`, a `cancel` and a `reschedule_after`, whose delay, arguments and handle are there
+  -- likewise a `spawn_after`, whose delay and arguments are there
   abbrev pub delayed_code : ℕ → ℕ → ℕ → List Line
   delayed_code level at n = if is_timed n then after_code c.app n level c.spawns at else []
 
+  -- likewise a `cancel`, whose handle is there
   abbrev pub cancelled_code : ℕ → ℕ → ℕ → List Line
   cancelled_code level at n = if is_timed n then cancel_code c.app n level c.spawns at else []
 
+  -- likewise a `reschedule_after`, whose delay and handle are there
   abbrev pub moved_code : ℕ → ℕ → ℕ → List Line
   moved_code level at n = if is_timed n then move_code c.app n level c.spawns at else []
 
@@ -49,18 +51,22 @@ module _ (c : Context) where
   goes_code level at (Cancel word n handle place) = cancelled_code level at n
   goes_code level at (Move word delay n handle place) = moved_code level at n
 
+  -- a spawn: its values, and then what goes
   abbrev pub send_code : ℕ → ℕ → Spawn → List Line
   send_code level at s =
       let front : List Line = values_code s in
       front ++ goes_code level (at + length front) s
 
+  -- a `let` of a variable
   abbrev pub bind_code : ℕ → ℕ → ℕ → Value → List Line
   bind_code level at x (Calc e) = value_code c e ++ plain (instr.Copy x c.expressions) ∷ []
   bind_code level at x (Now place) = plain (instr.Clock x) ∷ []
   bind_code level at x (Call s) = send_code level at s ++ plain (instr.Copy x c.spawns) ∷ []
 
+  -- an assignment
   abbrev pub assign_code : Atom → Expression → List Line
   assign_code x e = value_code c e ++ plain (store c x c.expressions) ∷ []
 
+  -- an `emit`
   abbrev pub emit_code : Expression → List Line
   emit_code e = value_code c e ++ plain (instr.Emit c.expressions) ∷ []

@@ -28,12 +28,13 @@ abbrev pub next_slot : ℕ → ℕ
 next_slot slot = min (slot + 1) (2 ^ 32 - 1)
 
 module _ (c : Context) where
-  -- the value of a name in a slot, and a slot's value in a name
+  -- the value of a name comes into a slot
   abbrev pub load : Atom → ℕ → Instr
   load (atom.Var x) slot = instr.Copy slot x
   load (atom.Shared r) slot = instr.Load slot r
   load (atom.Local n) slot = instr.Load slot (c.locals + n)
 
+  -- the value of a slot comes into a name
   abbrev pub store : Atom → ℕ → Instr
   store (atom.Var x) slot = instr.Copy x slot
   store (atom.Shared r) slot = instr.Store r slot
@@ -47,6 +48,7 @@ module _ (c : Context) where
       expression_code left slot free
       ++ (expression_code right free (next_slot free) ++ plain (instr.Calc o slot slot free) ∷ [])
 
+  -- an expression's value comes into the first of the slots where expressions are evaluated
   abbrev pub value_code : Expression → List Line
   value_code e = expression_code e c.expressions (next_slot c.expressions)
 

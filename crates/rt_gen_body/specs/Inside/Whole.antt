@@ -39,5 +39,6 @@ blocks_of app None entry = []
 blocks_of app (Some m) entry =
     block_code (context_of app m) (level_of app m) (first_lock_slot m.args m.body) entry m.body.block
 
+-- the code of a body: its blocks, and then the line that ends it
 abbrev pub code_of : App → BodyId → Option Member → ℕ → List Line
 code_of app id member entry = blocks_of app member entry ++ end_line app id entry ∷ []

@@ -52,10 +52,12 @@ pub record IsLeastValue (img : Image) (ps : List Point) (x : Section) (value : �
   pub outside : point.owner ≢ Starting
   pub is : owner_value img point.owner ≡ value
 
+-- the least priority value of an enterer other than `init`, where there is such a one
 abbrev pub IsLeastOrNone : Image → List Point → Section → Option ℕ → Type 0
 IsLeastOrNone img ps x None = (p : Point) (i : Instr) → Enterer img ps x p i → p.owner ≡ Starting
 IsLeastOrNone img ps x (Some value) = IsLeastValue img ps x value
 
+-- what a row has of a section, by the points that were looked at
 pub record IsEntering (img : Image) (ps : List Point) (x : Section) (e : Entering) : Type 0 where
   pub level : IsGreatestLevel img ps x e.level
   pub value : IsLeastOrNone img ps x e.value
@@ -77,6 +79,7 @@ least None other = other
 abbrev pub with_entering : Entering → Entering → Entering
 with_entering e row = record row { level = max row.level e.level; value = least row.value e.value }
 
+-- a row with one more entering, if that is of the row's section
 abbrev pub added : Entering → Entering → Entering
 added e row = if is_same_section row.section e.section then with_entering e row else row
 

@@ -7,11 +7,13 @@ use Rattle.rt_points.specs.declared.point.Owner.TheVariants.{Starting}
 use Rattle.rt_judge.specs.declared.exits.Exits.{Exits}
 use Rattle.rt_judge.specs.declared.exits.Exits.TheVariants.{Nowhere, One, Two}
 
+-- the addresses of exits, as a list
 abbrev pub exit_list : Exits → List ℕ
 exit_list Nowhere = []
 exit_list (One a) = a ∷ []
 exit_list (Two a b) = a ∷ b ∷ []
 
+-- the addresses that an instruction at an address leads to, of which a call has none
 abbrev pub targets : Instr → ℕ → List ℕ
 targets (instr.Jump l) at = l ∷ []
 targets (instr.JumpZ s l) at = suc at ∷ l ∷ []

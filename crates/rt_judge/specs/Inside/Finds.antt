@@ -12,6 +12,7 @@ use Rattle.rt_judge.specs.Inside.Entering.{TellsOfSections}
 use Rattle.rt_judge.specs.Inside.Touching.{TellsOfCells}
 use Rattle.rt_judge.specs.declared.findings.Findings.{Findings}
 
+-- what was found at these points is so, rule by rule
 pub record Finds (img : Image) (ps : List Point) (f : Findings) : Type 0 where
   pub addresses : TellsOfAll f.addresses (HasLine img) ps
   pub operands : TellsOfAll f.operands (OperatesAt img) ps

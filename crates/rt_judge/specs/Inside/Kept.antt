@@ -10,12 +10,15 @@ use Rattle.rt_code.specs.declared.instr.Note.TheVariants as note
 use Rattle.rt_points.specs.Point.{Point, sections}
 use Rattle.rt_points.specs.Rules.{IsOperable, IsNotedWell}
 
+-- an instruction stands there
 abbrev pub HasLine : Image → Point → Type 0
 HasLine img p = p.address < length img.code
 
+-- the instruction that stands there may be used there
 abbrev pub OperatesAt : Image → Point → Type 0
 OperatesAt img p = (i : Instr) (told : Option Note) → slice_get img.code p.address ≡ Some (i, told) → IsOperable img p i
 
+-- the note that stands there is right there
 abbrev pub NotesAt : Image → Point → Type 0
 NotesAt img p = (i : Instr) (told : Option Note) → slice_get img.code p.address ≡ Some (i, told) → IsNotedWell img p i told
 
@@ -23,6 +26,7 @@ NotesAt img p = (i : Instr) (told : Option Note) → slice_get img.code p.addres
 abbrev pub EntersBy : Image → Point → Instr → Section → Type 0
 EntersBy img p i x = slice_get img.code p.address ≡ Some (i, Some (note.Enter x))
 
+-- a section that is entered there is not open yet
 abbrev pub FreeAt : Image → Point → Type 0
 FreeAt img p = (i : Instr) (x : Section) → EntersBy img p i x → ¬ IsIn (sections p.inside) x
 

@@ -45,6 +45,7 @@ LooksFromEntry img place entry old new =
 abbrev pub IsOf : ℕ → Owner → Type 0
 IsOf place owner = owner ≡ Handling place
 
+-- the owner is `init`, or the thread behind it
 abbrev pub IsThread : Owner → Type 0
 IsThread owner = (owner ≡ Starting) ⊎ (owner ≡ Thread)
 
@@ -66,6 +67,7 @@ pub record Looked (img : Image) (f : Findings) : Type 0 where
   pub nests : NestsInOneWay img
   pub finds : Finds img points f
 
+-- this is the first rule that an image breaks, or it breaks none
 abbrev pub IsFirstBroken : Image → Option Rule → Type 0
 IsFirstBroken img None = IsChecked img
 IsFirstBroken img (Some r) = IsLeastBroken img (rule_number r)

@@ -39,6 +39,7 @@ abbrev pub SomeIfTrue : Bool → (Point → Access → Type 0) → Type 0
 SomeIfTrue true P = (p : Point) × (a : Access) × P p a
 SomeIfTrue false P = (p : Point) (a : Access) → ¬ P p a
 
+-- what a row has of a cell that is touched, by the points that were looked at
 pub record IsTouching (img : Image) (ps : List Point) (cell : ℕ) (t : Touching) : Type 0 where
   pub stored : SomeIfTrue t.stored (λ p a. Toucher img ps cell p a × IsStore a)
   pub first : Point
@@ -59,22 +60,25 @@ abbrev pub TellsOfCells : Image → List Point → List (Option Touching) → Ty
 TellsOfCells img ps rows =
     (cell : ℕ) (row : Option Touching) → slice_get rows cell ≡ Some row → TellsOfTouching img ps cell row
 
+-- whether a section is open
 abbrev pub is_open : List Opened → Section → Bool
 is_open opened x = list_any (λ o. is_same_section o.section x) opened
 
--- a first touch; one with one more touch
+-- what a row has of a cell behind its first touch
 pub record IsFirst (touch : Touch) (opened : List Opened) (t : Touching) : Type 0 where
   pub stored : t.stored ≡ touch.stored
   pub value : t.value ≡ touch.value
   pub differ : t.differ ≡ false
   pub sections : t.sections.items ≡ map (λ o. o.section) opened
 
+-- what a row has of a cell behind one more touch
 pub record IsWith (old : Touching) (touch : Touch) (opened : List Opened) (t : Touching) : Type 0 where
   pub stored : t.stored ≡ (old.stored || touch.stored)
   pub value : t.value ≡ old.value
   pub differ : t.differ ≡ (old.differ || not (touch.value == old.value))
   pub sections : t.sections.items ≡ filter (is_open opened) old.sections.items
 
+-- what a row has of a cell behind a touch, the first or one more
 abbrev pub IsNext : Option Touching → Touch → List Opened → Touching → Type 0
 IsNext None touch opened t = IsFirst touch opened t
 IsNext (Some old) touch opened t = IsWith old touch opened t
@@ -98,6 +102,7 @@ IsTouchOf img owner i (Some touch) =
 abbrev pub is_guarded : Touching → Bool
 is_guarded t = not t.stored || (not t.differ || not (length t.sections.items == 0))
 
+-- whether the cell of a row, where it is touched, is guarded
 abbrev pub is_row_guarded : Option Touching → Bool
 is_row_guarded None = true
 is_row_guarded (Some t) = is_guarded t

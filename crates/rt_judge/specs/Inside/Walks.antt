@@ -21,6 +21,7 @@ use Rattle.rt_judge.specs.declared.walk.Meeting.TheVariants.{New, Known, Ambiguo
 use Rattle.rt_judge.specs.declared.walk.Place.{Place}
 use Rattle.rt_judge.specs.declared.walk.Walk.{Walk}
 
+-- the sections that are open at each address that was come to
 abbrev pub Table : Type 0
 Table = BTreeMap ℕ (List Opened)
 
@@ -43,10 +44,11 @@ Meets img owner table place New = (get nat_cmp table place.address ≡ None) × 
 Meets img owner table place Known = Has table place
 Meets img owner table place Ambiguous = IsTable img owner table → IsPoint img (point_of owner place) → ¬ NestsInOneWay img
 
--- one place more, where it is so; these places, where it is so
+-- one place more, where it is so
 abbrev pub more : Bool → Place → List Place → List Place
 more is place places = if is then places ++ place ∷ [] else places
 
+-- these places, where it is so
 abbrev pub if_so : Bool → List Place → List Place
 if_so is places = if is then places else []
 
@@ -54,21 +56,25 @@ if_so is places = if is then places else []
 abbrev pub next : Instr × Option Note → List Opened → ℕ → Place
 next line nesting to = record { address = to; nesting = inside_after line.0 line.1 nesting }
 
+-- the places that a line leads to from a place
 abbrev pub next_places : Instr × Option Note → Place → List Place
 next_places line place = map (next line place.nesting) (targets line.0 place.address)
 
--- the places that a place leads to for its owner, and for another
+-- the places that a line leads to for the same owner
 abbrev pub waits_by : Option (Instr × Option Note) → Owner → Place → List Place
 waits_by None owner place = []
 waits_by (Some line) owner place = if_so (not (ends_init line.0 owner)) (next_places line place)
 
+-- the places that a line leads to for another owner: behind the end of `init`
 abbrev pub behind_by : Option (Instr × Option Note) → Owner → Place → List Place
 behind_by None owner place = []
 behind_by (Some line) owner place = if_so (ends_init line.0 owner) (next_places line place)
 
+-- the places that a place leads to for its owner
 abbrev pub waits : Image → Owner → Place → List Place
 waits img owner place = waits_by (slice_get img.code place.address) owner place
 
+-- the places that a place leads to for another owner
 abbrev pub goes_behind : Image → Owner → Place → List Place
 goes_behind img owner place = behind_by (slice_get img.code place.address) owner place
 
@@ -108,5 +114,6 @@ pub record IsWalked (img : Image) (owner : Owner) (starts : List Place) (t : Tab
       → Contains bs (place_of q)
   pub ordered : IsOrdered nat_cmp t
 
+-- a walk is at its end
 abbrev pub HasWalked : Image → Owner → List Place → Walk → Type 0
 HasWalked img owner starts walk = IsWalked img owner starts walk.table walk.behind.items

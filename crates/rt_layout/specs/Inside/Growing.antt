@@ -10,9 +10,11 @@ use Rattle.rt_app.specs.Level.{is_software}
 use Rattle.rt_app.specs.Layout.{Layout}
 use Rattle.rt_layout.specs.Inside.Rows.{resource_row, local_row, queue_rows, ready_rows, timer_rows}
 
+-- the layout of nothing
 abbrev pub none : Layout
 none = record { cells = []; inputs = []; free = []; ready = []; timer = 0 }
 
+-- with the cells of all resources
 abbrev pub with_resources : Layout → App → Layout
 with_resources l app = record {
   cells = l.cells ++ map resource_row app.shared ++ map local_row app.locals;
@@ -42,6 +44,7 @@ skipped l = record {
   timer = l.timer;
 }
 
+-- with the queues of a task, if it is a software task
 abbrev pub with_task : Layout → Task → Layout
 with_task l t = if is_software t then with_queues l t else skipped l
 
@@ -59,9 +62,11 @@ with_level l p room = record {
 abbrev pub roomy : List ℕ → ℕ → List ℕ
 roomy rooms n = those_below (λ p. nat_lt 0 (slice_index rooms p)) n
 
+-- with the ready queues of the levels below a number
 abbrev pub with_levels : List ℕ → Layout → ℕ → Layout
 with_levels rooms l n = fold (λ l p. with_level l p (slice_index rooms p)) l (roomy rooms n)
 
+-- the rows of the ready queues of the levels below a number
 abbrev pub levels_rows : List ℕ → ℕ → List CellRow
 levels_rows rooms n = flat_map (λ p. ready_rows p (slice_index rooms p)) (roomy rooms n)
 

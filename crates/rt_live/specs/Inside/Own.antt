@@ -13,9 +13,11 @@ own_turn (Ticks n) = Happens Tick ∷ []
 own_turn (Pends irq n) = Happens (Arrive irq) ∷ []
 own_turn (Device d irq n) = []
 
+-- these turns so many times
 abbrev pub repeated : ℕ → List Turn → List Turn
 repeated zero ts = []
 repeated (suc n) ts = ts ++ repeated n ts
 
+-- the turns of the core's own events
 abbrev pub own_turns : List Line → List Turn
 own_turns script = map Happens (core_events script)

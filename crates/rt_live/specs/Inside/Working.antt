@@ -28,6 +28,7 @@ AllWork old new = (i : ℕ) (d : Device) → i < length old
 abbrev pub calls_gathered : List Part → ℕ
 calls_gathered parts = sum_by (λ p. length p.calls) parts
 
+-- how many calls all devices have made
 abbrev pub calls_made : List Device → ℕ
 calls_made devices = sum_by (λ d. length d.line.calls) devices
 

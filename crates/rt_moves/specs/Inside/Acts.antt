@@ -58,6 +58,7 @@ held_pended app irq s =
     if slice_index_or s.pending irq true then s
     else record s { pending = slice_set s.pending irq true; waiting = queued app irq s.waiting }
 
+-- the instant that is armed next, where something is armed
 abbrev pub held_instant : Held → Option ℕ
 held_instant s = least_instant (delays (contents s.store (Guarded section.Timer)))
 
@@ -80,6 +81,7 @@ pub record Resumes (app : App) (a : Action) (job : Kept) (old new : Held) : Type
   pub performs : IsPerformed app a job old.store after store
   pub is : new ≡ moved old after store
 
+-- a job with other things to do
 abbrev pub with_work : Kept → Work → Kept
 with_work j w = record {
   role = j.role;

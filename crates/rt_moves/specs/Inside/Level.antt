@@ -13,6 +13,7 @@ module _ (app : App) where
   abbrev pub job_level : Kept → ℕ
   job_level j = max j.priority (greatest_ceiling app j.sections)
 
+  -- the level: the greatest of these jobs' levels
   abbrev pub kept_level : List Kept → ℕ
   kept_level js = greatest (map job_level js)
 

@@ -32,12 +32,15 @@ todo_item s r (Some (todo.Act a)) = action_item s a
 todo_item s r (Some (todo.Clock reading)) = Some (what.Clock s.time)
 todo_item s r (Some t) = None
 
+-- the item of the next action of a job
 abbrev pub job_item : Held → Kept → Option What
 job_item s j = todo_item s j.role (next_todo j.work.todos)
 
+-- that of the running job, which is the first
 abbrev pub jobs_item : Held → List Kept → Option What
 jobs_item s [] = None
 jobs_item s (j ∷ js) = job_item s j
 
+-- that of the running job of a state
 abbrev pub shown : Held → Option What
 shown s = jobs_item s s.jobs

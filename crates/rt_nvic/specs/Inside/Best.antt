@@ -15,6 +15,7 @@ pub record IsBestBelow (n : Nvic) (count : ℕ) (kept : Best) : Type 0 where
   pub irq : kept.irq ≡ best (is_ready n NONE_READY) (beats n) (numbers_below count)
   pub value : kept.value ≡ limit_of n NONE_READY kept.irq
 
+-- the kept interrupt is the one that is taken first
 abbrev pub IsBest : Nvic → Best → Type 0
 IsBest n kept = IsBestBelow n IRQ_NUMBERS kept
 

@@ -10,9 +10,11 @@ use Rattle.rt_parse.specs.Inside.ReadingDeclaration as reading
 use Rattle.rt_parse.specs.declared.body.Owner.{Owner}
 use Rattle.rt_parse.specs.declared.body.Owner.TheVariants as owner
 
+-- the first declaration
 abbrev pub opening_view : Opening → Head
 opening_view h = record { name = h.name; bits = h.bits; dispatchers = h.dispatchers.items; fpu = h.fpu }
 
+-- what is declared before the bodies
 abbrev pub declared_view : Declared → reading.Declared
 declared_view d = record {
   first = opening_view d.first;
@@ -22,15 +24,18 @@ declared_view d = record {
   locals = d.locals.items;
 }
 
+-- whose body it is
 abbrev pub owner_view : Owner → grammar.Owner
 owner_view owner.Init = grammar.OfInit
 owner_view owner.Idle = grammar.OfIdle
 owner_view owner.Task = grammar.OfTask
 
+-- the items of a vector that may not be there
 abbrev pub items_of : {A Z : Type 0} → Option (Vec A Z) → Option (List A)
 items_of None = None
 items_of (Some xs) = Some xs.items
 
+-- the options of a body
 abbrev pub options_view : BodyOptions → grammar.Options
 options_view o = record {
   binds = o.binds;

@@ -15,13 +15,16 @@ use Rattle.rt_parse.specs.declared.expression.Measured.{Measured}
 use Rattle.rt_parse.specs.declared.expression.Strength.{Strength}
 use Rattle.rt_parse.specs.declared.expression.Strength.TheVariants as strength
 
+-- a tree with its depth
 abbrev pub kept_view : Kept → reading.Kept
 kept_view k = record { tree = expression_of k.tree.value; depth = k.depth }
 
+-- a tree with its depth, where it is kept
 abbrev pub kept_option : Option Kept → Option reading.Kept
 kept_option None = None
 kept_option (Some k) = Some (kept_view k)
 
+-- an expression as it is read
 abbrev pub measured_view : Measured → reading.Measured
 measured_view m = record { at = m.at; kept = kept_option m.kept }
 

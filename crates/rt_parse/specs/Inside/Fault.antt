@@ -9,5 +9,6 @@ abbrev pub offset_or : Option ℕ → ℕ → ℕ
 offset_or None end = end
 offset_or (Some at) end = at
 
+-- what was found, with its line and column
 abbrev pub fault_of : List ℕ → Found → Fault
 fault_of src found = record { place = place_of src (offset_or found.at (length src)); refusal = found.refusal }

@@ -16,6 +16,7 @@ use Rattle.rt_parse.specs.declared.stop.Found.{Found}
 use Rattle.rt_parse.specs.declared.stop.Stop.{Stop}
 use Rattle.rt_parse.specs.declared.stop.Stop.TheVariants as stop
 
+-- a reader: what it makes of a list of tokens
 abbrev pub Reader : Type 0 → Type 0
 Reader A = List Token → Result (A × List Token) Found
 
@@ -24,6 +25,7 @@ abbrev pub Stops : {Y : Type 0} → Stop → Result Y Found → Type 0
 Stops stop.Memory read = Unit {0}
 Stops (stop.At found) read = read ≡ Err found
 
+-- what a function returned, seen by a view, is what was read, unless memory ran out
 abbrev pub Gives : {X Y : Type 0} → (X → Y) → Result X Stop → Result Y Found → Type 0
 Gives view (Ok x) read = read ≡ Ok (view x)
 Gives view (Err e) read = Stops e read
@@ -33,6 +35,7 @@ abbrev pub Leaves : {X Y : Type 0} → (X → Y) → Result X Stop → List Toke
 Leaves view (Ok x) behind read = read ≡ Ok (view x, behind)
 Leaves view (Err e) behind read = Stops e read
 
+-- one step, and behind it the next, which goes by what the first gave; a step that failed is the last
 infixl 10 ◌>>=◌
 abbrev pub ◌>>=◌ : {A B E : Type 0} → Result A E → (A → Result B E) → Result B E
 (Ok x) >>= f = f x
@@ -43,6 +46,7 @@ abbrev pub next_offset : List Token → Option ℕ
 next_offset [] = None
 next_offset (t ∷ tokens) = Some t.at
 
+-- why no text goes on with a token of this kind
 abbrev pub refusal_of : Kind → Refusal
 refusal_of kind.Foreign = refusal.Foreign
 refusal_of other = refusal.Syntax
@@ -52,6 +56,7 @@ abbrev pub refusal_at : List Token → Refusal
 refusal_at [] = refusal.Syntax
 refusal_at (t ∷ tokens) = refusal_of t.kind
 
+-- what is wrong where no text goes on with these tokens
 abbrev pub wrong_at : List Token → Found
 wrong_at tokens = record { at = next_offset tokens; refusal = refusal_at tokens }
 
@@ -65,6 +70,7 @@ abbrev pub unless_limited : {A : Type 0} → ℕ → Option Limit → A → List
 unless_limited at None x tokens = Ok (x, tokens)
 unless_limited at (Some what) x tokens = Err (record { at = Some at; refusal = refusal.Limit what })
 
+-- a token and those behind it, by what the token means, if it means something
 abbrev pub take_meaning : {A : Type 0} → Option A → (A → Option Limit) → Token → List Token
     → Result (A × List Token) Found
 take_meaning None limit t tokens = Err (wrong_at (t ∷ tokens))
@@ -86,29 +92,38 @@ repeat_at starts step zero s tokens = Ok (s, tokens)
 repeat_at starts step (suc n) s tokens =
     if begins_with starts tokens then (step s tokens >>= λ x. repeat_at starts step n x.0 x.1) else Ok (s, tokens)
 
+-- this word, which may pass this limit
 abbrev pub limited_word_at : List ℕ → Option Limit → Reader ℕ
 limited_word_at text what = token_at (word_of text) (λ _. what)
 
+-- this word
 abbrev pub word_at : List ℕ → Reader ℕ
 word_at text = limited_word_at text free
 
+-- this name
 abbrev pub this_name_at : List ℕ → Reader ℕ
 this_name_at text = token_at (name_of text) (λ _. free)
 
+-- this sign, which may pass this limit
 abbrev pub limited_sign_at : List ℕ → Option Limit → Reader ℕ
 limited_sign_at text what = token_at (sign_of text) (λ _. what)
 
+-- this sign
 abbrev pub sign_at : List ℕ → Reader ℕ
 sign_at text = limited_sign_at text free
 
+-- a name, which may pass this limit
 abbrev pub limited_name_at : Option Limit → Reader Ident
 limited_name_at what = token_at ident_of (name_limit what)
 
+-- a name
 abbrev pub name_at : Reader Ident
 name_at = limited_name_at free
 
+-- a number, which may pass this limit
 abbrev pub limited_number_at : (ℕ → Option Limit) → Reader Number
 limited_number_at limit = token_at number_of (number_limit limit)
 
+-- a number
 abbrev pub number_at : Reader Number
 number_at = limited_number_at (λ _. free)

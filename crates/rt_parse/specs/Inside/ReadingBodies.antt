@@ -18,6 +18,7 @@ use Rattle.rt_parse.specs.Inside.ReadingOptions.{options_at}
 abbrev pub body_block_at : Reader (Counted Block)
 body_block_at = block_at NESTING STATEMENTS
 
+-- `init` or `idle` from its word on
 unfoldable pub thread_at : Owner → List ℕ → Reader (Option Body)
 thread_at owner text tokens = do
   at ← word_at text tokens
@@ -25,6 +26,7 @@ thread_at owner text tokens = do
   b ← body_block_at o.1
   Ok (Some (body_of o.0 b.0.0 at.0), b.1)
 
+-- `init` or `idle`, if its word comes next
 unfoldable pub thread_body_at : Owner → List ℕ → Reader (Option Body)
 thread_body_at owner text tokens =
     if begins_with (is_this_word text) tokens then thread_at owner text tokens else Ok (None, tokens)
@@ -35,18 +37,21 @@ one_argument_at before tokens = do
   a ← sign_at (codes ",") tokens
   limited_name_at (at_most ARGUMENTS limit.Arguments before) a.1
 
+-- one more argument behind these
 unfoldable pub argument_at : List Ident → Reader (List Ident)
 argument_at xs tokens = do
   a ← sign_at (codes ",") tokens
   x ← limited_name_at (at_most ARGUMENTS limit.Arguments (length xs)) a.1
   Ok (xs ++ x.0 ∷ [], x.1)
 
+-- the arguments of a task from `with` on
 unfoldable pub parameters_at : Reader (List Ident)
 parameters_at tokens = do
   a ← word_at (codes "with") tokens
   x ← name_at a.1
   repeat_at (is_this_sign (codes ",")) argument_at (length x.1) (x.0 ∷ []) x.1
 
+-- the arguments of a task, if `with` comes next
 unfoldable pub task_arguments_at : Reader (List Ident)
 task_arguments_at tokens =
     if begins_with (is_this_word (codes "with")) tokens then parameters_at tokens else Ok ([], tokens)
@@ -70,6 +75,7 @@ task_block_at name o tokens = do
   b ← body_block_at args.1
   Ok (task_is name o args.0 b.0.0, b.1)
 
+-- a task behind so many
 unfoldable pub task_at : ℕ → Reader Task
 task_at before tokens = do
   a ← limited_word_at (codes "task") (at_most TASKS limit.Tasks before) tokens

@@ -35,6 +35,7 @@ extension_at tokens = do
   c ← this_name_at (codes "on") b.1
   Ok (true, c.1)
 
+-- the floating-point extension from its comma on
 abbrev pub comma_extension_at : Reader Bool
 comma_extension_at tokens = do
   a ← sign_at (codes ",") tokens
@@ -44,30 +45,36 @@ comma_extension_at tokens = do
 unfoldable pub fpu_at : Reader Bool
 fpu_at tokens = if begins_with (is_this_sign (codes ",")) tokens then comma_extension_at tokens else Ok (false, tokens)
 
--- Both parts begin with a comma, so that the token behind the first comma tells which of them stands there.
+-- The dispatchers, and whether the extension is there. Both parts begin with a comma, so that the token behind the
+-- first comma tells which of them stands there.
 abbrev pub Features : Type 0
 Features = List Ident × Bool
 
+-- the extension alone, behind its comma
 abbrev pub alone_at : Reader Features
 alone_at tokens = do
   on ← extension_at tokens
   Ok (([], on.0), on.1)
 
+-- the dispatchers behind their comma, and the extension if it is there
 abbrev pub dispatched_at : Reader Features
 dispatched_at tokens = do
   ds ← dispatchers_at tokens
   on ← fpu_at ds.1
   Ok ((ds.0, on.0), on.1)
 
+-- what stands behind the first comma: the extension alone, or the dispatchers first
 unfoldable pub behind_comma_at : Reader Features
 behind_comma_at tokens = if begins_with (is_this_name (codes "fpu")) tokens then alone_at tokens
     else dispatched_at tokens
 
+-- both parts from the first comma on
 abbrev pub comma_features_at : Reader Features
 comma_features_at tokens = do
   a ← sign_at (codes ",") tokens
   behind_comma_at a.1
 
+-- both parts, if a comma comes next
 unfoldable pub features_at : Reader Features
 features_at tokens = if begins_with (is_this_sign (codes ",")) tokens then comma_features_at tokens
     else Ok (([], false), tokens)
@@ -89,6 +96,7 @@ levels_at name tokens = do
   bits ← limited_number_at (within LEAST_BITS MOST_BITS limit.Bits) d.1
   featured_at name bits.0.value bits.1
 
+-- the first declaration
 unfoldable pub head_at : Reader Head
 head_at tokens = do
   a ← word_at (codes "app") tokens
@@ -136,15 +144,18 @@ declarations_at first tokens = do
   ls ← locals_at ss.1
   bodies_at (record { first = first; irqs = irqs.0; mono = mono.0; shared = ss.0; locals = ls.0 }) ls.1
 
+-- an application
 unfoldable pub application_at : Reader App
 application_at tokens = do
   first ← head_at tokens
   declarations_at first.0 first.1
 
+-- whether no token is left
 abbrev pub is_end : List Token → Bool
 is_end [] = true
 is_end (t ∷ tokens) = false
 
+-- an application behind which no token is left
 abbrev pub whole_at : App → List Token → Result App Found
 whole_at app tokens = if is_end tokens then Ok app else Err (wrong_at tokens)
 

@@ -15,9 +15,11 @@ pub record Measured : Type 0 where
   pub at : ℕ
   pub kept : Option Kept
 
+-- a tree, unless it is too deep
 abbrev pub kept_if : Bool → Kept → Option Kept
 kept_if deep k = if deep then None else Some k
 
+-- an operation on two trees, unless one was too deep or it is
 abbrev pub kept_joined : Op → Option Kept → Option Kept → Option Kept
 kept_joined o None right = None
 kept_joined o (Some left) None = None
@@ -25,6 +27,7 @@ kept_joined o (Some left) (Some right) =
     kept_if (nat_lt DEPTH (1 + max left.depth right.depth))
     (record { tree = Oper o left.tree right.tree; depth = 1 + max left.depth right.depth })
 
+-- an operation on two expressions as they are read
 abbrev pub measured_joined : Op → Measured → Measured → Measured
 measured_joined o left right = record { at = left.at; kept = kept_joined o left.kept right.kept }
 
@@ -35,5 +38,6 @@ measure e = record {
   kept = kept_if (nat_lt DEPTH (depth e.tree)) (record { tree = e.tree; depth = depth e.tree });
 }
 
+-- an expression of one token, a number or a name, which is 1 deep
 abbrev pub atomic : ℕ → Expression → Measured
 atomic at tree = record { at = at; kept = Some (record { tree = tree; depth = 1 }) }

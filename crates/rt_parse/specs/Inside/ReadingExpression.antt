@@ -16,6 +16,7 @@ use Rattle.rt_parse.specs.Inside.Reading.{Reader, ◌>>=◌, token_at, repeat_at
 use Rattle.rt_parse.specs.Inside.Reading.{sign_at, name_at, number_at}
 use Rattle.rt_parse.specs.Inside.ReadingDepth.{Kept, Measured, measured_joined, atomic}
 
+-- one of these operators
 unfoldable pub operator_at : Signs → Reader Op
 operator_at signs tokens = token_at (op_of signs) (λ _. free) tokens
 
@@ -26,11 +27,13 @@ joined_at signs operand left tokens = do
   right ← operand o.1
   Ok (measured_joined o.0 left right.0, right.1)
 
+-- operands with operators of one strength between them
 unfoldable pub chain_at : Signs → Reader Measured → Reader Measured
 chain_at signs operand tokens = do
   first ← operand tokens
   repeat_at (is_of signs) (joined_at signs operand) (length first.1) first.0 first.1
 
+-- operands with operators of these strengths between them, the weakest outermost
 unfoldable pub chains_at : List Signs → Reader Measured → Reader Measured
 chains_at [] atom tokens = atom tokens
 chains_at (signs ∷ stronger) atom tokens = chain_at signs (chains_at stronger atom) tokens
@@ -40,35 +43,43 @@ unfoldable pub compared_at : Reader Measured → Measured → Reader Measured
 compared_at operand left tokens =
     if begins_with (is_of comparisons) tokens then joined_at comparisons operand left tokens else Ok (left, tokens)
 
+-- an expression: one side, and perhaps a comparison
 unfoldable pub comparison_at : Reader Measured → Reader Measured
 comparison_at atom tokens = do
   left ← chains_at strengths atom tokens
   compared_at (chains_at strengths atom) left.0 left.1
 
+-- whether a token of this kind is a number
 abbrev pub is_number_kind : Kind → Bool
 is_number_kind kind.Num = true
 is_number_kind other = false
 
+-- whether a token is a number
 abbrev pub is_number : Token → Bool
 is_number t = is_number_kind t.kind
 
+-- whether a token of this kind is a name
 abbrev pub is_name_kind : Kind → Bool
 is_name_kind kind.Name = true
 is_name_kind other = false
 
+-- whether a token is a name
 abbrev pub is_name : Token → Bool
 is_name t = is_name_kind t.kind
 
+-- a number as an expression
 unfoldable pub number_atom_at : Reader Measured
 number_atom_at tokens = do
   n ← number_at tokens
   Ok (atomic n.0.at (Num n.0.value), n.1)
 
+-- a name as an expression
 unfoldable pub name_atom_at : Reader Measured
 name_atom_at tokens = do
   x ← name_at tokens
   Ok (atomic x.0.at (Read x.0), x.1)
 
+-- an expression in parentheses, read so
 unfoldable pub parenthesized_at : Reader Measured → Reader Measured
 parenthesized_at inner tokens = do
   at ← sign_at (codes "(") tokens
@@ -82,6 +93,7 @@ closed_at tokens = do
   at ← limited_sign_at (codes "(") (Some limit.Parentheses) tokens
   Err (wrong_at at.1)
 
+-- a number or a name, or else what this reads
 unfoldable pub atom_or_at : Reader Measured → Reader Measured
 atom_or_at nested tokens =
     if begins_with is_number tokens then number_atom_at tokens
@@ -93,9 +105,11 @@ unfoldable pub nested_at : ℕ → Reader Measured
 nested_at zero tokens = closed_at tokens
 nested_at (suc more) tokens = parenthesized_at (comparison_at (atom_or_at (nested_at more))) tokens
 
+-- an atom, where so many parentheses may be opened
 abbrev pub atom_at : ℕ → Reader Measured
 atom_at more = atom_or_at (nested_at more)
 
+-- the tree of an expression, or that it is too deep
 abbrev pub unless_deep : ℕ → Option Kept → Reader Expression
 unless_deep at (Some k) tokens = Ok (k.tree, tokens)
 unless_deep at None tokens = Err (record { at = Some at; refusal = refusal.Limit limit.Depth })

@@ -28,6 +28,7 @@ adds_at item xs (t ∷ tokens) = item (length xs) (t ∷ tokens) >>= λ x. Ok (x
 abbrev pub goes_past : List ℕ → List Token → Bool
 goes_past sign tokens = begins_with (λ t. not (is_this_sign sign t)) tokens
 
+-- a list of names in brackets
 unfoldable pub names_at : Reader (List Ident)
 names_at tokens = do
   a ← sign_at (codes "[") tokens

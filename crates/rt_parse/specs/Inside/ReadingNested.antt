@@ -13,19 +13,23 @@ use Rattle.rt_parse.specs.Inside.Reading.{limited_name_at, name_at, number_at, l
 use Rattle.rt_parse.specs.Inside.ReadingExpression.{expression_at}
 use Rattle.rt_parse.specs.Inside.ReadingSimple.{counted_limit}
 
+-- the limit on nesting, where no more blocks may be opened
 abbrev pub nested_limit : ℕ → Option Limit
 nested_limit left = limit_if (nat_eq left 0) limit.Nesting
 
+-- the second block of an `if` from `else` on
 unfoldable pub else_block_at : (ℕ → Reader (Counted Block)) → ℕ → Reader (Counted Block)
 else_block_at block room tokens = do
   a ← word_at (codes "else") tokens
   block room a.1
 
+-- the second block of an `if`, if `else` comes next, and the empty block if not
 unfoldable pub else_at : (ℕ → Reader (Counted Block)) → ℕ → Reader (Counted Block)
 else_at block room tokens =
     if begins_with (is_this_word (codes "else")) tokens then else_block_at block room tokens
     else Ok ((Empty, room), tokens)
 
+-- an `if`
 unfoldable pub branch_at : (ℕ → Reader (Counted Block)) → ℕ → Reader (Counted Statement)
 branch_at block room tokens = do
   a ← limited_word_at (codes "if") (counted_limit room) tokens
@@ -34,6 +38,7 @@ branch_at block room tokens = do
   second ← else_at block first.0.1 first.1
   Ok ((Branch e.0 first.0.0 second.0.0, second.0.1), second.1)
 
+-- a `for`
 unfoldable pub loop_at : (ℕ → Reader (Counted Block)) → ℕ → Reader (Counted Statement)
 loop_at block room tokens = do
   a ← limited_word_at (codes "for") (counted_limit room) tokens
@@ -53,6 +58,7 @@ further_at inside left room tokens = do
   inner ← inside (room - 1) r.1
   Ok ((Then (Locked r.0 inner.0.0) Empty, inner.0.1), inner.1)
 
+-- a `lock`
 unfoldable pub lock_at : (ℕ → Reader (Counted Block)) → ℕ → Reader (Counted Statement)
 lock_at inside room tokens = do
   a ← limited_word_at (codes "lock") (counted_limit room) tokens

@@ -11,6 +11,7 @@ use Rattle.rt_parse.specs.Inside.Reading.{Reader, ◌>>=◌, begins_with, wrong_
 use Rattle.rt_parse.specs.Inside.Reading.{limited_number_at}
 use Rattle.rt_parse.specs.Inside.ReadingList.{items_at, adds_at, names_at}
 
+-- the interrupt that a task is bound to
 unfoldable pub binds_at : Options → Reader Options
 binds_at o tokens = do
   a ← word_at (codes "binds") tokens
@@ -18,6 +19,7 @@ binds_at o tokens = do
   x ← name_at b.1
   Ok (record o { binds = Some x.0 }, x.1)
 
+-- the priority of a task
 unfoldable pub priority_at : Options → Reader Options
 priority_at o tokens = do
   a ← word_at (codes "priority") tokens
@@ -25,6 +27,7 @@ priority_at o tokens = do
   n ← number_at b.1
   Ok (record o { priority = Some n.0 }, n.1)
 
+-- the capacity of a task
 unfoldable pub capacity_at : Options → Reader Options
 capacity_at o tokens = do
   a ← word_at (codes "capacity") tokens
@@ -32,21 +35,25 @@ capacity_at o tokens = do
   n ← limited_number_at (within 1 CAPACITY limit.Capacity) b.1
   Ok (record o { capacity = Some n.0.value }, n.1)
 
+-- a shared resource that is listed by reference, from its `&` on
 unfoldable pub listed_by_ref_at : Reader ListedTree
 listed_by_ref_at tokens = do
   at ← sign_at (codes "&") tokens
   x ← name_at at.1
   Ok (record { name = x.0; by_ref = true; at = at.0 }, x.1)
 
+-- a shared resource that is listed by its name
 unfoldable pub listed_plainly_at : Reader ListedTree
 listed_plainly_at tokens = do
   x ← name_at tokens
   Ok (record { name = x.0; by_ref = false; at = x.0.at }, x.1)
 
+-- a shared resource that a body lists
 unfoldable pub listed_at : Reader ListedTree
 listed_at tokens = if begins_with (is_this_sign (codes "&")) tokens then listed_by_ref_at tokens
     else listed_plainly_at tokens
 
+-- the shared resources that a body lists
 unfoldable pub shared_list_at : Options → Reader Options
 shared_list_at o tokens = do
   a ← word_at (codes "shared") tokens
@@ -55,6 +62,7 @@ shared_list_at o tokens = do
   xs ← items_at (codes "]") (adds_at (λ before. listed_at)) (length c.1) [] c.1
   Ok (record o { shared = Some xs.0 }, xs.1)
 
+-- the local resources that a body lists
 unfoldable pub local_list_at : Options → Reader Options
 local_list_at o tokens = do
   a ← word_at (codes "local") tokens
@@ -66,6 +74,7 @@ local_list_at o tokens = do
 abbrev pub takes : Bool → List ℕ → Token → Bool
 takes allowed text t = allowed && is_this_word text t
 
+-- one option more, behind these
 unfoldable pub option_at : Owner → Options → Reader Options
 option_at owner o tokens =
     if begins_with (takes (is_task owner && is_none o.binds) (codes "binds")) tokens then binds_at o tokens
@@ -78,11 +87,13 @@ option_at owner o tokens =
     else if begins_with (takes (is_none o.local) (codes "local")) tokens then local_list_at o tokens
     else Err (wrong_at tokens)
 
+-- the options from their parenthesis on
 unfoldable pub some_options_at : Owner → Reader Options
 some_options_at owner tokens = do
   a ← sign_at (codes "(") tokens
   items_at (codes ")") (option_at owner) (length a.1) no_options a.1
 
+-- the options, if a parenthesis comes next
 unfoldable pub options_at : Owner → Reader Options
 options_at owner tokens =
     if begins_with (is_this_sign (codes "(")) tokens then some_options_at owner tokens else Ok (no_options, tokens)

@@ -10,9 +10,11 @@ use Rattle.rt_parse.specs.Inside.Reading.{Reader, ◌>>=◌, limited_word_at, si
 use Rattle.rt_parse.specs.Inside.ReadingExpression.{expression_at}
 use Rattle.rt_parse.specs.Inside.ReadingSpawn.{spawn_at, value_at}
 
+-- the limit on statements, where no more may come
 abbrev pub counted_limit : ℕ → Option Limit
 counted_limit room = limit_if (nat_eq room 0) limit.Statements
 
+-- a `let`
 unfoldable pub bind_at : ℕ → Reader (Counted Statement)
 bind_at room tokens = do
   a ← limited_word_at (codes "let") (counted_limit room) tokens
@@ -22,6 +24,7 @@ bind_at room tokens = do
   c ← sign_at (codes ";") v.1
   Ok ((Bind x.0 v.0, room - 1), c.1)
 
+-- an assignment
 unfoldable pub assign_at : ℕ → Reader (Counted Statement)
 assign_at room tokens = do
   x ← limited_name_at (counted_limit room) tokens
@@ -30,6 +33,7 @@ assign_at room tokens = do
   b ← sign_at (codes ";") e.1
   Ok ((Assign x.0 e.0, room - 1), b.1)
 
+-- an `emit`
 unfoldable pub emit_at : ℕ → Reader (Counted Statement)
 emit_at room tokens = do
   a ← limited_word_at (codes "emit") (counted_limit room) tokens
@@ -37,6 +41,7 @@ emit_at room tokens = do
   b ← sign_at (codes ";") e.1
   Ok ((Emit e.0, room - 1), b.1)
 
+-- a `pend`
 unfoldable pub pend_at : ℕ → Reader (Counted Statement)
 pend_at room tokens = do
   a ← limited_word_at (codes "pend") (counted_limit room) tokens
@@ -44,6 +49,7 @@ pend_at room tokens = do
   b ← sign_at (codes ";") irq.1
   Ok ((Pend irq.0, room - 1), b.1)
 
+-- a spawn, a cancel or a reschedule as a statement
 unfoldable pub call_at : ℕ → Reader (Counted Statement)
 call_at room tokens = do
   s ← spawn_at (counted_limit room) tokens

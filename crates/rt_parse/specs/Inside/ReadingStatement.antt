@@ -30,6 +30,7 @@ compound_at block inside room tokens =
     else if begins_with (is_this_word (codes "lock")) tokens then lock_at inside room tokens
     else simple_at room tokens
 
+-- a statement, by its first token
 unfoldable pub statement_at : (ℕ → Reader (Counted Block)) → (ℕ → Reader (Counted Block)) → ℕ
     → Reader (Counted Statement)
 statement_at block inside room tokens =
@@ -37,12 +38,14 @@ statement_at block inside room tokens =
     else if begins_with (is_this_word (codes "let")) tokens then bind_at room tokens
     else compound_at block inside room tokens
 
+-- one more statement behind these
 unfoldable pub one_more_at : (ℕ → Reader (Counted Block)) → (ℕ → Reader (Counted Block)) → Counted (List Statement)
     → Reader (Counted (List Statement))
 one_more_at block inside so_far tokens = do
   s ← statement_at block inside so_far.1 tokens
   Ok ((so_far.0 ++ s.0.0 ∷ [], s.0.1), s.1)
 
+-- whether a token goes on with a block, since it is not the sign that closes one
 abbrev pub is_inside : Token → Bool
 is_inside t = not (is_this_sign (codes "}") t)
 
@@ -60,6 +63,7 @@ closed_block_at tokens = do
   a ← limited_sign_at (codes "{") (Some limit.Nesting) tokens
   Err (wrong_at a.1)
 
+-- no text, so that any token is wrong
 unfoldable pub nothing_at : ℕ → Reader (Counted Block)
 nothing_at room tokens = Err (wrong_at tokens)
 
@@ -69,6 +73,7 @@ unfoldable mutual
   block_at zero room tokens = closed_block_at tokens
   block_at (suc left) room tokens = braced_at (block_at left) (inside_at left) room tokens
 
+  -- what is behind a lock's name, where so many blocks may be opened
   pub inside_at : ℕ → ℕ → Reader (Counted Block)
   inside_at zero room tokens =
       if begins_with (is_this_sign (codes ",")) tokens then further_at nothing_at 0 room tokens

@@ -7,6 +7,7 @@ use Rattle.rt_code.specs.Cells.{cell_named}
 use Rattle.rt_code.specs.Tables.{handler_in, arguments_in}
 use Rattle.rt_program.specs.Inside.Found.{IsTable}
 
+-- the tables have what the image has, number by number
 pub record HasTables (p : Inside) : Type 0 where
   pub handlers : IsTable (handler_in p.image.irqs) IRQ_NUMBERS p.handlers.items
   pub resources : p.resources.items ≡ map (cell_named p.image.cells) p.image.names.shared

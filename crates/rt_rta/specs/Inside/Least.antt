@@ -13,10 +13,12 @@ pub record IsSmall (load : Load) : Type 0 where
   pub few : load.steps ≤ BODY_COST + 2
 
 module _ (all : List Load) (wait : Wait) where
+  -- a number of core steps that suffices: the wait and what is asked for in so many steps are no more
   pub record IsEnough (steps : ℕ) : Type 0 where
     pub some : 1 ≤ steps
     pub covers : wait.steps + loads_demand wait.level steps all ≤ steps
 
+  -- the least number that suffices, or none up to the greatest that is looked at
   abbrev pub IsLeast : Option ℕ → Type 0
   IsLeast None = (steps : ℕ) → steps ≤ MOST_STEPS → ¬ IsEnough steps
   IsLeast (Some least) = IsEnough least × (least ≤ MOST_STEPS) × ((steps : ℕ) → IsEnough steps → least ≤ steps)

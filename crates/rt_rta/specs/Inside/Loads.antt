@@ -12,9 +12,11 @@ abbrev pub load_of : App → Task → Option ℕ → List Load
 load_of app t None = []
 load_of app t (Some every) = record { level = t.priority; every = every; steps = handling app t } ∷ []
 
+-- what a task asks for, where its interrupt may be requested
 abbrev pub task_loads : App → List Limit → Task → List Load
 task_loads app limits t = load_of app t (then_from (number_of app t) (every_of limits))
 
+-- what the tasks of an application ask for
 abbrev pub loads : App → List Limit → List Load
 loads app limits = flat_map (task_loads app limits) app.tasks
 
@@ -22,5 +24,6 @@ loads app limits = flat_map (task_loads app limits) app.tasks
 abbrev pub load_demand : ℕ → ℕ → Load → ℕ
 load_demand p steps load = if nat_le p load.level then begun_in steps load.every * load.steps else 0
 
+-- what all these ask for in so many core steps
 abbrev pub loads_demand : ℕ → ℕ → List Load → ℕ
 loads_demand p steps all = sum_by (load_demand p steps) all

@@ -16,10 +16,12 @@ pub record Takes (app : App) (before : List Limit) (line : List ℕ) (after : Li
   pub reads : line_of app before line ≡ Ok told
   pub adds : after ≡ before ++ option_to_list told
 
+-- the refusal of a line of this number that is wrong in this way
 abbrev pub refusal : Wrong → ℕ → LimitsRefused
 refusal wrong.Form n = refused.BadLine n
 refusal wrong.Interrupt n = refused.UnknownInterrupt n
 
+-- memory was wanted
 abbrev pub IsWanting : LimitsRefused → Type 0
 IsWanting r = r ≡ refused.NoMemory
 

@@ -12,6 +12,7 @@ abbrev pub earlier : Option Violation → Violation → Option Violation
 earlier None v = Some v
 earlier (Some w) v = Some (if is_before v w then v else w)
 
+-- the first violation of those found so far and of this list
 abbrev pub first_of : Option Violation → List Violation → Option Violation
 first_of o [] = o
 first_of o (v ∷ vs) = first_of (earlier o v) vs

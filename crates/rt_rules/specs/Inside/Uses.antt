@@ -7,5 +7,6 @@ use Rattle.rt_app.specs.Use.{Placed}
 use Rattle.rt_app.specs.Statements.{breaks}
 use Rattle.rt_rules.specs.Inside.First.{first_of}
 
+-- the first violation of those found so far and of these uses
 abbrev pub first_use : App → Member → Option Violation → List Placed → Option Violation
 first_use app m o ps = first_of o (flat_map (breaks app m) ps)

@@ -18,6 +18,7 @@ pub record Takes (names : Names) (before : List Line) (line : List ℕ) (after :
   pub adds : after ≡ before ++ option_to_list asked
   pub few : count before ≤ SCRIPT_EVENTS → count after ≤ SCRIPT_EVENTS
 
+-- the refusal of a line of this number that is wrong in this way
 abbrev pub refusal : Wrong → ℕ → ScriptRefused
 refusal wrong.Form n = refused.BadLine n
 refusal wrong.Interrupt n = refused.UnknownInterrupt n

@@ -25,10 +25,12 @@ IsBounded s = IsWithin (s.runs * SCRIPT_EVENTS) s
 abbrev pub Part : Type 0
 Part = Result (Vec Run Global) NoMemory
 
+-- the runs of a worker, and none where it wanted memory
 abbrev pub runs_in : Part → List Run
 runs_in (Ok runs) = runs.items
 runs_in (Err e) = []
 
+-- a worker did not want memory
 abbrev pub IsThere : Part → Type 0
 IsThere (Ok runs) = Unit {0}
 IsThere (Err e) = ⊥

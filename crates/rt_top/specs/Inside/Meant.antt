@@ -4,6 +4,7 @@ use Rattle.rt_top.specs.Words as word
 use Rattle.rt_top.specs.declared.command.Command.{Command}
 use Rattle.rt_top.specs.declared.command.Command.TheVariants as command
 
+-- the command of the definitions that a command of the code is
 abbrev pub meant : Command → word.Command
 meant command.Run = word.Run
 meant command.Check = word.Check

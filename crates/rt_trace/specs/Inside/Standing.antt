@@ -15,6 +15,7 @@ abbrev pub behind_row : Row → TraceReader × Option Item
 behind_row (row.Shown item) = (record { phase = phase.Items }, Some item)
 behind_row (row.Total total) = (record { phase = phase.Closed total }, None)
 
+-- the refusal of a row of this number that is wrong in this way
 abbrev pub refusal : Wrong → ℕ → TraceRefused
 refusal wrong.Form n = refused.BadLine n
 refusal wrong.Name n = refused.UnknownName n

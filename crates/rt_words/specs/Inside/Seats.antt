@@ -30,9 +30,11 @@ calls_at Copied v = []
 calls_at Device v = v.calls
 calls_at Spent v = []
 
+-- the number that a view stands for
 abbrev pub number_of : View → Option ℕ
 number_of v = number_at v.stage v
 
+-- its calls under that number
 abbrev pub calls_of : View → List Call
 calls_of v = calls_at v.stage v
 

@@ -74,6 +74,7 @@ latched s me found after = (seen : List Entry) × (after ≡ (called me.0 seen (
 abbrev pub reserving : ℕ → View → View
 reserving number v = record v { made = number ∷ v.made; reserved = Some number; since = length v.calls }
 
+-- a step by which the first seat reserves a number
 abbrev pub reserved : ℕ → Step (Unit {0}) → Seat → ℕ → Seat → Type 0
 reserved number s me found after = after ≡ (reserving number me.0, me.1)
 
@@ -81,6 +82,7 @@ reserved number s me found after = after ≡ (reserving number me.0, me.1)
 abbrev pub without_reserved : View → View
 without_reserved v = record v { reserved = None }
 
+-- the view of a new seat as a split copies it, before it takes its number
 abbrev pub copied : View → View
 copied v = record v { stage = Copied }
 
@@ -92,6 +94,7 @@ took s me found after = after ≡ (device (unwrap_or me.0.reserved 255) [] me.0.
 abbrev pub joined : View → View → View
 joined v w = record v { gathered = record { line = w.line; calls = w.calls } ∷ v.gathered; since = length v.calls }
 
+-- what a seat knows once it is spent: nothing
 abbrev pub spent : View
 spent =
     record {

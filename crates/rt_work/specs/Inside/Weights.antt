@@ -23,6 +23,7 @@ abbrev mutual
   statement_weight (Pend i) = 0
   statement_weight (Spawns s) = 2
 
+  -- how much a block weighs
   pub block_weight : Block → ℕ
   block_weight Empty = 1
   block_weight (Then s rest) = 1 + statement_weight s + block_weight rest
