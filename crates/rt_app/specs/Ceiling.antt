@@ -14,7 +14,8 @@ use Rattle.rt_app.specs.Spawned.{makes_ready, arms_message, uses_places, uses_ti
 use Rattle.rt_app.specs.Level.{is_software, is_of_level, levels, holds}
 use Rattle.rt_ids.specs.Lists.{is_some_and, greatest, or_zero}
 
--- by resource; by task, where it is a software task; by level; and of the timer queue, where there is a monotonic
+-- the ceilings: by resource; by task, where it is a software task; by level; and of the timer queue, where there is a
+-- monotonic
 pub record Ceilings : Type 0 where
   pub shared : List ℕ
   pub free : List (Option ℕ)
@@ -29,7 +30,7 @@ greatest_priority test app = greatest (map (λ m. m.priority) (filter test (memb
 abbrev pub lists : ℕ → Member → Bool
 lists r m = list_any (λ l. l.resource == r) m.body.shared
 
--- the bodies that list it
+-- the ceiling of a shared resource: the greatest priority of the bodies that list it
 abbrev pub resource_ceiling : App → ℕ → ℕ
 resource_ceiling app r = greatest_priority (lists r) app
 
@@ -37,7 +38,8 @@ resource_ceiling app r = greatest_priority (lists r) app
 abbrev pub uses_places_of : ℕ → Spawn → Bool
 uses_places_of n s = uses_places s && (target s == n)
 
--- the task itself, and the bodies that spawn it, at once or after a delay, or cancel a message of it
+-- the ceiling of a task's free places: the greatest priority of the task itself, and of the bodies that spawn it, at
+-- once or after a delay, or cancel a message of it
 abbrev pub free_ceiling : App → ℕ → ℕ
 free_ceiling app n = max (task_priority app n) (greatest_priority (holds (uses_places_of n)) app)
 
@@ -54,16 +56,18 @@ abbrev pub mover_priority : App → ℕ → Option Mono → ℕ
 mover_priority app p None = 0
 mover_priority app p (Some mono) = if list_any (holds (arms_level app p)) (members app) then mono.priority else 0
 
--- the level itself, the bodies that spawn its tasks at once, and the monotonic where it moves messages there
+-- the ceiling of a ready queue: the greatest of the level itself, the priorities of the bodies that spawn its tasks at
+-- once, and that of the monotonic where it moves messages there
 abbrev pub ready_ceiling : App → ℕ → ℕ
 ready_ceiling app p = max p (max (greatest_priority (holds (readies app p)) app) (mover_priority app p app.mono))
 
--- the monotonic, and the bodies that spawn after a delay, cancel or put off
+-- the ceiling of the timer queue: the greatest of the monotonic's priority and those of the bodies that spawn after a
+-- delay, cancel or put off
 abbrev pub timer_ceiling : App → ℕ
 timer_ceiling app =
     max (or_zero (option_map (λ mono. mono.priority) app.mono)) (greatest_priority (holds uses_timer) app)
 
--- the priority that a section of this holds off, with all below it
+-- the priority ceiling of what a section guards (Baker 1991): the section holds off this priority and all below it
 abbrev pub ceiling : App → Section → ℕ
 ceiling app (section.Res r) = resource_ceiling app r
 ceiling app (section.Free n) = free_ceiling app n

@@ -21,12 +21,12 @@ is_known n = not (n == UNKNOWN)
 abbrev pub is_priority : ℕ → ℕ → Bool
 is_priority bits p = nat_le 1 p && nat_le p (2 ^ bits)
 
--- the monotonic's priority is out of range
+-- the violation of the monotonic, where its priority is out of range
 abbrev pub mono_priority : ℕ → Option Mono → List Violation
 mono_priority bits None = []
 mono_priority bits (Some mono) = when (not (is_priority bits mono.priority)) rule.PriorityOutOfRange mono.priority_at
 
--- a task's priority is out of range
+-- the violation of a task, where its priority is out of range
 abbrev pub task_priority : ℕ → Task → List Violation
 task_priority bits t = when (not (is_priority bits t.priority)) rule.PriorityOutOfRange t.priority_at
 

@@ -9,7 +9,7 @@ use Rattle.rt_app.specs.Tree.{Task, App, Spawn}
 use Rattle.rt_app.specs.Bodies.{Member, members}
 use Rattle.rt_app.specs.Spawned.{spawns, arms_message, target}
 
--- one that binds no interrupt
+-- a software task: one that binds no interrupt
 abbrev pub is_software : Task → Bool
 is_software t = is_none t.binds
 

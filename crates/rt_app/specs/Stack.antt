@@ -58,7 +58,8 @@ thread_frame (Some b) = frame_words 0 b
 abbrev pub thread_words : App → ℕ
 thread_words app = max (thread_frame app.init) (thread_frame app.idle)
 
--- bytes of the stack at the deepest
+-- the stack bound: the bytes of the stack at the deepest, where each level has one handler on it (Baker 1991, on
+-- sharing a stack)
 abbrev pub stack_bytes : App → ℕ
 stack_bytes app = 4 * thread_words app + bytes_below app PRIORITIES
 

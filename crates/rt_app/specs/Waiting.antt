@@ -124,6 +124,7 @@ sections app = idle_sections app app.idle ++ (tasks_sections app 0 app.tasks ++ 
 abbrev pub holds_off : ℕ → Critical → Bool
 holds_off p s = nat_lt s.level p && nat_lt s.outer p && nat_le p s.ceiling
 
--- the greatest cost of a section that may hold off a job of this priority
+-- the waiting bound, which is worst-case blocking (Baker 1991): the greatest cost of a section that may hold off a job
+-- of this priority
 abbrev pub waiting_bound : App → ℕ → ℕ
 waiting_bound app p = greatest (map (λ s. s.cost) (filter (holds_off p) (sections app)))

@@ -38,7 +38,8 @@ pub record Core : Type 0 where
   -- a trap came
   pub stopped : Bool
 
--- the core after reset: it stands at address 0, nothing is pending, and PRIMASK masks all interrupts
+-- the core after reset (section B1.5.5, but for PRIMASK, which here masks all interrupts): at address 0, with nothing
+-- pending
 abbrev pub reset : Image → Core
 reset img = record {
   time = 0;
@@ -68,7 +69,8 @@ used img c = stack.used (context_words (entry_words img)) c.caller c.processor.s
 abbrev pub depth : Image → Core → ℕ
 depth img c = 4 * used img c
 
--- the exception number of what runs: interrupt n is the exception 16 + n, and the thread has 0
+-- the exception number of what runs (ARMv7-M Architecture Reference Manual, section B1.5.2): interrupt n is the
+-- exception 16 + n, and the thread has 0
 abbrev pub exception_number : List Context → ℕ
 exception_number [] = 0
 exception_number (x ∷ below) = 16 + x.irq

@@ -54,7 +54,7 @@ lock inside nesting before = do
   inner ← inside (suc nesting) (suc before)
   gives (Locked r inner.0, inner.1)
 
--- a statement, whose inner blocks and whose rest behind a lock's name are these
+-- any statement; the blocks in it, and what is behind a lock's name, are these
 abbrev pub statement : ℕ → Blocks → Blocks → ℕ → ℕ → Language (Counted Statement)
 statement most block inside nesting before =
     bind most before or assign most before or branch most block nesting before or loop block nesting before

@@ -26,7 +26,7 @@ text marks app = (most : ℕ) × application most marks app
 abbrev pub IsSpelled : List Token → App → Type 0
 IsSpelled ts app = (marks : List Mark) × text marks app × Fits marks ts []
 
--- some text of the grammar begins with these tokens
+-- these tokens are a viable prefix: some text of the grammar begins with them
 abbrev pub Begins : List Token → Type 0
 Begins ts = (marks : List Mark) × Reaches text ts marks []
 

@@ -13,7 +13,8 @@ use Rattle.rt_laws.specs.Handles.{KeepsHandles}
 use Rattle.rt_laws.specs.Served.{ServesReady, ServesDue}
 use Rattle.rt_laws.specs.Properties.{SectionsNest, KeepsLaws}
 
--- sections are exclusive, no job finds one taken, and none waits for more than one section of one lower job
+-- every run keeps Baker's three properties (1991): sections are exclusive, no job finds one taken, and none waits for
+-- more than one section of one lower job
 abbrev pub RunsKeepLaws : Type 0
 RunsKeepLaws = (app : App) → IsAccepted app → (labels : List Label) → RunsOn app (first app) labels
     → KeepsLaws app labels

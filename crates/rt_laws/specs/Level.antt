@@ -15,11 +15,13 @@ use Rattle.rt_laws.specs.State.{Job, State}
 abbrev pub greatest_ceiling : App → List Section → ℕ
 greatest_ceiling app xs = greatest (map (ceiling app) xs)
 
--- the greatest of the priorities of all started jobs and of the ceilings of all their open sections
+-- the level, which is Baker's system ceiling (1991): the greatest of the priorities of all started jobs and of the
+-- ceilings of all their open sections
 abbrev pub level : App → List Job → ℕ
 level app jobs = greatest (map (λ job. max job.priority (greatest_ceiling app job.sections)) jobs)
 
--- a pending interrupt of a priority above the level; one that is not enabled has the priority 0
+-- Baker's preemption test (1991): the interrupt is pending, and its priority is above the level; one that is not
+-- enabled has the priority 0
 abbrev pub may_start : App → State → ℕ → Bool
 may_start app s irq = slice_index_or s.pending irq false && nat_lt (level app s.jobs) (priority_of app irq)
 
@@ -29,7 +31,7 @@ goes_before app irq other =
     nat_lt (priority_of app other) (priority_of app irq)
     || ((priority_of app irq == priority_of app other) && nat_lt irq other)
 
--- the interrupt that is to be taken, where there is one
+-- the interrupt that the preemption test selects, where there is one
 abbrev pub candidate : App → State → Option ℕ
 candidate app s = best (may_start app s) (goes_before app) (map (λ d. d.number) app.irqs)
 

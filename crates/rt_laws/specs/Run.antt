@@ -13,7 +13,7 @@ use Rattle.rt_app.specs.Stack.{stack_bytes}
 use Rattle.rt_laws.specs.State.{State, first}
 use Rattle.rt_laws.specs.Allowed.{May, after}
 
--- from a state on, each of these is allowed behind those before it
+-- a run from a state on: each of these labels is allowed behind those before it
 abbrev pub RunsOn : App → State → List Label → Type 0
 RunsOn app s [] = Unit {0}
 RunsOn app s (label ∷ labels) = May app s label × RunsOn app (after app s label) labels

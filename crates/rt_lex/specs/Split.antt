@@ -58,8 +58,8 @@ abbrev pub LieIn : List ℕ → ℕ → List Token → Type 0
 LieIn src from [] = Unit {0}
 LieIn src from (t ∷ tokens) = (from ≤ t.at) × IsSlice src t × LieIn src (t.at + length t.text) tokens
 
--- A token is one of its kind, of at least one byte, and no longer front of the text at its place is a name, a number
--- or a sign.
+-- The longest match: a token is one of its kind, of at least one byte, and no longer front of the text at its place is
+-- a name, a number or a sign.
 pub record IsLongest (src : List ℕ) (t : Token) : Type 0 where
   pub some : 0 < length t.text
   pub kind : has_kind t.kind t.text ≡ true

@@ -22,6 +22,6 @@ tokens_behind zero at (b ∷ text) =
 abbrev pub tokens_at : ℕ → List ℕ → List Token
 tokens_at at text = tokens_behind 0 at text
 
--- the tokens of a text
+-- the tokens of a text, by the longest match at each place (maximal munch)
 abbrev pub tokens : List ℕ → List Token
 tokens src = tokens_at 0 src

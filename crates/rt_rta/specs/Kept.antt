@@ -6,7 +6,7 @@ use Rattle.rt_trace.specs.declared.item.What.TheVariants as what
 use Rattle.rt_rta.specs.Limits.{every_of}
 use Rattle.rt_rta.specs.declared.limits.Limit.{Limit}
 
--- The requests of a run keep these limits; an interrupt without one is never requested.
+-- The requests of a run keep these limits, as those of sporadic tasks do; an interrupt without one is never requested.
 pub record Kept (limits : List Limit) (labels : List Label) : Type 0 where
   -- nothing is requested before `init` ends
   pub late : (front behind : List Label) (irq : ℕ) → labels ≡ front ++ Arrived irq ∷ behind

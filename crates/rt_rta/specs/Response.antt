@@ -42,12 +42,14 @@ module _ (app : App) (limits : List Limit) (p : ℕ) where
   abbrev pub demand : ℕ → ℕ
   demand steps = sum_by (task_demand steps) app.tasks
 
-  -- in so many core steps there is room for what lower jobs hold off and for all that is asked for
+  -- the recurrence of response-time analysis as an inequality: in so many core steps there is room for what lower jobs
+  -- hold off and for all that is asked for
   pub record Suffices (steps : ℕ) : Type 0 where
     pub some : 1 ≤ steps
     pub covers : waiting_bound app p + demand steps ≤ steps
 
-  -- the least number of core steps that suffices, and none where no number up to a million does
+  -- the response time (Joseph and Pandya 1986): the least number of core steps that suffices, and none where no number
+  -- up to a million does
   abbrev pub IsResponse : Option ℕ → Type 0
   IsResponse None = (steps : ℕ) → steps ≤ MOST_STEPS → ¬ Suffices steps
   IsResponse (Some least) = Suffices least × (least ≤ MOST_STEPS) × ((steps : ℕ) → Suffices steps → least ≤ steps)

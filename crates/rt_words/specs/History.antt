@@ -9,7 +9,8 @@ abbrev pub Leads : List ℕ → List Entry → List ℕ → Type 0
 Leads words [] last = words ≡ last
 Leads words (e ∷ es) last = IsAnswered words e.call × Leads (after words e.call) es last
 
--- one thread could have made these calls, from words of 0 on
+-- the history is legal (Herlihy and Wing, Linearizability, 1990): one thread could have made these calls, from words of
+-- 0 on
 abbrev pub IsLegal : List Entry → List ℕ → Type 0
 IsLegal history last = Leads (replicate 16 0) history last
 
