@@ -97,7 +97,7 @@ abbrev pub timer_cells : App → Option Mono → List Cell
 timer_cells app None = []
 timer_cells app (Some mono) = timer_queue_cells app
 
--- all cells, by number
+-- all cells of an application, by number
 abbrev pub memory : App → List Cell
 memory app =
     resource_cells 0 app.shared

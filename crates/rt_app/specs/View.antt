@@ -12,13 +12,13 @@ use Rattle.rt_app.specs.declared.body.Body.{Body}
 use Rattle.rt_app.specs.declared.app.Task.{Task}
 use Rattle.rt_app.specs.declared.app.App.{App}
 
--- an expression
+-- the expression that the code's tree of one is
 abbrev pub expression_of : Expr → tree.Expression
 expression_of (Num n) = tree.Num n
 expression_of (Read atom at) = tree.Read atom at
 expression_of (Oper' op p a q b) = tree.Oper op (expression_of a) (expression_of b)
 
--- a spawn
+-- the spawn, cancel or reschedule that the code's tree of one is
 abbrev pub spawn_of : Spawn → tree.Spawn
 spawn_of (spawn.Soon task args at) = tree.Soon task (map expression_of args.items) at
 spawn_of (spawn.After word delay task args at) =
@@ -27,14 +27,14 @@ spawn_of (spawn.Cancel word task handle at) = tree.Cancel word task (expression_
 spawn_of (spawn.Move word delay task handle at) =
     tree.Move word (expression_of delay) task (expression_of handle) at
 
--- the value of a `let`
+-- the value of a `let` that the code's tree of one is
 abbrev pub value_of : Value → tree.Value
 value_of (value.Calc e) = tree.Calc (expression_of e)
 value_of (value.Now at) = tree.Now at
 value_of (value.Call s) = tree.Call (spawn_of s)
 
 abbrev mutual
-  -- a statement
+  -- the statement that the code's tree of one is
   pub statement_of : Stmt → tree.Statement
   statement_of (Bind x v) = tree.Bind x (value_of v)
   statement_of (Assign x e at) = tree.Assign x (expression_of e) at
@@ -45,21 +45,21 @@ abbrev mutual
   statement_of (Pend i) = tree.Pend i
   statement_of (Call s) = tree.Spawns (spawn_of s)
 
-  -- a block that stands as a row of statements
+  -- the block that a row of the code's statements is
   pub row_block : {n : _} → Row_of-Stmt n → tree.Block
   row_block end_of-Stmt = tree.Empty
   row_block (more_of-Stmt s rest) = tree.Then (statement_of s) (row_block rest)
 
--- a block
+-- the block that a list of the code's statements is
 abbrev pub block_of : List Stmt → tree.Block
 block_of [] = tree.Empty
 block_of (s ∷ stmts) = tree.Then (statement_of s) (block_of stmts)
 
--- a body with what it lists
+-- the body that the code's is, with what it lists
 abbrev pub body_of : Body → tree.Body
 body_of b = record { shared = b.shared.items; local = b.local.items; block = block_of b.block.items; at = b.at }
 
--- a task
+-- the task that the code's is
 abbrev pub task_of : Task → tree.Task
 task_of t = record {
   name = t.name;
@@ -74,7 +74,7 @@ task_of t = record {
   body = body_of t.body;
 }
 
--- a whole application
+-- the application that the code's is
 abbrev pub app_of : App → tree.App
 app_of a = record {
   bits = a.bits;

@@ -42,7 +42,7 @@ module _ (app : App) where
     pub come : AllCome (laws.first app) 0 items
     pub depths : AllByRecursion (λ item. IsWithinStack app item.what) items
 
-  -- They are right, and this is kept of the state behind them, where so many steps are done.
+  -- The items are right, and this is kept of the state behind them, where so many steps are done.
   pub record Follows (items : List Item) (s : Held) (done : ℕ) : Type 0 where
     pub right : AreRight items
     pub is : StateIs app s (state_behind (laws.first app) 0 items)

@@ -6,7 +6,7 @@ use Rattle.rt_code.specs.Effect.{done, effect}
 use Rattle.rt_code.specs.Processor.{Processor}
 use Rattle.rt_code.specs.declared.instr.Instr.{Instr}
 
--- where its cells and its slots are there, the effect of an instruction is what it does
+-- where the cells and the slots of an instruction are there, its effect is what it does
 abbrev pub EffectIsDone : Type 0
 EffectIsDone = (i : Instr) (time : ℕ) (p : Processor) → are_there (cells_of i p) p.cells ≡ true
     → are_there (slots_of i) p.slots ≡ true → effect i time p ≡ done i time p

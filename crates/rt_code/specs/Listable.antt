@@ -19,7 +19,7 @@ use Rattle.rt_code.specs.declared.instr.Note.TheVariants as note
 abbrev pub blanks : List ℕ
 blanks = 9 ∷ 10 ∷ 13 ∷ 32 ∷ []
 
--- one word of a line
+-- bytes without blanks, as one word of a line
 abbrev pub IsWord : List ℕ → Type 0
 IsWord bytes = AllByRecursion (λ byte. ¬ Contains blanks byte) bytes
 

@@ -19,7 +19,7 @@ pub data Kind : Type 0 where
   Raised : (slot : ℕ) → Kind
   Masked : (slot : ℕ) → Kind
 
--- an open section
+-- an open section, and how it holds others off
 pub record Held : Type 0 where
   pub section : Section
   pub kind : Kind
@@ -61,34 +61,34 @@ abbrev pub mine : Spot → Entry → ℕ
 mine s e = count e s.places + sum_by (λ h. count e (s.queues (Guarded h.section))) s.held
 
 module _ (st : Storage) (who : Runner) where
-  -- what it may change, with these sections open
+  -- whether the job may change what a holder holds, with these sections open
   abbrev pub owns : List Held → Holder → Bool
   owns held (Guarded x) = is_open held x || st.is_kept who (Guarded x)
   owns held (Own n) = st.is_kept who (Own n)
 
-  -- what it may read
+  -- whether the job may read what a holder holds, with these sections open
   abbrev pub reads : List Held → Holder → Bool
   reads held holder = owns held holder || st.is_constant who holder
 
-  -- it may read a cell of this home: of a holder that it may read, or of a place in its hands or in an open queue
+  -- the job may read a cell of this home: of a holder that it may read, or of a place in its hands or in an open queue
   abbrev pub MayLoad : Spot → Home → Type 0
   MayLoad s (At holder) = reads s.held holder ≡ true
   MayLoad s (In e) = 0 < mine s e
   MayLoad s Nowhere = ⊥
 
-  -- it may write a cell of this home: of a holder that it may change, or of a place in its hands
+  -- the job may write a cell of this home: of a holder that it may change, or of a place in its hands
   abbrev pub MayStore : Spot → Home → Type 0
   MayStore s (At holder) = owns s.held holder ≡ true
   MayStore s (In e) = 0 < count e s.places
   MayStore s Nowhere = ⊥
 
-  -- it may do this access, where there is one
+  -- the job may do this access, where there is one
   abbrev pub MayAccess : Spot → Option Access → Type 0
   MayAccess s None = Unit {0}
   MayAccess s (Some (Loads cell)) = MayLoad s (st.home cell)
   MayAccess s (Some (Stores cell)) = MayStore s (st.home cell)
 
-  -- these values are the same in all that it may read
+  -- these values are the same in all that the job may read
   abbrev pub Agree : List Held → Values → Values → Type 0
   Agree held vs ws = (holder : Holder) → reads held holder ≡ true → vs holder ≡ ws holder
 

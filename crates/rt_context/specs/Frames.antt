@@ -46,7 +46,7 @@ words_below entry [] = []
 words_below entry (s ∷ below) =
     words_below entry below ++ (stack.words_of s.caller ++ (s.slots ++ exception_frame entry s))
 
--- all words in use
+-- all words of the frames, which are the stack in use
 abbrev pub words : Frames → List ℕ
 words f = words_below f.entry f.below ++ (stack.words_of f.caller ++ f.slots)
 

@@ -8,7 +8,7 @@ use Rattle.rt_context.specs.Frames.{Saved, Frames, used}
 abbrev pub thread : ℕ → ℕ → ℕ → Frames
 thread size entry words = record { size = size; entry = entry; slots = replicate words 0; caller = None; below = [] }
 
--- so many words more have room
+-- whether so many words more have room
 abbrev pub has_room : Frames → ℕ → Bool
 has_room f n = stack.has_room f.size (used f) n
 

@@ -11,7 +11,7 @@ use Rattle.rt_trace.specs.declared.item.What.TheVariants as what
 use Rattle.rt_core.specs.Core.{Core, Context, used, depth}
 use Rattle.rt_core.specs.Outcome.{Outcome, Trapped, Done}
 
--- so many words more fit into the stack region
+-- whether so many words more fit into the stack region
 abbrev pub has_room : Image → Core → ℕ → Bool
 has_room img c n = stack.has_room (img.stack_bytes / 4) (used img c) n
 

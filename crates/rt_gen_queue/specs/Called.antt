@@ -73,7 +73,7 @@ CalledAtLevel app n level t code row =
     (calm left slots (Some frame) row.entry cells queues
     (task_doing app n (take row.args slots) (act (Ends (body.Task n)) behind) vs))
 
--- where there is a task of this number it stands at its own level, and there is one
+-- there is a task of this number, and its called body stands at its own level
 abbrev pub CalledTaskStands : App → ℕ → Option Task → List Line → BodyRow → Type 0
 CalledTaskStands app n None code row = ⊥
 CalledTaskStands app n (Some t) code row = CalledAtLevel app n t.priority t code row

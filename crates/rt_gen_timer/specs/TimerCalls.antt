@@ -50,7 +50,7 @@ module _ (app : App) where
       pub off : HoldsOff app who who s.held level
       pub enough : AllByRecursion (λ n. steps ≤ n) s.lefts
 
-    -- it may also enter the section of the free places of a task, in which it is not
+    -- a job may also enter the section of the free places of a task, in which it is not
     pub record MayUsePlaces (task : ℕ) (s : Spot) : Type 0 where
       pub closed : is_open s.held (section.Free task) ≡ false
       pub within : IsWithin (storage app) who who (section.Free task)

@@ -14,7 +14,7 @@ use Rattle.rt_laws.specs.Level.{candidate}
 use Rattle.rt_laws.specs.Giving.{is_due, gives}
 use Rattle.rt_laws.specs.Acting.{pended, spent, acted}
 
--- its cost has a step left; the thread that waits has no cost
+-- a cost has a step left; the thread that waits has no cost
 abbrev pub HasStep : Role → ℕ → Type 0
 HasStep Waiting left = Unit {0}
 HasStep role left = 0 < left

@@ -28,7 +28,7 @@ steppers app ends v [] = []
 steppers app ends v (label ∷ labels) =
     if ends label then [] else stepper v label ++ steppers app ends (sees app v label) labels
 
--- of these those of a priority below this one
+-- of these jobs those of a priority below this one
 abbrev pub lower : ℕ → List Seen → List Seen
 lower p jobs = filter (λ job. nat_lt job.priority p) jobs
 

@@ -20,7 +20,7 @@ after_byte Slash b = if b == 47 then Inside else Lost
 after_byte Inside b = if b == 10 then Outside else Inside
 after_byte Lost b = Lost
 
--- where it stands behind a text
+-- where the reading stands behind a text
 abbrev pub standing : List ℕ → Standing
 standing text = fold after_byte Outside text
 

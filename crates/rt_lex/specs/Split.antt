@@ -16,7 +16,7 @@ abbrev pub is_run : (ℕ → Bool) → List ℕ → Bool
 is_run passes [] = false
 is_run passes (b ∷ text) = passes b && list_all passes text
 
--- 0x and at least one hexadecimal digit
+-- whether a text is 0x and at least one hexadecimal digit
 abbrev pub is_hex : List ℕ → Bool
 is_hex text = starts_with nat_eq text (codes "0x") && is_run is_hex_digit (drop 2 text)
 

@@ -17,7 +17,8 @@ use Rattle.rt_listing.specs.Words.{spaced, instr_text, note_text}
 abbrev pub form_text : Bool → List ℕ
 form_text fpu = if fpu then codes "image 2" else codes "image 1"
 
--- its form, priority bits, stack bytes, words of the thread's frame, and this many instructions and cells
+-- the first line of a listing: its form, priority bits, stack bytes, words of the thread's frame, and this many
+-- instructions and cells
 abbrev pub first_line : Image → ℕ → ℕ → List ℕ
 first_line img code cells =
     form_text img.fpu ++ spaced img.bits ++ spaced img.stack_bytes ++ spaced img.thread_words

@@ -46,13 +46,14 @@ value_of_first n (irq ∷ irqs) = value_of n irq
 abbrev pub running : Nvic → ℕ
 running n = value_of_first n n.active
 
--- It may be taken at this execution priority: it is pending and enabled, and its priority is higher.
+-- An interrupt may be taken at this execution priority: it is pending and enabled, and its priority is higher.
 pub record IsReady (n : Nvic) (exec irq : ℕ) : Type 0 where
   pub pending : IsTrue (is_pending n irq)
   pub enabled : IsSome (priority_of n irq)
   pub higher : value_of n irq < exec
 
--- Of two that are ready it is taken first: it has the higher priority, or one that is the same and no greater number.
+-- Of two interrupts that are ready this one is taken first: it has the higher priority, or one that is the same and no
+-- greater number.
 abbrev pub Precedes : Nvic → ℕ → ℕ → Type 0
 Precedes n irq other = (value_of n irq < value_of n other) ⊎ ((value_of n irq ≡ value_of n other) × (irq ≤ other))
 

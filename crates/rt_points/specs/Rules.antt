@@ -56,7 +56,7 @@ touched (instr.Load d c) = Some (Loads c)
 touched (instr.Store c s) = Some (Stores c)
 touched i = None
 
--- its cell is one of so many
+-- the cell of an access, where there is one, is one of so many
 abbrev pub HasItsCell : ℕ → Option Access → Type 0
 HasItsCell cells None = Unit {0}
 HasItsCell cells (Some a) = cell_of a < cells
@@ -80,7 +80,7 @@ pub record IsOperable (img : Image) (p : Point) (i : Instr) : Type 0 where
 abbrev pub OperatesWell : Image → Type 0
 OperatesWell img = (p : Point) (i : Instr) (told : Option Note) → StandsAt img p i told → IsOperable img p i
 
--- a section is entered on these
+-- whether a section is entered on an instruction
 abbrev pub opens : Instr → Bool
 opens instr.Mark = true
 opens (instr.Raise d v) = true

@@ -20,6 +20,6 @@ bound_number app t = then_from t.binds (irq_number app)
 abbrev pub deepest_irq : App → ℕ → Option ℕ
 deepest_irq app p = then_from (deepest_task app p) (bound_number app)
 
--- one for each level that has a handler, rising
+-- the interrupts of the deepest tasks, one for each level that has a handler, rising
 abbrev pub deepest_irqs : App → List ℕ
 deepest_irqs app = map (λ p. or_zero (deepest_irq app p)) (handler_levels app)

@@ -19,22 +19,22 @@ empty size = record { words = []; size = size }
 abbrev pub used : Region → ℕ
 used r = length r.words
 
--- so many words more have room
+-- so many words more have room in a region
 abbrev pub Fits : Region → ℕ → Type 0
 Fits r n = used r + n ≤ r.size
 
--- the last so many words
+-- the last so many words of a region
 abbrev pub top : Region → ℕ → List ℕ
 top r n = drop (used r - n) r.words
 
--- all words but the last so many
+-- all words of a region but the last so many
 abbrev pub below : Region → ℕ → List ℕ
 below r n = take (used r - n) r.words
 
--- with so many words more, each 0
+-- a region with so many words more, each 0
 abbrev pub pushed : Region → ℕ → Region
 pushed r n = record r { words = r.words ++ replicate n 0 }
 
--- with so many words less
+-- a region with so many words less
 abbrev pub popped : Region → ℕ → Region
 popped r n = record r { words = below r n }
