@@ -61,7 +61,7 @@ unfoldable pub ItemComes : App → Option Done → Held → Held → ℕ → Ite
 ItemComes app None old new n item = (t : laws.State) → StateIs app old t → Comes app t n item → ⊥
 ItemComes app (Some d) old new n item = (t : laws.State) → StateIs app old t → Behind app t n item new (steps_done d)
 
--- and within the stack bound
+-- an item came so, and within the stack bound
 unfoldable pub ItemJudged : App → Option Done → Held → Held → ℕ → Item → Type 0
 ItemJudged app None old new n item =
     (t : laws.State) → StateIs app old t → IsWithinStack app item.what → Comes app t n item → ⊥

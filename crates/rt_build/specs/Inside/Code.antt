@@ -54,19 +54,19 @@ kind_size app kind t = if is_of_kind kind t then body_cost (size_measure app) t.
 pub record HasDispatcher (app : App) (level : ℕ) (code : List Line) (entry : ℕ) : Type 0 where
   pub there : HasCode code entry (dispatcher_code app level entry)
 
--- that of the timer handler at a level
+-- the code of the timer handler at a level stands at an address
 pub record HasHandler (app : App) (level : ℕ) (code : List Line) (entry : ℕ) : Type 0 where
   pub there : HasCode code entry (timer_code app level entry)
 
 module _ (app : App) (lines : List Line) where
-  -- that of the thread, which goes on at this address behind `init`
+  -- the code of `init` stands at 0, and that of the thread at this address, where it goes on behind `init`
   pub record HasThread (entry : ℕ) : Type 0 where
     pub init : (more : List Line) (bodies : List BodyRow)
         → StandsFrom (storage app) (lines ++ more) bodies entry Starting (length (memory app)) (thread_words app) 0
         (cost_of (cost_measure app) app.init) (init_doing app)
     pub idle : (more : List Line) (bodies : List BodyRow) → IdleStands app (lines ++ more) bodies entry app.idle
 
-  -- that of the tasks of a kind, which begin at these addresses: of those below a number, and of all
+  -- the code of the tasks of a kind below a number stands, from these addresses on
   abbrev pub HasTasksBelow : ℕ → Kind → List ℕ → Type 0
   HasTasksBelow count kind entries =
       (n : ℕ) → n < count → (t : Task) → slice_get app.tasks n ≡ Some t → is_of_kind kind t ≡ true
@@ -76,13 +76,13 @@ module _ (app : App) (lines : List Line) where
   abbrev pub HasTasks : Kind → List ℕ → Type 0
   HasTasks kind entries = HasTasksBelow (length entries) kind entries
 
-  -- that of the dispatchers of levels, rising, that begin at these addresses
+  -- the code of the dispatchers of levels, rising, stands from these addresses on
   abbrev pub HasDispatchers : List ℕ → Type 0
   HasDispatchers entries =
       (k : ℕ) → k < length entries → (p : ℕ) → slice_get (levels app) k ≡ Some p
       → (more : List Line) → HasDispatcher app p (lines ++ more) (slice_index entries k)
 
-  -- that of the timer handler, where there is a monotonic, that begins at this address
+  -- the code of the timer handler stands from this address on, where there is a monotonic
   abbrev pub HasTimer : ℕ → Type 0
   HasTimer entry = (mono : Mono) → app.mono ≡ Some mono
       → (more : List Line) → HasHandler app mono.priority (lines ++ more) entry
@@ -101,14 +101,13 @@ pub record TellsTask (app : App) (kind : Kind) (n : ℕ) (t : Task) (before afte
 abbrev pub part_of_kind : Kind → ℕ → Task → List Part
 part_of_kind kind n t = if is_of_kind kind t then OfBody (body.Task n) ∷ [] else []
 
--- behind code it was put, and begins at the address of its number
+-- behind code a task was put, if it is of a kind, and it begins at the address of its number
 abbrev pub AddsTask : App → Kind → ℕ → Task → List ℕ → List Line → List Line → Type 0
 AddsTask app kind n t entries before after =
     (at : Entries) → (is_of_kind kind t ≡ true → at.task n ≡ slice_index entries n)
     → AddsParts app at (part_of_kind kind n t) before after
 
--- Behind code the tasks of a kind below a number were put, which begin at these addresses, and so do those of all; and
--- the dispatchers of as many levels.
+-- behind code the tasks of a kind below a number were put, which begin at these addresses
 abbrev pub AddsTasksBelow : App → ℕ → Kind → List ℕ → List Line → List Line → Type 0
 AddsTasksBelow app count kind entries before after =
     (at : Entries)

@@ -15,7 +15,7 @@ use Rattle.rt_ceil.specs.Inside.Tables.{level_of}
 abbrev pub free_row : Task → ℕ → Option ℕ
 free_row t priority = if is_software t then Some (max t.priority priority) else None
 
--- of the tasks from this number on
+-- the ceilings of the free places of the tasks from this number on
 abbrev pub free_rows : List ℕ → ℕ → List Task → List (Option ℕ)
 free_rows table n [] = []
 free_rows table n (t ∷ ts) = free_row t (slice_index table n) ∷ free_rows table (n + 1) ts
@@ -33,7 +33,7 @@ served_levels ts = fold (λ served t. marked served (level_of t)) (replicate PRI
 abbrev pub ready_row : List ℕ → ℕ → ReadyCeiling
 ready_row table level = record { level = level; ceiling = max level (slice_index table level) }
 
--- of the levels below this one
+-- the ceilings of the ready queues of the levels below this one
 abbrev pub ready_rows : List Bool → List ℕ → ℕ → List ReadyCeiling
 ready_rows served table n = map (ready_row table) (those_below (λ level. slice_index_or served level false) n)
 

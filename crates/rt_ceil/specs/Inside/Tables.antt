@@ -33,12 +33,12 @@ untouched app = record {
   timer = 0;
 }
 
--- with the entry at this place at least this, where there is such a place
+-- a table with the entry at this place at least this, where there is such a place
 abbrev pub raised : List ℕ → ℕ → ℕ → List ℕ
 raised table place priority =
     if nat_lt place (length table) then slice_set table place (max (slice_index table place) priority) else table
 
--- with the entry of a level at least this, where there is a level
+-- a table with the entry of a level at least this, where there is a level
 abbrev pub raised_level : List ℕ → Option ℕ → ℕ → List ℕ
 raised_level table None priority = table
 raised_level table (Some level) priority = raised table level priority
@@ -57,7 +57,7 @@ abbrev pub mover : Option Mono → ℕ
 mover None = 0
 mover (Some mono) = mono.priority
 
--- after a spawn by a body of this priority
+-- the tables after a spawn by a body of this priority
 abbrev pub spawned : App → ℕ → Tables → Spawn → Tables
 spawned app priority t (Soon task args at) = record {
   shared = t.shared;
@@ -84,7 +84,7 @@ spawned app priority t (Move word delay task handle at) = record {
   timer = max t.timer priority;
 }
 
--- after a listing by a body of this priority
+-- the tables after a listing by a body of this priority
 abbrev pub listed : ℕ → Tables → Listed → Tables
 listed priority t l = record {
   shared = raised t.shared l.resource priority;
@@ -93,20 +93,20 @@ listed priority t l = record {
   timer = t.timer;
 }
 
--- after a body of this priority that lists these and does this
+-- the tables after a body of this priority that lists these and does this
 abbrev pub used : App → ℕ → List Listed → Block → Tables → Tables
 used app priority shared block t = fold (spawned app priority) (fold (listed priority) t shared) (spawns block)
 
--- after `init` or `idle`, where it is declared
+-- the tables after `init` or `idle`, where it is declared
 abbrev pub used_by_thread : App → Tables → Option Body → Tables
 used_by_thread app t None = t
 used_by_thread app t (Some b) = used app 0 b.shared b.block t
 
--- after the body of a task
+-- the tables after the body of a task
 abbrev pub used_by_task : App → Tables → Task → Tables
 used_by_task app t task = used app task.priority task.body.shared task.body.block t
 
--- after all bodies
+-- the tables after all bodies
 abbrev pub filled : App → Tables
 filled app =
     fold (used_by_task app) (used_by_thread app (used_by_thread app (untouched app) app.init) app.idle) app.tasks

@@ -27,7 +27,7 @@ abbrev pub other_of : Place → Place
 other_of First = Second
 other_of Second = First
 
--- its events of a script
+-- the events of a core, of a script
 abbrev pub events_at : Place → List Line → List Event
 events_at First script = first_events script
 events_at Second script = second_events script
@@ -41,7 +41,7 @@ abbrev pub request_of : Place → ℕ → List Turn
 request_of First irq = Happens (Arrive irq) ∷ []
 request_of Second irq = []
 
--- one of the events that a line counts
+-- one of the events that a line counts, as a turn of the core
 abbrev pub turn_of : Place → Line → List Turn
 turn_of place (Steps n) = Happens Step ∷ []
 turn_of place (Ticks n) = Happens Tick ∷ []
@@ -60,6 +60,6 @@ HasNameAt place names (Ticks n) = Unit {0}
 HasNameAt place names (Pends irq n) = IsDeclaredAt place names irq
 HasNameAt place names (Device d irq n) = IsDeclaredAt place names irq
 
--- so have the interrupts of all lines
+-- the interrupts of all lines have names, where the core gets their requests
 abbrev pub HasNamesAt : Place → Names → List Line → Type 0
 HasNamesAt place names script = AllByRecursion (HasNameAt place names) script

@@ -7,7 +7,7 @@ use Rattle.rt_app.specs.Level.{is_software}
 use Rattle.rt_frames.specs.declared.flags.TheConstants.{NUMBERS}
 use Rattle.rt_app.specs.Spawned.{spawns, arms_message, target}
 
--- with the flags of these numbers set; there is no table where one of them has no place in it
+-- a table with the flags of these numbers set; there is none where one of them has no place in it
 abbrev pub flagged : List ℕ → List Bool → List Bool
 flagged [] flags = flags
 flagged (n ∷ ns) flags = if nat_lt n (length flags) then flagged ns (slice_set flags n true) else []

@@ -46,7 +46,7 @@ if_reaches p ceiling cost = if nat_le p ceiling then cost else 0
 abbrev pub timer_section : Measure → ℕ
 timer_section m = TIMER_SECTION_COST + MESSAGE_COST * m.messages
 
--- and in a `cancel` and a `reschedule_after`
+-- a section of the timer queue, in a `cancel` and a `reschedule_after`
 abbrev pub handle_section : Measure → ℕ
 handle_section m = HANDLE_SECTION_COST + HANDLE_MESSAGE_COST * m.messages
 
@@ -62,7 +62,7 @@ module _ (app : App) (c : Ceilings) (p : ℕ) where
   move_wait n t =
       if is_software t then (if is_armed app n then if_reaches p (ready_at c t.priority) READY_COST else 0) else 0
 
-  -- of the tasks from this number on
+  -- the greatest cost of a section in which the timer handler moves messages of the tasks from this number on
   abbrev pub moves_wait : ℕ → List Task → ℕ
   moves_wait n [] = 0
   moves_wait n (t ∷ ts) = max (move_wait n t) (moves_wait (n + 1) ts)
@@ -78,7 +78,7 @@ module _ (app : App) (m : Measure) (c : Ceilings) (p : ℕ) where
       max (if_reaches p (or_zero c.timer) (handle_section m)) (if_reaches p (free_at c task) FREE_COST)
   spawn_wait (Move word delay task handle at) = if_reaches p (or_zero c.timer) (handle_section m)
 
-  -- likewise in the value of a `let`
+  -- the greatest cost of a section that counts, in the value of a `let`
   abbrev pub value_wait : Value → ℕ
   value_wait (Calc e) = 0
   value_wait (Now at) = 0
@@ -97,28 +97,28 @@ module _ (app : App) (m : Measure) (c : Ceilings) (p : ℕ) where
     statement_wait (Pend i) = 0
     statement_wait (Spawns s) = spawn_wait s
 
-    -- likewise in a block
+    -- the greatest cost of a section that counts, in a block
     pub block_wait : Block → ℕ
     block_wait Empty = 0
     block_wait (Then s rest) = max (statement_wait s) (block_wait rest)
 
-  -- likewise in `idle`, where it is declared and of lower priority
+  -- the greatest cost of a section that counts, in `idle`, where it is declared and of lower priority
   abbrev pub idle_wait : Option Body → ℕ
   idle_wait None = 0
   idle_wait (Some b) = if nat_lt 0 p then block_wait b.block else 0
 
-  -- likewise of a task and its dispatcher, where the task is of lower priority
+  -- the greatest cost of a section that counts, in a task and its dispatcher, where the task is of lower priority
   abbrev pub task_wait : ℕ → Task → ℕ
   task_wait n t =
       let own = if is_software t then dispatcher_wait app c p n t else 0 in
       if nat_lt t.priority p then max (block_wait t.body.block) own else 0
 
-  -- of the tasks from this number on
+  -- the greatest cost of a section that counts, in the tasks from this number on
   abbrev pub tasks_wait : ℕ → List Task → ℕ
   tasks_wait n [] = 0
   tasks_wait n (t ∷ ts) = max (task_wait n t) (tasks_wait (n + 1) ts)
 
-  -- likewise of the timer handler, where there is one and it is of lower priority
+  -- the greatest cost of a section that counts, in the timer handler, where there is one of lower priority
   abbrev pub timer_wait : Option Mono → ℕ
   timer_wait None = 0
   timer_wait (Some mono) =

@@ -63,7 +63,7 @@ module _ (c : Context) where
       ∷ (block (max level (guard_at r).ceiling) (next_slot lock) (at + 1)
       ++ leave_line (section.Res r) (guard_at r) level lock ∷ [])
 
-  -- at a static level, with a slot for the mask of the next section, from an address on
+  -- the code of a statement, at a static level, with a slot for the mask of the next section, from an address on
   abbrev mutual
     pub statement_code : ℕ → ℕ → ℕ → Statement → List Line
     statement_code level lock at (Bind x v) = bind_code c level at x v

@@ -13,11 +13,11 @@ pub record Lines : Type 0 where
 abbrev pub next_address : Lines → ℕ
 next_address code = code.entry + length code.lines
 
--- it is longer by these lines
+-- code is longer by these lines
 abbrev pub Appends : Lines → Lines → List Line → Type 0
 Appends before after lines = after ≡ record before { lines = before.lines ++ lines }
 
--- it is longer by these lines, and the jump at a place leads behind them
+-- code is longer by these lines, and the jump at a place leads behind them
 abbrev pub EndsWith : Lines → Lines → ℕ → List Line → Type 0
 EndsWith before after over lines =
     after

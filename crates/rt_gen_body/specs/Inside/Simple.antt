@@ -28,15 +28,15 @@ module _ (c : Context) where
   abbrev pub is_timed : ℕ → Bool
   is_timed n = is_some c.app.mono && is_some_and is_software (slice_get c.app.tasks n)
 
-  -- likewise a `spawn_after`, whose delay and arguments are there
+  -- a `spawn_after` whose delay and arguments are there, at a static level, from an address on
   abbrev pub delayed_code : ℕ → ℕ → ℕ → List Line
   delayed_code level at n = if is_timed n then after_code c.app n level c.spawns at else []
 
-  -- likewise a `cancel`, whose handle is there
+  -- a `cancel` whose handle is there, at a static level, from an address on
   abbrev pub cancelled_code : ℕ → ℕ → ℕ → List Line
   cancelled_code level at n = if is_timed n then cancel_code c.app n level c.spawns at else []
 
-  -- likewise a `reschedule_after`, whose delay and handle are there
+  -- a `reschedule_after` whose delay and handle are there, at a static level, from an address on
   abbrev pub moved_code : ℕ → ℕ → ℕ → List Line
   moved_code level at n = if is_timed n then move_code c.app n level c.spawns at else []
 

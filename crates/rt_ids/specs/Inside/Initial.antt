@@ -7,6 +7,6 @@ use Rattle.rt_ids.specs.Word.{words}
 abbrev pub is_one_of : List (List ℕ) → List ℕ → Bool
 is_one_of texts text = list_any (λ w. bytes_eq text w) texts
 
--- those that begin with this byte
+-- the words of the language that begin with this byte
 abbrev pub words_from : ℕ → List (List ℕ)
 words_from first = filter (λ w. slice_index w 0 == first) words

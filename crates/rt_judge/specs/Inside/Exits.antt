@@ -23,7 +23,7 @@ targets instr.Back at = []
 targets instr.Ret at = []
 targets i at = suc at ∷ []
 
--- `init` serves interrupts
+-- whether an instruction is the end of `init`, which serves interrupts
 abbrev pub ends_init : Instr → Owner → Bool
 ends_init instr.Serve Starting = true
 ends_init i owner = false

@@ -52,7 +52,7 @@ more is place places = if is then places ++ place ∷ [] else places
 abbrev pub if_so : Bool → List Place → List Place
 if_so is places = if is then places else []
 
--- where a line leads to with these sections open, by the address
+-- the place that a line leads to, with these sections open, by the address
 abbrev pub next : Instr × Option Note → List Opened → ℕ → Place
 next line nesting to = record { address = to; nesting = inside_after line.0 line.1 nesting }
 
@@ -84,7 +84,7 @@ pub record IsAdded (old new : Table) (place : Place) : Type 0 where
   pub longer : btree_map_len new ≡ btree_map_len old + 1
   pub ordered : IsOrdered nat_cmp new
 
--- in the table, or waiting
+-- a place is in the table, or waits
 abbrev pub IsKnown : Table → List Place → Place → Type 0
 IsKnown table waiting place = Has table place ⊎ Contains waiting place
 

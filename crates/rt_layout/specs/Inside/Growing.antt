@@ -14,7 +14,7 @@ use Rattle.rt_layout.specs.Inside.Rows.{resource_row, local_row, queue_rows, rea
 abbrev pub none : Layout
 none = record { cells = []; inputs = []; free = []; ready = []; timer = 0 }
 
--- with the cells of all resources
+-- the layout with the cells of all resources
 abbrev pub with_resources : Layout → App → Layout
 with_resources l app = record {
   cells = l.cells ++ map resource_row app.shared ++ map local_row app.locals;
@@ -24,7 +24,7 @@ with_resources l app = record {
   timer = l.timer;
 }
 
--- of a software task
+-- the layout with the queues of a software task
 abbrev pub with_queues : Layout → Task → Layout
 with_queues l t = record {
   cells = l.cells ++ queue_rows t;
@@ -34,7 +34,7 @@ with_queues l t = record {
   timer = l.timer;
 }
 
--- of any other
+-- the layout behind a hardware task, which has no cells
 abbrev pub skipped : Layout → Layout
 skipped l = record {
   cells = l.cells;
@@ -44,11 +44,11 @@ skipped l = record {
   timer = l.timer;
 }
 
--- with the queues of a task, if it is a software task
+-- the layout with the queues of a task, if it is a software task
 abbrev pub with_task : Layout → Task → Layout
 with_task l t = if is_software t then with_queues l t else skipped l
 
--- with room for so many messages
+-- the layout with the ready queue of a level, which has room for so many messages
 abbrev pub with_level : Layout → ℕ → ℕ → Layout
 with_level l p room = record {
   cells = l.cells ++ ready_rows p room;
@@ -62,7 +62,7 @@ with_level l p room = record {
 abbrev pub roomy : List ℕ → ℕ → List ℕ
 roomy rooms n = those_below (λ p. nat_lt 0 (slice_index rooms p)) n
 
--- with the ready queues of the levels below a number
+-- the layout with the ready queues of the levels below a number
 abbrev pub with_levels : List ℕ → Layout → ℕ → Layout
 with_levels rooms l n = fold (λ l p. with_level l p (slice_index rooms p)) l (roomy rooms n)
 
@@ -70,7 +70,7 @@ with_levels rooms l n = fold (λ l p. with_level l p (slice_index rooms p)) l (r
 abbrev pub levels_rows : List ℕ → ℕ → List CellRow
 levels_rows rooms n = flat_map (λ p. ready_rows p (slice_index rooms p)) (roomy rooms n)
 
--- with room for so many armed messages
+-- the layout with the timer queue, which has room for so many armed messages
 abbrev pub with_timer : ℕ → Layout → Layout
 with_timer room l = record {
   cells = l.cells ++ timer_rows room;
@@ -80,7 +80,7 @@ with_timer room l = record {
   timer = length l.cells;
 }
 
--- where there is a monotonic
+-- the layout with the timer queue, where there is a monotonic
 abbrev pub with_mono : ℕ → Option Mono → Layout → Layout
 with_mono room None l = l
 with_mono room (Some mono) l = with_timer room l

@@ -54,7 +54,7 @@ task_rows t = if is_software t then queue_rows t else []
 abbrev pub ready_front : ℕ → List ℕ
 ready_front p = codes "ready." ++ decimal p ++ codes "."
 
--- of a level, with room for so many messages
+-- the rows of the ready queue of a level, with room for so many messages
 abbrev pub ready_rows : ℕ → ℕ → List CellRow
 ready_rows p room =
     row (ready_front p ++ codes "head") 0
@@ -72,7 +72,7 @@ timer_rows room =
     ++ (zero_rows (codes "timer.at.") room ++ (zero_rows (codes "timer.arming.") room
     ++ (zero_rows (codes "timer.handle.") room ++ zero_rows (codes "timer.heap.") room)))
 
--- where there is a monotonic
+-- the rows of the timer queue, where there is a monotonic
 abbrev pub timed_rows : ℕ → Option Mono → List CellRow
 timed_rows room None = []
 timed_rows room (Some mono) = timer_rows room

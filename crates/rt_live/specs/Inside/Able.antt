@@ -14,7 +14,7 @@ use Rattle.rt_live.specs.declared.turns.TheConstants.{WORDS}
 abbrev pub MayArrive : Names → ℕ → Type 0
 MayArrive names irq = IsDeclared names irq × (irq < IRQ_NUMBERS)
 
--- so may each whose bit stands in this word, which is the one of this number
+-- each interrupt may arrive whose bit stands in this word, which is the one of this number
 abbrev pub BitsMayArrive : Names → ℕ → ℕ → Type 0
 BitsMayArrive names k word = (bit : ℕ) → bit < 32 → bit_at word bit ≡ 1 → MayArrive names (32 * k + bit)
 

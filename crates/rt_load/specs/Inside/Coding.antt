@@ -46,18 +46,18 @@ instr_named instrs word = ok_or (find (λ i. bytes_eq (instr_word i) word) instr
 abbrev pub bare_instrs : List Instr
 bare_instrs = instr.NoAlarm ∷ instr.Mark ∷ instr.Serve ∷ instr.Wait ∷ instr.Back ∷ instr.Ret ∷ []
 
--- those of one number
+-- the instructions of one number
 abbrev pub instrs_of_one : ℕ → List Instr
 instrs_of_one a =
     instr.Jump a ∷ instr.Emit a ∷ instr.Clock a ∷ instr.Restore a ∷ instr.Mask a ∷ instr.Unmask a ∷ []
 
--- of two
+-- the instructions of two numbers
 abbrev pub instrs_of_two : ℕ → ℕ → List Instr
 instrs_of_two a b =
     instr.Set a b ∷ instr.Copy a b ∷ instr.Load a b ∷ instr.Store a b ∷ instr.JumpZ a b ∷ instr.Raise a b
     ∷ instr.Call a b ∷ []
 
--- of three
+-- the instructions of three numbers
 abbrev pub instrs_of_three : ℕ → ℕ → ℕ → List Instr
 instrs_of_three a b c =
     instr.LoadAt a b c ∷ instr.StoreAt a b c ∷ instr.Calc op.Add a b c ∷ instr.Calc op.Sub a b c
@@ -72,13 +72,13 @@ with_one names word a =
     if bytes_eq word (codes "post") then and_make (irq_at names a) instr.Post
     else and_then (word_at a) (λ n. instr_named (instrs_of_one n) word)
 
--- of two
+-- an instruction of two operands
 abbrev pub with_two : Names → List ℕ → List ℕ → List ℕ → Result Instr Wrong
 with_two names word a b =
     and_then (word_at a) (λ n. if bytes_eq word (codes "alarm") then and_make (irq_at names b) (instr.Alarm n)
     else and_then (word_at b) (λ m. instr_named (instrs_of_two n m) word))
 
--- of three
+-- an instruction of three operands
 abbrev pub with_three : List ℕ → List ℕ → List ℕ → List ℕ → Result Instr Wrong
 with_three word a b c =
     and_then (word_at a) (λ n. and_then (word_at b) (λ m. and_then (word_at c) (λ k.

@@ -36,7 +36,7 @@ note_named notes word = ok_or (find (λ n. bytes_eq (note_word n) word) notes) w
 abbrev pub notes_of_task : ℕ → List Note
 notes_of_task t = note.Placed t ∷ note.Full t ∷ note.Ready t ∷ note.Free t ∷ note.Fire t ∷ []
 
--- those that name a task and a slot
+-- the notes that name a task and a slot
 abbrev pub notes_of_slot : ℕ → ℕ → List Note
 notes_of_slot t s = note.Start t s ∷ note.Arm t s ∷ note.Cancel t s ∷ []
 
@@ -45,7 +45,7 @@ abbrev pub is_task_word : List ℕ → Bool
 is_task_word word =
     list_any (λ w. bytes_eq word w) (codes "ok" ∷ codes "full" ∷ codes "ready" ∷ codes "free" ∷ codes "fire" ∷ [])
 
--- and the words of the others
+-- whether a word is that of a note of a task and a slot
 abbrev pub is_slot_word : List ℕ → Bool
 is_slot_word word = list_any (λ w. bytes_eq word w) (codes "start" ∷ codes "arm" ∷ codes "cancel" ∷ [])
 
@@ -62,13 +62,13 @@ with_word names word x =
     else if bytes_eq word (codes "leave") then and_make (section_at names x) note.Leave
     else if bytes_eq word (codes "end") then and_make (body_at names x) note.End else on_task names word x
 
--- of a task and a slot
+-- a note of a task and a slot
 abbrev pub with_slot : Names → List ℕ → List ℕ → List ℕ → Result Note Wrong
 with_slot names word t s =
     and_then (word_at s) (λ slot. if is_slot_word word
     then and_then (task_at names t) (λ task. note_named (notes_of_slot task slot) word) else Err wrong.Form)
 
--- of a task and two slots
+-- a note of a task and two slots
 abbrev pub with_slots : Names → List ℕ → List ℕ → List ℕ → List ℕ → Result Note Wrong
 with_slots names word t s a =
     if bytes_eq word (codes "move")

@@ -36,11 +36,11 @@ first_named names word irq = if bytes_eq (irq_name names irq) word then Ok irq e
 abbrev pub irq_at : Names → List ℕ → Result ℕ Wrong
 irq_at names word = and_then (found word (irq_of names word)) (first_named names word)
 
--- the task
+-- the task of a name
 abbrev pub task_at : Names → List ℕ → Result ℕ Wrong
 task_at names word = found word (task_of names word)
 
--- the shared resource
+-- the shared resource of a name
 abbrev pub resource_at : Names → List ℕ → Result ℕ Wrong
 resource_at names word = found word (resource_of names word)
 

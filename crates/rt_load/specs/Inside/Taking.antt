@@ -58,7 +58,7 @@ abbrev pub is_within : Front → Bool
 is_within front =
     nat_le LEAST_BITS front.image.bits && nat_le front.image.bits MOST_BITS && nat_le front.code CODE_SIZE
 
--- the first line
+-- the front that the first line makes
 abbrev pub take_first : List ℕ → Result Front Wrong
 take_first line =
     and_then (first_at (words line)) (λ front. if is_within front
@@ -129,7 +129,7 @@ and_cell front cell = record front {
   };
 }
 
--- with an interrupt more
+-- the front with an interrupt more
 abbrev pub and_irq : Front → IrqRow → Front
 and_irq front row = record front {
   image = record front.image {
@@ -138,7 +138,7 @@ and_irq front row = record front {
   };
 }
 
--- with a body more
+-- the front with a body more
 abbrev pub and_body : Front → List ℕ → BodyRow → Front
 and_body front name row = record front {
   image = record front.image {
@@ -147,7 +147,7 @@ and_body front name row = record front {
   };
 }
 
--- with an instruction more
+-- the front with an instruction more
 abbrev pub and_line : Front → Instr × Option Note → Front
 and_line front line = record front { image = record front.image { code = front.image.code ++ line ∷ [] } }
 
@@ -167,7 +167,7 @@ next_irq front line ws =
     and_then (irq_row_at ws) (λ row. if may_add_irq front row.name then if_line (irq_line row) line row
     else Err wrong.Form)
 
--- behind that of an interrupt
+-- the front behind the line of an interrupt
 abbrev pub take_irq : Front → List ℕ → List (List ℕ) → Result Front Wrong
 take_irq front line ws = and_make (next_irq front line ws) (and_irq front)
 
@@ -177,7 +177,7 @@ next_body front line ws =
     and_then (body_row_at (length front.image.names.tasks) ws) (λ body. if may_add_body front body.0
     then if_line (body_line (with_task front.image.names body.0) body.1) line body else Err wrong.Form)
 
--- behind that of a body
+-- the front behind the line of a body
 abbrev pub take_body : Front → List ℕ → List (List ℕ) → Result Front Wrong
 take_body front line ws = and_make (next_body front line ws) (λ body. and_body front body.0 body.1)
 
@@ -186,16 +186,16 @@ abbrev pub printed_line : Names → ℕ → List ℕ → List (List ℕ) → Res
 printed_line names address line ws =
     and_then (line_at names address ws) (λ code. if_line (code_line names address code) line code)
 
--- that of a line, where an instruction may come next
+-- the instruction of a line, with its note, where one may come next
 abbrev pub next_line : Front → List ℕ → List (List ℕ) → Result (Instr × Option Note) Wrong
 next_line front line ws =
     if may_add_line front then printed_line front.image.names (length front.image.code) line ws else Err wrong.Form
 
--- behind that of an instruction
+-- the front behind the line of an instruction
 abbrev pub take_code : Front → List ℕ → List (List ℕ) → Result Front Wrong
 take_code front line ws = and_make (next_line front line ws) (and_line front)
 
--- behind a line of these words
+-- the front behind a line of these words
 abbrev pub take_words : Front → List ℕ → List (List ℕ) → Result Front Wrong
 take_words front line [] = Err wrong.Form
 take_words front line (kind ∷ ws) =
@@ -213,7 +213,7 @@ abbrev pub take_lines : Front → List (List ℕ) → Result Front Wrong
 take_lines front [] = Ok front
 take_lines front (line ∷ lines) = and_then (take_line front line) (λ next. take_lines next lines)
 
--- all lines
+-- the front behind all lines
 abbrev pub take_all : List (List ℕ) → Result Front Wrong
 take_all [] = Err wrong.Form
 take_all (line ∷ lines) = and_then (take_first line) (λ front. take_lines front lines)

@@ -7,15 +7,15 @@ use Rattle.rt_ids.specs.Lists.{then_from}
 use Rattle.rt_app.specs.declared.ceilings.ReadyCeiling.{ReadyCeiling}
 use Rattle.rt_app.specs.Ceiling.{Ceilings}
 
--- of the places of a task of this priority
+-- the ceiling of the free places of a task, and its priority where there is none
 abbrev pub free_or : Ceilings → ℕ → ℕ → ℕ
 free_or c n p = unwrap_or (then_from (slice_get c.free n) (λ o. o)) p
 
--- of a row, or else this
+-- the ceiling of a row, or else this
 abbrev pub ceiling_or : ℕ → Option ReadyCeiling → ℕ
 ceiling_or p None = p
 ceiling_or p (Some r) = r.ceiling
 
--- of the ready messages of a level
+-- the ceiling of the ready queue of a level, and the level where there is none
 abbrev pub ready_or : List ReadyCeiling → ℕ → ℕ
 ready_or rows p = ceiling_or p (find (λ r. r.level == p) rows)

@@ -9,7 +9,7 @@ use Rattle.rt_laws.specs.State as laws
 use Rattle.rt_moves.specs.Job.{Kept}
 
 module _ (app : App) where
-  -- of a job: the greatest of its priority and of the ceilings of its open sections
+  -- the level of a job: the greatest of its priority and of the ceilings of its open sections
   abbrev pub job_level : Kept → ℕ
   job_level j = max j.priority (greatest_ceiling app j.sections)
 
@@ -22,11 +22,11 @@ abbrev pub has_steps : laws.Role → ℕ → ℕ → Bool
 has_steps laws.Waiting left k = true
 has_steps role left k = nat_le k left
 
--- so have its body or handler and each of its open sections
+-- whether a job has so many steps left, in its body or handler and in each of its open sections
 abbrev pub may_spend : ℕ → Kept → Bool
 may_spend k j = has_steps j.role j.left k && list_all (nat_le k) j.lefts
 
--- of jobs the first one runs
+-- whether the first of these jobs, which runs, has so many steps left
 abbrev pub first_may_spend : ℕ → List Kept → Bool
 first_may_spend k [] = false
 first_may_spend k (j ∷ js) = may_spend k j

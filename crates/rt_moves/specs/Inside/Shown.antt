@@ -14,18 +14,18 @@ use Rattle.rt_work.specs.Work.{next_todo}
 use Rattle.rt_moves.specs.Job.{Kept}
 use Rattle.rt_moves.specs.State.{Held, with_jobs}
 
--- of an action of its work
+-- the item of an action of a job's work
 unfoldable pub action_item : Held → Action → Option What
 action_item s a = item_of (with_jobs s []) laws.Waiting (action_of a)
 
--- of its end
+-- the item of a job's end
 abbrev pub end_item : laws.Role → Option What
 end_item laws.Init = Some (what.End body.Init)
 end_item laws.Idle = Some (what.End body.Idle)
 end_item laws.Waiting = None
 end_item (laws.Serving irq) = Some (what.Ret irq)
 
--- of the next thing to do, and of the end where there is none
+-- the item of the next thing to do, and of the end where there is none
 abbrev pub todo_item : Held → laws.Role → Option Todo → Option What
 todo_item s r None = end_item r
 todo_item s r (Some (todo.Act a)) = action_item s a
@@ -36,11 +36,11 @@ todo_item s r (Some t) = None
 abbrev pub job_item : Held → Kept → Option What
 job_item s j = todo_item s j.role (next_todo j.work.todos)
 
--- that of the running job, which is the first
+-- the item of the running job, which is the first
 abbrev pub jobs_item : Held → List Kept → Option What
 jobs_item s [] = None
 jobs_item s (j ∷ js) = job_item s j
 
--- that of the running job of a state
+-- the item of the running job of a state
 abbrev pub shown : Held → Option What
 shown s = jobs_item s s.jobs

@@ -3,7 +3,7 @@ use Rattle.std.specs.Prelude.{◌==◌, nat_lt, Bool, ◌&&◌, ◌||◌, List, 
 use Rattle.rt_app.specs.declared.violation.Violation.{Violation}
 use Rattle.rt_app.specs.Violation.{rank}
 
--- at a smaller offset, or at the same one with a smaller number
+-- whether a violation is at a smaller offset, or at the same one with a smaller number
 abbrev pub is_before : Violation → Violation → Bool
 is_before v w = nat_lt v.at w.at || ((v.at == w.at) && nat_lt (rank v.rule) (rank w.rule))
 

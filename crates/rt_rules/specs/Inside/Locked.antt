@@ -2,7 +2,7 @@
 use Rattle.std.specs.Prelude.{ℕ, List, [], ◌∷◌}
 use Rattle.rt_rules.specs.declared.locked.Locked.{Locked, Nothing, Inside'}
 
--- innermost first
+-- the resources that are locked, innermost first
 abbrev pub locked_of : Locked → List ℕ
 locked_of Nothing = []
 locked_of (Inside' r p outer) = r ∷ locked_of outer

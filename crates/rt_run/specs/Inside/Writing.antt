@@ -66,7 +66,7 @@ HasWords names (what.Move t h v) = HasTask names t
 HasWords names (what.End b) = HasBody names b
 HasWords names w = Unit {0}
 
--- where there is an item
+-- the names of an item are in the tables, where there is an item
 abbrev pub ShowsWords : Names → Option What → Type 0
 ShowsWords names None = Unit {0}
 ShowsWords names (Some w) = HasWords names w

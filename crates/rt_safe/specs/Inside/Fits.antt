@@ -24,7 +24,7 @@ abbrev pub base_by : Kind → ℕ → ℕ
 base_by (Raise slot value) before = value
 base_by kind before = before
 
--- and PRIMASK likewise
+-- PRIMASK behind the opening of a section of this kind, from what it was before
 abbrev pub mask_by : Kind → Bool → Bool
 mask_by (Mask slot) before = true
 mask_by kind before = before
@@ -34,7 +34,7 @@ abbrev pub base_inside : List Opened → ℕ → ℕ
 base_inside [] before = before
 base_inside (o ∷ outer) before = base_by o.kind (base_inside outer before)
 
--- and PRIMASK likewise
+-- PRIMASK inside open sections, from what it was before them
 abbrev pub mask_inside : List Opened → Bool → Bool
 mask_inside [] before = before
 mask_inside (o ∷ outer) before = mask_by o.kind (mask_inside outer before)
@@ -86,8 +86,8 @@ module _ (img : Image) where
   IsStacked p (q ∷ qs) (x ∷ below) = IsOn p q (base_under qs) x × IsStacked q qs below
   IsStacked p qs below = ⊥
 
-  -- All of it, for a core that runs at the first point, over the others, the last interrupted first. No alarm is set, and
-  -- no body is called.
+  -- All that ties a core to points, where it runs at the first point, over the others, the last interrupted first. No
+  -- alarm is set, and no body is called.
   pub record Fits (c : Core) (p : Point) (qs : List Point) : Type 0 where
     pub running : RunsAt p c.processor.slots (base_under qs)
     pub stack : IsStacked p qs c.below

@@ -14,43 +14,44 @@ abbrev pub is_init : Role → Bool
 is_init Init = true
 is_init role = false
 
--- behind the opening of a section of this kind: BASEPRI has the value of its ceiling, or PRIMASK is set
+-- BASEPRI behind the opening of a section of this kind: the value of its ceiling, or as it was
 abbrev pub base_by : Kind → ℕ → ℕ → ℕ
 base_by (Raised slot) value before = value
 base_by kind value before = before
 
--- and PRIMASK likewise
+-- PRIMASK behind the opening of a section of this kind: set, or as it was
 abbrev pub mask_by : Kind → Bool → Bool
 mask_by (Masked slot) before = true
 mask_by kind before = before
 
 module _ (app : App) where
-  -- BASEPRI and PRIMASK inside these sections, from what they were before them
+  -- BASEPRI inside these sections, from what it was before them
   abbrev pub base_inside : List Held → ℕ → ℕ
   base_inside [] before = before
   base_inside (h ∷ outer) before =
       base_by h.kind (hardware app.bits (ceiling app h.section)) (base_inside outer before)
 
-  -- and PRIMASK likewise
+  -- PRIMASK inside these sections, from what it was before them
   abbrev pub mask_inside : List Held → Bool → Bool
   mask_inside [] before = before
   mask_inside (h ∷ outer) before = mask_by h.kind (mask_inside outer before)
 
-  -- as jobs have left them, the last started first; before the thread BASEPRI is 0, and PRIMASK is set for `init` alone
+  -- BASEPRI as jobs have left it, the last started first; before the thread it is 0
   abbrev pub base_under : List Part → ℕ
   base_under [] = 0
   base_under (q ∷ ps) = base_inside q.held (base_under ps)
 
-  -- and PRIMASK, from the role of the job that they are under
+  -- PRIMASK as jobs have left it, from the role of the job that they are under; before the thread it is set for `init`
+  -- alone
   abbrev pub mask_under : Role → List Part → Bool
   mask_under role [] = is_init role
   mask_under role (q ∷ ps) = mask_inside q.held (mask_under q.role ps)
 
-  -- as a running job on others has them
+  -- BASEPRI as a running job on others has it
   abbrev pub base_of : Part → List Part → ℕ
   base_of p ps = base_inside p.held (base_under ps)
 
-  -- and PRIMASK likewise
+  -- PRIMASK as a running job on others has it
   abbrev pub mask_of : Part → List Part → Bool
   mask_of p ps = mask_inside p.held (mask_under p.role ps)
 

@@ -53,7 +53,7 @@ module _ (app : App) (img : Image) (thread : ℕ) where
       (h : Holder) → IsHeld app h → AllByRecursion (λ p. Owns app img thread p h ≡ false) parts
       → (storage app).Spells h (slice_index cells) (queues h) (values h)
 
-  -- all of it
+  -- a moment fits, which is the simulation relation: all that ties the core to the state of Baker's machine
   pub record Fits (m : Moment) : Type 0 where
     pub stack : IsStacked m.running m.below
     pub parts : AllByRecursion (PartFits app img thread m.cells m.queues m.values) (m.running ∷ m.below)

@@ -42,7 +42,7 @@ module _ (app : App) (img : Image) (thread : ℕ) where
   abbrev pub SparesTheOther : Part → Part → Type 0
   SparesTheOther p q = (h : Holder) → Owns p h ≡ true → Reads q h ≡ true → ⊥
 
-  -- and the other way round
+  -- what either of two jobs owns the other does not read
   abbrev pub AreApart : Part → Part → Type 0
   AreApart p q = SparesTheOther p q × SparesTheOther q p
 
@@ -76,7 +76,7 @@ module _ (app : App) (img : Image) (thread : ℕ) where
   AgreesWith runner held values over = Unit {0}
   AgreesWith runner held values (does action made next) = Agree (storage app) runner held values made
 
-  -- all of it
+  -- all that holds of one started job of a moment
   pub record PartFits (cells : List ℕ) (queues : Holder → List Entry) (values : Values) (p : Part) : Type 0 where
     pub stands : StandsBy p.role cells queues p
     pub agrees : AgreesWith (who p) p.held values p.rest

@@ -28,7 +28,7 @@ IsEntered app Clocks vs =
 IsEntered app action vs = Unit {0}
 
 module _ (app : App) (who : Runner) (handles : Bool) where
-  -- with these sections open
+  -- whether the runner owns what a holder holds, with these sections open
   abbrev pub owns_in : List Section → Holder → Bool
   owns_in held (Guarded x) = list_any (λ y. is_same_section y x) held || is_kept app who (Guarded x)
   owns_in held (Own n) = is_kept app who (Own n)
@@ -39,7 +39,7 @@ module _ (app : App) (who : Runner) (handles : Bool) where
   held_after held (Leaves x) = drop 1 held
   held_after held action = held
 
-  -- it enters sections of things that there are, and only a handler returns
+  -- an action enters sections of things that there are, and only a handler returns
   abbrev pub IsActionOf : Action → Type 0
   IsActionOf (Enters x cost) = IsHeld app (Guarded x)
   IsActionOf Returns = handles ≡ true
@@ -57,6 +57,6 @@ module _ (app : App) (who : Runner) (handles : Bool) where
       × ((n : ℕ) (vs : Values) → IsEntered app action vs → Spares (held_after held action) vs (next n vs)
       × IsSparing (held_after held action) (next n vs))
 
-  -- from whatever values
+  -- what is left to do is sparing from whatever values
   abbrev pub SparesAlways : List Section → Rest → Type 0
   SparesAlways held rest = (vs : Values) → Spares held vs (rest vs) × IsSparing held (rest vs)

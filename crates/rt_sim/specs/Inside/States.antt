@@ -13,7 +13,7 @@ contexts bits irq value (q ∷ ps) =
     record { irq = irq; value = value; address = q.address; slots = q.slots; caller = q.caller }
     ∷ contexts bits (irq_of q.role) (hardware bits q.priority) ps
 
--- that of a running job on others
+-- the contexts of a running job on others
 abbrev pub contexts_of : ℕ → Part → List Part → List Context
 contexts_of bits p ps = contexts bits (irq_of p.role) (hardware bits p.priority) ps
 
