@@ -65,7 +65,10 @@ chains (signs ∷ stronger) atom = chain signs (chains stronger atom)
 abbrev pub comparison : {A : Type 0} → Language Operand → (Operand → Bool → Language A) → Language A
 comparison atom ended = do
   left ← chains strengths atom
-  ended left false or (do o ← operator comparisons; right ← chains strengths atom; ended (joined o left right) true)
+  ended left false or (do
+    o ← operator comparisons
+    right ← chains strengths atom
+    ended (joined o left right) true)
 
 -- a number or a name
 abbrev pub plain_atom : Language Operand
