@@ -27,6 +27,7 @@ pub mod Hands
 pub mod Counted
 pub mod Placed
 pub mod Instants
+pub mod Passing
 pub mod Readying
 pub mod Dispatchers
 pub mod ReadyServed

@@ -7,7 +7,6 @@ use Rattle.rt_app.specs.Tree.{App, Task, Body, Block, Statement, Then, Empty}
 use Rattle.rt_app.specs.declared.app.IrqDecl.{IrqDecl}
 use Rattle.rt_app.specs.declared.app.Shared.{Shared}
 use Rattle.rt_laws.specs.State.{State, Job}
-use Rattle.rt_laws.specs.Sight.{Sight, sees}
 use Rattle.rt_laws.specs.Level.{level, candidate}
 use Rattle.rt_laws.specs.Giving.{gives}
 use Rattle.rt_laws.specs.Allowed.{after}
@@ -78,11 +77,6 @@ shows w = Stepped (Some w)
 abbrev pub lefts_of : List Job → List ℕ
 lefts_of [] = []
 lefts_of (job ∷ others) = job.lefts
-
--- what one sees behind labels
-abbrev pub sees_all : App → Sight → List Label → Sight
-sees_all app v [] = v
-sees_all app v (label ∷ labels) = sees_all app (sees app v label) labels
 
 -- what comes next in a run without silent steps: the interrupt that is to be taken, else the next item
 abbrev pub first_of : Option ℕ → Option What → (What → List What) → List What

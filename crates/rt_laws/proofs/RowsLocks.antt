@@ -10,9 +10,9 @@ use Rattle.rt_app.specs.Tree.{Num, Read, Oper, Assign, Locked, Emit, Then, App}
 use Rattle.rt_app.specs.Waiting.{waiting_bound}
 use Rattle.rt_laws.specs.State.{first}
 use Rattle.rt_laws.specs.ByItems.{after_all, silent}
-use Rattle.rt_laws.specs.Sight.{Seen, first_sight}
+use Rattle.rt_laws.specs.Sight.{Seen, first_sight, sees_all}
 use Rattle.rt_laws.specs.Waiting.{steppers, lower, is_take}
-use Rattle.rt_laws.proofs.RowParts.{irq, shared, listing, hardware, last, Moment, moment, shows, lefts_of, sees_all}
+use Rattle.rt_laws.proofs.RowParts.{irq, shared, listing, hardware, last, Moment, moment, shows, lefts_of}
 
 -- interrupts { LO = 0, MID = 1, HI = 2 }  shared { s = 5 }
 -- task lo(binds = LO, priority = 1, shared = [s]) { lock s { s = s + 1; } emit 9; }

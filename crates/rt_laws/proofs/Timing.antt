@@ -1,25 +1,21 @@
 -- Who is in the section of the timer queue leaves it with the alarm set: each spawn after a delay, each cancel and move
 -- that finds its message, and the timer handler, whatever the values are on the way. A cancel or a move that does not
 -- find it leaves the queue as it was. Nobody sets the alarm outside.
-use Rattle.std.proofs.Common.{◌≡◌, ℕ, zero, suc, ◌==◌, Bool, true, false, not, if◌then◌else◌, List, [], ◌∷◌, ◌++◌, replicate, slice_get, slice_set, map, Option, Some, None, refl}
-use Rattle.rt_ids.specs.Lists.{then_from}
-use Rattle.rt_ids.specs.Holder.{Guarded, Own}
-use Rattle.rt_ids.specs.Content.{Message, Armed, Values, Number, messages, timed, delays, put_at}
-use Rattle.rt_ids.specs.Action.{Enters, Leaves, Takes, Refuses, Frees, Clocks, SetsAlarm, Arms, Fires, Cancels, Moves, Ends, Returns}
+use Rattle.std.proofs.Common.{◌≡◌, ℕ, Bool, true, false, not, if◌then◌else◌, List, [], ◌∷◌, map, Option, Some, None, refl}
+use Rattle.rt_ids.specs.Holder.{Guarded}
+use Rattle.rt_ids.specs.Content.{Message, Armed, Values, messages, timed, delays}
+use Rattle.rt_ids.specs.Action.{Enters, Leaves, Frees, Clocks, SetsAlarm, Arms, Fires, Cancels, Moves, Ends, Returns}
 use Rattle.rt_ids.specs.Doing.{Doing, over, does}
 use Rattle.rt_ids.specs.declared.ids.BodyId.TheVariants as body
 use Rattle.rt_ids.specs.declared.ids.Section.TheVariants as section
-use Rattle.rt_app.specs.declared.expr.Atom.{Atom}
-use Rattle.rt_app.specs.declared.expr.Atom.TheVariants as atom
-use Rattle.rt_app.specs.Tree.{Expression, Spawn, Soon, After, Cancel, Move, Calc, Now, Call, Statement, Bind, Assign, Branch, Repeat, Locked, Emit, Pend, Spawns, Block, Empty, Then, Body, App}
-use Rattle.rt_app.specs.Variables.{variables}
+use Rattle.rt_app.specs.Tree.{Expression, Spawn, Soon, After, Cancel, Move, App}
 use Rattle.rt_app.specs.declared.costs.TheConstants.{FREE_COST}
 use Rattle.rt_app.specs.Bodies.{task_priority}
 use Rattle.rt_app.specs.BodyCost.{timer_section_cost}
 use Rattle.rt_app.specs.Handlers.{Handler, Runs, Dispatches, Times}
-use Rattle.rt_app.specs.Sending.{Rest, act, act_all, has_place, take_place, ready_actions, instant_after, leave_timer, arm_actions, is_armed_as, spawn_actions}
-use Rattle.rt_app.specs.Meaning.{Later, value_in, assign, turns_from, run, run_block}
-use Rattle.rt_app.specs.Doings.{nothing, declared_doing, init_doing, idle_doing, task_doing, start_doing, dispatcher_doing, due, fire_doing, timer_doing, handler_doing}
+use Rattle.rt_app.specs.Sending.{Rest, act, act_all, ready_actions, instant_after, leave_timer, arm_actions, is_armed_as, spawn_actions}
+use Rattle.rt_app.specs.Doings.{nothing, init_doing, idle_doing, task_doing, start_doing, dispatcher_doing, due, fire_doing, timer_doing, handler_doing}
+use Rattle.rt_laws.proofs.Passing.{IsPassed, take_holds, declared_holds, task_holds, behind}
 
 -- Where a job stands: outside the section of the timer queue, or inside. There it may owe the alarm, as the timer
 -- handler does from the section's opening on, and who has changed the queue; or the alarm is as it was or set anew.
@@ -50,18 +46,17 @@ module _ (app : App) where
   abbrev pub RestServes : Rest → Type 0
   RestServes rest = (vs : Values) → Serves false Away (rest vs)
 
-  abbrev LaterServes : Later → Type 0
-  LaterServes later = (vars : List ℕ) → RestServes (later vars)
-
-  take_serves : (n : ℕ) (granted refused : Rest) → RestServes granted → RestServes refused
-      → RestServes (take_place app n granted refused)
-  take_serves n granted refused first second vs = λ k ws. go (has_place app n ws) ws
-    where
-      go : (b : Bool) (ws : Values) → Serves false Away
-          (if b then act_all (Takes n ∷ Leaves (section.Free n) ∷ []) granted ws
-          else act_all (Refuses n ∷ Leaves (section.Free n) ∷ []) refused ws)
-      go true ws = λ k xs l ys. first ys
-      go false ws = λ k xs l ys. second ys
+  passes : IsPassed (Serves false Away)
+  passes = record {
+    locks = λ r cost made next serves. serves;
+    places = λ n cost made next serves. serves;
+    leaves = λ x made next serves. serves;
+    takes = λ n made next serves. serves;
+    refuses = λ n made next serves. serves;
+    emits = λ value made next serves. serves;
+    posts = λ irq made next serves. serves;
+    clocks = λ made next serves. serves;
+  }
 
   ready_serves : (own : Bool) (r : ℕ) (m : Message) (rest : Rest) → ((vs : Values) → Serves own Away (rest vs))
       → (vs : Values) → Serves own Away (act_all (ready_actions app r m) rest vs)
@@ -70,12 +65,12 @@ module _ (app : App) where
   spawn_serves : (value : Expression → ℕ) (s : Spawn) (rest : ℕ → Rest) → ((n : ℕ) → RestServes (rest n))
       → RestServes (spawn_actions app value s rest)
   spawn_serves value (Soon n args at) rest later =
-      take_serves n (act_all (ready_actions app (task_priority app n) (record { task = n; args = map value args }))
-      (rest 1)) (rest 0)
+      take_holds app (Serves false Away) passes n
+      (act_all (ready_actions app (task_priority app n) (record { task = n; args = map value args })) (rest 1)) (rest 0)
       (ready_serves false (task_priority app n) (record { task = n; args = map value args }) (rest 1) (later 1))
       (later 0)
   spawn_serves value (After word delay n args at) rest later =
-      take_serves n
+      take_holds app (Serves false Away) passes n
       (arm_actions app (timer_section_cost app) (value delay) (record { task = n; args = map value args }) rest)
       (rest 0)
       (λ vs k ws time xs l ys i zs. (refl, λ j us. later (timed (ys (Guarded section.Timer))).given us)) (later 0)
@@ -98,67 +93,20 @@ module _ (app : App) where
       go true ws = λ time xs l ys i zs. (refl, λ j us. later 0 us)
       go false ws = (refl, λ k xs. later 1 xs)
 
-  turns_serve : (n x i : ℕ) (turn : Later → Later) (later : Later)
-      → ((next : Later) → LaterServes next → LaterServes (turn next))
-      → LaterServes later → LaterServes (turns_from n x i turn later)
-  turns_serve zero x i turn later each serves vars vs = serves (slice_set vars x i) vs
-  turns_serve (suc n) x i turn later each serves vars vs =
-      each (turns_from n x (suc i) turn later) (turns_serve n x (suc i) turn later each serves) (slice_set vars x i) vs
-
-  assign_serves : (x : Atom) (n : ℕ) (later : Later) → LaterServes later → LaterServes (assign x n later)
-  assign_serves (atom.Var x) n later serves vars vs = serves (slice_set vars x n) vs
-  assign_serves (atom.Shared r) n later serves vars vs =
-      serves vars (put_at vs (Guarded (section.Res r)) (Number n))
-  assign_serves (atom.Local l) n later serves vars vs = serves vars (put_at vs (Own l) (Number n))
-
-  mutual
-    statement_serves : (s : Statement) (later : Later) → LaterServes later → LaterServes (run app s later)
-    statement_serves (Bind x (Calc e)) later serves = λ vars vs. serves (slice_set vars x (value_in vars vs e)) vs
-    statement_serves (Bind x (Now at)) later serves = λ vars vs time ws. serves (slice_set vars x time) ws
-    statement_serves (Bind x (Call s)) later serves = λ vars vs.
-        spawn_serves (value_in vars vs) s (λ granted. later (slice_set vars x granted))
-        (λ granted. serves (slice_set vars x granted)) vs
-    statement_serves (Assign x e at) later serves = λ vars vs. assign_serves x (value_in vars vs e) later serves vars vs
-    statement_serves (Branch e first second) later serves = λ vars vs.
-        elim (value_in vars vs e == 0) as (λ b. Serves false Away
-        (if b then run_block app second later vars vs else run_block app first later vars vs)) [
-          | true ↦ block_serves second later serves vars vs
-          | false ↦ block_serves first later serves vars vs
-        ]
-    statement_serves (Repeat x first last turn) later serves =
-        turns_serve _ x first (run_block app turn) later (λ next good. block_serves turn next good) serves
-    statement_serves (Locked r inner at) later serves = λ vars vs k ws.
-        block_serves inner (λ vars. act (Leaves (section.Res r)) (later vars)) (λ vars vs k ws. serves vars ws) vars ws
-    statement_serves (Emit e) later serves = λ vars vs k ws. serves vars ws
-    statement_serves (Pend i) later serves = λ vars vs k ws. serves vars ws
-    statement_serves (Spawns s) later serves = λ vars vs.
-        spawn_serves (value_in vars vs) s (λ granted. later vars) (λ granted. serves vars) vs
-
-    block_serves : (b : Block) (later : Later) → LaterServes later → LaterServes (run_block app b later)
-    block_serves Empty later serves = serves
-    block_serves (Then s rest) later serves =
-        statement_serves s (run_block app rest later) (block_serves rest later serves)
-
-  declared_serves : (o : Option Body) (args : List ℕ) (rest : Rest) → RestServes rest
-      → RestServes (declared_doing app o args rest)
-  declared_serves None args rest serves = serves
-  declared_serves (Some b) args rest serves =
-      block_serves b.block (λ vars. rest) (λ vars. serves) (args ++ replicate (variables b.block) 0)
-
   pub init_serves : RestServes (init_doing app)
-  init_serves = declared_serves app.init [] (act (Ends body.Init) nothing) (λ vs k ws. tt)
+  init_serves =
+      declared_holds app (Serves false Away) passes spawn_serves app.init [] (act (Ends body.Init) nothing)
+      (λ vs k ws. tt)
 
   pub idle_serves : RestServes (idle_doing app)
-  idle_serves = declared_serves app.idle [] (act (Ends body.Idle) nothing) (λ vs k ws. tt)
+  idle_serves =
+      declared_holds app (Serves false Away) passes spawn_serves app.idle [] (act (Ends body.Idle) nothing)
+      (λ vs k ws. tt)
 
   task_serves : (n : ℕ) (args : List ℕ) (rest : Rest) → RestServes rest → RestServes (task_doing app n args rest)
-  task_serves n args rest serves =
-      declared_serves (then_from (slice_get app.tasks n) (λ t. Some t.body)) args rest serves
+  task_serves n args rest serves = task_holds app (Serves false Away) passes spawn_serves n args rest serves
 
-  abbrev behind : Message → Rest
-  behind m = task_doing app m.task m.args (act_all (Ends (body.Task m.task) ∷ Returns ∷ []) nothing)
-
-  behind_serves : (m : Message) → RestServes (behind m)
+  behind_serves : (m : Message) → RestServes (behind app m)
   behind_serves m = task_serves m.task m.args (act_all (Ends (body.Task m.task) ∷ Returns ∷ []) nothing) (λ vs k ws. tt)
 
   -- a dispatcher

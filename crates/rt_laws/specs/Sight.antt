@@ -2,6 +2,7 @@
 -- by enters and leaves, and which interrupts are pending. Beside what is shown it takes the static priorities of the
 -- application, and nothing of a machine's state: no levels, no costs. The names of sections are the application's.
 use Rattle.std.specs.Prelude.{ℕ, suc, ◌^◌, Bool, true, false, List, [], ◌∷◌, drop, replicate, slice_set, Some, None}
+use Rattle.rt_ids.specs.Choice.{IsIn}
 use Rattle.rt_ids.specs.declared.ids.BodyId.TheVariants as body
 use Rattle.rt_ids.specs.declared.ids.Section.{Section}
 use Rattle.rt_ids.specs.declared.limits.TheConstants.{IRQ_NUMBERS}
@@ -27,6 +28,11 @@ pub record Sight : Type 0 where
   pub pending : List Bool
   -- the core steps until now
   pub steps : ℕ
+
+-- the running job is inside the section
+abbrev pub IsInside : List Seen → Section → Type 0
+IsInside [] x = ⊥
+IsInside (job ∷ others) x = IsIn job.inside x
 
 -- a job that is inside nothing
 abbrev pub outside : ℕ → Seen
@@ -74,3 +80,8 @@ module _ (app : App) where
   sees v Rang = is_pended (timer_number app) v
   sees v (Stepped None) = record v { steps = suc v.steps }
   sees v (Stepped (Some w)) = record (told v w) { steps = suc v.steps }
+
+  -- what one sees behind labels
+  abbrev pub sees_all : Sight → List Label → Sight
+  sees_all v [] = v
+  sees_all v (label ∷ labels) = sees_all (sees v label) labels

@@ -6,7 +6,7 @@ use Rattle.std.proofs.lemmas.Option.{none-some}
 use Rattle.rt_lemmas.proofs.Membership.{contains_none, contains_cases}
 use Rattle.rt_ids.specs.Event.{Event, Arrive, Tick, Step}
 use Rattle.rt_ids.specs.declared.ids.BodyId.TheVariants as body
-use Rattle.rt_trace.specs.Label.{Label, Arrived, Ticked, Stepped, items_of}
+use Rattle.rt_trace.specs.Label.{Label, Arrived, Ticked, Stepped, items_of, IsNoTrap}
 use Rattle.rt_trace.specs.declared.item.What.{What}
 use Rattle.rt_trace.specs.declared.item.What.TheVariants as what
 use Rattle.rt_app.specs.Tree.{App}
@@ -16,13 +16,12 @@ use Rattle.rt_core.specs.Trace.{ring, happen, core_after, labels}
 use Rattle.rt_core.specs.Transfer.{pended}
 use Rattle.rt_core.proofs.Happening.{happens_by_event}
 use Rattle.rt_laws.specs.Properties.{AtEach, AreExclusive, FindsFree}
-use Rattle.rt_laws.specs.Sight.{Sight, sees}
+use Rattle.rt_laws.specs.Sight.{Sight, sees, sees_all}
 use Rattle.rt_points.specs.declared.point.Owner.TheVariants.{Starting}
 use Rattle.rt_points.specs.Checked.{IsChecked}
 use Rattle.rt_points.specs.Point.{Point}
 use Rattle.rt_safe.specs.Inside.Fits.{Fits}
 use Rattle.rt_safe.specs.Inside.Steps.{insides_of, insides_after, FindsNone, IsNoTrapShown}
-use Rattle.rt_safe.specs.Safe.{IsNoTrap, seen_behind}
 use Rattle.rt_safe.proofs.Apart.{apart_of}
 use Rattle.rt_safe.proofs.Seeing.{shown_of, seen_insides, sees_insides, exclusive_of, free_of, untrapped}
 use Rattle.rt_safe.proofs.Stepping.{steps}
@@ -50,7 +49,7 @@ module _ (img : Image) where
     pub started : p.owner ≢ Starting → point.owner ≢ Starting
     pub ended : Contains (labels img c events) (Stepped (Some (what.End body.Init))) → point.owner ≢ Starting
     pub seen : (app : App) (v : Sight) → seen_insides v.jobs ≡ insides_of (p ∷ qs)
-        → seen_insides (seen_behind app v (labels img c events)).jobs ≡ insides_of (point ∷ below)
+        → seen_insides (sees_all app v (labels img c events)).jobs ≡ insides_of (point ∷ below)
     pub exclusive : (app : App) (v : Sight) → seen_insides v.jobs ≡ insides_of (p ∷ qs)
         → AtEach (λ v label behind. AreExclusive (sees app v label).jobs) app v (labels img c events)
     pub never_waits : (app : App) (v : Sight) → seen_insides v.jobs ≡ insides_of (p ∷ qs)
@@ -134,7 +133,7 @@ module _ (img : Image) (checked : IsChecked img) where
         started = λ before. before;
         ended = λ is. absurd (contains_none (Stepped (Some (what.End body.Init)))
             (subst (λ ls. Contains ls (Stepped (Some (what.End body.Init)))) shown is));
-        seen = λ app v sight. ap (λ ls. seen_insides (seen_behind app v ls).jobs) shown ∙ sight;
+        seen = λ app v sight. ap (λ ls. seen_insides (sees_all app v ls).jobs) shown ∙ sight;
         exclusive = λ app v sight.
             subst (AtEach (λ v label behind. AreExclusive (sees app v label).jobs) app v) (sym shown) tt;
         never_waits = λ app v sight. subst (AtEach (λ v label behind. FindsFree v label) app v) (sym shown) tt;
@@ -176,7 +175,7 @@ module _ (img : Image) (checked : IsChecked img) where
       started = λ before. rest.started (first.started before);
       ended = λ is. ended_more (subst (λ ls. Contains ls (Stepped (Some (what.End body.Init)))) labels_are is);
       seen = λ app v sight.
-          ap (λ ls. seen_insides (seen_behind app v ls).jobs) labels_are
+          ap (λ ls. seen_insides (sees_all app v ls).jobs) labels_are
           ∙ rest.seen app (sees app v first.label) (seen_first app v sight);
       exclusive = λ app v sight.
           subst (AtEach (λ v label behind. AreExclusive (sees app v label).jobs) app v) (sym labels_are) (

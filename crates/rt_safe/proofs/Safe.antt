@@ -17,7 +17,7 @@ use Rattle.rt_core.specs.Access.{access, access_by, access_by_line}
 use Rattle.rt_core.specs.Core.{Core, reset}
 use Rattle.rt_core.specs.Priority.{pick}
 use Rattle.rt_core.specs.Trace.{core_after, labels}
-use Rattle.rt_laws.specs.Sight.{Seen, first_sight}
+use Rattle.rt_laws.specs.Sight.{Seen, first_sight, sees_all}
 use Rattle.rt_points.specs.declared.point.Owner.{Owner}
 use Rattle.rt_points.specs.declared.point.Owner.TheVariants.{Starting, Thread, Handling}
 use Rattle.rt_points.specs.declared.rule.Rule.TheVariants as rule
@@ -28,7 +28,7 @@ use Rattle.rt_points.specs.Rules.{Touches, IsGuardedBy}
 use Rattle.rt_safe.specs.Inside.Fits.{is_starting, Fits}
 use Rattle.rt_safe.specs.Inside.Steps.{insides_of}
 use Rattle.rt_safe.specs.Laws.{CheckedImagesAreSafe}
-use Rattle.rt_safe.specs.Safe.{seen_behind, IsTouchedBy, TouchesInside, RunsSafely}
+use Rattle.rt_safe.specs.Safe.{IsTouchedBy, TouchesInside, RunsSafely}
 use Rattle.rt_safe.proofs.Apart.{alone_in_init}
 use Rattle.rt_safe.proofs.Depth.{depth_within}
 use Rattle.rt_safe.proofs.Lines.{HasLine, line_at, access_is}
@@ -105,7 +105,7 @@ module _ (img : Image) (checked : IsChecked img) where
       shown = labels img (reset img) events
 
       jobs : List Seen
-      jobs = (seen_behind app (first_sight app) shown).jobs
+      jobs = (sees_all app (first_sight app) shown).jobs
 
       seen : seen_insides jobs ≡ insides_of (whole.point ∷ whole.below)
       seen = whole.seen app (first_sight app) refl

@@ -7,14 +7,14 @@ use Rattle.rt_lemmas.proofs.Lists.{all_unmap, mapped_at}
 use Rattle.rt_ids.specs.Choice.{IsIn}
 use Rattle.rt_ids.specs.declared.ids.BodyId.TheVariants as body
 use Rattle.rt_ids.specs.declared.ids.Section.{Section}
-use Rattle.rt_trace.specs.Label.{Label, Arrived, Ticked, Rang, Stepped, items_of}
+use Rattle.rt_trace.specs.Label.{Label, Arrived, Ticked, Rang, Stepped, items_of, IsNoTrap}
 use Rattle.rt_trace.specs.declared.item.What.{What}
 use Rattle.rt_trace.specs.declared.item.What.TheVariants as what
 use Rattle.rt_app.specs.Tree.{App}
 use Rattle.rt_laws.specs.Properties.{AreExclusive, FindsFree}
-use Rattle.rt_laws.specs.Sight.{Seen, Sight, on_running, entering, leaving, sees}
+use Rattle.rt_laws.specs.Sight.{Seen, Sight, IsInside, on_running, entering, leaving, sees}
 use Rattle.rt_safe.specs.Inside.Steps.{on_first, insides_after, FindsNone, IsNoTrapShown}
-use Rattle.rt_safe.specs.Safe.{IsNoTrap, IsInside, IsInit}
+use Rattle.rt_safe.specs.Safe.{IsInit}
 use Rattle.rt_safe.proofs.Apart.{AreApart}
 
 -- the item of a step, and none for what is no step

@@ -4,12 +4,10 @@
 -- all lists of events; no point, rule, mask or frame is named here but for the cells that are meant.
 use Rattle.std.specs.Prelude.{◌≡◌, ℕ, ◌≤◌, ◌⊎◌, List, [], ◌∷◌, take, Some}
 use Rattle.std.specs.List.{AllByRecursion, Contains}
-use Rattle.rt_ids.specs.Choice.{IsIn}
 use Rattle.rt_ids.specs.Event.{Event}
 use Rattle.rt_ids.specs.declared.ids.BodyId.TheVariants as body
 use Rattle.rt_ids.specs.declared.ids.Section.{Section}
-use Rattle.rt_trace.specs.Label.{Label, Stepped}
-use Rattle.rt_trace.specs.declared.item.What.{What}
+use Rattle.rt_trace.specs.Label.{Label, Stepped, IsNoTrap}
 use Rattle.rt_trace.specs.declared.item.What.TheVariants as what
 use Rattle.rt_app.specs.Tree.{App}
 use Rattle.rt_code.specs.Access.{Access, cell_of}
@@ -18,13 +16,8 @@ use Rattle.rt_core.specs.Access.{access}
 use Rattle.rt_core.specs.Core.{reset}
 use Rattle.rt_core.specs.Trace.{core_after, labels, trace, depth_after}
 use Rattle.rt_laws.specs.Properties.{Exclusive, NeverWaits}
-use Rattle.rt_laws.specs.Sight.{Seen, Sight, first_sight, sees}
+use Rattle.rt_laws.specs.Sight.{Seen, IsInside, first_sight, sees_all}
 use Rattle.rt_points.specs.Rules.{IsContended}
-
--- the item is another than a trap, which stops the core
-abbrev pub IsNoTrap : What → Type 0
-IsNoTrap (what.Trap number) = ⊥
-IsNoTrap w = Unit {0}
 
 -- What holds of one list of events: whichever application one reads priorities from, which these properties do not use.
 pub record RunsSafely (img : Image) (events : List Event) : Type 0 where
@@ -35,16 +28,6 @@ pub record RunsSafely (img : Image) (events : List Event) : Type 0 where
   pub exclusive : (app : App) → Exclusive app (labels img (reset img) events)
   -- where a section is entered no job is inside it
   pub never_waits : (app : App) → NeverWaits app (labels img (reset img) events)
-
--- what one sees of the jobs behind labels
-abbrev pub seen_behind : App → Sight → List Label → Sight
-seen_behind app v [] = v
-seen_behind app v (label ∷ more) = seen_behind app (sees app v label) more
-
--- the running job is inside the section
-abbrev pub IsInside : List Seen → Section → Type 0
-IsInside [] x = ⊥
-IsInside (job ∷ others) x = IsIn job.inside x
 
 -- the running job is `init`: the thread alone, and `init` has not ended
 abbrev pub IsInit : List Label → List Seen → Type 0
@@ -60,7 +43,7 @@ abbrev pub TouchesInside : App → Image → ℕ → Section → List Event → 
 TouchesInside app img cell x events =
     (a : Access) → access img (core_after img (reset img) events) ≡ Some a → cell_of a ≡ cell
     → IsTouchedBy (labels img (reset img) events)
-    (seen_behind app (first_sight app) (labels img (reset img) events)).jobs x
+    (sees_all app (first_sight app) (labels img (reset img) events)).jobs x
 
 -- each cell for which owners contend has one section, inside which alone it is touched outside `init`, whatever happens
 abbrev pub TouchesAreGuarded : Image → Type 0

@@ -24,10 +24,10 @@ use Rattle.rt_core.specs.Access.{access, access_by, access_by_line}
 use Rattle.rt_core.specs.Priority.{pick}
 use Rattle.rt_core.proofs.Standing.{standing_leads}
 use Rattle.rt_laws.specs.State.{Role, Init, Idle, Waiting, Serving}
-use Rattle.rt_laws.specs.Sight.{Seen, Sight}
+use Rattle.rt_laws.specs.Sight.{Seen, Sight, IsInside}
 use Rattle.rt_laws.proofs.Well.{StackWell, StateWell}
 use Rattle.rt_sim.specs.Guarded as guarded
-use Rattle.rt_sim.specs.Guarded.{IsInside, IsInit, IsGuarded, is_read_alone}
+use Rattle.rt_sim.specs.Guarded.{IsInit, IsGuarded, is_read_alone}
 use Rattle.rt_sim.specs.Inside.Moment.{Part, Moment, runner_of, spot_of, sections_of, job_of}
 use Rattle.rt_sim.specs.Inside.States.{core_of, state_of}
 use Rattle.rt_sim.specs.Inside.PartFits.{who, StandsBy}
@@ -50,7 +50,7 @@ module _ (app : App) (img : Image) (thread : ℕ)
     (m : Moment) (fits : Fits app img thread m) where
   -- as the running job is seen
   inside_seen : (vs : List Seen) → StackWell app (state_of m).jobs vs → (r : ℕ)
-      → is_open m.running.held (section.Res r) ≡ true → IsInside vs r
+      → is_open m.running.held (section.Res r) ≡ true → IsInside vs (section.Res r)
   inside_seen [] well r is = absurd well
   inside_seen (seen ∷ seens) well r is = subst (λ xs. IsIn xs (section.Res r)) (sym well.0.inside)
       (open_in m.running.held (section.Res r) is)

@@ -10,7 +10,7 @@ use Rattle.rt_ids.specs.Action.{Action, Enters, Leaves, Emits, Posts, Clocks, Ta
 use Rattle.rt_ids.specs.Action.{Arms, Fires, Cancels, Moves, SetsAlarm, Ends, Returns}
 use Rattle.rt_ids.specs.Content.{Values}
 use Rattle.rt_ids.specs.Doing.{Doing, over, does}
-use Rattle.rt_trace.specs.Label.{Label, Arrived, Ticked, Rang, Stepped, items_of}
+use Rattle.rt_trace.specs.Label.{Label, Arrived, Ticked, Rang, Stepped, items_of, IsNoTrap}
 use Rattle.rt_trace.specs.declared.item.What.{What}
 use Rattle.rt_trace.specs.declared.item.What.TheVariants as what
 use Rattle.rt_app.specs.Tree.{App}
@@ -31,15 +31,15 @@ use Rattle.rt_laws.specs.State.{Role, Init, Idle, Waiting, Serving, Job, State, 
 use Rattle.rt_laws.specs.Giving.{gives, item_given, item_of, next_item, return_item, next_instant, is_due}
 use Rattle.rt_laws.specs.Allowed.{May, after}
 use Rattle.rt_laws.specs.Run.{RunsOn}
-use Rattle.rt_laws.specs.Sight.{Sight, first_sight}
+use Rattle.rt_laws.specs.Sight.{Sight, first_sight, sees_all}
 use Rattle.rt_laws.proofs.Well.{StateWell}
 use Rattle.rt_laws.proofs.Armings.{armings, first_armings}
 use Rattle.rt_laws.proofs.Fine.{Queued}
 use Rattle.rt_laws.proofs.Happens.{first_well}
 use Rattle.rt_laws.proofs.Keeping.{runs_keep_laws}
 use Rattle.rt_laws.proofs.AllMoments.{runs_keep_messages}
-use Rattle.rt_sim.specs.Guarded.{sees_all, IsGuarded}
-use Rattle.rt_sim.specs.Good.{AreDeclared, IsNoTrap, RunsWell, ImagesAreGood}
+use Rattle.rt_sim.specs.Guarded.{IsGuarded}
+use Rattle.rt_sim.specs.Good.{AreDeclared, RunsWell, ImagesAreGood}
 use Rattle.rt_sim.specs.Inside.Moment.{Moment}
 use Rattle.rt_sim.specs.Inside.States.{core_of, state_of}
 use Rattle.rt_sim.specs.Inside.Fits.{Fits}

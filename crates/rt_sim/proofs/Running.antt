@@ -16,14 +16,13 @@ use Rattle.rt_laws.specs.State.{State}
 use Rattle.rt_laws.specs.Allowed.{after}
 use Rattle.rt_laws.specs.Run.{RunsOn}
 use Rattle.rt_laws.specs.ByItems.{after_all}
-use Rattle.rt_laws.specs.Sight.{Sight, sees}
+use Rattle.rt_laws.specs.Sight.{Sight, sees, sees_all}
 use Rattle.rt_laws.proofs.Armings.{armings, rises}
 use Rattle.rt_laws.proofs.ByItems.{runs_append, after_append}
 use Rattle.rt_laws.proofs.Fine.{Queued}
 use Rattle.rt_laws.proofs.Happens.{happens as happens_well, after_well}
 use Rattle.rt_laws.proofs.Well.{StateWell}
 use Rattle.rt_sim.specs.Good.{AreDeclared}
-use Rattle.rt_sim.specs.Guarded.{sees_all}
 use Rattle.rt_sim.specs.Inside.Moment.{Moment}
 use Rattle.rt_sim.specs.Inside.States.{core_of, state_of}
 use Rattle.rt_sim.specs.Inside.Fits.{Fits}

@@ -5,9 +5,8 @@
 use Rattle.std.specs.Prelude.{◌≡◌, ℕ, ◌^◌, ◌<◌, ◌≤◌, true, List, [], ◌∷◌, length, take}
 use Rattle.std.specs.List.{AllByRecursion}
 use Rattle.rt_ids.specs.Event.{Event, Arrive, steps}
+use Rattle.rt_trace.specs.Label.{IsNoTrap}
 use Rattle.rt_trace.specs.Shown.{shown}
-use Rattle.rt_trace.specs.declared.item.What.{What}
-use Rattle.rt_trace.specs.declared.item.What.TheVariants as what
 use Rattle.rt_app.specs.Tree.{App}
 use Rattle.rt_app.specs.Accepted.{IsAccepted}
 use Rattle.rt_app.specs.Stack.{stack_bytes}
@@ -26,11 +25,6 @@ abbrev pub AreDeclared : App → List Event → Type 0
 AreDeclared app [] = Unit {0}
 AreDeclared app (Arrive irq ∷ events) = (is_declared app irq ≡ true) × AreDeclared app events
 AreDeclared app (e ∷ events) = AreDeclared app events
-
--- the item is another than a trap, which stops the core
-abbrev pub IsNoTrap : What → Type 0
-IsNoTrap (what.Trap number) = ⊥
-IsNoTrap w = Unit {0}
 
 -- what holds of one list of events
 pub record RunsWell (app : App) (img : Image) (events : List Event) : Type 0 where

@@ -4,10 +4,8 @@
 -- by the cell's name.
 use Rattle.std.specs.Prelude.{◌≡◌, ℕ, ◌==◌, ◌^◌, ◌⊎◌, Bool, true, ◌&&◌, List, [], ◌∷◌, Option, Some, None}
 use Rattle.std.specs.List.{list_any}
-use Rattle.rt_ids.specs.Choice.{IsIn}
 use Rattle.rt_ids.specs.Event.{Event}
 use Rattle.rt_ids.specs.declared.ids.Section.TheVariants as section
-use Rattle.rt_trace.specs.Label.{Label}
 use Rattle.rt_app.specs.Tree.{App}
 use Rattle.rt_app.specs.Listing.{is_lock_free, listings}
 use Rattle.rt_code.specs.Access.{Access, Loads, Stores}
@@ -16,21 +14,11 @@ use Rattle.rt_code.specs.Image.{Image}
 use Rattle.rt_core.specs.Access.{access}
 use Rattle.rt_core.specs.Core.{reset}
 use Rattle.rt_core.specs.Trace.{core_after, labels}
-use Rattle.rt_laws.specs.Sight.{Seen, Sight, first_sight, sees}
-
--- what one sees of the jobs behind labels
-abbrev pub sees_all : App → Sight → List Label → Sight
-sees_all app v [] = v
-sees_all app v (label ∷ more) = sees_all app (sees app v label) more
+use Rattle.rt_laws.specs.Sight.{Seen, IsInside, first_sight, sees_all}
 
 -- some body lists the resource as `&name`
 abbrev pub is_read_alone : App → ℕ → Bool
 is_read_alone app r = list_any (λ l. (l.listed.resource == r) && l.listed.by_ref) (listings app)
-
--- the running job is inside the resource
-abbrev pub IsInside : List Seen → ℕ → Type 0
-IsInside [] r = ⊥
-IsInside (job ∷ others) r = IsIn job.inside (section.Res r)
 
 -- the running job is `init`, the thread alone with the greatest priority, until that ends
 abbrev pub IsInit : App → List Seen → Type 0
@@ -39,7 +27,7 @@ IsInit app jobs = ⊥
 
 -- where the jobs are seen so, a step may store to a resource: inside it, as `init`, or where it is `lock_free`
 abbrev pub MayStore : App → List Seen → ℕ → Type 0
-MayStore app jobs r = IsInside jobs r ⊎ (IsInit app jobs ⊎ (is_lock_free app r ≡ true))
+MayStore app jobs r = IsInside jobs (section.Res r) ⊎ (IsInit app jobs ⊎ (is_lock_free app r ≡ true))
 
 -- The access of a step is guarded: a store to the cell of a resource is one that it may do, and a load too, or the
 -- resource is read alone.

@@ -32,3 +32,8 @@ steps_of (Stepped w ∷ labels) = suc (steps_of labels)
 steps_of (Arrived irq ∷ labels) = steps_of labels
 steps_of (Ticked ∷ labels) = steps_of labels
 steps_of (Rang ∷ labels) = steps_of labels
+
+-- the item is another than a trap, which stops the core
+abbrev pub IsNoTrap : What → Type 0
+IsNoTrap (what.Trap number) = ⊥
+IsNoTrap w = Unit {0}

@@ -5,6 +5,7 @@ use Rattle.std.specs.List.{AllByRecursion}
 use Rattle.rt_ids.specs.Choice.{IsIn}
 use Rattle.rt_ids.specs.declared.ids.BodyId.TheVariants as body
 use Rattle.rt_ids.specs.declared.ids.Section.{Section}
+use Rattle.rt_trace.specs.Label.{IsNoTrap}
 use Rattle.rt_trace.specs.declared.item.What.{What}
 use Rattle.rt_trace.specs.declared.item.What.TheVariants as what
 use Rattle.rt_code.specs.Image.{Image}
@@ -13,7 +14,6 @@ use Rattle.rt_core.specs.Stepping.{step}
 use Rattle.rt_points.specs.declared.point.Owner.TheVariants.{Starting}
 use Rattle.rt_points.specs.Point.{Point, sections}
 use Rattle.rt_safe.specs.Inside.Fits.{Fits}
-use Rattle.rt_safe.specs.Safe.{IsNoTrap}
 
 -- the open sections at each of these points
 abbrev pub insides_of : List Point → List (List Section)
