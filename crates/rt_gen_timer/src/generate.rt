@@ -11,9 +11,11 @@ ghost use Rattle.rt_app.specs.View.{app_of};
 ghost use Rattle.rt_app.specs.declared.costs.TheConstants.{SPAWN_AFTER_COST, HANDLE_COST, TIMER_QUEUE_WORDS};
 ghost use Rattle.rt_gen_queue.specs.Line.{IsNameable};
 ghost use Rattle.rt_gen_timer.specs.TimerCode as spec;
+ghost use Rattle.rt_gen_timer.specs.Inside.Calls as calls;
 ghost use Rattle.rt_gen_timer.specs.declared.generate.TheConstants.{MANY_LINES};
 
 use crate::armed::armed_of;
+use crate::call::{Call, push_call};
 use crate::emitter::Emitter;
 use crate::queue::queue_of;
 use rt_app::Plan;
@@ -52,6 +54,39 @@ pub(crate) fn emitter_of(
     Ok(Emitter { queue, slot })
 }
 
+/// Appends the code of a call to code, at a static level; its first line will stand at the address `entry`. An error
+/// leaves the code as it was.
+fn append_call(
+    alloc: Global,
+    plan: &Plan<'_>,
+    rows: &ArmedRows<'_>,
+    call: &Call,
+    level: u8,
+    slot: u32,
+    entry: u32,
+    code: &mut Vec<Line>,
+) -> Result<(), NoMemory>
+    requires accepted { IsAccepted (app_of plan.now.app.now) }
+    requires planned { IsPlan plan.now }
+    requires rows { rows.now ≡ plan.now.app.now }
+    requires timed { IsSome (app_of plan.now.app.now).mono }
+    requires software { is_some_and is_software (slice_get (app_of plan.now.app.now).tasks (calls.task_of call.now))
+        ≡ true }
+    ensures code { OnOk result (code.new.items ≡ code.old.items
+        ++ calls.code_of (app_of plan.now.app.now) call.now level slot entry) }
+    ensures size { OnOk result (length code.new.items ≤ length code.old.items + calls.cost_of call.now) }
+    ensures lines { OnOk result (AllByRecursion (IsNameable (names_of (app_of plan.now.app.now)))
+        (drop (length code.old.items) code.new.items)) }
+    ensures left { OnErr result (code.new.items ≡ code.old.items) }
+{
+    let emitter = emitter_of(plan, rows, slot, entry)?;
+    let armed = armed_of(plan, rows, call.task());
+    let mut lines = Lines::new(alloc);
+    push_call(&emitter, &armed, call, level, entry, &mut lines)?;
+    code.extend_from_slice(lines.as_slice())?;
+    Ok(())
+}
+
 /// Appends the code of a `spawn_after` of a software task, at a static level, to code; its first line will stand at the
 /// address `entry`. The delay and then the arguments stand in the slots from one on. It takes a place of the task and
 /// arms its message; the answer comes into the first slot: the message's handle, or 0 where no place is left. It
@@ -79,11 +114,8 @@ pub fn gen_after(
         (drop (length code.old.items) code.new.items)) }
     ensures left { OnErr result (code.new.items ≡ code.old.items) }
 {
-    let emitter = emitter_of(plan, rows, slot, entry)?;
-    let mut lines = Lines::new(alloc);
-    emitter.push_after(&armed_of(plan, rows, task), level, entry, &mut lines)?;
-    code.extend_from_slice(lines.as_slice())?;
-    Ok(())
+    let call = Call::After(task);
+    append_call(alloc, plan, rows, &call, level, slot, entry, code)
 }
 
 /// Appends the code of a `cancel` of a message of a software task, at a static level, to code; its first line will
@@ -112,11 +144,8 @@ pub fn gen_cancel(
         (drop (length code.old.items) code.new.items)) }
     ensures left { OnErr result (code.new.items ≡ code.old.items) }
 {
-    let emitter = emitter_of(plan, rows, slot, entry)?;
-    let mut lines = Lines::new(alloc);
-    emitter.push_cancel(&armed_of(plan, rows, task), level, entry, &mut lines)?;
-    code.extend_from_slice(lines.as_slice())?;
-    Ok(())
+    let call = Call::Cancel(task);
+    append_call(alloc, plan, rows, &call, level, slot, entry, code)
 }
 
 /// Appends the code of a `reschedule_after` of a message of a software task, at a static level, to code; its first line
@@ -146,9 +175,6 @@ pub fn gen_move(
         (drop (length code.old.items) code.new.items)) }
     ensures left { OnErr result (code.new.items ≡ code.old.items) }
 {
-    let emitter = emitter_of(plan, rows, slot, entry)?;
-    let mut lines = Lines::new(alloc);
-    emitter.push_move(&armed_of(plan, rows, task), level, entry, &mut lines)?;
-    code.extend_from_slice(lines.as_slice())?;
-    Ok(())
+    let call = Call::Move(task);
+    append_call(alloc, plan, rows, &call, level, slot, entry, code)
 }

@@ -4,6 +4,7 @@
 
 mod after;
 pub mod armed;
+mod call;
 mod calls;
 mod columns;
 mod emitter;

@@ -1,0 +1,61 @@
+use Rattle.std.proofs.Common.{◌≡◌, ℕ, ◌≤◌, ◌++◌, ◌∙◌, arith, length, ap, length-append, List}
+use Rattle.rt_app.specs.Names.{names_of}
+use Rattle.rt_app.specs.Tree.{Task, App}
+use Rattle.rt_app.specs.View.{app_of}
+use Rattle.rt_code.specs.Listable.{HasIrq}
+use Rattle.rt_gen_queue.specs.Line.{Line}
+use Rattle.rt_gen_queue.proofs.Facts.{Spawned}
+use Rattle.rt_gen_queue.proofs.Nameable.{AreClaimed, named_behind}
+use Rattle.rt_gen_queue.proofs.Named.{spawned}
+use Rattle.rt_gen_timer.specs.TimerCode.{queue_of, armed_task}
+use Rattle.rt_gen_timer.specs.declared.call.Call.{Call}
+use Rattle.rt_gen_timer.specs.declared.call.Call.TheVariants.{After, Cancel, Move}
+use Rattle.rt_gen_timer.specs.Inside.Calls.{task_of, cost_of, lines_of, code_of}
+use Rattle.rt_gen_timer.proofs.Generated.{timer_named, after_short}
+use Rattle.rt_gen_timer.proofs.Named.{after_claimed, cancel_claimed, move_claimed}
+use Rattle.rt_gen_timer.proofs.generate.append_call.Goals as goal
+
+-- a call has no more lines than it may have
+short : (app : App) (call : Call) (level slot at : ℕ) (t : Task) → Spawned app (task_of call) t
+    → length (code_of app call level slot at) ≤ cost_of call
+short app (After task) level slot at t facts = omega (arith, after_short app task level slot at t facts)
+short app (Cancel task) level slot at t facts = omega arith
+short app (Move task) level slot at t facts = omega arith
+
+-- and they name what the application declares
+claimed : (app : App) → HasIrq (names_of app) (queue_of app).irq → (call : Call) (level slot at : ℕ) (t : Task)
+    → Spawned app (task_of call) t → AreClaimed (names_of app) (code_of app call level slot at)
+claimed app irq (After task) level slot at t facts = after_claimed app irq slot level task t facts at
+claimed app irq (Cancel task) level slot at t facts = cancel_claimed app irq slot level task t facts at
+claimed app irq (Move task) level slot at t facts = move_claimed app irq slot level task t facts at
+
+pub returns : goal.returns
+returns c =
+    let app = app_of c.args.plan.now.app.now in
+    let call = c.args.call.now in
+    let task = spawned app (task_of call) c.requires.accepted c.requires.software in
+    let armed = c.armed_of-armed.ensures.is ∙ ap (armed_task app) c.task.ensures in
+    let code : List Line = code_of app call c.args.level c.args.slot c.args.entry in
+    let is : c.extend_from_slice.new.self.items ≡ c.args.code.now.items ++ code =
+    rw (
+      c.extend_from_slice.ensures.items,
+      c.in_ok-extend_from_slice.was,
+      c.as_slice.ensures,
+      c.in_ok-push_call.ensures,
+      c.new-lines.ensures,
+    )
+    (λ i. c.args.code.now.items ++ lines_of call (c.in_ok-emitter.ensures.queue i) (c.in_ok-emitter.ensures.slot i)
+    c.args.level (armed i) c.args.entry) in
+    record {
+      code = is;
+      size = omega (
+        arith,
+        ap (λ (ls : List Line). length ls) is,
+        length-append c.args.code.now.items code,
+        short app call c.args.level c.args.slot c.args.entry task.0 task.1,
+      );
+      lines = named_behind (names_of app) c.args.code.now.items c.extend_from_slice.new.self.items code is
+          (claimed app (timer_named app c.requires.accepted c.requires.timed) call c.args.level c.args.slot c.args.entry
+          task.0 task.1);
+      left = tt;
+    }

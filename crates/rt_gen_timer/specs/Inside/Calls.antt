@@ -1,0 +1,33 @@
+-- The three calls that go to the timer queue, as one.
+use Rattle.std.specs.Prelude.{ℕ, List}
+use Rattle.rt_app.specs.Tree.{App}
+use Rattle.rt_app.specs.declared.costs.TheConstants.{SPAWN_AFTER_COST, HANDLE_COST}
+use Rattle.rt_gen_queue.specs.Line.{Line}
+use Rattle.rt_gen_timer.specs.TimerLines.{after_lines, cancel_lines, move_lines}
+use Rattle.rt_gen_timer.specs.TimerCode.{queue_of, armed_task}
+use Rattle.rt_gen_timer.specs.declared.armed.ArmedTask.{ArmedTask}
+use Rattle.rt_gen_timer.specs.declared.call.Call.{Call}
+use Rattle.rt_gen_timer.specs.declared.call.Call.TheVariants.{After, Cancel, Move}
+use Rattle.rt_gen_timer.specs.declared.queue.TimerQueue.{TimerQueue}
+
+-- the task of its message
+abbrev pub task_of : Call → ℕ
+task_of (After task) = task
+task_of (Cancel task) = task
+task_of (Move task) = task
+
+-- how many lines it has at most
+abbrev pub cost_of : Call → ℕ
+cost_of (After task) = SPAWN_AFTER_COST
+cost_of (Cancel task) = HANDLE_COST
+cost_of (Move task) = HANDLE_COST
+
+-- its lines, at a queue, in a body at a level whose slots begin at one, of a task, from an address on
+abbrev pub lines_of : Call → TimerQueue → ℕ → ℕ → ArmedTask → ℕ → List Line
+lines_of (After task) queue slot level armed at = after_lines queue slot level armed at
+lines_of (Cancel task) queue slot level armed at = cancel_lines queue slot level armed at
+lines_of (Move task) queue slot level armed at = move_lines queue slot level armed at
+
+-- and in an application
+abbrev pub code_of : App → Call → ℕ → ℕ → ℕ → List Line
+code_of app call level slot at = lines_of call (queue_of app) slot level (armed_task app (task_of call)) at

@@ -1,0 +1,56 @@
+ghost use Rattle.std.specs.Prelude.{◌≡◌, ◌+◌, ◌*◌, ◌<◌, ◌≤◌, ◌^◌, OnOk};
+ghost use Rattle.rt_ids.specs.declared.limits.TheConstants.{CAPACITY, TASKS};
+ghost use Rattle.rt_app.specs.declared.costs.TheConstants.{TIMER_QUEUE_WORDS};
+ghost use Rattle.rt_gen_queue.specs.Making.{Appends};
+ghost use Rattle.rt_gen_timer.specs.Inside.Calls as spec;
+ghost use Rattle.rt_gen_timer.specs.declared.generate.TheConstants.{MANY_LINES};
+
+use crate::armed::ArmedTask;
+use crate::emitter::Emitter;
+use rt_gen_queue::Lines;
+use rt_ids::{NoMemory, TaskId};
+
+/// A call that goes to the timer queue, with the software task of its message.
+#[derive(Clone, Copy)]
+pub(crate) enum Call {
+    After(TaskId),
+    Cancel(TaskId),
+    Move(TaskId),
+}
+
+impl Call {
+    /// The task.
+    pub(crate) fn task(&self) -> TaskId
+        ensures { result ≡ spec.task_of self.now }
+    {
+        match self {
+            Call::After(task) | Call::Cancel(task) | Call::Move(task) => *task,
+        }
+    }
+}
+
+/// Appends the lines of a call of a task.
+pub(crate) fn push_call(
+    emitter: &Emitter,
+    armed: &ArmedTask,
+    call: &Call,
+    level: u8,
+    at: u32,
+    lines: &mut Lines,
+) -> Result<(), NoMemory>
+    requires few { emitter.now.queue.messages ≤ CAPACITY * TASKS }
+    requires slots { emitter.now.slot + TIMER_QUEUE_WORDS < 2 ^ 32 }
+    requires room { at + MANY_LINES < 2 ^ 32 }
+    requires arguments { armed.now.target.args ≤ 4 }
+    requires rows { armed.now.rows ≤ CAPACITY }
+    requires before { armed.now.first ≤ CAPACITY * armed.now.target.task }
+    requires first { armed.now.first ≤ CAPACITY * TASKS }
+    ensures { OnOk result (Appends lines.old lines.new
+        (spec.lines_of call.now emitter.now.queue emitter.now.slot level armed.now at)) }
+{
+    match call {
+        Call::After(_) => emitter.push_after(armed, level, at, lines),
+        Call::Cancel(_) => emitter.push_cancel(armed, level, at, lines),
+        Call::Move(_) => emitter.push_move(armed, level, at, lines),
+    }
+}
