@@ -16,19 +16,7 @@ of_rank n =
 
 of_rank_is : (r : Rule) → of_rank (rank r) ≡ r
 of_rank_is rule.UnknownName = refl
-of_rank_is rule.DeclaredTwice = refl
-of_rank_is rule.PriorityOutOfRange = refl
-of_rank_is rule.InterruptUsedTwice = refl
-of_rank_is rule.TooFewDispatchers = refl
-of_rank_is rule.LocalInTwoTasks = refl
-of_rank_is rule.OutsideLock = refl
-of_rank_is rule.LockedInsideItself = refl
-of_rank_is rule.SharedAndExclusive = refl
-of_rank_is rule.LockFreeAtTwoPriorities = refl
-of_rank_is rule.NotSoftware = refl
-of_rank_is rule.NoMonotonic = refl
-of_rank_is rule.TooLongBody = refl
-of_rank_is rule.NotWritable = refl
+of_rank_is r = refl
 
 rank_tells : (r s : Rule) → rank r ≡ rank s → r ≡ s
 rank_tells r s e = sym (of_rank_is r) ∙ ap of_rank e ∙ of_rank_is s

@@ -1,5 +1,7 @@
-ghost use Rattle.std.specs.Prelude.{◌≡◌, slice_get, Some, true, IfOk};
+ghost use Rattle.std.specs.Prelude.{◌≡◌, ◌<◌, length, slice_get, Some, true, IfOk};
+ghost use Rattle.rt_app.specs.Frame.{frame_words};
 ghost use Rattle.rt_app.specs.Level.{is_software};
+ghost use Rattle.rt_app.specs.Tree as tree;
 ghost use Rattle.rt_app.specs.View.{app_of, task_of};
 ghost use Rattle.rt_gen_queue.specs.Called.{row_for, rows_for};
 ghost use Rattle.rt_build.specs.Inside.Plan.{IsAcceptedPlan};
@@ -11,6 +13,30 @@ use rt_code::BodyRow;
 use rt_ids::{NoMemory, TaskId};
 use std::alloc::Global;
 
+/// How the body of a task starts.
+#[derive(Clone, Copy)]
+pub(crate) struct Start {
+    /// The address of its first line.
+    pub(crate) entry: u32,
+    /// The words of its frame.
+    pub(crate) frame: u32,
+}
+
+/// How the body of the task at a place starts.
+pub(crate) fn start_of(plan: &Plan<'_>, code: &Code, number: usize) -> Start
+    requires plan { IsAcceptedPlan plan.now }
+    requires entries { HasEntries (app_of plan.now.app.now) code.now }
+    requires within { number < length (app_of plan.now.app.now).tasks }
+    ensures entry { result.entry ≡ (entries_of (app_of plan.now.app.now) code.now).task number }
+    ensures frame { (task : tree.Task) → slice_get (app_of plan.now.app.now).tasks number ≡ Some task →
+        result.frame ≡ frame_words task.args task.body }
+{
+    Start {
+        entry: code.tasks[number],
+        frame: plan.frames[number + 2],
+    }
+}
+
 /// The row of the body of a software task.
 fn body_row(plan: &Plan<'_>, code: &Code, number: usize, task: &Task) -> BodyRow
     requires plan { IsAcceptedPlan plan.now }
@@ -19,10 +45,11 @@ fn body_row(plan: &Plan<'_>, code: &Code, number: usize, task: &Task) -> BodyRow
     requires software { is_software (task_of task.now) ≡ true }
     ensures { result ≡ row_for (entries_of (app_of plan.now.app.now) code.now).task number (task_of task.now) }
 {
+    let start = start_of(plan, code, number);
     BodyRow {
         task: TaskId(number as u8),
-        entry: code.tasks[number],
-        frame: plan.frames[number + 2],
+        entry: start.entry,
+        frame: start.frame,
         args: task.args,
     }
 }

@@ -11,7 +11,7 @@ ghost use Rattle.rt_build.specs.Inside.Plan.{IsAcceptedPlan};
 ghost use Rattle.rt_build.specs.Inside.Code.{HasEntries, entries_of};
 ghost use Rattle.rt_build.specs.Inside.Tables.{HasHandlers, untimed_services, row_of};
 
-use crate::bodies::body_rows;
+use crate::bodies::{body_rows, start_of};
 use crate::code::Code;
 use rt_app::costs::{DISPATCHER_WORDS, TIMER_WORDS};
 use rt_app::{IrqDecl, Mono, Plan, Task};
@@ -60,10 +60,11 @@ fn handler(plan: &Plan<'_>, code: &Code, number: usize, task: &Task) -> Handler
     ensures { let served : Service = record { irq = 0; handler = Runs number; level = task.now.priority } in
         result ≡ spec.handler_row (app_of plan.now.app.now) (entries_of (app_of plan.now.app.now) code.now) served }
 {
+    let start = start_of(plan, code, number);
     Handler {
         value: Prio(task.priority).hw(plan.app.bits),
-        entry: code.tasks[number],
-        frame: plan.frames[number + 2],
+        entry: start.entry,
+        frame: start.frame,
     }
 }
 
