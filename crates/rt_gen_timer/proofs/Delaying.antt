@@ -1,16 +1,15 @@
 -- The lines that read the time and add a delay to it, but no more than the longest one: the instant of 32 bits does not
 -- wrap, since the time is below 2^31.
-use Rattle.std.proofs.Common.{◌≡◌, ℕ, suc, ◌+◌, ◌^◌, ◌<◌, ◌≤◌, min, nat_lt, List, ◌∷◌, ◌++◌, [], refl, ap, sym, subst}
+use Rattle.std.proofs.Common.{◌≡◌, ℕ, suc, ◌+◌, ◌^◌, ◌<◌, ◌≤◌, min, nat_lt, List, ◌∷◌, ◌++◌, refl, ap, sym, subst}
 use Rattle.std.proofs.Common.{arith, inl, inr}
 use Rattle.std.proofs.lemmas.Bool.{cases_lt, lt-ltb, le-ltb}
 use Rattle.rt_app.specs.Holding.{storage}
 use Rattle.rt_code.specs.Owning.{Agree}
-use Rattle.rt_gen_queue.proofs.Layer.{Setting, Here, S, Straight, sets, copies, calculates, stays, clocks}
+use Rattle.rt_gen_queue.proofs.Layer.{Setting, Here, S, Straight, sets, copies, calculates, stays, clocks, skips_off}
 use Rattle.rt_gen_queue.proofs.Numbers.{added}
 use Rattle.rt_gen_queue.specs.Line.{Line}
-use Rattle.rt_gen_timer.proofs.Acting.{skips}
 use Rattle.rt_gen_timer.proofs.Window.{Words, words, Slots}
-use Rattle.rt_gen_timer.specs.TimerLines.{time_lines, calc, copy}
+use Rattle.rt_gen_timer.specs.TimerLines.{time_lines, calc}
 use Rattle.rt_gen_timer.specs.declared.queue.TimerQueue.{TimerQueue}
 use Rattle.rt_ids.specs.Action.{Clocks}
 use Rattle.rt_ids.specs.Content.{Values}
@@ -60,7 +59,7 @@ time_stands {z = z} {f = f} {lines = lines} {h = h} q w {values = values} {follo
           stays (omega (arith, is)) (copies (last time vs early agree (omega arith) (omega arith) (omega arith))))
       | inr most ↦
           (let is : right ≡ 0 = ap number_of (le-ltb LONGEST_DELAY w.answer most) in
-          skips (copy q 0 0 13 ∷ []) is (omega arith)
+          skips_off 1 (omega arith) is
           (last time vs early agree (omega arith) (omega arith) (omega arith)))
     ])))
   where
