@@ -50,7 +50,7 @@ use Rattle.rt_gen_timer.specs.declared.queue.TimerQueue.{TimerQueue}
 use Rattle.rt_gen_timer.proofs.Window.{Words, words, Scratch, scratch_of}
 use Rattle.rt_gen_timer.proofs.Acting.{Lasting, Runs, sooner, run_stands, code_first, code_part, heap_open}
 use Rattle.rt_gen_timer.proofs.Alone.{instant_in, number_in, timed_row}
-use Rattle.rt_gen_timer.proofs.Calling.{leaving_fits, leaving_code, Call, MayCall, GoesBehind, f, w, on_window, Left}
+use Rattle.rt_gen_timer.proofs.Calling.{leaving_fits, leaving_code, Call, Begins, f, w, on_window, Left}
 use Rattle.rt_gen_timer.proofs.Calling.{HasCalled, behind_call, Inside, entries, at_work, IsInside, AgreeInside}
 use Rattle.rt_gen_timer.proofs.Calling.{columns_now, queue_now, settles, stands_called}
 use Rattle.rt_gen_timer.proofs.Comparing.{Hand, Place, in_hand}
@@ -84,21 +84,19 @@ worked v r = record v { count = r.count; hole = r.index; place = r.word; work = 
 
 -- a message is to be sent later
 record SendsLater (c : Call) (cost delay : ℕ) (args : List ℕ) (h : Here) : Type 0 where
-  pub may : MayCall c (after_steps c.z.app) h
+  pub call : Begins c (after_steps c.z.app) (after_code c.z.app c.task c.level c.slot h.at)
+      (take_place c.z.app c.task (arm_actions c.z.app cost delay (record { task = c.task; args = args }) c.rest)
+      (c.rest 0)) h
   pub armed : is_armed c.z.app c.task ≡ true
   pub turns : AreTurns c.z.app cost
   pub places : MayUsePlaces c.z.app c.z.who c.task (spot c.z h)
-  pub has : HasCode c.z.code h.at (after_code c.z.app c.task c.level c.slot h.at)
   pub delay_is : slice_index h.slots c.slot ≡ delay
   pub args_are : take c.t.args (drop (suc c.slot) h.slots) ≡ args
-  pub is : h.rest
-      ≡ take_place c.z.app c.task (arm_actions c.z.app cost delay (record { task = c.task; args = args }) c.rest)
-      (c.rest 0) c.values
-  pub on : GoesBehind may (after_code c.z.app c.task c.level c.slot h.at)
 
 module _ {c : Call} {cost delay : ℕ} {args : List ℕ} {h : Here} (k : SendsLater c cost delay args h) where
   open c use {z, task, t, level, slot, rest, values}
   open c.z use {app, code, who}
+  open k.call use {may, has, on}
 
   abbrev q : TimerQueue
   q = queue_of app
@@ -117,7 +115,7 @@ module _ {c : Call} {cost delay : ℕ} {args : List ℕ} {h : Here} (k : SendsLa
 
   few_args : (t.args ≤ 4) × (args_of ≤ 4)
   few_args =
-      let few = few_arguments app task t k.may.facts in (few, omega (arith, arguments app task t k.may.facts, few))
+      let few = few_arguments app task t may.facts in (few, omega (arith, arguments app task t may.facts, few))
 
   -- the lines, and their parts; those that arm the message by the first slot of the window
   abbrev lines : List Line
@@ -135,7 +133,7 @@ module _ {c : Call} {cost delay : ℕ} {args : List ℕ} {h : Here} (k : SendsLa
   has_fill : HasCode code (h.at + 8) (filling ++ (arming slot ++ ending))
   has_fill =
       code_behind code h.at (h.at + 8) (take_code app task level (slot + 1) full) (filling ++ (arming slot ++ ending))
-      refl k.has
+      refl has
 
   has_arm : HasCode code (h.at + (12 + args_of)) (arming slot ++ ending)
   has_arm =
@@ -157,63 +155,63 @@ module _ {c : Call} {cost delay : ℕ} {args : List ℕ} {h : Here} (k : SendsLa
   ends_at = omega (arith, length-append filling (arming slot ++ ending), fill_long app task (slot + 1))
 
   -- there is time for the call
-  runs_on : Runs (f k.may) (h.done + after_steps app) h
-  runs_on = record { time = k.may.time; saves = saves_below (f k.may) h.held k.may.masks }
+  runs_on : Runs (f may) (h.done + after_steps app) h
+  runs_on = record { time = may.time; saves = saves_below (f may) h.held may.masks }
 
   lasts : (n : ℕ) → n ≤ after_steps app → InTime (h.done + n) h
   lasts n less = (sooner {j = h.done + n} runs_on (omega (arith, less))).time
 
   -- the window of the nine
   abbrev nine : Words → Frame 9 8
-  nine v = inner (f k.may) (v.answer ∷ []) (drop 10 (words v))
+  nine v = inner (f may) (v.answer ∷ []) (drop 10 (words v))
 
-  from_nine : (v : Words) (r : Work) (g : Here) → S z (Now (f k.may) g (words (worked v r)))
+  from_nine : (v : Words) (r : Work) (g : Here) → S z (Now (f may) g (words (worked v r)))
       → S z (Now (nine v) g (nine_words (arguments_in v) r))
   from_nine v r g correct =
       subst (λ (slots : List ℕ). S z (record g { slots = slots }))
-      (sym (inner_window (f k.may) (v.answer ∷ []) (drop 10 (words v)) (nine_words (arguments_in v) r))) correct
+      (sym (inner_window (f may) (v.answer ∷ []) (drop 10 (words v)) (nine_words (arguments_in v) r))) correct
 
   enter_places : {size mask : ℕ} (g : Frame size mask) → mask < size → slot ≤ g.slot
       → MayEnter z g h place_section level
   enter_places g room above = record {
     room = room;
-    masks = all_weaker (λ d. d < slot) (λ d. d < g.slot) (λ d less. omega (arith, less)) _ k.may.masks;
-    off = k.may.off;
-    top = free_top app task t k.may.facts;
+    masks = all_weaker (λ d. d < slot) (λ d. d < g.slot) (λ d less. omega (arith, less)) _ may.masks;
+    off = may.off;
+    top = free_top app task t may.facts;
     within = k.places.within;
     closed = k.places.closed;
     nobody = nobody_keeps app who who place_section tt;
   }
 
-  abbrev may_take : MayTake z (nine (w k.may)) h task level full t
+  abbrev may_take : MayTake z (nine (w may)) h task level full t
   may_take = record {
-    facts = k.may.facts;
-    code = code_front code h.at (take_code app task level (slot + 1) full) (filling ++ (arming slot ++ ending)) k.has;
+    facts = may.facts;
+    code = code_front code h.at (take_code app task level (slot + 1) full) (filling ++ (arming slot ++ ending)) has;
     time = lasts 8 (omega arith);
-    long = k.may.cells;
-    enter = enter_places (nine (w k.may)) (omega arith) (omega arith);
+    long = may.cells;
+    enter = enter_places (nine (w may)) (omega arith) (omega arith);
   }
 
   -- no place is left: the section closes, and the answer is 0
   none_stands : (r : Work) (cells : List ℕ) (queues : Holder → List Entry) (us : Values)
       → TakesOver (storage app) who place_section (passed (spot z h)) values us cells queues
-      → S z (Now (nine (w k.may)) (at_full h (opened z (nine (w k.may)) place_section level) full cells queues
-      (act_all (Refuses task ∷ Leaves place_section ∷ []) (rest 0) us)) (nine_words (arguments_in (w k.may)) r))
+      → S z (Now (nine (w may)) (at_full h (opened z (nine (w may)) place_section level) full cells queues
+      (act_all (Refuses task ∷ Leaves place_section ∷ []) (rest 0) us)) (nine_words (arguments_in (w may)) r))
   none_stands r cells queues us taken =
       let x : Section = place_section in
-      let o : Held = opened z (f k.may) x level in
+      let o : Held = opened z (f may) x level in
       let e : slot + 9 ≡ slot + 1 + 8 = omega arith in
       let g : Held → Here =
       λ o. at_full h o full cells queues (act_all (Refuses task ∷ Leaves x ∷ []) (rest 0) us) in
       let all = lasts 8 (omega arith) in
-      subst (λ n. S z (Now (nine (w k.may)) (g (record { section = x; kind = kind_at app x level n }))
-      (nine_words (arguments_in (w k.may)) r))) e
-      (from_nine (w k.may) r (g o)
-      (run_stands {f = f k.may} {k = h.done + 8} (g o) (worked (w k.may) r)
+      subst (λ n. S z (Now (nine (w may)) (g (record { section = x; kind = kind_at app x level n }))
+      (nine_words (arguments_in (w may)) r))) e
+      (from_nine (w may) r (g o)
+      (run_stands {f = f may} {k = h.done + 8} (g o) (worked (w may) r)
       (drop 1 (full_lines q 0 level (armed_task app task) (full + 2)))
       (record {
         time = (all.0, (omega arith, all.1));
-        saves = saves_inside (enter_places (f k.may) (omega arith) (omega arith));
+        saves = saves_inside (enter_places (f may) (omega arith) (omega arith));
       }) (omega arith) (ap (λ b. b && true) (leave_fits x (guard_of app x) level 9 24 9))
       (has_full.0, (has_full.1.0 ∙ ap Some (sym (leave_placed x (guard_of app x) level 9 slot)), tt))
       (refuses (is_inside app who h.held o x refl) refl
@@ -224,7 +222,7 @@ module _ {c : Call} {cost delay : ℕ} {args : List ℕ} {h : Here} (k : SendsLa
       (λ us3 later.
       ends
       (moved (steps_and 5 h.done) (h.at + length lines) refl (omega (arith, ends_at))
-      (k.on 0 _
+      (on 0 _
       (record {
         small = omega arith;
         answered = refl;
@@ -242,19 +240,19 @@ module _ {c : Call} {cost delay : ℕ} {args : List ℕ} {h : Here} (k : SendsLa
     timed_place = (
       ap (is_armed app) taken.of_task ∙ k.armed,
       ap (λ n. is_some_and is_software (slice_get app.tasks n)) taken.of_task
-          ∙ ap (is_some_and is_software) k.may.facts.at ∙ k.may.facts.software,
+          ∙ ap (is_some_and is_software) may.facts.at ∙ may.facts.software,
       subst (λ n. e.place < capacity_of app n) (sym taken.of_task) taken.place,
     )
 
     word_small : message_word e < 2 ^ 32
     word_small =
-        let few = few_free app task t k.may.facts in
-        omega (arith, taken.of_task, taken.place, few, small_words app task t k.may.facts)
+        let few = few_free app task t may.facts in
+        omega (arith, taken.of_task, taken.place, few, small_words app task t may.facts)
 
-    args_stored : take t.args (listed (arguments_in (w k.may))) ≡ args
+    args_stored : take t.args (listed (arguments_in (w may))) ≡ args
     args_stored =
-        sym (take-append-le t.args (listed (arguments_in (w k.may))) (drop (suc slot + 4) h.slots) few_args.0)
-        ∙ ap (take t.args) (sym (read_behind h.slots (suc slot) 4 (omega (arith, k.may.frame)))) ∙ k.args_are
+        sym (take-append-le t.args (listed (arguments_in (w may))) (drop (suc slot + 4) h.slots) few_args.0)
+        ∙ ap (take t.args) (sym (read_behind h.slots (suc slot) 4 (omega (arith, may.frame)))) ∙ k.args_are
 
     -- with the place in the hands
     abbrev holding : (done at : ℕ) → List ℕ → Here
@@ -267,30 +265,30 @@ module _ {c : Call} {cost delay : ℕ} {args : List ℕ} {h : Here} (k : SendsLa
       rest = arm_actions app cost delay message rest us;
     }
 
-    module _ {left : List ℕ} (filled : Filled z task e (listed (arguments_in (w k.may))) 0 cells left) where
+    module _ {left : List ℕ} (filled : Filled z task e (listed (arguments_in (w may))) 0 cells left) where
       -- and with the arguments of the message stored
       abbrev g : Here
       g = holding (h.done + (12 + args_of)) (h.at + (12 + args_of)) left
 
-      opens : MayOpen z (f k.may) level g
+      opens : MayOpen z (f may) level g
       opens = record {
-        accepted = k.may.facts.accepted;
-        timed = k.may.timed;
-        masks = k.may.masks;
-        off = k.may.off;
-        within = k.may.within;
-        closed = k.may.closed;
+        accepted = may.facts.accepted;
+        timed = may.timed;
+        masks = may.masks;
+        off = may.off;
+        within = may.within;
+        closed = may.closed;
       }
 
       -- Once it is armed its handle is the answer, and a jump leads behind all lines.
       armed_ends : (handle : ℕ) (b : Left) → HasCalled z g us (arm_steps k.turns.turns) handle b
-          → S z (Now (f k.may) (behind_call h (g.at + 46) (rest handle) b) (words b.words))
+          → S z (Now (f may) (behind_call h (g.at + 46) (rest handle) b) (words b.words))
       armed_ends handle b armed =
           run_stands (behind_call h (g.at + 46) (rest handle) b) b.words (plain (instr.Jump (full + 2)) ∷ []) runs_on
           (omega (arith, armed.in_time, k.turns.few, few_args)) refl (has_end.0, tt)
           (jumps
           (moved (suc b.done) (h.at + length lines) refl (omega (arith, ends_at))
-          (k.on handle _
+          (on handle _
           (record {
             small = armed.small;
             answered = armed.answered;
@@ -305,7 +303,7 @@ module _ {c : Call} {cost delay : ℕ} {args : List ℕ} {h : Here} (k : SendsLa
         abbrev i : Inside
         i = record {
           z = z;
-          f = f k.may;
+          f = f may;
           level = level;
           cost = cost;
           h = g;
@@ -318,7 +316,7 @@ module _ {c : Call} {cost delay : ℕ} {args : List ℕ} {h : Here} (k : SendsLa
         now : IsInside i
         now = record {
           may = opens;
-          long = filled.long ∙ taken.own.long ∙ k.may.cells;
+          long = filled.long ∙ taken.own.long ∙ may.cells;
           taken = took;
           spells = timer_spelled app (slice_index inside) (entries i) (ws (Guarded section.Timer)) took.spelled;
         }
@@ -328,18 +326,18 @@ module _ {c : Call} {cost delay : ℕ} {args : List ℕ} {h : Here} (k : SendsLa
         message_inside =
             let some : 0 < mine (passed (spot z g)) e = omega (arith, count_more e e h.places, one_itself e) in
             message_alike app t.priority (slice_index inside) (slice_index left) e
-            (place_of app task t k.may.facts e taken.of_task taken.place)
+            (place_of app task t may.facts e taken.of_task taken.place)
             (λ c is.
             took.same.touched c
             (subst (λ (home : Home). MayLoad (storage app) who (passed (spot z g)) home) (sym (home_as app c ∙ is))
             some))
-            ∙ message_is k.may.facts taken.of_task (omega arith) filled
+            ∙ message_is may.facts taken.of_task (omega arith) filled
             ∙ ap (λ ws. record { task = task; args = ws }) args_stored
 
         abbrev push : MayPush app (entries i) e (ws (Guarded section.Timer)) message inside
         push = record {
-          accepted = k.may.facts.accepted;
-          mono = k.may.timed;
+          accepted = may.facts.accepted;
+          mono = may.timed;
           spells = now.spells;
           few = took.few;
           place = timed_place;
@@ -349,8 +347,8 @@ module _ {c : Call} {cost delay : ℕ} {args : List ℕ} {h : Here} (k : SendsLa
           message = message_inside;
         }
 
-        runs : Lasting (f k.may) (g.done + arm_steps k.turns.turns)
-            (opened z (f k.may) section.Timer level ∷ h.held) (h.until ∷ (g.done + cost) ∷ h.deadlines)
+        runs : Lasting (f may) (g.done + arm_steps k.turns.turns)
+            (opened z (f may) section.Timer level ∷ h.held) (h.until ∷ (g.done + cost) ∷ h.deadlines)
         runs =
             let all = sooner {j = g.done + arm_steps k.turns.turns} runs_on (omega (arith, k.turns.few, few_args)) in
             record {
@@ -380,7 +378,7 @@ module _ {c : Call} {cost delay : ℕ} {args : List ℕ} {h : Here} (k : SendsLa
         rowed v = with_row v (armed_place app e) (armings_before push) push.spells.timed.given (size push)
 
         -- The loop begins in time, and knows what is in the queue.
-        record Begins (begin : ℕ) (vs : Values) : Type 0 where
+        record HasBegun (begin : ℕ) (vs : Values) : Type 0 where
           pub early : begin ≤ g.done + 23
           pub agree : AgreeInside i vs
 
@@ -404,8 +402,8 @@ module _ {c : Call} {cost delay : ℕ} {args : List ℕ} {h : Here} (k : SendsLa
           -- where the loop has left a hole
           last_stand : {b : Place} {begin : ℕ} {vs : Values} (v : Words) (s : Scratch)
               → IsRisen hand k.turns.turns (size push) (here begin (g.at + 23) mid (instant_in app mid e) vs)
-              (longer push) b → Begins begin vs
-              → S z (Now (f k.may) (here b.done (g.at + 38) b.cells (instant_in app mid e) vs)
+              (longer push) b → HasBegun begin vs
+              → S z (Now (f may) (here b.done (g.at + 38) b.cells (instant_in app mid e) vs)
               (words (in_loop v s b.hole)))
           last_stand {b = b} {vs = vs} v s risen begins =
               let instant : ℕ = instant_in app mid e in
@@ -414,7 +412,7 @@ module _ {c : Call} {cost delay : ℕ} {args : List ℕ} {h : Here} (k : SendsLa
               run_stands (here b.done (g.at + 38) b.cells instant vs) (in_loop v s b.hole)
               (note_lines ++ leave app section.Timer level 9 ∷ []) runs
               (omega (arith, begins.early, risen.within)) (leaving_fits app level note_lines [] refl refl)
-              (leaving_code z (f k.may) level (g.at + 38) note_lines [] (code_part code g.at (arming slot) 38 8
+              (leaving_code z (f may) level (g.at + 38) note_lines [] (code_part code g.at (arming slot) 38 8
               arming_has))
               (arms q (in_loop v s b.hole) (writes_open (heap_open columns place))
               (record { opens = columns.opens; hands = refl; of_task = (taken.of_task, refl) }) refl
@@ -446,16 +444,16 @@ module _ {c : Call} {cost delay : ℕ} {args : List ℕ} {h : Here} (k : SendsLa
               })))))))
 
           -- the loop upwards, from the last place
-          rise_stands : {begin : ℕ} {vs : Values} (v : Words) (s : Scratch) → Begins begin vs
-              → S z (Now (f k.may) (here begin (g.at + 23) mid (instant_in app mid e) vs)
+          rise_stands : {begin : ℕ} {vs : Values} (v : Words) (s : Scratch) → HasBegun begin vs
+              → S z (Now (f may) (here begin (g.at + 23) mid (instant_in app mid e) vs)
               (words (in_loop v s (size push))))
           rise_stands {begin = begin} {vs = vs} v s begins =
-              let ready : IsReady z (f k.may) hand k.turns.turns (size push)
+              let ready : IsReady z (f may) hand k.turns.turns (size push)
               (here begin (g.at + 23) mid (instant_in app mid e) vs) (longer push) = record {
                 code = code_part code g.at (arming slot) 23 15 arming_has;
                 runs = sooner runs (omega (arith, begins.early));
                 reach = omega (arith, room push, k.turns.reach);
-                few = omega (arith, room push, few_messages app k.may.facts.accepted);
+                few = omega (arith, room push, few_messages app may.facts.accepted);
                 small = omega (arith, has.numbers, armings_few);
                 columns = columns_now now has.long;
                 hollow = hollow_begins push has;
@@ -467,17 +465,17 @@ module _ {c : Call} {cost delay : ℕ} {args : List ℕ} {h : Here} (k : SendsLa
         -- the row is written first
         row_begins : {done : ℕ} {vs : Values} (v : Words) → v.place ≡ message_word e → done ≤ g.done + 7
             → AgreeInside i vs
-            → Straight z (f k.may) (row_lines q 0 (armed_task app task)) (here done (g.at + 7) inside v.instant vs)
+            → Straight z (f may) (row_lines q 0 (armed_task app task)) (here done (g.at + 7) inside v.instant vs)
             (words v)
         row_begins {done = done} {vs = vs} v word early agree =
             let first : armed_before app e.task ≡ armed_before app task = ap (armed_before app) taken.of_task in
-            let before = few_before app k.may.facts.accepted task in
+            let before = few_before app may.facts.accepted task in
             row_stands v (armed_task app task) (columns_now now refl) (counts push) (timed_row app e timed_place)
             (omega (arith, first, before, word, taken.of_task)) (omega (arith, word, word_small))
             (λ mid has.
             let J : ℕ = instant_in app mid e in
             let goes : (n a : ℕ) → Type 0 =
-            λ n a. S z (Now (f k.may) (here (steps_and 16 done) (g.at + 23) mid n vs)
+            λ n a. S z (Now (f may) (here (steps_and 16 done) (g.at + 23) mid n vs)
             (words (record (rowed v) { instant = n; arming = a }))) in
             ends
             (moved (steps_and 16 done) (g.at + 23) refl (omega arith)
@@ -488,9 +486,9 @@ module _ {c : Call} {cost delay : ℕ} {args : List ℕ} {h : Here} (k : SendsLa
 
       -- It is armed, and the call ends.
       armed_stands : (r : Work)
-          → S z (Now (f k.may) g (words (worked (w k.may) (record r { word = message_word e }))))
+          → S z (Now (f may) g (words (worked (w may) (record r { word = message_word e }))))
       armed_stands r =
-          let v : Words = worked (w k.may) (record r { word = message_word e }) in
+          let v : Words = worked (w may) (record r { word = message_word e }) in
           let x = section.Timer in
           let has = code_first code 23 g.at (arming slot) arming_has in
           run_stands g v (take 23 (arming 0)) runs_on (omega (arith, few_args))
@@ -507,27 +505,27 @@ module _ {c : Call} {cost delay : ℕ} {args : List ℕ} {h : Here} (k : SendsLa
           (row_begins took (delayed (record v { mask = mask }) time right) refl (omega (arith, soon)) agree)))))
 
     -- its arguments are stored first
-    granted_stands : (r : Work) → S z (Now (nine (w k.may)) (holding (steps_and 8 h.done) (steps_and 8 h.at) cells)
-        (nine_words (arguments_in (w k.may)) (record r { word = e.place })))
+    granted_stands : (r : Work) → S z (Now (nine (w may)) (holding (steps_and 8 h.done) (steps_and 8 h.at) cells)
+        (nine_words (arguments_in (w may)) (record r { word = e.place })))
     granted_stands r =
         let eight : h.at + 8 ≡ steps_and 8 h.at = omega arith in
-        fill_stands {f = nine (w k.may)} {h = holding (steps_and 8 h.done) (steps_and 8 h.at) cells}
+        fill_stands {f = nine (w may)} {h = holding (steps_and 8 h.done) (steps_and 8 h.at) cells}
         (record {
-          facts = k.may.facts;
+          facts = may.facts;
           code = subst (λ a. HasCode code a filling) eight
               (code_front code (h.at + 8) filling (arming slot ++ ending) has_fill);
           time = (sooner {j = steps_and 8 h.done + (4 + args_of)} runs_on (omega (arith, few_args))).time;
-          saves = saves_below (nine (w k.may)) h.held
-              (all_weaker (λ d. d < slot) (λ d. d < slot + 1) (λ d less. omega (arith, less)) _ k.may.masks);
+          saves = saves_below (nine (w may)) h.held
+              (all_weaker (λ d. d < slot) (λ d. d < slot + 1) (λ d less. omega (arith, less)) _ may.masks);
           hands = record {
             of_task = taken.of_task;
             place = taken.place;
             some = omega (arith, count_more e e h.places, one_itself e);
-            long = taken.own.long ∙ k.may.cells;
+            long = taken.own.long ∙ may.cells;
           };
-        }) (arguments_in (w k.may)) r
+        }) (arguments_in (w may)) r
         (λ r2 left filled.
-        from_nine (w k.may) (record r2 { word = message_word e })
+        from_nine (w may) (record r2 { word = message_word e })
         (holding (steps_and (4 + args_of) (steps_and 8 h.done)) (steps_and (4 + args_of) (steps_and 8 h.at)) left)
         (moved (h.done + (12 + args_of)) (h.at + (12 + args_of))
         (omega (arith, steps_are (4 + args_of) (steps_and 8 h.done)))
@@ -536,11 +534,11 @@ module _ {c : Call} {cost delay : ℕ} {args : List ℕ} {h : Here} (k : SendsLa
   -- The call is correct where it is correct behind it.
   after_goes : S z h
   after_goes =
-      on_window k.may
+      on_window may
       (subst (λ (slots : List ℕ). S z (record h { slots = slots }))
-      (inner_window (f k.may) ((w k.may).answer ∷ []) (drop 10 (words (w k.may)))
-      (nine_words (arguments_in (w k.may)) (work_in (w k.may))))
-      (take_begins may_take (arguments_in (w k.may)) (work_in (w k.may)) k.is
+      (inner_window (f may) ((w may).answer ∷ []) (drop 10 (words (w may)))
+      (nine_words (arguments_in (w may)) (work_in (w may))))
+      (take_begins may_take (arguments_in (w may)) (work_in (w may)) k.call.is
       (λ e r cells queues us taken. granted_stands taken r) none_stands))
 
 -- the code of a `spawn_after` stands for its actions
@@ -550,17 +548,13 @@ afters_stand app task t code bodies thread who level slot n cost delay s args re
     let z : Setting = record { app = app; code = code; bodies = bodies; thread = thread; who = who; caller = None } in
     let c : Call = record { z = z; task = task; t = t; level = level; slot = slot; rest = rest; values = vs } in
     let second : suc slot ≡ slot + 1 = omega arith in
-    stands_called c s (after_code app task level slot s.address)
-    (record { accepted = accepted; at = there; software = software }) mono may
-    (λ until called on.
+    stands_called c s (record { accepted = accepted; at = there; software = software }) mono may has is
+    (λ until call.
     after_goes (record {
-      may = called;
+      call = call;
       armed = armed;
       turns = turns_for app cost costs;
       places = record { closed = places.closed; within = places.within };
-      has = has;
       delay_is = delay_is;
       args_are = ap (λ d. take t.args (drop d s.slots)) second ∙ args_are;
-      is = is;
-      on = on;
     }))

@@ -116,6 +116,13 @@ module _ {c : Call} {steps : ℕ} {h : Here} (may : MayCall c steps h) where
       (answer : ℕ) (b : Left) → HasCalled c.z h c.values steps answer b
       → S c.z (Now f (behind_call h (h.at + length lines) (c.rest answer) b) (words b.words))
 
+-- It begins: its lines, which take so many steps, are in the code, this is left to do, and it goes on behind them.
+pub record Begins (c : Call) (steps : ℕ) (lines : List Line) (doing : Rest) (h : Here) : Type 0 where
+  pub may : MayCall c steps h
+  pub has : HasCode c.z.code h.at lines
+  pub is : h.rest ≡ doing c.values
+  pub on : GoesBehind may lines
+
 -- Inside the section of the timer queue: where it was entered, at which cost, and what was taken over.
 pub record Inside : Type 0 where
   pub z : Setting
@@ -243,11 +250,12 @@ of_job c s = record c { z = record c.z { caller = s.caller } }
 
 -- The code of a call stands for its actions where it is correct: a job that may use the timer queue may call, and
 -- behind the call the answer is in the first slot, and slots outside the window are as they were.
-pub stands_called : (c : Call) (s : Spot) (lines : List Line) {steps n : ℕ} → Spawned c.z.app c.task c.t
-    → IsSome c.z.app.mono → MayUseTimer c.z.app c.z.who steps c.level c.slot s
-    → ((k : ℕ) (may : MayCall (of_job c s) steps (begun s k)) → GoesBehind may lines → S (of_job c s).z (begun s k))
+pub stands_called : (c : Call) (s : Spot) {lines : List Line} {doing : Rest} {steps n : ℕ}
+    → Spawned c.z.app c.task c.t → IsSome c.z.app.mono → MayUseTimer c.z.app c.z.who steps c.level c.slot s
+    → HasCode c.z.code s.address lines → s.rest ≡ doing c.values
+    → ((k : ℕ) → Begins (of_job c s) steps lines doing (begun s k) → S (of_job c s).z (begun s k))
     → StandsBefore c.z.app c.z.who c.z.code c.z.bodies c.z.thread steps c.slot lines c.rest n s c.values
-stands_called c s lines {steps = steps} facts mono uses correct on k enough =
+stands_called c s {steps = steps} facts mono uses has is correct on k enough =
     let may : MayCall (of_job c s) steps (begun s k) = record {
       facts = facts;
       timed = mono;
@@ -262,22 +270,30 @@ stands_called c s lines {steps = steps} facts mono uses correct on k enough =
     let first : c.slot ≡ c.slot + 0 = omega arith in
     let same : window (f may) (words (w may)) ≡ s.slots = sym (window_of c.slot s.slots uses.frame) in
     begins s k
-    (correct k may
-    (λ answer b called.
-    let slots : List ℕ = window (f may) (words b.words) in
-    record {
-      stands = on answer b.done (k - b.done) slots b.cells b.queues b.values (omega (arith, called.in_time, enough))
-          (record {
-            answered = (
-              called.small,
-              ap (slice_index slots) first ∙ window_read (f may) (words b.words) 0 (omega arith) ∙ called.answered,
-            );
-            frame = window_long (f may) (words b.words) (words (w may)) refl ∙ ap (λ (ss : List ℕ). length ss) same;
-            kept = λ d far.
-                window_outside (f may) (words b.words) (words (w may)) refl d far
-                ∙ ap (λ (ss : List ℕ). slice_index ss d) same;
-            in_time = omega (arith, called.in_time);
-            own = record { long = called.own.long; touched = called.own.touched; queued = called.own.queued };
-            agree = called.agree;
-          });
+    (correct k
+    (record {
+      may = may;
+      has = has;
+      is = is;
+      on = λ answer b called.
+          let slots : List ℕ = window (f may) (words b.words) in
+          record {
+            stands = on answer b.done (k - b.done) slots b.cells b.queues b.values
+                (omega (arith, called.in_time, enough))
+                (record {
+                  answered = (
+                    called.small,
+                    ap (slice_index slots) first ∙ window_read (f may) (words b.words) 0 (omega arith)
+                        ∙ called.answered,
+                  );
+                  frame = window_long (f may) (words b.words) (words (w may)) refl
+                      ∙ ap (λ (ss : List ℕ). length ss) same;
+                  kept = λ d far.
+                      window_outside (f may) (words b.words) (words (w may)) refl d far
+                      ∙ ap (λ (ss : List ℕ). slice_index ss d) same;
+                  in_time = omega (arith, called.in_time);
+                  own = record { long = called.own.long; touched = called.own.touched; queued = called.own.queued };
+                  agree = called.agree;
+                });
+          };
     }))

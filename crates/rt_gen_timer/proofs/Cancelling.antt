@@ -24,7 +24,7 @@ use Rattle.rt_code.specs.declared.instr.Instr.TheVariants as instr
 use Rattle.rt_code.specs.declared.instr.Note.TheVariants as note
 use Rattle.rt_code.proofs.Mine.{queued_more}
 use Rattle.rt_gen_queue.specs.Guards.{leave}
-use Rattle.rt_gen_queue.specs.Line.{Line, noted, HasCode}
+use Rattle.rt_gen_queue.specs.Line.{Line, noted}
 use Rattle.rt_gen_queue.specs.SpawnCode.{target_of}
 use Rattle.rt_gen_queue.proofs.Entering.{opened, MayEnter, enters, leaves, section_stands, own_left, agree_left}
 use Rattle.rt_gen_queue.proofs.Entering.{reads_it}
@@ -41,7 +41,7 @@ use Rattle.rt_gen_timer.specs.TimerCode.{queue_of, cancel_code}
 use Rattle.rt_gen_timer.proofs.Window.{Words, words}
 use Rattle.rt_gen_timer.proofs.Acting.{sooner, run_stands, code_first, code_part}
 use Rattle.rt_gen_timer.proofs.Alone.{instant_in, number_in}
-use Rattle.rt_gen_timer.proofs.Calling.{leaving_fits, leaving_code, Call, MayCall, Left, HasCalled, GoesBehind}
+use Rattle.rt_gen_timer.proofs.Calling.{leaving_fits, leaving_code, Call, Begins, Left, HasCalled}
 use Rattle.rt_gen_timer.proofs.Calling.{behind_call, f, on_window, at_work, columns_now, settles, own_on, stands_called}
 use Rattle.rt_gen_timer.proofs.Comparing.{Place}
 use Rattle.rt_gen_timer.proofs.Delaying.{at_address}
@@ -54,19 +54,17 @@ use Rattle.rt_gen_timer.proofs.Seeking.{handle_steps, MaySeek, IsSeen, seen, see
 use Rattle.rt_gen_timer.proofs.Settling.{reach_enough}
 use Rattle.rt_gen_timer.proofs.Spelled.{few_armings, place_of, row_of, spelled_whole}
 
--- what is asked of it beside what is asked of each call, and where it goes on
+-- what is asked of it beside what is asked of each call
 record AsksCancel (c : Call) (handle : ℕ) (h : Here) : Type 0 where
-  pub may : MayCall c (handle_steps c.z.app) h
+  pub call : Begins c (handle_steps c.z.app) (cancel_code c.z.app c.task c.level c.slot h.at)
+      (cancel_actions c.z.app (handle_section_cost c.z.app) c.task handle (c.rest 0) (c.rest 1)) h
   pub places : MayUsePlaces c.z.app c.z.who c.task (spot c.z h)
-  pub has : HasCode c.z.code h.at (cancel_code c.z.app c.task c.level c.slot h.at)
   pub shown : slice_index h.slots c.slot ≡ handle
-  pub is : h.rest
-      ≡ cancel_actions c.z.app (handle_section_cost c.z.app) c.task handle (c.rest 0) (c.rest 1) c.values
-  pub on : GoesBehind may (cancel_code c.z.app c.task c.level c.slot h.at)
 
 module _ {c : Call} {handle : ℕ} {h : Here} (k : AsksCancel c handle h) where
   open c use {z, task, level, slot, rest}
   open c.z use {app, code, who}
+  open k.call use {may, has, on}
 
   -- the lines, as they stand; and the last ones of the section and those behind it, by the window
   abbrev all : List Line
@@ -91,22 +89,22 @@ module _ {c : Call} {handle : ℕ} {h : Here} (k : AsksCancel c handle h) where
         found = act (Cancels task handle) (leave_timer app freed_rest);
       })
   seek = record {
-    may = k.may;
-    code = code_first code 17 h.at all k.has;
-    none = code_part code h.at all 89 2 k.has;
+    may = may;
+    code = code_first code 17 h.at all has;
+    none = code_part code h.at all 89 2 has;
     known = refl;
     shown = λ mask n hole place other. k.shown;
-    is = k.is;
+    is = k.call.is;
   }
 
   -- The answer is 0, and it goes on behind the call.
   gives_none : (b : Left) → HasCalled z h c.values (handle_steps app) 0
       (record b { done = steps_and 2 b.done; words = record b.words { answer = 0 } })
-      → S z (Now (f k.may) (behind_call h (h.at + 87) (rest 0) b) (words b.words))
+      → S z (Now (f may) (behind_call h (h.at + 87) (rest 0) b) (words b.words))
   gives_none b called =
       run_stands (behind_call h (h.at + 87) (rest 0) b) b.words (answer_lines (queue_of app) 0 0 (h.at + 91))
-      (runs_call seek) (omega (arith, called.in_time)) refl (code_part code h.at all 87 2 k.has)
-      (sets (jumps (k.on 0 _ called)))
+      (runs_call seek) (omega (arith, called.in_time)) refl (code_part code h.at all 87 2 has)
+      (sets (jumps (on 0 _ called)))
 
   -- behind the section of the timer queue, with the message in the hands
   record HasBack (e : Entry) (b : Left) : Type 0 where
@@ -132,44 +130,44 @@ module _ {c : Call} {handle : ℕ} {h : Here} (k : AsksCancel c handle h) where
     hands : e ∷ h.places ≡ given_up ∷ h.places
     hands = ap (λ y. y ∷ h.places) (parts_alike e given_up back.of_task refl)
 
-    enter : MayEnter z (f k.may) holding x level
+    enter : MayEnter z (f may) holding x level
     enter = record {
       room = omega arith;
-      masks = k.may.masks;
-      off = k.may.off;
-      top = free_top app task c.t k.may.facts;
+      masks = may.masks;
+      off = may.off;
+      top = free_top app task c.t may.facts;
       within = k.places.within;
       closed = k.places.closed;
       nobody = nobody_keeps app who who x tt;
     }
 
     -- It becomes free in a section of its own, and is then the one that is taken next.
-    gives_back : S z (Now (f k.may) holding (words b.words))
+    gives_back : S z (Now (f may) holding (words b.words))
     gives_back =
         section_stands (words b.words) (take 4 (drop 1 (free_lines (queue_of app) 0 level (target_of app task)))) enter
-        refl refl (sooner (runs_call seek) (omega (arith, back.in_time))).time (code_part code h.at all 81 6 k.has)
+        refl refl (sooner (runs_call seek) (omega (arith, back.in_time))).time (code_part code h.at all 81 6 has)
         (enters enter (omega arith) refl
         (λ mask vs cells queues taken.
         let entries : List Entry = queues (Guarded x) in
         let n : ℕ = length entries in
-        let long : length cells ≡ length (memory app) = taken.same.long ∙ back.own.long ∙ k.may.cells in
+        let long : length cells ≡ length (memory app) = taken.same.long ∙ back.own.long ∙ may.cells in
         let known : Returned app task c.t cells entries e.place = record {
-          task = k.may.facts;
+          task = may.facts;
           long = long;
           content = vs (Guarded x);
           spells = free_spelled app task (slice_index cells) entries (vs (Guarded x)) taken.spelled;
           less =
-              omega (arith, back.place, ap (capacity_of app) back.of_task, capacity app task c.t k.may.facts);
+              omega (arith, back.place, ap (capacity_of app) back.of_task, capacity app task c.t may.facts);
           once = λ y.
               let more = queued_more queues y (record { section = x; kind = Marked }) h.held in
               let nothing : count y [] ≡ 0 = refl in
               let one = count_more y given_up [] in
               omega (arith, taken.once y, more, ap (count y) hands, count_more y given_up h.places, one, nothing);
         } in
-        let opens = is_inside app who h.held (opened z (f k.may) x level) x refl in
+        let opens = is_inside app who h.held (opened z (f may) x level) x refl in
         let few : suc n ≤ c.t.capacity = room_left known in
         let small : c.t.capacity ≤ 16 =
-        omega (arith, few_free app task c.t k.may.facts, capacity app task c.t k.may.facts) in
+        omega (arith, few_free app task c.t may.facts, capacity app task c.t may.facts) in
         let home = free_home known in
         loads n
         (reads_open
@@ -240,7 +238,7 @@ module _ {c : Call} {handle : ℕ} {h : Here} (k : AsksCancel c handle h) where
     few = omega (arith, is.now.spells.arranged.long, is.now.spells.room)
 
     most : armed_messages app ≤ 16 * 64
-    most = few_messages app k.may.facts.accepted
+    most = few_messages app may.facts.accepted
 
     -- the job in the section, where it is known what is to be done
     abbrev here : ℕ → ℕ → List ℕ → Here
@@ -257,7 +255,7 @@ module _ {c : Call} {handle : ℕ} {h : Here} (k : AsksCancel c handle h) where
 
     -- Behind the removal the mark takes it into the hands, and the section closes.
     takes_out : {b : Place} (v : Words) → AreOut v → IsRemoved removal (here done (h.at + 17) o.cells) b
-        → S z (Now (f k.may) (here b.done (h.at + 71) b.cells) (words v))
+        → S z (Now (f may) (here b.done (h.at + 71) b.cells) (words v))
     takes_out {b = b} v are gone =
         let first : ℕ = armed_before app task in
         let place = place_of is.now.spells j is.inside in
@@ -265,21 +263,21 @@ module _ {c : Call} {handle : ℕ} {h : Here} (k : AsksCancel c handle h) where
         let same : armed_before app e.task ≡ first = ap (armed_before app) is.of_task in
         let armings = few_armings is.now.spells is.now.taken.few in
         let kept : IsAsBefore app o.cells b.cells = record { cells = gone.others } in
-        let again = timer_left k.may.timed kept is.now.spells is.found gone.without gone.whole gone.count in
+        let again = timer_left may.timed kept is.now.spells is.found gone.without gone.whole gone.count in
         run_stands (here b.done (h.at + 71) b.cells) v (last_lines ++ leave app section.Timer level 9 ∷ place_lines)
         (runs_seen seek) (omega (arith, gone.within, is.early, few))
         (leaving_fits app level last_lines place_lines refl refl)
-        (leaving_code z (f k.may) level (h.at + 71) last_lines place_lines (code_part code h.at all 71 10 k.has))
+        (leaving_code z (f may) level (h.at + 71) last_lines place_lines (code_part code h.at all 71 10 has))
         (cancels are.shown
         (record {
-          opens = is_inside app who h.held (opened z (f k.may) section.Timer level) section.Timer refl;
+          opens = is_inside app who h.held (opened z (f may) section.Timer level) section.Timer refl;
           stands = is.found.parts;
           of_task = is.of_task;
         }) refl
         (λ ws agree.
         at_address (h.at + 72) (omega arith)
         (settles is.now (with_cancelled task handle) v
-        (record { spells = again; few = omega (arith, armings); alone = alone k.may.timed kept; long = gone.long })
+        (record { spells = again; few = omega (arith, armings); alone = alone may.timed kept; long = gone.long })
         agree (are.count ∙ sym gone.count ∙ again.count)
         (λ last other us early own later.
         sets
@@ -307,13 +305,13 @@ module _ {c : Call} {handle : ℕ} {h : Here} (k : AsksCancel c handle h) where
         })))))))))
 
     -- The message at a place of the heap leaves it and comes into the hands.
-    found : (x r : ℕ) → S z (Now (f k.may) (here done (h.at + 17) o.cells) (words (seen_words seek is x r)))
+    found : (x r : ℕ) → S z (Now (f may) (here done (h.at + 17) o.cells) (words (seen_words seek is x r)))
     found x r =
         let n : ℕ = length is.now.spells.heap in
         let v : Words = seen_words seek is x r in
         removes_stand {r = removal} v
         (record {
-          code = code_part code h.at all 17 54 k.has;
+          code = code_part code h.at all 17 54 has;
           runs = sooner (runs_seen seek) (omega (arith, is.early, few));
           above = λ less. omega (arith, less, reach_enough n);
           reach = omega (arith, reach_enough n);
@@ -332,9 +330,9 @@ module _ {c : Call} {handle : ℕ} {h : Here} (k : AsksCancel c handle h) where
   -- The call stands.
   cancel_goes : S z h
   cancel_goes =
-      on_window k.may
+      on_window may
       (seeks seek (λ o done j x r is. found is x r)
-      (λ b called. moved b.done (h.at + 91) refl (omega arith) (k.on 1 b called)))
+      (λ b called. moved b.done (h.at + 91) refl (omega arith) (on 1 b called)))
 
 -- the code of a `cancel` stands for its actions
 pub cancels_all_stand : CancelsStand
@@ -342,14 +340,10 @@ cancels_all_stand app task t code bodies thread who level slot n handle s rest v
     places shown is =
     let z : Setting = record { app = app; code = code; bodies = bodies; thread = thread; who = who; caller = None } in
     let c : Call = record { z = z; task = task; t = t; level = level; slot = slot; rest = rest; values = vs } in
-    stands_called c s (cancel_code app task level slot s.address)
-    (record { accepted = accepted; at = there; software = software }) mono may
-    (λ until called on.
+    stands_called c s (record { accepted = accepted; at = there; software = software }) mono may has is
+    (λ until call.
     cancel_goes (record {
-      may = called;
+      call = call;
       places = record { closed = places.closed; within = places.within };
-      has = has;
       shown = shown;
-      is = is;
-      on = on;
     }))

@@ -28,7 +28,7 @@ use Rattle.rt_gen_timer.specs.declared.queue.TimerQueue.{TimerQueue}
 use Rattle.rt_gen_timer.proofs.Window.{Words, words, Scratch, scratch_of}
 use Rattle.rt_gen_timer.proofs.Acting.{sooner, run_stands, code_first, code_part, heap_open}
 use Rattle.rt_gen_timer.proofs.Alone.{instant_in, number_in}
-use Rattle.rt_gen_timer.proofs.Calling.{leaving_fits, leaving_code, Call, MayCall, GoesBehind, f, on_window, entries}
+use Rattle.rt_gen_timer.proofs.Calling.{leaving_fits, leaving_code, Call, Begins, f, on_window, entries}
 use Rattle.rt_gen_timer.proofs.Calling.{at_work, AgreeInside, columns_now, settles, stands_called}
 use Rattle.rt_gen_timer.proofs.Comparing.{Hand, Place}
 use Rattle.rt_gen_timer.proofs.Delaying.{at_address, delayed, time_stands}
@@ -45,17 +45,15 @@ use Rattle.rt_gen_timer.proofs.Spelled.{few_armings, row_of}
 
 -- the message of a handle is to be put to another instant
 record AsksMove (c : Call) (delay handle : ℕ) (h : Here) : Type 0 where
-  pub may : MayCall c (handle_steps c.z.app) h
-  pub has : HasCode c.z.code h.at (move_code c.z.app c.task c.level c.slot h.at)
+  pub call : Begins c (handle_steps c.z.app) (move_code c.z.app c.task c.level c.slot h.at)
+      (move_actions c.z.app (handle_section_cost c.z.app) delay c.task handle (c.rest 0) (c.rest 1)) h
   pub delay_is : slice_index h.slots c.slot ≡ delay
   pub shown : slice_index h.slots (suc c.slot) ≡ handle
-  pub is : h.rest
-      ≡ move_actions c.z.app (handle_section_cost c.z.app) delay c.task handle (c.rest 0) (c.rest 1) c.values
-  pub on : GoesBehind may (move_code c.z.app c.task c.level c.slot h.at)
 
 module _ {c : Call} {delay handle : ℕ} {h : Here} (k : AsksMove c delay handle h) where
   open c use {z, task, level, slot, rest}
   open c.z use {app, code}
+  open k.call use {may, has, on}
 
   abbrev q : TimerQueue
   q = queue_of app
@@ -68,7 +66,7 @@ module _ {c : Call} {delay handle : ℕ} {h : Here} (k : AsksMove c delay handle
   put_off = put_off_lines q slot (armed_task app task) (h.at + 17)
 
   put_off_code : HasCode code (h.at + 17) put_off
-  put_off_code = code_part code h.at all 17 59 k.has
+  put_off_code = code_part code h.at all 17 59 has
 
   abbrev note_lines : List Line
   note_lines = noted (instr.StoreAt (heap_of q) 6 4) (note.Move task 1 10) ∷ alarm_lines q 0 (h.at + 76)
@@ -85,12 +83,12 @@ module _ {c : Call} {delay handle : ℕ} {h : Here} (k : AsksMove c delay handle
 
   abbrev seek : MaySeek c h (record { handle = handle; slot = 1; missing = 85; found = clocked })
   seek = record {
-    may = k.may;
-    code = code_first code 17 h.at all k.has;
-    none = code_part code h.at all 85 2 k.has;
+    may = may;
+    code = code_first code 17 h.at all has;
+    none = code_part code h.at all 85 2 has;
     known = refl;
     shown = λ mask n hole place other. k.shown;
-    is = k.is;
+    is = k.call.is;
   }
 
   module _ {o : Taken} {done j : ℕ} (is : IsSeen seek o done j) where
@@ -113,11 +111,11 @@ module _ {c : Call} {delay handle : ℕ} {h : Here} (k : AsksMove c delay handle
     few_sizes = omega (arith, is.now.spells.arranged.long, is.now.spells.room)
 
     small_sizes : armed_messages app ≤ 16 * 64
-    small_sizes = few_messages app k.may.facts.accepted
+    small_sizes = few_messages app may.facts.accepted
 
     abbrev put : MayMove app (entries (seen seek o)) (o.values (Guarded section.Timer)) o.cells j task handle
     put = record {
-      mono = k.may.timed;
+      mono = may.timed;
       spells = is.now.spells;
       few = is.now.taken.few;
       within = is.inside;
@@ -129,7 +127,7 @@ module _ {c : Call} {delay handle : ℕ} {h : Here} (k : AsksMove c delay handle
     here begin to mid rest us = at_work (seen seek o) begin to h.places mid o.queues (rest us)
 
     -- The loops begin in time, with the message in hand, and know what is in the queue.
-    record Begins (v : Words) (begin : ℕ) (us : Values) : Type 0 where
+    record HasBegun (v : Words) (begin : ℕ) (us : Values) : Type 0 where
       pub counted : v.count ≡ size
       pub shown : v.first ≡ handle
       pub early : begin ≤ h.done + (6 * armed_messages app + 24)
@@ -155,8 +153,8 @@ module _ {c : Call} {delay handle : ℕ} {h : Here} (k : AsksMove c delay handle
 
       -- the note, the alarm, the close and the answer
       last_stand : {b : Place} {begin : ℕ} {us : Values} (v : Words) (s : Scratch)
-          → IsSettled hand size size j (at_loops begin us) is.now.spells.heap b → Begins v begin us
-          → S z (Now (f k.may) (here b.done (h.at + 75) b.cells (moves_then (instant_in app mid e)) us)
+          → IsSettled hand size size j (at_loops begin us) is.now.spells.heap b → HasBegun v begin us
+          → S z (Now (f may) (here b.done (h.at + 75) b.cells (moves_then (instant_in app mid e)) us)
           (words (left_words v s b.hole)))
       last_stand {b = b} {us = us} v s settled begins =
           let instant : ℕ = instant_in app mid e in
@@ -166,7 +164,7 @@ module _ {c : Call} {delay handle : ℕ} {h : Here} (k : AsksMove c delay handle
           (note_lines ++ leave app section.Timer level 9 ∷ none_lines) (runs_seen seek)
           (omega (arith, begins.early, settled.within, few_sizes))
           (leaving_fits app level note_lines none_lines refl refl)
-          (leaving_code z (f k.may) level (h.at + 75) note_lines none_lines (code_part code h.at all 75 10 k.has))
+          (leaving_code z (f may) level (h.at + 75) note_lines none_lines (code_part code h.at all 75 10 has))
           (moves q (left_words v s b.hole) begins.shown (writes_open (heap_open columns room))
           (record { opens = columns.opens; stands = is.found.parts; of_task = is.of_task }) refl
           (λ left us2 one agree2.
@@ -177,14 +175,14 @@ module _ {c : Call} {delay handle : ℕ} {h : Here} (k : AsksMove c delay handle
             spells = spelled_moved put again beside (λ i less. hollow_filled e settled.hollow one i less)
                 settled.settled;
             few = omega (arith, armings_few);
-            alone = last_alone (are put) (is_row put again) beside k.may.timed;
+            alone = last_alone (are put) (is_row put again) beside may.timed;
             long = beside.long ∙ again.long;
           })
           (λ holder read. agree2 holder read ∙ begins.agree holder read) (last_long put)
           (λ last other us3 soon own later.
           sets
           (jumps
-          (k.on 0 _
+          (on 0 _
           (record {
             small = omega arith;
             answered = refl;
@@ -194,10 +192,10 @@ module _ {c : Call} {delay handle : ℕ} {h : Here} (k : AsksMove c delay handle
           })))))))
 
       -- The loops: the message in the hand goes up or down from where it stands.
-      loops_stand : {begin : ℕ} {us : Values} (v : Words) (s : Scratch) → Begins v begin us
-          → S z (Now (f k.may) (at_loops begin us) (words (left_words v s j)))
+      loops_stand : {begin : ℕ} {us : Values} (v : Words) (s : Scratch) → HasBegun v begin us
+          → S z (Now (f may) (at_loops begin us) (words (left_words v s j)))
       loops_stand {begin = begin} {us = us} v s begins =
-          let may : MaySettle z (f k.may) hand size size (h.at + 17 + 27) j (at_loops begin us) is.now.spells.heap =
+          let ready : MaySettle z (f may) hand size size (h.at + 17 + 27) j (at_loops begin us) is.now.spells.heap =
           record {
             rise = code_part code (h.at + 17) put_off 12 15 put_off_code;
             sink = code_part code (h.at + 17) put_off 27 31 put_off_code;
@@ -211,11 +209,11 @@ module _ {c : Call} {delay handle : ℕ} {h : Here} (k : AsksMove c delay handle
             hollow = again_hollow put again;
             hole = again_hole put again;
           } in
-          settles_stand (record v { hand = row }) s may
+          settles_stand (record v { hand = row }) s ready
           (λ b t settled. moved b.done (h.at + 75) refl (omega arith) (last_stand v t settled begins))
 
     -- From where the message is found: the time, the delay, and a new number.
-    found_stands : (x r : ℕ) → S z (Now (f k.may) (here done (h.at + 17) o.cells clocked o.values)
+    found_stands : (x r : ℕ) → S z (Now (f may) (here done (h.at + 17) o.cells clocked o.values)
         (words (seen_words seek is x r)))
     found_stands x r =
         let v : Words = record (seen_words seek is x r) { hand = row } in
@@ -234,7 +232,7 @@ module _ {c : Call} {delay handle : ℕ} {h : Here} (k : AsksMove c delay handle
         let v3 : Words = record v2 { arming = armings; other = armings + 1 } in
         let told : v2.instant ≡ instant_after app time delay = ap (λ d. time + min d LONGEST_DELAY) k.delay_is in
         let goes : (n k a : ℕ) → Type 0 =
-        λ n i a. S z (Now (f k.may) (here (steps_and 5 read) (h.at + 17 + 12) mid (moves_then n) us)
+        λ n i a. S z (Now (f may) (here (steps_and 5 read) (h.at + 17 + 12) mid (moves_then n) us)
         (words (record v3 { instant = i; arming = a }))) in
         ends
         (moved (steps_and 5 read) (h.at + 17 + 12) refl (omega arith)
@@ -247,9 +245,9 @@ module _ {c : Call} {delay handle : ℕ} {h : Here} (k : AsksMove c delay handle
   -- The call is correct where it is correct behind it.
   move_goes : S z h
   move_goes =
-      on_window k.may
+      on_window may
       (seeks seek (λ o done j x r is. found_stands is x r)
-      (λ b called. moved b.done (h.at + 87) refl (omega arith) (k.on 1 b called)))
+      (λ b called. moved b.done (h.at + 87) refl (omega arith) (on 1 b called)))
 
 -- the code of a `reschedule_after` stands for its actions
 pub moves_all_stand : MovesStand
@@ -258,14 +256,6 @@ moves_all_stand app task t code bodies thread who level slot n delay handle s re
     let z : Setting = record { app = app; code = code; bodies = bodies; thread = thread; who = who; caller = None } in
     let c : Call = record { z = z; task = task; t = t; level = level; slot = slot; rest = rest; values = vs } in
     let second : suc slot ≡ slot + 1 = omega arith in
-    stands_called c s (move_code app task level slot s.address)
-    (record { accepted = accepted; at = there; software = software }) mono may
-    (λ until called on.
-    move_goes (record {
-      may = called;
-      has = has;
-      delay_is = late;
-      shown = ap (slice_index s.slots) second ∙ shown;
-      is = is;
-      on = on;
-    }))
+    stands_called c s (record { accepted = accepted; at = there; software = software }) mono may has is
+    (λ until call.
+    move_goes (record { call = call; delay_is = late; shown = ap (slice_index s.slots) second ∙ shown }))
