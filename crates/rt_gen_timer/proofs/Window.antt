@@ -40,56 +40,31 @@ words w =
     ∷ w.arming ∷ w.one ∷ w.other ∷ w.right ∷ w.row ∷ w.row_instant ∷ w.row_arming ∷ w.right_row ∷ w.right_instant
     ∷ w.right_arming ∷ w.less ∷ w.equal ∷ w.two ∷ []
 
--- what is in the slots that the loops work in
-pub record Scratch : Type 0 where
-  pub work : ℕ
-  pub other : ℕ
-  pub right : ℕ
-  pub row : ℕ
-  pub row_instant : ℕ
-  pub row_arming : ℕ
-  pub right_row : ℕ
-  pub right_instant : ℕ
-  pub right_arming : ℕ
-  pub less : ℕ
-  pub equal : ℕ
+-- What is in the slots that the loops work in: words, of which the others are not looked at.
+abbrev pub Scratch : Type 0
+Scratch = Words
 
 -- what a window has in them
 abbrev pub scratch_of : Words → Scratch
-scratch_of w = record {
-  work = w.work;
-  other = w.other;
-  right = w.right;
-  row = w.row;
-  row_instant = w.row_instant;
-  row_arming = w.row_arming;
-  right_row = w.right_row;
-  right_instant = w.right_instant;
-  right_arming = w.right_arming;
-  less = w.less;
-  equal = w.equal;
-}
+scratch_of w = w
 
 -- In a loop: the hole is at a place, and a message with an instant and a number is in hand. All other slots but those
 -- that the loops work in stay.
 abbrev pub turning : Words → Scratch → ℕ → ℕ → ℕ → Words
-turning w s place instant arming = record w {
+turning w s place instant arming = record s {
+  answer = w.answer;
+  first = w.first;
+  second = w.second;
+  third = w.third;
+  hand = w.hand;
+  count = w.count;
   hole = place;
+  place = w.place;
+  mask = w.mask;
   instant = instant;
   arming = arming;
   one = 1;
   two = 2;
-  work = s.work;
-  other = s.other;
-  right = s.right;
-  row = s.row;
-  row_instant = s.row_instant;
-  row_arming = s.row_arming;
-  right_row = s.right_row;
-  right_instant = s.right_instant;
-  right_arming = s.right_arming;
-  less = s.less;
-  equal = s.equal;
 }
 
 -- the words from a slot on
