@@ -11,8 +11,7 @@ use Rattle.rt_gen_timer.specs.TimerCode.{queue_of, armed_task}
 use Rattle.rt_gen_timer.specs.declared.call.Call.{Call}
 use Rattle.rt_gen_timer.specs.declared.call.Call.TheVariants.{After, Cancel, Move}
 use Rattle.rt_gen_timer.specs.Inside.Calls.{task_of, cost_of, lines_of, code_of}
-use Rattle.rt_gen_timer.proofs.Generated.{timer_named, after_short}
-use Rattle.rt_gen_timer.proofs.Named.{after_claimed, cancel_claimed, move_claimed}
+use Rattle.rt_gen_timer.proofs.Generated.{timer_named, after_short, after_claimed, cancel_claimed, move_claimed}
 use Rattle.rt_gen_timer.proofs.generate.append_call.Goals as goal
 
 -- a call has no more lines than it may have
@@ -34,28 +33,20 @@ returns c =
     let app = app_of c.args.plan.now.app.now in
     let call = c.args.call.now in
     let task = spawned app (task_of call) c.requires.accepted c.requires.software in
+    let irq = timer_named app c.requires.accepted c.requires.timed in
     let armed = c.armed_of-armed.ensures.is ∙ ap (armed_task app) c.task.ensures in
+    let few = short app call c.args.level c.args.slot c.args.entry task.0 task.1 in
+    let old : List Line = c.args.code.now.items in
     let code : List Line = code_of app call c.args.level c.args.slot c.args.entry in
-    let is : c.extend_from_slice.new.self.items ≡ c.args.code.now.items ++ code =
-    rw (
-      c.extend_from_slice.ensures.items,
-      c.in_ok-extend_from_slice.was,
-      c.as_slice.ensures,
-      c.in_ok-push_call.ensures,
-      c.new-lines.ensures,
-    )
-    (λ i. c.args.code.now.items ++ lines_of call (c.in_ok-emitter.ensures.queue i) (c.in_ok-emitter.ensures.slot i)
-    c.args.level (armed i) c.args.entry) in
+    let is : c.extend_from_slice.new.self.items ≡ old ++ code =
+    rw (c.extend_from_slice.ensures.items, c.in_ok-extend_from_slice.was, c.as_slice.ensures)
+    (rw (c.in_ok-push_call.ensures, c.new-lines.ensures)
+    (λ i. old ++ lines_of call (c.in_ok-emitter.ensures.queue i) (c.in_ok-emitter.ensures.slot i) c.args.level (armed i)
+    c.args.entry)) in
     record {
       code = is;
-      size = omega (
-        arith,
-        ap (λ (ls : List Line). length ls) is,
-        length-append c.args.code.now.items code,
-        short app call c.args.level c.args.slot c.args.entry task.0 task.1,
-      );
-      lines = named_behind (names_of app) c.args.code.now.items c.extend_from_slice.new.self.items code is
-          (claimed app (timer_named app c.requires.accepted c.requires.timed) call c.args.level c.args.slot c.args.entry
-          task.0 task.1);
+      size = omega (arith, ap (λ (ls : List Line). length ls) is, length-append old code, few);
+      lines = named_behind (names_of app) old c.extend_from_slice.new.self.items code is
+          (claimed app irq call c.args.level c.args.slot c.args.entry task.0 task.1);
       left = tt;
     }
