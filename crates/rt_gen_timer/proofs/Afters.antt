@@ -49,7 +49,7 @@ use Rattle.rt_gen_timer.proofs.Arming.{Arm, arm_steps, arm_stands}
 use Rattle.rt_gen_timer.proofs.Calling.{reach_enough, code_from, Call, MayCall, GoesBehind, f, w, on_window, call_ends}
 use Rattle.rt_gen_timer.proofs.Calling.{behind_call, call_of, may_call, stands_called}
 use Rattle.rt_gen_timer.proofs.Removing.{reach_is}
-use Rattle.rt_gen_timer.proofs.Rising.{rise_reach}
+use Rattle.rt_gen_timer.proofs.Sifting.{rise_reach}
 
 -- the steps of such a call
 abbrev pub after_steps : App → ℕ

@@ -36,7 +36,7 @@ use Rattle.rt_gen_timer.proofs.Acting.{Columns}
 use Rattle.rt_gen_timer.proofs.Alone.{IsTimerAlone}
 use Rattle.rt_gen_timer.proofs.Closing.{closes_timer}
 use Rattle.rt_gen_timer.proofs.Opening.{MayOpen, may_enter, columns_inside}
-use Rattle.rt_gen_timer.proofs.Rising.{rise_reach}
+use Rattle.rt_gen_timer.proofs.Sifting.{rise_reach}
 use Rattle.rt_gen_timer.proofs.Window.{Slots, Words, words, words_of, frame_of, window_of}
 
 -- so many turns lead through so many messages

@@ -42,7 +42,7 @@ use Rattle.rt_gen_timer.proofs.Calling.{Left, HasCalled, GoesBehind, behind_call
 use Rattle.rt_gen_timer.proofs.Calling.{columns_now, reads_now, settles, own_on, may_call, stands_called}
 use Rattle.rt_gen_timer.proofs.Comparing.{Place}
 use Rattle.rt_gen_timer.proofs.Delaying.{at_address}
-use Rattle.rt_gen_timer.proofs.Finding.{Taken}
+use Rattle.rt_gen_timer.proofs.Seeking.{Taken}
 use Rattle.rt_gen_timer.proofs.Freeing.{Freed, frees_it}
 use Rattle.rt_gen_timer.proofs.Leaving.{IsAsBefore, alone, timer_left}
 use Rattle.rt_gen_timer.proofs.Marking.{cancels}

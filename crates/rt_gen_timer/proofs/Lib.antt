@@ -6,9 +6,7 @@ pub mod Acting
 pub mod Numbered
 pub mod Alike
 pub mod Comparing
-pub mod Rising
-pub mod Sinking
-pub mod Searching
+pub mod Sifting
 pub mod Seeking
 pub mod Hollow
 pub mod Removing
@@ -27,7 +25,6 @@ pub mod Handled
 pub mod Leaving
 pub mod Closing
 pub mod Marking
-pub mod Finding
 pub mod Freeing
 pub mod Calling
 pub mod Cancelling
@@ -41,5 +38,4 @@ pub mod Moving
 pub mod Trying
 pub mod Turning
 pub mod Judging
-pub mod Serving
 pub mod Timers

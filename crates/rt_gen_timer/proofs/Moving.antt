@@ -34,16 +34,16 @@ use Rattle.rt_gen_timer.proofs.Calling.{GoesBehind, f, on_window, call_ends, ent
 use Rattle.rt_gen_timer.proofs.Calling.{settles, call_of, may_call, stands_called}
 use Rattle.rt_gen_timer.proofs.Comparing.{Hand, Place}
 use Rattle.rt_gen_timer.proofs.Delaying.{at_address, delayed, time_stands}
-use Rattle.rt_gen_timer.proofs.Finding.{Taken}
+use Rattle.rt_gen_timer.proofs.Seeking.{Taken}
 use Rattle.rt_gen_timer.proofs.Hollow.{IsBeside, beside_more, beside_one_place, hollow_filled}
 use Rattle.rt_gen_timer.proofs.Lasting.{last_alone}
 use Rattle.rt_gen_timer.proofs.Marking.{moves}
 use Rattle.rt_gen_timer.proofs.Moves.{settled_both}
 use Rattle.rt_gen_timer.proofs.Postponing.{IsAgain, MayMove, are, is_row, again_hole, again_hollow, spelled_moved}
 use Rattle.rt_gen_timer.proofs.Removing.{reaches_alike}
-use Rattle.rt_gen_timer.proofs.Rising.{IsRisen, rises_stand}
+use Rattle.rt_gen_timer.proofs.Sifting.{IsRisen, rises_stand}
 use Rattle.rt_gen_timer.proofs.Seeking.{handle_steps, MaySeek, seen, runs_seen, IsSeen, seen_words, seeks}
-use Rattle.rt_gen_timer.proofs.Sinking.{reach_more, IsSunk, sinking, sinks_stand}
+use Rattle.rt_gen_timer.proofs.Sifting.{reach_more, IsSunk, sinking, sinks_stand}
 use Rattle.rt_gen_timer.proofs.Spelled.{few_armings, row_of}
 
 -- what is left to do where a message has the handle

@@ -22,8 +22,8 @@ use Rattle.rt_gen_timer.proofs.Comparing.{Hand, Place, loads_key}
 use Rattle.rt_gen_timer.proofs.Hollow.{IsBeside, beside_more, beside_one_place, kept_beside}
 use Rattle.rt_gen_timer.proofs.Hollow.{IsWhole, whole_counted, whole_taken, whole_fewer, whole_filled}
 use Rattle.rt_gen_timer.proofs.Rowing.{taken_off}
-use Rattle.rt_gen_timer.proofs.Rising.{IsReady, IsRisen, rise_reach, rises_stand}
-use Rattle.rt_gen_timer.proofs.Sinking.{MaySink, IsSunk, sink_reach, reach_more, sinks_stand}
+use Rattle.rt_gen_timer.proofs.Sifting.{IsReady, IsRisen, rise_reach, rises_stand}
+use Rattle.rt_gen_timer.proofs.Sifting.{MaySink, IsSunk, sink_reach, reach_more, sinks_stand}
 use Rattle.rt_gen_timer.proofs.Arranged.{IsWithout, without_last, without_other}
 
 -- As many turns lead up to the first place as lead down from it; and how far, as a power of 2.

@@ -11,7 +11,7 @@ use Rattle.rt_app.specs.Limits.{KeepsTaskLimits}
 use Rattle.rt_app.specs.Tree.{Task, App}
 use Rattle.rt_gen_timer.proofs.Calling.{reach_enough}
 use Rattle.rt_gen_timer.proofs.Removing.{reach_is}
-use Rattle.rt_gen_timer.proofs.Rising.{rise_reach}
+use Rattle.rt_gen_timer.proofs.Sifting.{rise_reach}
 use Rattle.rt_gen_timer.specs.TimerCalls.{IsSectionCost}
 
 module _ (app : App) where
