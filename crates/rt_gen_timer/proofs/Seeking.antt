@@ -3,7 +3,7 @@
 use Rattle.std.proofs.Common.{◌≡◌, ◌≢◌, ◌⊎◌, ℕ, zero, suc, ◌+◌, ◌*◌, ◌^◌, ◌<◌, ◌≤◌, ◌==◌, ◌&&◌, ◌++◌, ◌∷◌, nat_lt}
 use Rattle.std.proofs.Common.{Bool, true, false, List, [], length, take, Option, Some, is_some, if◌then◌else◌, slice_index}
 use Rattle.std.proofs.Common.{refl, sym, ap, ◌∙◌, subst, arith, inl, inr}
-use Rattle.std.proofs.lemmas.Bool.{cases_lt, cases_eq, lt-ltb, le-ltb}
+use Rattle.std.proofs.lemmas.Bool.{cases_eq}
 use Rattle.std.proofs.lemmas.Bool.Decides.{nat_tests}
 use Rattle.rt_ids.specs.Action.{Enters, Leaves}
 use Rattle.rt_ids.specs.Content.{Values, Armed, armed_as}
@@ -97,23 +97,7 @@ IsNone g =
 owned : (p first last : ℕ)
     → let both : ℕ = number_of (nat_lt (number_of (nat_lt p first)) (number_of (nat_lt p last))) in
     ((both ≡ 1) × (first ≤ p) × (p < last)) ⊎ ((both ≡ 0) × ((p < first) ⊎ (last ≤ p)))
-owned p first last =
-    elim (cases_lt p first) [
-      | inl under ↦
-          inr (
-            ap (λ t. number_of (nat_lt (number_of t) (number_of (nat_lt p last)))) (lt-ltb p first under)
-                ∙ least_one (nat_lt p last),
-            inl under,
-          )
-      | inr least ↦ elim (cases_lt p last) [
-        | inl inner ↦ inl (rw (le-ltb p first least, lt-ltb p last inner) refl, least, inner)
-        | inr outer ↦ inr (rw (le-ltb p first least, le-ltb p last outer) refl, inr outer)
-      ]
-    ]
-  where
-    least_one : (b : Bool) → number_of (nat_lt 1 (number_of b)) ≡ 0
-    least_one true = refl
-    least_one false = refl
+owned p first last = grind (arith, nat_tests)
 
 -- the lines of a turn, whose slots are numbered from the window's first
 abbrev turn_lines : Search → ℕ → List Line
