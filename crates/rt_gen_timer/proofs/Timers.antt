@@ -31,7 +31,6 @@ use Rattle.rt_gen_queue.proofs.Owning.{nobody_keeps}
 use Rattle.rt_gen_queue.proofs.Places.{IsPlaceOf}
 use Rattle.rt_gen_queue.proofs.Placing.{code_front, code_behind}
 use Rattle.rt_gen_queue.proofs.Queueing.{MayReady, ready_stands}
-use Rattle.rt_gen_queue.proofs.Words.{Arguments, Scratch}
 use Rattle.rt_gen_queue.specs.Guards.{guard_of}
 use Rattle.rt_gen_queue.specs.Line.{plain, HasCode, Line}
 use Rattle.rt_gen_queue.specs.SpawnCode.{ready_code}
@@ -142,12 +141,6 @@ carried_frame k w =
     (w.instant ∷ w.arming ∷ w.one ∷ w.other ∷ w.right ∷ w.row ∷ w.row_instant ∷ w.row_arming ∷ w.right_row
     ∷ w.right_instant ∷ w.right_arming ∷ w.less ∷ w.equal ∷ w.two ∷ [])
 
-abbrev carried_words : Words → Arguments
-carried_words w = record { first = w.first; second = w.second; third = w.third; fourth = w.hand }
-
-abbrev carried_scratch : Words → Scratch
-carried_scratch w = record { count = w.count; index = w.hole; word = w.place; number = w.work; mask = w.mask }
-
 -- Within 13 steps it has become ready, and the handler has returned.
 readies_stand : (k : Handler) (c : Carried) (w : Words) → MayRise k c
     → S (setting k) (Now (frame k) (in_hands k c) (words (record w { place = message_word c.e })))
@@ -182,7 +175,8 @@ readies_stand k c w may =
         long = may.long;
       };
     } in
-    ready_stands asked (carried_words w) (carried_scratch w) refl
+    ready_stands asked (record { first = w.first; second = w.second; third = w.third; fourth = w.hand })
+    (record { count = w.count; index = w.hole; word = w.place; number = w.work; mask = w.mask }) refl
     (λ r left more us readied.
     returns_here (code_behind k.code c.at (steps_and 12 c.at) ready (plain instr.Ret ∷ []) (omega arith) may.has).0
     (omega (arith, may.in_time), (omega (arith, may.in_time), tt)) refl refl refl refl

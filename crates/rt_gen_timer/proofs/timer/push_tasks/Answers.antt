@@ -22,8 +22,7 @@ push_task-requires-clause-task c =
 
 pub push_task-requires-clause-small : goal.push_task-requires-clause-small
 push_task-requires-clause-small c =
-    let most = c.requires.accepted.limits.few_tasks in
-    omega (arith, most, length-map c.args.plan.now.app.now.tasks.items task_of)
+    omega (arith, c.requires.accepted.limits.few_tasks, length-map c.args.plan.now.app.now.tasks.items task_of)
 
 pub returns : goal.returns
 returns c =
