@@ -28,8 +28,7 @@ use Rattle.rt_gen_queue.specs.SpawnCode.{spawn_code}
 use Rattle.rt_gen_body.specs.Inside.Values.{Context, next_slot, expression_code, value_code}
 use Rattle.rt_gen_body.specs.Inside.Values.{arguments_code}
 use Rattle.rt_gen_timer.specs.TimerCode.{queue_of, after_code, cancel_code, move_code}
-use Rattle.rt_gen_timer.proofs.Generated.{timer_named}
-use Rattle.rt_gen_timer.proofs.Named.{after_claimed, cancel_claimed, move_claimed}
+use Rattle.rt_gen_timer.proofs.Generated.{timer_named, after_claimed, cancel_claimed, move_claimed}
 use Rattle.rt_gen_body.specs.Inside.Simple.{is_timed}
 use Rattle.rt_gen_body.specs.Inside.Simple.{values_of, goes_code, send_code}
 use Rattle.rt_gen_body.specs.Inside.Blocks.{guard_at, branch_code, loop_back, lock_code, statement_code}

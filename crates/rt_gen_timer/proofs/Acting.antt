@@ -1,21 +1,17 @@
 -- Runs of lines on the window of the timer's code, and the cells of the timer queue while its section is open.
-use Rattle.std.proofs.Common.{◌≡◌, ℕ, suc, ◌+◌, ◌*◌, ◌<◌, ◌≤◌, true, List, [], ◌∷◌, ◌++◌, length, map}
-use Rattle.std.proofs.Common.{slice_index, refl, sym, ap, subst, ◌∙◌, arith, length-append}
-use Rattle.std.proofs.lemmas.List.{map-append, length-map}
-use Rattle.rt_lemmas.proofs.Bools.{and_right}
+use Rattle.std.proofs.Common.{◌≡◌, ℕ, zero, suc, ◌+◌, ◌*◌, ◌<◌, ◌≤◌, true, List, [], ◌∷◌, length, map, take, drop}
+use Rattle.std.proofs.Common.{refl, ap, subst, ◌∙◌, arith}
 use Rattle.rt_ids.specs.Holder.{Guarded}
 use Rattle.rt_ids.specs.Storage.{At}
 use Rattle.rt_ids.specs.declared.ids.Section.TheVariants as section
 use Rattle.rt_app.specs.Layout.{memory, home_of}
 use Rattle.rt_code.specs.Owning.{Held, is_open}
-use Rattle.rt_code.specs.declared.instr.Instr.TheVariants as instr
-use Rattle.rt_gen_queue.specs.Line.{Line, plain, HasCode}
-use Rattle.rt_gen_queue.proofs.Placing.{code_behind}
-use Rattle.rt_gen_queue.proofs.Layer.{Setting, Here, S, Lasts, lasts_less, Saves, Now, all_fit, fits, placed}
-use Rattle.rt_gen_queue.proofs.Layer.{MayRun, Straight, jumps, jumps_off, Opens}
+use Rattle.rt_gen_queue.specs.Line.{Line, HasCode}
+use Rattle.rt_gen_queue.proofs.Layer.{Setting, Here, S, Lasts, lasts_less, Saves, Now, all_fit, placed}
+use Rattle.rt_gen_queue.proofs.Layer.{MayRun, Straight, Opens}
 use Rattle.rt_gen_timer.specs.TimerLines.{armings_of, given_of, instants_of, numbers_of, handles_of, heap_of}
 use Rattle.rt_gen_timer.specs.declared.queue.TimerQueue.{TimerQueue}
-use Rattle.rt_gen_timer.proofs.Window.{Slots}
+use Rattle.rt_gen_timer.proofs.Window.{Slots, Words, words}
 
 -- Each end is so many steps away, and masks are kept where the window keeps them.
 pub record Lasting (f : Slots) (steps : ℕ) (held : List Held) (ends : List ℕ) : Type 0 where
@@ -39,53 +35,32 @@ pub may_run : {f : Slots} {h : Here} {lines : List Line} {ws : List ℕ} {k : �
 may_run runs within long fit = let early = sooner runs within in
     record { time = early.time; saves = early.saves; long = long; fit = fit }
 
--- what is asked of lines is asked of those behind
-fit_behind : (xs ys : List Line) → all_fit 24 9 (xs ++ ys) ≡ true → all_fit 24 9 ys ≡ true
-fit_behind [] ys fit = fit
-fit_behind (x ∷ xs) ys fit = fit_behind xs ys (and_right (fits 24 9 x.0) (all_fit 24 9 (xs ++ ys)) fit)
+-- where a job is and what its window has, a run of lines that may begin leads on
+pub run_stands : {z : Setting} {f : Slots} {k : ℕ} (h : Here) (w : Words) (lines : List Line) → Runs f k h
+    → h.done + length lines ≤ k → all_fit 24 9 lines ≡ true → HasCode z.code h.at (map (placed f.slot) lines)
+    → Straight z f lines h (words w) → S z (Now f h (words w))
+run_stands h w lines runs within fit has on = on.runs (may_run runs within refl fit) has
 
-module _ {z : Setting} {f : Slots} {h : Here} {ws : List ℕ} where
-  -- lines behind the first ones of a run are one, where the job is then
-  goes_behind : {lines : List Line} {g : Here} {vs : List ℕ} (first : List Line) → g.done ≤ h.done + length first
-      → g.at ≡ h.at + length first → ((k : ℕ) → Runs f k h → Runs f k g) → length vs ≡ length ws
-      → MayRun f (first ++ lines) h ws → HasCode z.code h.at (map (placed f.slot) (first ++ lines))
-      → Straight z f lines g vs → S z (Now f g vs)
-  goes_behind {lines = lines} {g = g} first early is alike long may has on =
-      let all : Runs f (h.done + length (first ++ lines)) g =
-      alike (h.done + length (first ++ lines)) (record { time = may.time; saves = may.saves }) in
-      on.runs
-      (may_run all (omega (arith, early, length-append first lines)) (long ∙ may.long)
-      (fit_behind first lines may.fit))
-      (code_behind z.code h.at g.at (map (placed f.slot) first) (map (placed f.slot) lines)
-      (is ∙ ap (λ n. h.at + n) (sym (length-map first (placed f.slot))))
-      (subst (HasCode z.code h.at) (map-append (placed f.slot) first lines) has))
+-- lines as they stand in code, from one of them on
+code_from : (code : List Line) (k at : ℕ) (lines : List Line) → HasCode code at lines
+    → HasCode code (at + k) (drop k lines)
+code_from code zero at lines has =
+    let e : at ≡ at + 0 = omega arith in subst (λ (a : ℕ). HasCode code a lines) e has
+code_from code (suc k) at [] has = tt
+code_from code (suc k) at (line ∷ lines) (first, rest) =
+    let e : suc at + k ≡ at + suc k = omega arith in
+    subst (λ (a : ℕ). HasCode code a (drop k lines)) e (code_from code k (suc at) lines rest)
 
-module _ {z : Setting} {f : Slots} {lines : List Line} {h : Here} {ws : List ℕ} where
-  -- a jump where a slot is 0, over lines that are skipped
-  pub skips : {x to : ℕ} (skipped : List Line) → slice_index ws x ≡ 0 → to ≡ suc h.at + length skipped
-      → Straight z f lines (record h { done = suc h.done; at = to }) ws
-      → Straight z f (plain (instr.JumpZ x to) ∷ (skipped ++ lines)) h ws
-  skips {x = x} {to = to} skipped is past on = record {
-    runs = λ may has.
-        let whole : Straight z f (plain (instr.JumpZ x to) ∷ (skipped ++ lines)) h ws =
-        jumps_off is
-        (goes_behind (plain (instr.JumpZ x to) ∷ skipped) (omega arith) (omega (arith, past)) (λ k runs. runs) refl may
-        has on) in
-        whole.runs may has;
-  }
+pub code_first : (code : List Line) (n at : ℕ) (lines : List Line) → HasCode code at lines
+    → HasCode code at (take n lines)
+code_first code zero at lines has = tt
+code_first code (suc n) at [] has = tt
+code_first code (suc n) at (line ∷ lines) (first, rest) = (first, code_first code n (suc at) lines rest)
 
-  -- and one that is always taken
-  pub jumps_past : {to : ℕ} (skipped : List Line) → to ≡ suc h.at + length skipped
-      → Straight z f lines (record h { done = suc h.done; at = to }) ws
-      → Straight z f (plain (instr.Jump to) ∷ (skipped ++ lines)) h ws
-  jumps_past {to = to} skipped past on = record {
-    runs = λ may has.
-        let whole : Straight z f (plain (instr.Jump to) ∷ (skipped ++ lines)) h ws =
-        jumps
-        (goes_behind (plain (instr.Jump to) ∷ skipped) (omega arith) (omega (arith, past)) (λ k runs. runs) refl may
-        has on) in
-        whole.runs may has;
-  }
+-- so many of them
+pub code_part : (code : List Line) (at : ℕ) (lines : List Line) (k n : ℕ) → HasCode code at lines
+    → HasCode code (at + k) (take n (drop k lines))
+code_part code at lines k n has = code_first code n (at + k) (drop k lines) (code_from code k at lines has)
 
 -- The section of the timer queue is open, and its cells are there: the counts, and the columns by row or by place.
 pub record Columns (z : Setting) (q : TimerQueue) (held : List Held) (cells : List ℕ) : Type 0 where

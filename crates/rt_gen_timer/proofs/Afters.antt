@@ -1,91 +1,76 @@
--- The code of a whole `spawn_after`: a place is taken, filled and armed, and the answer is the handle; or none is left,
--- and the answer is 0. It takes turns of the loop upwards for each binary digit of the number of messages, or for each
--- message, whichever are fewer: so the section is within both of its costs.
-use Rattle.std.proofs.Common.{◌≡◌, ℕ, suc, ◌+◌, ◌*◌, ◌<◌, ◌≤◌, ◌&&◌, true, Some, None, List, [], ◌∷◌, ◌++◌, length}
-use Rattle.std.proofs.Common.{take, drop, slice_get, slice_index, refl, sym, ap, subst, ◌∙◌, arith, inl, inr}
-use Rattle.std.proofs.lemmas.Bool.{cases_lt}
-use Rattle.std.proofs.lemmas.List.{length-append, take-append-le}
-use Rattle.std.proofs.Math.Nat.{pow-succ'}
+-- The code of a whole `spawn_after`: a place is taken and filled, and in the section of the timer queue its message is
+-- armed, with the handle for an answer; or none is left, and the answer is 0.
+use Rattle.std.proofs.Common.{◌≡◌, ℕ, suc, ◌+◌, ◌*◌, ◌^◌, ◌<◌, ◌≤◌, ◌&&◌, true, Some, None, List, [], ◌∷◌, ◌++◌, length}
+use Rattle.std.proofs.Common.{take, drop, slice_get, slice_index, refl, sym, ap, subst, ◌∙◌, arith}
+use Rattle.std.proofs.lemmas.List.{length-append, length_push, take-append-le}
+use Rattle.rt_lemmas.proofs.Bools.{and_both}
 use Rattle.rt_lemmas.proofs.Membership.{all_weaker}
 use Rattle.rt_ids.specs.Lists.{is_some_and}
 use Rattle.rt_ids.specs.Holder.{Holder, Guarded}
-use Rattle.rt_ids.specs.Content.{Content, Message, Values}
+use Rattle.rt_ids.specs.Content.{Content, Message, Timed, Values, timed, with_armed}
 use Rattle.rt_ids.specs.Entry.{Entry}
-use Rattle.rt_ids.specs.Action.{Refuses, Leaves}
+use Rattle.rt_ids.specs.Action.{Arms, Refuses, Leaves}
+use Rattle.rt_ids.specs.Storage.{Home}
 use Rattle.rt_ids.specs.declared.ids.Section.{Section}
 use Rattle.rt_ids.specs.declared.ids.Section.TheVariants as section
 use Rattle.rt_app.specs.declared.costs.TheConstants.{SPAWN_AFTER_COST, MESSAGE_COST}
 use Rattle.rt_app.specs.Tree.{App}
-use Rattle.rt_app.specs.Level.{is_software, is_armed, armed_messages}
-use Rattle.rt_app.specs.Sending.{capacity_of, act_all, arm_actions, take_place}
-use Rattle.rt_app.specs.Holding.{storage, message_word, arguments_of}
+use Rattle.rt_app.specs.Level.{is_software, is_armed, armed_messages, armed_before}
+use Rattle.rt_app.specs.Sending.{Rest, act, capacity_of, act_all, arm_actions, leave_timer, take_place}
+use Rattle.rt_app.specs.Holding.{storage, message_word, message_at, armed_place, arguments_of}
+use Rattle.rt_app.proofs.ArmedPlaces.{few_before, few_messages}
 use Rattle.rt_app.proofs.Counting.{count_more, one_itself}
 use Rattle.rt_app.proofs.Spelling.{IsTimedPlace}
 use Rattle.rt_code.specs.Masking.{TakesOver}
-use Rattle.rt_code.specs.Owning.{Held}
+use Rattle.rt_code.specs.Owning.{Held, Marked, mine, MayLoad}
 use Rattle.rt_code.specs.Standing.{passed}
 use Rattle.rt_code.specs.declared.instr.Instr.TheVariants as instr
-use Rattle.rt_code.proofs.Mine.{reads_more}
-use Rattle.rt_gen_queue.specs.Guards.{guard_of, kind_at}
-use Rattle.rt_gen_queue.specs.Line.{Line, HasCode, plain}
+use Rattle.rt_code.specs.declared.instr.Note.TheVariants as note
+use Rattle.rt_code.proofs.Mine.{queued_more, reads_more}
+use Rattle.rt_gen_queue.specs.Guards.{guard_of, kind_at, enter, leave}
+use Rattle.rt_gen_queue.specs.Line.{Line, HasCode, plain, noted}
 use Rattle.rt_gen_queue.specs.SpawnCode.{take_code, fill_code}
-use Rattle.rt_gen_queue.proofs.Entering.{opened, MayEnter, leaves, saves_inside, saves_below, leave_placed, leave_fits}
-use Rattle.rt_gen_queue.proofs.Facts.{arguments, few_arguments, few_free, small, free_top}
+use Rattle.rt_gen_queue.proofs.Entering.{opened, MayEnter, enters, enter_placed, enter_fits, leaves, leave_placed}
+use Rattle.rt_gen_queue.proofs.Entering.{leave_fits, saves_inside, saves_below}
+use Rattle.rt_gen_queue.proofs.Facts.{arguments, few_arguments, few_free, free_top, place_of, small as small_words}
 use Rattle.rt_gen_queue.proofs.Granting.{MayTake, HasTaken, at_full, take_begins}
 use Rattle.rt_gen_queue.proofs.Handing.{refuses}
-use Rattle.rt_gen_queue.proofs.Layer.{Setting, lasts_less, Here, ahead, InTime, spot, S, moved, Frame, Now, inner}
-use Rattle.rt_gen_queue.proofs.Layer.{inner_window, Straight, jumps, ends}
+use Rattle.rt_gen_queue.proofs.Layer.{Setting, Here, InTime, spot, S, moved, Frame, Now, inner, inner_window}
+use Rattle.rt_gen_queue.proofs.Layer.{Straight, jumps, ends, read_behind, fits, all_fit, writes_open}
 use Rattle.rt_gen_queue.proofs.Numbers.{steps_and, steps_are}
-use Rattle.rt_gen_queue.proofs.Owning.{nobody_keeps, is_inside, reads_inside}
+use Rattle.rt_gen_queue.proofs.Owning.{nobody_keeps, is_inside, reads_inside, home_as, timer_spelled}
 use Rattle.rt_gen_queue.proofs.Placing.{code_front, code_behind, fill_long}
+use Rattle.rt_gen_queue.proofs.Queues.{message_alike}
 use Rattle.rt_gen_queue.proofs.Storing.{Filled, fill_stands, message_is, own_filled}
 use Rattle.rt_gen_queue.proofs.Words.{Arguments, Scratch as Work, words as nine_words, listed}
 use Rattle.rt_gen_timer.specs.TimerCode.{queue_of, armed_task, after_code}
-use Rattle.rt_gen_timer.specs.TimerLines.{arm_lines, full_lines}
-use Rattle.rt_gen_timer.specs.TimerCalls.{IsSectionCost, MayUsePlaces, AftersStand}
-use Rattle.rt_gen_timer.proofs.Window.{Words, words, read_off}
-use Rattle.rt_gen_timer.proofs.Acting.{may_run}
-use Rattle.rt_gen_timer.proofs.Arming.{Arm, arm_steps, arm_stands}
-use Rattle.rt_gen_timer.proofs.Calling.{reach_enough, code_from, Call, MayCall, GoesBehind, f, w, on_window, call_ends}
-use Rattle.rt_gen_timer.proofs.Calling.{behind_call, call_of, may_call, stands_called}
-use Rattle.rt_gen_timer.proofs.Removing.{reach_is}
-use Rattle.rt_gen_timer.proofs.Sifting.{rise_reach}
+use Rattle.rt_gen_timer.specs.TimerLines.{heap_of, row_lines, arm_lines, full_lines, alarm_lines}
+use Rattle.rt_gen_timer.specs.TimerCalls.{MayUsePlaces, AftersStand}
+use Rattle.rt_gen_timer.specs.declared.queue.TimerQueue.{TimerQueue}
+use Rattle.rt_gen_timer.proofs.Window.{Words, words, Scratch, scratch_of}
+use Rattle.rt_gen_timer.proofs.Acting.{Lasting, Runs, sooner, run_stands, code_first, code_part, heap_open}
+use Rattle.rt_gen_timer.proofs.Alone.{instant_in, number_in, timed_row}
+use Rattle.rt_gen_timer.proofs.Calling.{leaving_fits, leaving_code, Call, Begins, f, w, on_window, Left}
+use Rattle.rt_gen_timer.proofs.Calling.{HasCalled, behind_call, Inside, entries, at_work, IsInside, AgreeInside}
+use Rattle.rt_gen_timer.proofs.Calling.{columns_now, queue_now, settles, stands_called}
+use Rattle.rt_gen_timer.proofs.Comparing.{Hand, Place, in_hand}
+use Rattle.rt_gen_timer.proofs.Delaying.{at_address, delayed, time_stands}
+use Rattle.rt_gen_timer.proofs.Hollow.{IsBeside, beside_more, beside_one_place, hollow_filled}
+use Rattle.rt_gen_timer.proofs.Lasting.{last_alone}
+use Rattle.rt_gen_timer.proofs.Marking.{arms}
+use Rattle.rt_gen_timer.proofs.Moves.{settled_risen}
+use Rattle.rt_gen_timer.proofs.Opening.{MayOpen, may_enter}
+use Rattle.rt_gen_timer.proofs.Order.{above_less}
+use Rattle.rt_gen_timer.proofs.Pushing.{MayPush, armings_before, size, room, counts, are, is_row, longer, hole_begins}
+use Rattle.rt_gen_timer.proofs.Pushing.{hollow_begins, spelled_more}
+use Rattle.rt_gen_timer.proofs.Sifting.{IsReady, IsRisen, rises_stand}
+use Rattle.rt_gen_timer.proofs.Rowing.{HasRow, with_row, row_stands}
+use Rattle.rt_gen_timer.proofs.Spelled.{few_armings}
+use Rattle.rt_gen_timer.proofs.Turning.{arm_steps, AreTurns, turns_for}
 
 -- the steps of such a call
-abbrev pub after_steps : App → ℕ
+abbrev after_steps : App → ℕ
 after_steps app = SPAWN_AFTER_COST + MESSAGE_COST * armed_messages app
-
--- so many turns of the loop upwards are enough, and within a cost of the section
-pub record AreTurns (app : App) (cost : ℕ) : Type 0 where
-  pub turns : ℕ
-  pub reach : armed_messages app < rise_reach turns
-  pub few : turns ≤ armed_messages app
-  pub enough : 43 + 15 * turns ≤ cost
-
-pub turns_for : (app : App) (cost : ℕ) → IsSectionCost app cost → AreTurns app cost
-turns_for app cost (inl is) = record {
-  turns = armed_messages app;
-  reach = reach_enough (armed_messages app);
-  few = omega arith;
-  enough = omega (arith, is);
-}
-turns_for app cost (inr (digits, below, is)) =
-    elim (cases_lt digits (armed_messages app)) [
-      | inl less ↦
-          record {
-            turns = digits;
-            reach = omega (arith, below, reach_is digits, pow-succ' 2 digits);
-            few = omega (arith, less);
-            enough = omega (arith, is);
-          }
-      | inr most ↦
-          record {
-            turns = armed_messages app;
-            reach = reach_enough (armed_messages app);
-            few = omega arith;
-            enough = omega (arith, is, most);
-          }
-    ]
 
 -- the nine of the words that a spawn's code works in, and these with others in them
 abbrev arguments_in : Words → Arguments
@@ -98,288 +83,440 @@ abbrev worked : Words → Work → Words
 worked v r = record v { count = r.count; hole = r.index; place = r.word; work = r.number; mask = r.mask }
 
 -- a message is to be sent later
-pub record AsksAfter (c : Call) (cost delay : ℕ) (args : List ℕ) (h : Here) : Type 0 where
+record SendsLater (c : Call) (cost delay : ℕ) (args : List ℕ) (h : Here) : Type 0 where
+  pub call : Begins c (after_steps c.z.app) (after_code c.z.app c.task c.level c.slot h.at)
+      (take_place c.z.app c.task (arm_actions c.z.app cost delay (record { task = c.task; args = args }) c.rest)
+      (c.rest 0)) h
   pub armed : is_armed c.z.app c.task ≡ true
-  pub costs : IsSectionCost c.z.app cost
+  pub turns : AreTurns c.z.app cost
   pub places : MayUsePlaces c.z.app c.z.who c.task (spot c.z h)
-  pub code : HasCode c.z.code h.at (after_code c.z.app c.task c.level c.slot h.at)
   pub delay_is : slice_index h.slots c.slot ≡ delay
-  pub args_are : take c.t.args (drop (c.slot + 1) h.slots) ≡ args
-  pub is : h.rest
-      ≡ take_place c.z.app c.task (arm_actions c.z.app cost delay (record { task = c.task; args = args }) c.rest)
-      (c.rest 0) c.values
+  pub args_are : take c.t.args (drop (suc c.slot) h.slots) ≡ args
 
-module _ {c : Call} {cost delay : ℕ} {args : List ℕ} {h : Here} (may : MayCall c (after_steps c.z.app) h)
-    (asks : AsksAfter c cost delay args h)
-    (on : GoesBehind c (after_steps c.z.app) (after_code c.z.app c.task c.level c.slot h.at) h) where
-  abbrev lines : List Line
-  lines = after_code c.z.app c.task c.level c.slot h.at
+module _ {c : Call} {cost delay : ℕ} {args : List ℕ} {h : Here} (k : SendsLater c cost delay args h) where
+  open c use {z, task, t, level, slot, rest, values}
+  open c.z use {app, code, who}
+  open k.call use {may, has, on}
+
+  abbrev q : TimerQueue
+  q = queue_of app
 
   abbrev args_of : ℕ
-  args_of = arguments_of c.z.app c.task
+  args_of = arguments_of app task
 
   abbrev full : ℕ
   full = h.at + (59 + args_of)
 
   abbrev place_section : Section
-  place_section = section.Free c.task
+  place_section = section.Free task
 
-  few_args : (c.t.args ≤ 4) × (args_of ≤ 4)
+  abbrev message : Message
+  message = record { task = task; args = args }
+
+  few_args : (t.args ≤ 4) × (args_of ≤ 4)
   few_args =
-      let few = few_arguments c.z.app c.task c.t may.facts in
-      (few, omega (arith, arguments c.z.app c.task c.t may.facts, few))
+      let few = few_arguments app task t may.facts in (few, omega (arith, arguments app task t may.facts, few))
 
-  -- the lines by their parts
+  -- the lines, and their parts; those that arm the message by the first slot of the window
+  abbrev lines : List Line
+  lines = after_code app task level slot h.at
+
   abbrev filling : List Line
-  filling = fill_code c.z.app c.task (c.slot + 1)
+  filling = fill_code app task (slot + 1)
 
-  abbrev arming : List Line
-  arming = arm_lines (queue_of c.z.app) c.slot c.level (armed_task c.z.app c.task) (h.at + (12 + args_of))
+  abbrev arming : ℕ → List Line
+  arming first = arm_lines q first level (armed_task app task) (h.at + (12 + args_of))
 
   abbrev ending : List Line
-  ending = full_lines (queue_of c.z.app) c.slot c.level (armed_task c.z.app c.task) (full + 2)
+  ending = full_lines q slot level (armed_task app task) (full + 2)
 
-  has_fill : HasCode c.z.code (h.at + 8) (filling ++ (arming ++ ending))
-  has_fill = code_from c.z.code 8 h.at lines asks.code
+  has_fill : HasCode code (h.at + 8) (filling ++ (arming slot ++ ending))
+  has_fill =
+      code_behind code h.at (h.at + 8) (take_code app task level (slot + 1) full) (filling ++ (arming slot ++ ending))
+      refl has
 
-  has_arm : HasCode c.z.code (h.at + (12 + args_of)) (arming ++ ending)
+  has_arm : HasCode code (h.at + (12 + args_of)) (arming slot ++ ending)
   has_arm =
-      code_behind c.z.code (h.at + 8) (h.at + (12 + args_of)) filling (arming ++ ending)
-      (omega (arith, fill_long c.z.app c.task (c.slot + 1))) has_fill
+      code_behind code (h.at + 8) (h.at + (12 + args_of)) filling (arming slot ++ ending)
+      (omega (arith, fill_long app task (slot + 1))) has_fill
 
-  has_end : HasCode c.z.code (h.at + (12 + args_of) + 46) ending
+  arming_has : HasCode code (h.at + (12 + args_of)) (arming slot)
+  arming_has = code_front code (h.at + (12 + args_of)) (arming slot) ending has_arm
+
+  has_end : HasCode code (h.at + (12 + args_of) + 46) ending
   has_end =
-      code_behind c.z.code (h.at + (12 + args_of)) (h.at + (12 + args_of) + 46) arming ending (omega arith) has_arm
+      code_behind code (h.at + (12 + args_of)) (h.at + (12 + args_of) + 46) (arming slot) ending (omega arith) has_arm
 
-  has_full : HasCode c.z.code full (drop 1 ending)
+  has_full : HasCode code full (drop 1 ending)
   has_full =
-      code_behind c.z.code (h.at + (12 + args_of) + 46) full (take 1 ending) (drop 1 ending) (omega arith) has_end
+      code_behind code (h.at + (12 + args_of) + 46) full (take 1 ending) (drop 1 ending) (omega arith) has_end
 
   ends_at : h.at + length lines ≡ full + 2
-  ends_at = omega (
-    arith,
-    length-append filling (arming ++ ending),
-    fill_long c.z.app c.task (c.slot + 1),
-  )
+  ends_at = omega (arith, length-append filling (arming slot ++ ending), fill_long app task (slot + 1))
 
-  lasts : (k : ℕ) → k ≤ after_steps c.z.app → InTime (h.done + k) h
-  lasts k less =
-      lasts_less (h.done + k) (h.done + after_steps c.z.app) (h.until ∷ h.deadlines) (omega (arith, less)) may.time
+  -- there is time for the call
+  runs_on : Runs (f may) (h.done + after_steps app) h
+  runs_on = record { time = may.time; saves = saves_below (f may) h.held may.masks }
+
+  lasts : (n : ℕ) → n ≤ after_steps app → InTime (h.done + n) h
+  lasts n less = (sooner {j = h.done + n} runs_on (omega (arith, less))).time
 
   -- the window of the nine
   abbrev nine : Words → Frame 9 8
   nine v = inner (f may) (v.answer ∷ []) (drop 10 (words v))
 
-  to_nine : (v : Words) (g : Here) → S c.z (Now (nine v) g (nine_words (arguments_in v) (work_in v)))
-      → S c.z (Now (f may) g (words v))
-  to_nine v g correct =
-      subst (λ (slots : List ℕ). S c.z (record g { slots = slots }))
-      (inner_window (f may) (v.answer ∷ []) (drop 10 (words v)) (nine_words (arguments_in v) (work_in v))) correct
-
-  from_nine : (v : Words) (r : Work) (g : Here) → S c.z (Now (f may) g (words (worked v r)))
-      → S c.z (Now (nine v) g (nine_words (arguments_in v) r))
+  from_nine : (v : Words) (r : Work) (g : Here) → S z (Now (f may) g (words (worked v r)))
+      → S z (Now (nine v) g (nine_words (arguments_in v) r))
   from_nine v r g correct =
-      subst (λ (slots : List ℕ). S c.z (record g { slots = slots }))
+      subst (λ (slots : List ℕ). S z (record g { slots = slots }))
       (sym (inner_window (f may) (v.answer ∷ []) (drop 10 (words v)) (nine_words (arguments_in v) r))) correct
 
-  may_enter : {size mask : ℕ} (g : Frame size mask) → mask < size → c.slot ≤ g.slot
-      → MayEnter c.z g h place_section c.level
-  may_enter g room above = record {
+  enter_places : {size mask : ℕ} (g : Frame size mask) → mask < size → slot ≤ g.slot
+      → MayEnter z g h place_section level
+  enter_places g room above = record {
     room = room;
-    masks = all_weaker (λ d. d < c.slot) (λ d. d < g.slot) (λ d less. omega (arith, less)) _ may.masks;
+    masks = all_weaker (λ d. d < slot) (λ d. d < g.slot) (λ d less. omega (arith, less)) _ may.masks;
     off = may.off;
-    top = free_top c.z.app c.task c.t may.facts;
-    within = asks.places.within;
-    closed = asks.places.closed;
-    nobody = nobody_keeps c.z.app c.z.who c.z.who place_section tt;
+    top = free_top app task t may.facts;
+    within = k.places.within;
+    closed = k.places.closed;
+    nobody = nobody_keeps app who who place_section tt;
   }
 
-  abbrev may_take : MayTake c.z (nine (w may)) h c.task c.level full c.t
+  abbrev may_take : MayTake z (nine (w may)) h task level full t
   may_take = record {
     facts = may.facts;
-    code = code_front c.z.code h.at (take_code c.z.app c.task c.level (c.slot + 1) full) (filling ++ (arming ++ ending))
-        asks.code;
+    code = code_front code h.at (take_code app task level (slot + 1) full) (filling ++ (arming slot ++ ending)) has;
     time = lasts 8 (omega arith);
     long = may.cells;
-    enter = may_enter (nine (w may)) (omega arith) (omega arith);
+    enter = enter_places (nine (w may)) (omega arith) (omega arith);
   }
 
   -- no place is left: the section closes, and the answer is 0
   none_stands : (r : Work) (cells : List ℕ) (queues : Holder → List Entry) (us : Values)
-      → TakesOver (storage c.z.app) c.z.who place_section (passed (spot c.z h)) c.values us cells queues
-      → S c.z (Now (nine (w may)) (at_full h (opened c.z (nine (w may)) place_section c.level) full cells queues
-      (act_all (Refuses c.task ∷ Leaves place_section ∷ []) (c.rest 0) us)) (nine_words (arguments_in (w may)) r))
+      → TakesOver (storage app) who place_section (passed (spot z h)) values us cells queues
+      → S z (Now (nine (w may)) (at_full h (opened z (nine (w may)) place_section level) full cells queues
+      (act_all (Refuses task ∷ Leaves place_section ∷ []) (rest 0) us)) (nine_words (arguments_in (w may)) r))
   none_stands r cells queues us taken =
-      let o : Held = opened c.z (f may) place_section c.level in
-      let e : c.slot + 9 ≡ c.slot + 1 + 8 = omega arith in
-      let held : ℕ → Held = λ k. record { section = place_section; kind = kind_at c.z.app place_section c.level k } in
-      let rest = act_all (Refuses c.task ∷ Leaves place_section ∷ []) (c.rest 0) us in
-      let v : Words = worked (w may) r in
-      let g : Here = at_full h o full cells queues rest in
-      let refusing : Straight c.z (f may)
-      (drop 1 (full_lines (queue_of c.z.app) 0 c.level (armed_task c.z.app c.task) (full + 2))) g (words v) =
-      refuses (is_inside c.z.app c.z.who h.held o place_section refl) refl
+      let x : Section = place_section in
+      let o : Held = opened z (f may) x level in
+      let e : slot + 9 ≡ slot + 1 + 8 = omega arith in
+      let g : Held → Here =
+      λ o. at_full h o full cells queues (act_all (Refuses task ∷ Leaves x ∷ []) (rest 0) us) in
+      let all = lasts 8 (omega arith) in
+      subst (λ n. S z (Now (nine (w may)) (g (record { section = x; kind = kind_at app x level n }))
+      (nine_words (arguments_in (w may)) r))) e
+      (from_nine (w may) r (g o)
+      (run_stands {f = f may} {k = h.done + 8} (g o) (worked (w may) r)
+      (drop 1 (full_lines q 0 level (armed_task app task) (full + 2)))
+      (record {
+        time = (all.0, (omega arith, all.1));
+        saves = saves_inside (enter_places (f may) (omega arith) (omega arith));
+      }) (omega arith) (ap (λ b. b && true) (leave_fits x (guard_of app x) level 9 24 9))
+      (has_full.0, (has_full.1.0 ∙ ap Some (sym (leave_placed x (guard_of app x) level 9 slot)), tt))
+      (refuses (is_inside app who h.held o x refl) refl
       (λ us2 agree.
-      leaves c.level refl refl refl
-      (subst (λ (k : Content). (storage c.z.app).Spells (Guarded place_section) (slice_index cells)
-      (queues (Guarded place_section)) k)
-      (sym (agree (Guarded place_section) (reads_inside c.z.app c.z.who h.held o place_section refl))) taken.spelled)
+      leaves level refl refl refl
+      (subst (λ (c : Content). (storage app).Spells (Guarded x) (slice_index cells) (queues (Guarded x)) c)
+      (sym (agree (Guarded x) (reads_inside app who h.held o x refl))) taken.spelled)
       (λ us3 later.
       ends
       (moved (steps_and 5 h.done) (h.at + length lines) refl (omega (arith, ends_at))
-      (call_ends may lines on 0 _
+      (on 0 _
       (record {
         small = omega arith;
         answered = refl;
         in_time = omega arith;
-        own = record {
-          long = taken.same.long;
-          touched = taken.same.touched;
-          queued = taken.same.queued;
-        };
+        own = record { long = taken.same.long; touched = taken.same.touched; queued = taken.same.queued };
         agree = λ holder read.
-            later holder read ∙ agree holder (reads_more (storage c.z.app) c.z.who o h.held holder read)
+            later holder read ∙ agree holder (reads_more (storage app) who o h.held holder read)
             ∙ taken.agree holder read;
-      }))))) in
-      let all = lasts 8 (omega arith) in
-      subst (λ k. S c.z (Now (nine (w may)) (at_full h (held k) full cells queues rest)
-      (nine_words (arguments_in (w may)) r))) e
-      (from_nine (w may) r g
-      (refusing.runs
-      (may_run {k = h.done + 8}
-      (record {
-        time = (all.0, (omega arith, all.1));
-        saves = saves_inside (may_enter (f may) (omega arith) (omega arith));
-      }) (omega arith) refl
-      (ap (λ b. b && true) (leave_fits place_section (guard_of c.z.app place_section) c.level 9 24 9))) (
-        has_full.0,
-        (
-          has_full.1.0
-              ∙ ap Some (sym (leave_placed place_section (guard_of c.z.app place_section) c.level 9 c.slot)),
-          tt,
-        ),
-      )))
+      }))))))))
 
   module _ {e : Entry} {cells : List ℕ} {queues : Holder → List Entry} {us : Values}
-      (taken : HasTaken c.z h c.task c.values e cells queues us) where
-    abbrev message : Message
-    message = record { task = c.task; args = args }
-
-    abbrev turns : AreTurns c.z.app cost
-    turns = turns_for c.z.app cost asks.costs
-
+      (taken : HasTaken z h task values e cells queues us) where
     -- a place of the task is one of a task whose messages may be armed
-    timed_place : IsTimedPlace c.z.app e
+    timed_place : IsTimedPlace app e
     timed_place = (
-      ap (is_armed c.z.app) taken.of_task ∙ asks.armed,
-      ap (λ n. is_some_and is_software (slice_get c.z.app.tasks n)) taken.of_task
+      ap (is_armed app) taken.of_task ∙ k.armed,
+      ap (λ n. is_some_and is_software (slice_get app.tasks n)) taken.of_task
           ∙ ap (is_some_and is_software) may.facts.at ∙ may.facts.software,
-      subst (λ n. e.place < capacity_of c.z.app n) (sym taken.of_task) taken.place,
+      subst (λ n. e.place < capacity_of app n) (sym taken.of_task) taken.place,
     )
 
-    args_stored : take c.t.args (listed (arguments_in (w may))) ≡ args
+    word_small : message_word e < 2 ^ 32
+    word_small =
+        let few = few_free app task t may.facts in
+        omega (arith, taken.of_task, taken.place, few, small_words app task t may.facts)
+
+    args_stored : take t.args (listed (arguments_in (w may))) ≡ args
     args_stored =
-        sym (take-append-le c.t.args (listed (arguments_in (w may))) (drop (c.slot + 1 + 4) h.slots) few_args.0)
-        ∙ ap (take c.t.args) (sym (read_off 4 1 c.slot h.slots (omega (arith, may.frame)))) ∙ asks.args_are
-
-    -- with the arguments of the message stored
-    abbrev filled_here : List ℕ → Here
-    filled_here left = record h {
-      done = h.done + (12 + args_of);
-      places = e ∷ h.places;
-      at = h.at + (12 + args_of);
-      cells = left;
-      queues = queues;
-      rest = arm_actions c.z.app cost delay message c.rest us;
-    }
-
-    -- it is armed, and a jump leads behind all lines
-    armed_stands : (r2 : Work) (left : List ℕ) → Filled c.z c.task e (listed (arguments_in (w may))) 0 cells left
-        → S c.z (Now (f may) (filled_here left) (words (worked (w may) (record r2 { word = message_word e }))))
-    armed_stands r2 left filled =
-        let a : Arm = record {
-          c = c;
-          f = f may;
-          turns = turns.turns;
-          cost = cost;
-          h = filled_here left;
-          w = worked (w may) (record r2 { word = message_word e });
-          e = e;
-          others = h.places;
-          m = message;
-          values = us;
-        } in
-        let first : c.slot + 0 ≡ c.slot = omega arith in
-        let few = few_free c.z.app c.task c.t may.facts in
-        arm_stands {a = a}
-        (record {
-          facts = may.facts;
-          may = record {
-            accepted = may.facts.accepted;
-            timed = may.timed;
-            masks = may.masks;
-            off = may.off;
-            within = may.within;
-            closed = may.closed;
-          };
-          code = code_front c.z.code (h.at + (12 + args_of)) arming ending has_arm;
-          time = lasts_less (h.done + (12 + args_of) + arm_steps turns.turns) (h.done + after_steps c.z.app)
-              (h.until ∷ h.deadlines) (omega (arith, turns.few, few_args)) may.time;
-          enough = turns.enough;
-          reach = turns.reach;
-          of_task = (taken.of_task, refl);
-          place = timed_place;
-          hands = refl;
-          message = message_is may.facts taken.of_task (omega arith) filled
-              ∙ ap (λ ws. record { task = c.task; args = ws }) args_stored;
-          word = refl;
-          small = omega (arith, taken.of_task, taken.place, few, small c.z.app c.task c.t may.facts);
-          long = filled.long ∙ taken.own.long ∙ may.cells;
-          is = ap (λ d. arm_actions c.z.app cost d message c.rest us)
-              (sym (ap (slice_index h.slots) first ∙ asks.delay_is));
-        })
-        (λ handle b armed.
-        let jumping : Straight c.z (f may) (plain (instr.Jump (full + 2)) ∷ [])
-        (behind_call h (h.at + (12 + args_of) + 46) (c.rest handle) b) (words b.words) =
-        jumps
-        (moved (suc b.done) (h.at + length lines) refl (omega (arith, ends_at))
-        (call_ends may lines on handle _
-        (record {
-          small = armed.small;
-          answered = armed.answered;
-          in_time = omega (arith, armed.in_time, turns.few, few_args);
-          own = own_filled h taken.none taken.own filled
-              (record { long = armed.own.long; touched = armed.own.touched; queued = armed.own.queued });
-          agree = λ holder read. armed.agree holder read ∙ taken.agree holder read;
-        }))) in
-        jumping.runs
-        (may_run {k = h.done + after_steps c.z.app}
-        (record { time = may.time; saves = saves_below (f may) h.held may.masks })
-        (omega (arith, armed.in_time, turns.few, few_args)) refl refl) (has_end.0, tt))
+        sym (take-append-le t.args (listed (arguments_in (w may))) (drop (suc slot + 4) h.slots) few_args.0)
+        ∙ ap (take t.args) (sym (read_behind h.slots (suc slot) 4 (omega (arith, may.frame)))) ∙ k.args_are
 
     -- with the place in the hands
-    abbrev holding : Here
-    holding = record (ahead 8 h) {
+    abbrev holding : (done at : ℕ) → List ℕ → Here
+    holding done at left = record h {
+      done = done;
       places = e ∷ h.places;
-      cells = cells;
+      at = at;
+      cells = left;
       queues = queues;
-      rest = arm_actions c.z.app cost delay message c.rest us;
+      rest = arm_actions app cost delay message rest us;
     }
 
+    module _ {left : List ℕ} (filled : Filled z task e (listed (arguments_in (w may))) 0 cells left) where
+      -- and with the arguments of the message stored
+      abbrev g : Here
+      g = holding (h.done + (12 + args_of)) (h.at + (12 + args_of)) left
+
+      opens : MayOpen z (f may) level g
+      opens = record {
+        accepted = may.facts.accepted;
+        timed = may.timed;
+        masks = may.masks;
+        off = may.off;
+        within = may.within;
+        closed = may.closed;
+      }
+
+      -- Once it is armed its handle is the answer, and a jump leads behind all lines.
+      armed_ends : (handle : ℕ) (b : Left) → HasCalled z g us (arm_steps k.turns.turns) handle b
+          → S z (Now (f may) (behind_call h (g.at + 46) (rest handle) b) (words b.words))
+      armed_ends handle b armed =
+          run_stands (behind_call h (g.at + 46) (rest handle) b) b.words (plain (instr.Jump (full + 2)) ∷ []) runs_on
+          (omega (arith, armed.in_time, k.turns.few, few_args)) refl (has_end.0, tt)
+          (jumps
+          (moved (suc b.done) (h.at + length lines) refl (omega (arith, ends_at))
+          (on handle _
+          (record {
+            small = armed.small;
+            answered = armed.answered;
+            in_time = omega (arith, armed.in_time, k.turns.few, few_args);
+            own = own_filled h taken.none taken.own filled
+                (record { long = armed.own.long; touched = armed.own.touched; queued = armed.own.queued });
+            agree = λ holder read. armed.agree holder read ∙ taken.agree holder read;
+          }))))
+
+      module _ {ws : Values} {inside : List ℕ} {queued : Holder → List Entry}
+          (took : TakesOver (storage app) who section.Timer (passed (spot z g)) us ws inside queued) where
+        abbrev i : Inside
+        i = record {
+          z = z;
+          f = f may;
+          level = level;
+          cost = cost;
+          h = g;
+          before = us;
+          cells = inside;
+          queues = queued;
+          values = ws;
+        }
+
+        now : IsInside i
+        now = record {
+          may = opens;
+          long = filled.long ∙ taken.own.long ∙ may.cells;
+          taken = took;
+          spells = timer_spelled app (slice_index inside) (entries i) (ws (Guarded section.Timer)) took.spelled;
+        }
+
+        -- its arguments are as they were stored
+        message_inside : message_at app (slice_index inside) e ≡ message
+        message_inside =
+            let some : 0 < mine (passed (spot z g)) e = omega (arith, count_more e e h.places, one_itself e) in
+            message_alike app t.priority (slice_index inside) (slice_index left) e
+            (place_of app task t may.facts e taken.of_task taken.place)
+            (λ c is.
+            took.same.touched c
+            (subst (λ (home : Home). MayLoad (storage app) who (passed (spot z g)) home) (sym (home_as app c ∙ is))
+            some))
+            ∙ message_is may.facts taken.of_task (omega arith) filled
+            ∙ ap (λ ws. record { task = task; args = ws }) args_stored
+
+        abbrev push : MayPush app (entries i) e (ws (Guarded section.Timer)) message inside
+        push = record {
+          accepted = may.facts.accepted;
+          mono = may.timed;
+          spells = now.spells;
+          few = took.few;
+          place = timed_place;
+          once = λ y.
+              let more = queued_more queued y (record { section = section.Timer; kind = Marked }) h.held in
+              omega (arith, took.once y, more, count_more y e (entries i), count_more y e h.places);
+          message = message_inside;
+        }
+
+        runs : Lasting (f may) (g.done + arm_steps k.turns.turns)
+            (opened z (f may) section.Timer level ∷ h.held) (h.until ∷ (g.done + cost) ∷ h.deadlines)
+        runs =
+            let all = sooner {j = g.done + arm_steps k.turns.turns} runs_on (omega (arith, k.turns.few, few_args)) in
+            record {
+              time = (all.time.0, (omega (arith, k.turns.enough), all.time.1));
+              saves = saves_inside (may_enter opens);
+            }
+
+        armings_few : armings_before push < 2 ^ 31
+        armings_few = few_armings push.spells push.few
+
+        -- what is left to do where the message is armed
+        abbrev arms_then : ℕ → Rest
+        arms_then instant =
+            act (Arms instant message)
+            (λ vs. leave_timer app (rest (timed (vs (Guarded section.Timer))).given) vs)
+
+        -- inside, with that left to do
+        abbrev here : (done at : ℕ) → List ℕ → ℕ → Values → Here
+        here done at mid instant vs = at_work i done at (e ∷ h.places) mid queued (arms_then instant vs)
+
+        -- where the message has its row, for an instant
+        abbrev IsRow : ℕ → List ℕ → Type 0
+        IsRow instant mid =
+            HasRow q (armed_place app e) instant (armings_before push) push.spells.timed.given (size push) inside mid
+
+        abbrev rowed : Words → Words
+        rowed v = with_row v (armed_place app e) (armings_before push) push.spells.timed.given (size push)
+
+        -- The loop begins in time, and knows what is in the queue.
+        record HasBegun (begin : ℕ) (vs : Values) : Type 0 where
+          pub early : begin ≤ g.done + 23
+          pub agree : AgreeInside i vs
+
+        module _ {mid : List ℕ} (has : IsRow (instant_in app mid e) mid) where
+          abbrev hand : Hand
+          hand = record {
+            queue = q;
+            row = armed_place app;
+            instant = instant_in app mid;
+            arming = number_in app mid;
+            size = size push + 1;
+            hand = e;
+          }
+
+          abbrev in_loop : Words → Scratch → ℕ → Words
+          in_loop v s hole = in_hand hand (rowed v) s hole
+
+          abbrev note_lines : List Line
+          note_lines = noted (instr.StoreAt (heap_of q) 6 4) (note.Arm task 10) ∷ alarm_lines q 0 (g.at + 39)
+
+          -- where the loop has left a hole
+          last_stand : {b : Place} {begin : ℕ} {vs : Values} (v : Words) (s : Scratch)
+              → IsRisen hand k.turns.turns (size push) (here begin (g.at + 23) mid (instant_in app mid e) vs)
+              (longer push) b → HasBegun begin vs
+              → S z (Now (f may) (here b.done (g.at + 38) b.cells (instant_in app mid e) vs)
+              (words (in_loop v s b.hole)))
+          last_stand {b = b} {vs = vs} v s risen begins =
+              let instant : ℕ = instant_in app mid e in
+              let place : b.hole < armed_messages app = omega (arith, risen.hollow.within, room push) in
+              let columns = columns_now now (risen.beside.long ∙ has.long) in
+              run_stands (here b.done (g.at + 38) b.cells instant vs) (in_loop v s b.hole)
+              (note_lines ++ leave app section.Timer level 9 ∷ []) runs
+              (omega (arith, begins.early, risen.within)) (leaving_fits app level note_lines [] refl refl)
+              (leaving_code z (f may) level (g.at + 38) note_lines [] (code_part code g.at (arming slot) 38 8
+              arming_has))
+              (arms q (in_loop v s b.hole) (writes_open (heap_open columns place))
+              (record { opens = columns.opens; hands = refl; of_task = (taken.of_task, refl) }) refl
+              (λ after us2 one agree2.
+              let beside : IsBeside q mid after = beside_more risen.beside (beside_one_place q place one) in
+              let agrees : AgreeInside i us2 = λ holder read. agree2 holder read ∙ begins.agree holder read in
+              let armed : timed (us2 (Guarded section.Timer)) ≡ push.spells.timed = ap timed (queue_now now agrees) in
+              at_address (g.at + 39) (omega arith)
+              (settles now (with_armed instant message) (in_loop v s b.hole)
+              (record {
+                spells = spelled_more push has beside
+                    (λ j less. hollow_filled e risen.hollow one j less)
+                    (settled_risen risen.risen
+                    (λ j some less under. absurd (omega (arith, above_less j some, under, less))));
+                few = omega (arith, armings_few);
+                alone = last_alone (are push) (is_row push has) beside push.mono;
+                long = beside.long ∙ has.long;
+              }) agrees (omega (arith, length_push (entries i) e, push.spells.arranged.long))
+              (λ last other us3 soon own later.
+              ends
+              (moved last (g.at + 46) refl (omega arith)
+              (armed_ends (with_armed instant message (timed (us2 (Guarded section.Timer)))).given _
+              (record {
+                small = omega (arith, ap (λ (t : Timed). t.given) armed, armings_few);
+                answered = sym (ap (λ (t : Timed). t.given + 1) armed);
+                in_time = omega (arith, soon, begins.early, risen.within);
+                own = own;
+                agree = later;
+              })))))))
+
+          -- the loop upwards, from the last place
+          rise_stands : {begin : ℕ} {vs : Values} (v : Words) (s : Scratch) → HasBegun begin vs
+              → S z (Now (f may) (here begin (g.at + 23) mid (instant_in app mid e) vs)
+              (words (in_loop v s (size push))))
+          rise_stands {begin = begin} {vs = vs} v s begins =
+              let ready : IsReady z (f may) hand k.turns.turns (size push)
+              (here begin (g.at + 23) mid (instant_in app mid e) vs) (longer push) = record {
+                code = code_part code g.at (arming slot) 23 15 arming_has;
+                runs = sooner runs (omega (arith, begins.early));
+                reach = omega (arith, room push, k.turns.reach);
+                few = omega (arith, room push, few_messages app may.facts.accepted);
+                small = omega (arith, has.numbers, armings_few);
+                columns = columns_now now has.long;
+                hollow = hollow_begins push has;
+                hole = hole_begins push has;
+              } in
+              rises_stand (rowed v) s ready
+              (λ b s risen. moved b.done (g.at + 38) refl (omega arith) (last_stand v s risen begins))
+
+        -- the row is written first
+        row_begins : {done : ℕ} {vs : Values} (v : Words) → v.place ≡ message_word e → done ≤ g.done + 7
+            → AgreeInside i vs
+            → Straight z (f may) (row_lines q 0 (armed_task app task)) (here done (g.at + 7) inside v.instant vs)
+            (words v)
+        row_begins {done = done} {vs = vs} v word early agree =
+            let first : armed_before app e.task ≡ armed_before app task = ap (armed_before app) taken.of_task in
+            let before = few_before app may.facts.accepted task in
+            row_stands v (armed_task app task) (columns_now now refl) (counts push) (timed_row app e timed_place)
+            (omega (arith, first, before, word, taken.of_task)) (omega (arith, word, word_small))
+            (λ mid has.
+            let J : ℕ = instant_in app mid e in
+            let goes : (n a : ℕ) → Type 0 =
+            λ n a. S z (Now (f may) (here (steps_and 16 done) (g.at + 23) mid n vs)
+            (words (record (rowed v) { instant = n; arming = a }))) in
+            ends
+            (moved (steps_and 16 done) (g.at + 23) refl (omega arith)
+            (subst (λ n. goes n (armings_before push)) has.instants
+            (subst (λ a. goes J a) has.numbers
+            (rise_stands (subst (λ n. IsRow n mid) (sym has.instants) has) v (scratch_of (rowed v))
+            (record { early = omega (arith, early); agree = agree }))))))
+
+      -- It is armed, and the call ends.
+      armed_stands : (r : Work)
+          → S z (Now (f may) g (words (worked (w may) (record r { word = message_word e }))))
+      armed_stands r =
+          let v : Words = worked (w may) (record r { word = message_word e }) in
+          let x = section.Timer in
+          let has = code_first code 23 g.at (arming slot) arming_has in
+          run_stands g v (take 23 (arming 0)) runs_on (omega (arith, few_args))
+          (and_both (fits 24 9 (enter app x level 9).0) (all_fit 24 9 (drop 1 (take 23 (arming 0))))
+          (enter_fits x (guard_of app x) level 9 24 9) refl)
+          (has.0 ∙ ap Some (sym (enter_placed x (guard_of app x) level 9 slot)), has.1)
+          (enters (may_enter opens) (omega (arith, k.turns.enough))
+          (ap (λ d. arm_actions app cost d message rest us) (sym k.delay_is))
+          (λ mask ws inside queued took.
+          at_address (g.at + 1) (omega arith)
+          (time_stands q (record v { mask = mask }) refl
+          (λ time done right vs early soon agree.
+          at_address (g.at + 7) (omega arith)
+          (row_begins took (delayed (record v { mask = mask }) time right) refl (omega (arith, soon)) agree)))))
+
     -- its arguments are stored first
-    granted_stands : (r : Work) → S c.z (Now (nine (w may)) holding
+    granted_stands : (r : Work) → S z (Now (nine (w may)) (holding (steps_and 8 h.done) (steps_and 8 h.at) cells)
         (nine_words (arguments_in (w may)) (record r { word = e.place })))
     granted_stands r =
         let eight : h.at + 8 ≡ steps_and 8 h.at = omega arith in
-        fill_stands {f = nine (w may)} {h = holding}
+        fill_stands {f = nine (w may)} {h = holding (steps_and 8 h.done) (steps_and 8 h.at) cells}
         (record {
           facts = may.facts;
-          code = subst (λ a. HasCode c.z.code a filling) eight
-              (code_front c.z.code (h.at + 8) filling (arming ++ ending) has_fill);
-          time = lasts_less (steps_and 8 h.done + (4 + args_of)) (h.done + after_steps c.z.app) (h.until ∷ h.deadlines)
-              (omega (arith, few_args)) may.time;
+          code = subst (λ a. HasCode code a filling) eight
+              (code_front code (h.at + 8) filling (arming slot ++ ending) has_fill);
+          time = (sooner {j = steps_and 8 h.done + (4 + args_of)} runs_on (omega (arith, few_args))).time;
           saves = saves_below (nine (w may)) h.held
-              (all_weaker (λ d. d < c.slot) (λ d. d < c.slot + 1) (λ d less. omega (arith, less)) _ may.masks);
+              (all_weaker (λ d. d < slot) (λ d. d < slot + 1) (λ d less. omega (arith, less)) _ may.masks);
           hands = record {
             of_task = taken.of_task;
             place = taken.place;
@@ -388,17 +525,20 @@ module _ {c : Call} {cost delay : ℕ} {args : List ℕ} {h : Here} (may : MayCa
           };
         }) (arguments_in (w may)) r
         (λ r2 left filled.
-        from_nine (w may) (record r2 { word = message_word e }) (record (ahead (4 + args_of) holding) { cells = left })
+        from_nine (w may) (record r2 { word = message_word e })
+        (holding (steps_and (4 + args_of) (steps_and 8 h.done)) (steps_and (4 + args_of) (steps_and 8 h.at)) left)
         (moved (h.done + (12 + args_of)) (h.at + (12 + args_of))
         (omega (arith, steps_are (4 + args_of) (steps_and 8 h.done)))
-        (omega (arith, steps_are (4 + args_of) (steps_and 8 h.at))) (armed_stands r2 left filled)))
+        (omega (arith, steps_are (4 + args_of) (steps_and 8 h.at))) (armed_stands filled r2)))
 
   -- The call is correct where it is correct behind it.
-  pub after_goes : S c.z h
+  after_goes : S z h
   after_goes =
       on_window may
-      (to_nine (w may) h
-      (take_begins may_take (arguments_in (w may)) (work_in (w may)) asks.is
+      (subst (λ (slots : List ℕ). S z (record h { slots = slots }))
+      (inner_window (f may) ((w may).answer ∷ []) (drop 10 (words (w may)))
+      (nine_words (arguments_in (w may)) (work_in (w may))))
+      (take_begins may_take (arguments_in (w may)) (work_in (w may)) k.call.is
       (λ e r cells queues us taken. granted_stands taken r) none_stands))
 
 -- the code of a `spawn_after` stands for its actions
@@ -406,16 +546,15 @@ pub afters_stand : AftersStand
 afters_stand app task t code bodies thread who level slot n cost delay s args rest vs accepted mono there software armed
     costs has may places delay_is args_are is =
     let z : Setting = record { app = app; code = code; bodies = bodies; thread = thread; who = who; caller = None } in
-    let c : Call = call_of z task t level slot rest vs in
-    stands_called c s (after_code app task level slot s.address)
-    (λ k enough on.
-    after_goes (may_call c (record { accepted = accepted; at = there; software = software }) mono may enough)
-    (record {
+    let c : Call = record { z = z; task = task; t = t; level = level; slot = slot; rest = rest; values = vs } in
+    let second : suc slot ≡ slot + 1 = omega arith in
+    stands_called c s (record { accepted = accepted; at = there; software = software }) mono may has is
+    (λ until call.
+    after_goes (record {
+      call = call;
       armed = armed;
-      costs = costs;
+      turns = turns_for app cost costs;
       places = record { closed = places.closed; within = places.within };
-      code = has;
       delay_is = delay_is;
-      args_are = args_are;
-      is = is;
-    }) on)
+      args_are = ap (λ d. take t.args (drop d s.slots)) second ∙ args_are;
+    }))

@@ -1,90 +1,48 @@
 -- A call of the timer queue's code in a body: where it begins, on a window of the job's slots, what is known inside its
 -- section, how that closes, and where the call ends.
-use Rattle.std.proofs.Common.{◌≡◌, ◌⊎◌, ℕ, zero, suc, ◌+◌, ◌-◌, ◌^◌, ◌<◌, ◌≤◌, true, false, List, [], ◌∷◌, ◌++◌, length}
-use Rattle.std.proofs.Common.{map, take, drop, IsSome, slice_index, refl, sym, ap, subst, ◌∙◌, arith}
+use Rattle.std.proofs.Common.{◌≡◌, ℕ, ◌+◌, ◌-◌, ◌^◌, ◌<◌, ◌≤◌, false, List, ◌∷◌, ◌++◌, length, map, IsSome}
+use Rattle.std.proofs.Common.{slice_index, refl, sym, ap, subst, ◌∙◌, arith}
 use Rattle.std.specs.List.{AllByRecursion}
-use Rattle.std.proofs.lemmas.List.{map-append}
-use Rattle.rt_lemmas.proofs.Bools.{and_both, and_left, and_right}
 use Rattle.rt_ids.specs.Content.{Content, Delays, Timed, Values, put_at, timed}
+use Rattle.rt_ids.specs.Doing.{Doing}
 use Rattle.rt_ids.specs.Entry.{Entry}
 use Rattle.rt_ids.specs.Holder.{Holder, Guarded}
-use Rattle.rt_ids.specs.Doing.{Doing}
 use Rattle.rt_ids.specs.declared.ids.Section.TheVariants as section
 use Rattle.rt_app.specs.declared.costs.TheConstants.{TIMER_QUEUE_WORDS}
-use Rattle.rt_app.specs.Tree.{Task, App}
+use Rattle.rt_app.specs.Tree.{Task}
 use Rattle.rt_app.specs.Holding.{storage, SpellsTimer}
 use Rattle.rt_app.specs.Layout.{memory}
 use Rattle.rt_app.specs.Sending.{Rest, leave_timer}
 use Rattle.rt_app.proofs.Counting.{count_more}
 use Rattle.rt_code.specs.Acting.{with_queue}
 use Rattle.rt_code.specs.Masking.{IsWithin, TakesOver}
-use Rattle.rt_code.specs.Owning.{Spot, is_open, reads, saved_slots, mine, Agree, LeavesMine}
+use Rattle.rt_code.specs.Owning.{Spot, is_open, saved_slots, mine, Agree, LeavesMine}
 use Rattle.rt_code.specs.Standing.{passed}
 use Rattle.rt_code.proofs.Mine.{queued, queues_same, owns_open, may_load}
-use Rattle.rt_gen_queue.specs.Guards.{guard_of, leave}
+use Rattle.rt_gen_queue.specs.Guards.{leave}
 use Rattle.rt_gen_queue.specs.Line.{Line, HasCode}
 use Rattle.rt_gen_queue.specs.Spawning.{HoldsOff}
-use Rattle.rt_gen_queue.proofs.Entering.{opened, within, leave_placed, leave_fits, reads_it, own_left, agree_left}
+use Rattle.rt_gen_queue.proofs.Entering.{opened, within, reads_it, own_left, agree_left}
 use Rattle.rt_gen_queue.proofs.Facts.{Spawned}
 use Rattle.rt_gen_queue.proofs.Layer.{window_long, window_outside, begun, begins, lasts_less, Setting, Here, InTime}
-use Rattle.rt_gen_queue.proofs.Layer.{spot, S, window, window_read, Now, Straight, placed, fits, all_fit}
+use Rattle.rt_gen_queue.proofs.Layer.{spot, S, window, window_read, Now, Straight, placed}
 use Rattle.rt_gen_queue.proofs.Owning.{queue_here, timer_back, put_here, spelled_put}
 use Rattle.rt_gen_timer.specs.TimerCode.{queue_of}
 use Rattle.rt_gen_timer.specs.TimerCalls.{MayUseTimer, StandsBefore}
 use Rattle.rt_gen_timer.specs.TimerLines.{alarm_lines}
 use Rattle.rt_gen_timer.proofs.Acting.{Columns}
 use Rattle.rt_gen_timer.proofs.Alone.{IsTimerAlone}
-use Rattle.rt_gen_timer.proofs.Closing.{closes_timer}
+use Rattle.rt_gen_timer.proofs.Closing.{closes_timer, leaving_placed}
 use Rattle.rt_gen_timer.proofs.Opening.{MayOpen, may_enter, columns_inside}
-use Rattle.rt_gen_timer.proofs.Sifting.{rise_reach}
 use Rattle.rt_gen_timer.proofs.Window.{Slots, Words, words, words_of, frame_of, window_of}
+pub use Rattle.rt_gen_timer.proofs.Closing.{leaving_fits}
 
--- so many turns lead through so many messages
-pub reach_enough : (n : ℕ) → n < rise_reach n
-reach_enough zero = omega arith
-reach_enough (suc n) = omega (arith, reach_enough n)
-
--- lines as they stand in code, from one of them on
-pub code_from : (code : List Line) (k at : ℕ) (lines : List Line) → HasCode code at lines
-    → HasCode code (at + k) (drop k lines)
-code_from code zero at lines has =
-    let e : at ≡ at + 0 = omega arith in subst (λ (a : ℕ). HasCode code a lines) e has
-code_from code (suc k) at [] has = tt
-code_from code (suc k) at (line ∷ lines) (first, rest) =
-    let e : suc at + k ≡ at + suc k = omega arith in
-    subst (λ (a : ℕ). HasCode code a (drop k lines)) e (code_from code k (suc at) lines rest)
-
-pub code_first : (code : List Line) (n at : ℕ) (lines : List Line) → HasCode code at lines
-    → HasCode code at (take n lines)
-code_first code zero at lines has = tt
-code_first code (suc n) at [] has = tt
-code_first code (suc n) at (line ∷ lines) (first, rest) = (first, code_first code n (suc at) lines rest)
-
--- so many of them
-pub code_part : (code : List Line) (at : ℕ) (lines : List Line) (k n : ℕ) → HasCode code at lines
-    → HasCode code (at + k) (take n (drop k lines))
-code_part code at lines k n has = code_first code n (at + k) (drop k lines) (code_from code k at lines has)
-
--- lines with one that leaves the timer queue's section among them: that they fit, and how they stand in code
-pub leaving_fits : (app : App) (level : ℕ) (front behind : List Line) → all_fit 24 9 front ≡ true
-    → all_fit 24 9 behind ≡ true → all_fit 24 9 (front ++ leave app section.Timer level 9 ∷ behind) ≡ true
-leaving_fits app level [] behind first second =
-    and_both (fits 24 9 (leave app section.Timer level 9).0) (all_fit 24 9 behind)
-    (leave_fits section.Timer (guard_of app section.Timer) level 9 24 9) second
-leaving_fits app level (line ∷ front) behind first second =
-    and_both (fits 24 9 line.0) (all_fit 24 9 (front ++ leave app section.Timer level 9 ∷ behind))
-    (and_left (fits 24 9 line.0) (all_fit 24 9 front) first)
-    (leaving_fits app level front behind (and_right (fits 24 9 line.0) (all_fit 24 9 front) first) second)
-
+-- lines with one that leaves the timer queue's section among them, as they stand in code
 pub leaving_code : (z : Setting) (f : Slots) (level at : ℕ) (front behind : List Line)
     → HasCode z.code at
     (map (placed f.slot) front ++ leave z.app section.Timer level (f.slot + 9) ∷ map (placed f.slot) behind)
     → HasCode z.code at (map (placed f.slot) (front ++ leave z.app section.Timer level 9 ∷ behind))
-leaving_code z f level at front behind has =
-    subst (HasCode z.code at)
-    (ap (λ line. map (placed f.slot) front ++ line ∷ map (placed f.slot) behind)
-    (sym (leave_placed section.Timer (guard_of z.app section.Timer) level 9 f.slot))
-    ∙ sym (map-append (placed f.slot) front (leave z.app section.Timer level 9 ∷ behind))) has
+leaving_code z f level at front behind has = leaving_placed z.app level z.code f at front behind has
 
 -- a call that goes to the timer queue: for a task, at a level, with the first of its slots, and what is left behind it
 pub record Call : Type 0 where
@@ -95,10 +53,6 @@ pub record Call : Type 0 where
   pub slot : ℕ
   pub rest : ℕ → Rest
   pub values : Values
-
-abbrev pub call_of : (z : Setting) (task : ℕ) (t : Task) (level slot : ℕ) (rest : ℕ → Rest) (values : Values) → Call
-call_of z task t level slot rest values =
-    record { z = z; task = task; t = t; level = level; slot = slot; rest = rest; values = values }
 
 -- it may begin here, in so many steps
 pub record MayCall (c : Call) (steps : ℕ) (h : Here) : Type 0 where
@@ -112,38 +66,7 @@ pub record MayCall (c : Call) (steps : ℕ) (h : Here) : Type 0 where
   pub off : HoldsOff c.z.app c.z.who c.z.who h.held c.level
   pub time : InTime (h.done + steps) h
 
--- what it leaves
-pub record Used : Type 0 where
-  pub done : ℕ
-  pub slots : List ℕ
-  pub cells : List ℕ
-  pub queues : Holder → List Entry
-  pub values : Values
-
--- Behind it the answer is in the first slot, other slots, what the job may read, and its cells and queues are as they
--- were.
-pub record HasUsed (c : Call) (steps : ℕ) (h : Here) (answer : ℕ) (u : Used) : Type 0 where
-  pub answered : (answer ≤ 2 ^ 31) × (slice_index u.slots c.slot ≡ answer)
-  pub frame : length u.slots ≡ length h.slots
-  pub kept : (d : ℕ) → (d < c.slot) ⊎ (c.slot + TIMER_QUEUE_WORDS ≤ d) → slice_index u.slots d ≡ slice_index h.slots d
-  pub in_time : u.done ≤ h.done + steps
-  pub own : LeavesMine (storage c.z.app) c.z.who (spot c.z h) u.cells u.queues
-  pub agree : Agree (storage c.z.app) c.z.who h.held u.values c.values
-
--- the code behind these lines is correct
-abbrev pub GoesBehind : Call → (steps : ℕ) → List Line → Here → Type 0
-GoesBehind c steps lines h =
-    (answer : ℕ) (u : Used) → HasUsed c steps h answer u
-    → S c.z (record h {
-      done = u.done;
-      slots = u.slots;
-      at = h.at + length lines;
-      cells = u.cells;
-      queues = u.queues;
-      rest = c.rest answer u.values;
-    })
-
--- the same with the words of its window
+-- what it leaves, with the words of its window
 pub record Left : Type 0 where
   pub done : ℕ
   pub words : Words
@@ -151,7 +74,8 @@ pub record Left : Type 0 where
   pub queues : Holder → List Entry
   pub values : Values
 
--- where a job began a call with these values, this is what it leaves
+-- where a job began a call with these values, this is what it leaves: what it may read, and its cells and queues are as
+-- they were
 pub record HasCalled (z : Setting) (h : Here) (before : Values) (steps answer : ℕ) (b : Left) : Type 0 where
   pub small : answer ≤ 2 ^ 31
   pub answered : b.words.answer ≡ answer
@@ -161,13 +85,8 @@ pub record HasCalled (z : Setting) (h : Here) (before : Values) (steps answer : 
 
 -- and where it is then
 abbrev pub behind_call : Here → (at : ℕ) → Rest → Left → Here
-behind_call h at rest b = record h {
-  done = b.done;
-  at = at;
-  cells = b.cells;
-  queues = b.queues;
-  rest = rest b.values;
-}
+behind_call h at rest b =
+    record h { done = b.done; at = at; cells = b.cells; queues = b.queues; rest = rest b.values }
 
 module _ {c : Call} {steps : ℕ} {h : Here} (may : MayCall c steps h) where
   abbrev pub f : Slots
@@ -191,27 +110,18 @@ module _ {c : Call} {steps : ℕ} {h : Here} (may : MayCall c steps h) where
     closed = may.closed;
   }
 
-  -- where it ends, on the window
-  pub call_ends : (lines : List Line) → GoesBehind c steps lines h → (answer : ℕ) (b : Left)
-      → HasCalled c.z h c.values steps answer b
+  -- the code behind these lines is correct
+  abbrev pub GoesBehind : List Line → Type 0
+  GoesBehind lines =
+      (answer : ℕ) (b : Left) → HasCalled c.z h c.values steps answer b
       → S c.z (Now f (behind_call h (h.at + length lines) (c.rest answer) b) (words b.words))
-  call_ends lines on answer b called =
-      let first : c.slot ≡ c.slot + 0 = omega arith in
-      let same : window f (words w) ≡ h.slots = sym (window_of c.slot h.slots may.frame) in
-      let slots : List ℕ = window f (words b.words) in
-      on answer (record { done = b.done; slots = slots; cells = b.cells; queues = b.queues; values = b.values })
-      (record {
-        answered = (
-          called.small,
-          ap (slice_index slots) first ∙ window_read f (words b.words) 0 (omega arith) ∙ called.answered,
-        );
-        frame = window_long f (words b.words) (words w) refl ∙ ap (λ (ss : List ℕ). length ss) same;
-        kept = λ d far.
-            window_outside f (words b.words) (words w) refl d far ∙ ap (λ (ss : List ℕ). slice_index ss d) same;
-        in_time = called.in_time;
-        own = called.own;
-        agree = called.agree;
-      })
+
+-- It begins: its lines, which take so many steps, are in the code, this is left to do, and it goes on behind them.
+pub record Begins (c : Call) (steps : ℕ) (lines : List Line) (doing : Rest) (h : Here) : Type 0 where
+  pub may : MayCall c steps h
+  pub has : HasCode c.z.code h.at lines
+  pub is : h.rest ≡ doing c.values
+  pub on : GoesBehind may lines
 
 -- Inside the section of the timer queue: where it was entered, at which cost, and what was taken over.
 pub record Inside : Type 0 where
@@ -252,21 +162,25 @@ pub record LeavesQueue (i : Inside) (after : List ℕ) (es : List Entry) (t : Ti
   pub alone : IsTimerAlone i.z.app i.cells after
   pub long : length after ≡ length i.cells
 
+-- what may be read inside is as it was taken over
+abbrev pub AgreeInside : Inside → Values → Type 0
+AgreeInside i ws =
+    Agree (storage i.z.app) i.z.who (opened i.z i.f section.Timer i.level ∷ i.h.held) ws i.values
+
 module _ {i : Inside} (now : IsInside i) where
   pub columns_now : {after : List ℕ} → length after ≡ length i.cells
       → Columns i.z (queue_of i.z.app) (opened i.z i.f section.Timer i.level ∷ i.h.held) after
   columns_now long =
       columns_inside i.z i.f i.level i.h.held now.may.timed (long ∙ now.taken.same.long ∙ now.long)
 
-  -- its queue is read inside
-  pub reads_now : reads (storage i.z.app) i.z.who (opened i.z i.f section.Timer i.level ∷ i.h.held)
-      (Guarded section.Timer) ≡ true
-  reads_now = reads_it tt (may_enter now.may) now.taken
+  -- so is what the queue has
+  pub queue_now : {ws : Values} → AgreeInside i ws → ws (Guarded section.Timer) ≡ Delays now.spells.timed
+  queue_now agree =
+      agree (Guarded section.Timer) (reads_it tt (may_enter now.may) now.taken) ∙ now.spells.is
 
-  -- The section closes with the alarm set, behind an action that put this into the queue: all else is as it was.
-  pub settles : {lines : List Line} {done at : ℕ} {places es : List Entry} {after : List ℕ} {t : Timed} {rest : Rest}
-      {ws : Values} {content : Content} (v : Words) → LeavesQueue i after es t → content ≡ Delays t
-      → Agree (storage i.z.app) i.z.who (opened i.z i.f section.Timer i.level ∷ i.h.held) ws i.values
+  -- The section closes with the alarm set, behind an action that changed the queue to this: all else is as it was.
+  pub settles : {lines : List Line} {done at : ℕ} {places es : List Entry} {after : List ℕ} {rest : Rest} {ws : Values}
+      (change : Timed → Timed) (v : Words) → LeavesQueue i after es (change now.spells.timed) → AgreeInside i ws
       → v.count ≡ length es
       → ((last other : ℕ) (us : Values) → last ≤ done + 6
       → LeavesMine (storage i.z.app) i.z.who (spot i.z i.h) after (with_queue i.queues section.Timer es)
@@ -281,10 +195,13 @@ module _ {i : Inside} (now : IsInside i) where
       }) (words (record v { other = other })))
       → Straight i.z i.f (alarm_lines (queue_of i.z.app) 0 at ++ leave i.z.app section.Timer i.level 9 ∷ lines)
       (at_work i done at places after (with_queue i.queues section.Timer es)
-      (leave_timer i.z.app rest (put_at ws (Guarded section.Timer) content))) (words v)
-  settles {es = es} {after = after} {t = t} {ws = ws} {content = content} v leaves is agree counted on =
+      (leave_timer i.z.app rest
+      (put_at ws (Guarded section.Timer) (Delays (change (timed (ws (Guarded section.Timer)))))))) (words v)
+  settles {es = es} {after = after} {ws = ws} change v leaves agree counted on =
       let x = section.Timer in
       let enter = may_enter now.may in
+      let content : Content = Delays (change (timed (ws (Guarded x)))) in
+      let is : content ≡ Delays (change now.spells.timed) = ap (λ k. Delays (change (timed k))) (queue_now agree) in
       closes_timer i.level v
       (record {
         accepted = now.may.accepted;
@@ -331,36 +248,52 @@ own_on z h {e = e} {mid = mid} {more = more} first second = record {
 abbrev pub of_job : Call → Spot → Call
 of_job c s = record c { z = record c.z { caller = s.caller } }
 
--- a job that may use the timer queue may call
-pub may_call : (c : Call) {s : Spot} {steps k : ℕ} → Spawned c.z.app c.task c.t → IsSome c.z.app.mono
-    → MayUseTimer c.z.app c.z.who steps c.level c.slot s → steps ≤ k → MayCall (of_job c s) steps (begun s k)
-may_call c {s = s} {steps = steps} facts mono may enough = record {
-  facts = facts;
-  timed = mono;
-  cells = may.cells;
-  frame = may.frame;
-  masks = may.masks;
-  closed = may.closed;
-  within = may.within;
-  off = may.off;
-  time = (omega arith, lasts_less (0 + steps) steps s.lefts (omega arith) may.enough);
-}
-
--- the code of a call stands for its actions, where it is correct
-pub stands_called : (c : Call) (s : Spot) (lines : List Line) {steps n : ℕ}
-    → ((k : ℕ) → steps ≤ k → GoesBehind (of_job c s) steps lines (begun s k) → S (of_job c s).z (begun s k))
+-- The code of a call stands for its actions where it is correct: a job that may use the timer queue may call, and
+-- behind the call the answer is in the first slot, and slots outside the window are as they were.
+pub stands_called : (c : Call) (s : Spot) {lines : List Line} {doing : Rest} {steps n : ℕ}
+    → Spawned c.z.app c.task c.t → IsSome c.z.app.mono → MayUseTimer c.z.app c.z.who steps c.level c.slot s
+    → HasCode c.z.code s.address lines → s.rest ≡ doing c.values
+    → ((k : ℕ) → Begins (of_job c s) steps lines doing (begun s k) → S (of_job c s).z (begun s k))
     → StandsBefore c.z.app c.z.who c.z.code c.z.bodies c.z.thread steps c.slot lines c.rest n s c.values
-stands_called c s lines {steps = steps} {n = n} correct on k enough =
+stands_called c s {steps = steps} facts mono uses has is correct on k enough =
+    let may : MayCall (of_job c s) steps (begun s k) = record {
+      facts = facts;
+      timed = mono;
+      cells = uses.cells;
+      frame = uses.frame;
+      masks = uses.masks;
+      closed = uses.closed;
+      within = uses.within;
+      off = uses.off;
+      time = (omega (arith, enough), lasts_less (0 + steps) steps s.lefts (omega arith) uses.enough);
+    } in
+    let first : c.slot ≡ c.slot + 0 = omega arith in
+    let same : window (f may) (words (w may)) ≡ s.slots = sym (window_of c.slot s.slots uses.frame) in
     begins s k
-    (correct k (omega (arith, enough))
-    (λ answer u used. record {
-      stands = on answer u.done (k - u.done) u.slots u.cells u.queues u.values (omega (arith, used.in_time, enough))
-          (record {
-            answered = used.answered;
-            frame = used.frame;
-            kept = used.kept;
-            in_time = omega (arith, used.in_time);
-            own = record { long = used.own.long; touched = used.own.touched; queued = used.own.queued };
-            agree = used.agree;
-          });
+    (correct k
+    (record {
+      may = may;
+      has = has;
+      is = is;
+      on = λ answer b called.
+          let slots : List ℕ = window (f may) (words b.words) in
+          record {
+            stands = on answer b.done (k - b.done) slots b.cells b.queues b.values
+                (omega (arith, called.in_time, enough))
+                (record {
+                  answered = (
+                    called.small,
+                    ap (slice_index slots) first ∙ window_read (f may) (words b.words) 0 (omega arith)
+                        ∙ called.answered,
+                  );
+                  frame = window_long (f may) (words b.words) (words (w may)) refl
+                      ∙ ap (λ (ss : List ℕ). length ss) same;
+                  kept = λ d far.
+                      window_outside (f may) (words b.words) (words (w may)) refl d far
+                      ∙ ap (λ (ss : List ℕ). slice_index ss d) same;
+                  in_time = omega (arith, called.in_time);
+                  own = record { long = called.own.long; touched = called.own.touched; queued = called.own.queued };
+                  agree = called.agree;
+                });
+          };
     }))

@@ -1,30 +1,61 @@
--- The end of a section of the timer queue: the alarm is set to the least armed instant, or to none, and the section
--- closes.
-use Rattle.std.proofs.Common.{◌≡◌, ℕ, suc, ◌+◌, ◌^◌, ◌≤◌, true, List, ◌∷◌, ◌++◌, length, map, IsSome, slice_index}
-use Rattle.std.proofs.Common.{refl, sym, ap, subst, ◌∙◌, arith}
+-- The end of a section of the timer queue: the alarm is set to the least armed instant, which is that of the heap's
+-- first message, or to none where nothing is armed, and the section closes.
+use Rattle.std.proofs.Common.{◌≡◌, ℕ, suc, ◌+◌, ◌^◌, ◌≤◌, true, List, [], ◌∷◌, ◌++◌, length, map, IsSome, slice_index}
+use Rattle.std.proofs.Common.{Some, refl, sym, ap, subst, ◌∙◌, arith}
+use Rattle.std.proofs.lemmas.List.{map-append}
 use Rattle.rt_app.specs.Accepted.{IsAccepted}
-use Rattle.rt_app.specs.Holding.{storage}
+use Rattle.rt_app.specs.Holding.{storage, armed_place}
 use Rattle.rt_app.specs.Sending.{Rest, leave_timer}
 use Rattle.rt_app.specs.Tree.{App}
 use Rattle.rt_code.proofs.Mine.{owns_open, owns_reads, reads_more}
 use Rattle.rt_code.specs.Owning.{Held, reads, Agree}
-use Rattle.rt_gen_queue.proofs.Entering.{opened, leaves, leave_placed, leave_fits}
-use Rattle.rt_gen_queue.proofs.Layer.{Setting, Here, Straight, fits, all_fit, placed}
+use Rattle.rt_gen_queue.proofs.Entering.{opened, leaves, leave_placed, leave_fits, fits_append}
+use Rattle.rt_gen_queue.proofs.Layer.{Setting, Here, Straight, fits, all_fit, placed, stays, loads, loads_at}
+use Rattle.rt_gen_queue.proofs.Layer.{reads_open, alarms, no_alarm, skips, skips_off}
+use Rattle.rt_gen_queue.proofs.Numbers.{steps_and}
 use Rattle.rt_gen_queue.proofs.Owning.{timer_spelled}
 use Rattle.rt_gen_queue.specs.Guards.{guard_of, leave}
 use Rattle.rt_gen_queue.specs.Line.{Line, HasCode}
-use Rattle.rt_gen_timer.proofs.Acting.{Columns}
-use Rattle.rt_gen_timer.proofs.Alarming.{alarm_stands}
+use Rattle.rt_gen_timer.proofs.Acting.{Columns, first_open, instant_open}
+use Rattle.rt_gen_timer.proofs.Alone.{instant_in, number_in}
 use Rattle.rt_gen_timer.proofs.Delaying.{at_address}
+use Rattle.rt_gen_timer.proofs.Hollow.{IsFirst}
 use Rattle.rt_gen_timer.proofs.Opening.{timer_irq}
 use Rattle.rt_gen_timer.proofs.Spelled.{first_within}
 use Rattle.rt_gen_timer.proofs.Window.{Words, words, Slots}
 use Rattle.rt_gen_timer.specs.TimerCode.{queue_of}
 use Rattle.rt_gen_timer.specs.TimerLines.{alarm_lines}
-use Rattle.rt_ids.specs.Content.{Content, Values, timed}
+use Rattle.rt_ids.specs.Action.{SetsAlarm}
+use Rattle.rt_ids.specs.Content.{Content, Values, timed, delays, least_instant}
+use Rattle.rt_ids.specs.Doing.{does}
+use Rattle.rt_ids.specs.Entry.{Entry}
 use Rattle.rt_ids.specs.Holder.{Guarded}
 use Rattle.rt_lemmas.proofs.Bools.{and_both}
 use Rattle.rt_ids.specs.declared.ids.Section.TheVariants as section
+
+-- the alarm is set within 5 steps; only one slot is written
+alarm_stands : {z : Setting} {f : Slots} {values : Values} {rest : Rest} {lines : List Line} {h : Here} (w : Words)
+    (heap : List Entry) → Columns z (queue_of z.app) h.held h.cells
+    → (storage z.app).timer ≡ Some (queue_of z.app).irq
+    → (w.count ≡ length heap) × (length heap ≤ (queue_of z.app).messages)
+    → IsFirst (queue_of z.app) (armed_place z.app) (instant_in z.app h.cells) (number_in z.app h.cells) h.cells
+    (least_instant (delays (values (Guarded section.Timer)))) heap
+    → h.rest ≡ does SetsAlarm values (λ answer. rest)
+    → ((done other : ℕ) (vs : Values) → done ≤ h.done + 5 → Agree (storage z.app) z.who h.held vs values
+    → Straight z f lines (record h { done = done; at = h.at + 6; rest = rest vs }) (words (record w { other = other })))
+    → Straight z f (alarm_lines (queue_of z.app) 0 h.at ++ lines) h (words w)
+alarm_stands {h = h} w [] columns timer (counted, room) none doing on =
+    skips_off 4 (omega arith) counted
+    (no_alarm columns.opens doing none
+    (λ vs agree.
+    at_address (h.at + 6) (omega arith) (on (steps_and 2 h.done) w.other vs (omega arith) agree)))
+alarm_stands {z = z} {h = h} w (e ∷ others) columns timer (counted, room) (shown, kept, least) doing on =
+    let instant : ℕ = instant_in z.app h.cells e in
+    stays (omega (arith, counted))
+    (loads (armed_place z.app e) (reads_open (first_open columns (omega (arith, room))) shown)
+    (loads_at (armed_place z.app e) instant refl (reads_open (instant_open columns kept.room) kept.instants)
+    (alarms timer columns.opens doing least
+    (λ vs agree. skips 1 (omega arith) (on (steps_and 5 h.done) instant vs (omega arith) agree)))))
 
 -- The section may close: its cells spell what it is given back as, and a slot has how many messages are armed.
 pub record MayClose (z : Setting) (h : Here) (w : Words) (values : Values) : Type 0 where
@@ -46,8 +77,7 @@ pub closes_timer : {z : Setting} {f : Slots} {lines : List Line} {h : Here} {out
     (record h { held = outer; done = done; deadlines = around; at = h.at + 7; rest = rest vs })
     (words (record w { other = other })))
     → Straight z f (alarm_lines (queue_of z.app) 0 h.at ++ leave z.app section.Timer level 9 ∷ lines) h (words w)
-closes_timer {z = z} {f = f} {h = h} {outer = outer} {rest = rest} {values = values} level w may innermost last doing
-    on =
+closes_timer {z = z} {f = f} {h = h} {outer = outer} {values = values} level w may innermost last doing on =
     let x = section.Timer in
     let s = timer_spelled z.app (slice_index h.cells) (h.queues (Guarded x)) (values (Guarded x)) may.spelled in
     let t_is : timed (values (Guarded x)) ≡ s.timed = ap timed s.is in
@@ -69,22 +99,36 @@ closes_timer {z = z} {f = f} {h = h} {outer = outer} {rest = rest} {values = val
     (subst (λ (held : List Held). reads (storage z.app) z.who held holder ≡ true) (sym innermost)
     (reads_more (storage z.app) z.who (opened z f x level) outer holder can))))))
 
--- its lines fit the window, and where they are numbered from another slot on
 module _ (app : App) (level : ℕ) where
+  -- lines with one that leaves the section among them: that they fit the window, and where they are numbered from
+  -- another slot on
+  pub leaving_fits : (front behind : List Line) → all_fit 24 9 front ≡ true → all_fit 24 9 behind ≡ true
+      → all_fit 24 9 (front ++ leave app section.Timer level 9 ∷ behind) ≡ true
+  leaving_fits front behind first second =
+      fits_append 24 9 front (leave app section.Timer level 9 ∷ behind) first
+      (and_both (fits 24 9 (leave app section.Timer level 9).0) (all_fit 24 9 behind)
+      (leave_fits section.Timer (guard_of app section.Timer) level 9 24 9) second)
+
+  pub leaving_placed : (code : List Line) (f : Slots) (at : ℕ) (front behind : List Line)
+      → HasCode code at
+      (map (placed f.slot) front ++ leave app section.Timer level (f.slot + 9) ∷ map (placed f.slot) behind)
+      → HasCode code at (map (placed f.slot) (front ++ leave app section.Timer level 9 ∷ behind))
+  leaving_placed code f at front behind has =
+      subst (HasCode code at)
+      (ap (λ line. map (placed f.slot) front ++ line ∷ map (placed f.slot) behind)
+      (sym (leave_placed section.Timer (guard_of app section.Timer) level 9 f.slot))
+      ∙ sym (map-append (placed f.slot) front (leave app section.Timer level 9 ∷ behind))) has
+
+  -- so it is where the alarm is set and the section closes
   abbrev pub closing_lines : ℕ → List Line → List Line
   closing_lines at lines = alarm_lines (queue_of app) 0 at ++ leave app section.Timer level 9 ∷ lines
 
   pub closing_fit : (at : ℕ) (lines : List Line) → all_fit 24 9 lines ≡ true
       → all_fit 24 9 (closing_lines at lines) ≡ true
-  closing_fit at lines fit =
-      and_both (fits 24 9 (leave app section.Timer level 9).0) (all_fit 24 9 lines)
-      (leave_fits section.Timer (guard_of app section.Timer) level 9 24 9) fit
+  closing_fit at lines fit = leaving_fits (alarm_lines (queue_of app) 0 at) lines refl fit
 
   pub closing_placed : (code : List Line) (f : Slots) (at : ℕ) (lines : List Line)
       → HasCode code at
       (alarm_lines (queue_of app) f.slot at ++ leave app section.Timer level (f.slot + 9) ∷ map (placed f.slot) lines)
       → HasCode code at (map (placed f.slot) (closing_lines at lines))
-  closing_placed code f at lines has =
-      subst
-      (λ (line : Line). HasCode code at (alarm_lines (queue_of app) f.slot at ++ line ∷ map (placed f.slot) lines))
-      (sym (leave_placed section.Timer (guard_of app section.Timer) level 9 f.slot)) has
+  closing_placed code f at lines has = leaving_placed code f at (alarm_lines (queue_of app) 0 at) lines has

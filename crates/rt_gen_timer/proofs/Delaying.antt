@@ -1,23 +1,21 @@
 -- The lines that read the time and add a delay to it, but no more than the longest one: the instant of 32 bits does not
 -- wrap, since the time is below 2^31.
-use Rattle.std.proofs.Common.{◌≡◌, ℕ, suc, ◌+◌, ◌^◌, ◌<◌, ◌≤◌, min, nat_lt, List, ◌∷◌, ◌++◌, [], refl, ap, sym, subst}
+use Rattle.std.proofs.Common.{◌≡◌, ℕ, ◌+◌, ◌^◌, ◌<◌, ◌≤◌, min, nat_lt, List, ◌++◌, refl, ap, sym, subst}
 use Rattle.std.proofs.Common.{arith, inl, inr}
 use Rattle.std.proofs.lemmas.Bool.{cases_lt, lt-ltb, le-ltb}
 use Rattle.rt_app.specs.Holding.{storage}
 use Rattle.rt_code.specs.Owning.{Agree}
-use Rattle.rt_gen_queue.proofs.Layer.{Setting, Here, S, Straight, sets, copies, calculates, stays, clocks}
-use Rattle.rt_gen_queue.proofs.Numbers.{added}
+use Rattle.rt_gen_queue.proofs.Layer.{Setting, Here, S, Straight, sets, copies, calculates, stays, clocks, skips_off}
+use Rattle.rt_gen_queue.proofs.Numbers.{added, steps_and}
 use Rattle.rt_gen_queue.specs.Line.{Line}
-use Rattle.rt_gen_timer.proofs.Acting.{skips}
 use Rattle.rt_gen_timer.proofs.Window.{Words, words, Slots}
-use Rattle.rt_gen_timer.specs.TimerLines.{time_lines, calc, copy}
+use Rattle.rt_gen_timer.specs.TimerLines.{time_lines}
 use Rattle.rt_gen_timer.specs.declared.queue.TimerQueue.{TimerQueue}
 use Rattle.rt_ids.specs.Action.{Clocks}
 use Rattle.rt_ids.specs.Content.{Values}
 use Rattle.rt_ids.specs.Doing.{Doing, does}
 use Rattle.rt_ids.specs.Operation.{number_of}
 use Rattle.rt_ids.specs.declared.limits.TheConstants.{LONGEST_DELAY}
-use Rattle.rt_ids.specs.declared.op.Op.TheVariants as op
 
 -- an address that is told otherwise
 pub at_address : {z : Setting} {f : Slots} {lines : List Line} {h : Here} {ws : List ℕ} (to : ℕ) → to ≡ h.at
@@ -49,38 +47,31 @@ pub time_stands : {z : Setting} {f : Slots} {lines : List Line} {h : Here} (q : 
     → Straight z f lines (record h { done = done; at = h.at + 6; rest = follows time vs })
     (words (delayed w time right)))
     → Straight z f (time_lines q 0 h.at ++ lines) h (words w)
-time_stands {z = z} {f = f} {lines = lines} {h = h} q w {values = values} {follows = follows} doing on =
+time_stands {z = z} {f = f} {lines = lines} {h = h} q w {follows = follows} doing on =
     clocks doing
     (λ time vs early agree.
     let right : ℕ = number_of (nat_lt LONGEST_DELAY w.answer) in
-    sets (calculates right refl
+    let goes : ℕ → ℕ → Type 0 =
+    λ done a. Straight z f lines (record h { done = done; at = h.at + 6; rest = follows time vs })
+    (words (record w { answer = a; instant = time + a; other = LONGEST_DELAY; right = right })) in
+    let last : (done : ℕ) → done ≤ h.done + 6 → goes done (min w.answer LONGEST_DELAY) =
+    λ done soon. on time done right vs early soon agree in
+    sets
+    (calculates right refl
     (elim (cases_lt LONGEST_DELAY w.answer) [
       | inl more ↦
           (let is : right ≡ 1 = ap number_of (lt-ltb LONGEST_DELAY w.answer more) in
-          stays (omega (arith, is)) (copies (last time vs early agree (omega arith) (omega arith) (omega arith))))
+          let least : min w.answer LONGEST_DELAY ≡ LONGEST_DELAY = omega arith in
+          stays (omega (arith, is))
+          (copies
+          (calculates (time + LONGEST_DELAY) (added time LONGEST_DELAY (time + LONGEST_DELAY) refl (omega arith))
+          (at_address (h.at + 6) (omega arith)
+          (subst (goes (steps_and 6 h.done)) least (last (steps_and 6 h.done) (omega arith)))))))
       | inr most ↦
           (let is : right ≡ 0 = ap number_of (le-ltb LONGEST_DELAY w.answer most) in
-          skips (copy q 0 0 13 ∷ []) is (omega arith)
-          (last time vs early agree (omega arith) (omega arith) (omega arith)))
+          let least : min w.answer LONGEST_DELAY ≡ w.answer = omega arith in
+          skips_off 1 (omega arith) is
+          (calculates (time + w.answer) (added time w.answer (time + w.answer) refl (omega arith))
+          (at_address (h.at + 6) (omega arith)
+          (subst (goes (steps_and 5 h.done)) least (last (steps_and 5 h.done) (omega arith))))))
     ])))
-  where
-    last : (time : ℕ) (vs : Values) → time < 2 ^ 31 → Agree (storage z.app) z.who h.held vs values → {done at least : ℕ}
-        → min w.answer LONGEST_DELAY ≡ least → done ≤ h.done + 5 → h.at + 5 ≡ at
-        → Straight z f (calc q 0 op.Add 10 10 0 ∷ lines) (record h { done = done; at = at; rest = follows time vs })
-        (words (record w {
-          answer = least;
-          instant = time;
-          other = LONGEST_DELAY;
-          right = number_of (nat_lt LONGEST_DELAY w.answer);
-        }))
-    last time vs early agree {done = done} {at = at} {least = least} is soon there =
-        calculates (time + least) (added time least (time + least) refl (omega arith))
-        (at_address (h.at + 6) (omega arith)
-        (subst (λ a. Straight z f lines (record h { done = suc done; at = h.at + 6; rest = follows time vs })
-        (words (record w {
-          answer = a;
-          instant = time + a;
-          other = LONGEST_DELAY;
-          right = number_of (nat_lt LONGEST_DELAY w.answer);
-        }))) is
-        (on time (suc done) (number_of (nat_lt LONGEST_DELAY w.answer)) vs early (omega arith) agree)))

@@ -1,46 +1,77 @@
--- The code of the calls that go to the timer queue, as it is generated from a plan.
-use Rattle.std.proofs.Common.{ℕ, ◌+◌, ◌*◌, ◌≤◌, ◌&&◌, Bool, true, false, Option, Some, None, List, [], ◌∷◌}
-use Rattle.std.proofs.Common.{◌++◌, length}
-use Rattle.std.proofs.Common.{IsSome, arith}
-use Rattle.std.proofs.Common.{if◌then◌else◌}
+-- What has to be known of the code of the calls and of the timer handler for it to be generated: that a plan's tables
+-- have the timer queue, how many lines there are at most, and that these name only what the application declares.
+use Rattle.std.proofs.Common.{◌≡◌, ℕ, ◌+◌, ◌*◌, ◌^◌, ◌≤◌, ◌&&◌, Bool, true, false, Option, Some, None, List, [], ◌∷◌}
+use Rattle.std.proofs.Common.{◌++◌, length, IsSome, option_map, if◌then◌else◌, refl, sym, ap, subst, ◌∙◌, arith}
 use Rattle.std.proofs.lemmas.List.{length-append}
+use Rattle.rt_lemmas.proofs.Lists.{AreFrom, all_from, first_from, rest_from}
 use Rattle.rt_ids.specs.Lists.{or_zero, then_from}
+use Rattle.rt_ids.specs.declared.ids.Section.TheVariants as section
 use Rattle.rt_app.specs.declared.app.Mono.{Mono}
+use Rattle.rt_app.specs.declared.plan.Plan.{Plan}
 use Rattle.rt_app.specs.Tree.{Task, App}
 use Rattle.rt_app.specs.Accepted.{IsAccepted, IsMonoPlaced}
+use Rattle.rt_app.specs.Bodies.{task_priority}
+use Rattle.rt_app.specs.BodyCost.{timer_size}
+use Rattle.rt_app.specs.Ceiling.{Ceilings, ceiling}
 use Rattle.rt_app.specs.Handlers.{irq_number}
 use Rattle.rt_app.specs.Holding.{storage, arguments_of}
-use Rattle.rt_app.specs.BodyCost.{timer_size}
+use Rattle.rt_app.specs.Layout.{Layout, timer_at, timed_at}
 use Rattle.rt_app.specs.Level.{is_software, is_armed, armed_count}
 use Rattle.rt_app.specs.Names.{names_of}
-use Rattle.rt_code.specs.Listable.{HasIrq}
+use Rattle.rt_app.specs.Plan.{IsPlan}
+use Rattle.rt_app.specs.View.{app_of}
+use Rattle.rt_app.proofs.Sound.{accepted_are_sound}
+use Rattle.rt_code.specs.Listable.{HasIrq, HasTask}
 use Rattle.rt_code.specs.declared.instr.Instr.TheVariants as instr
-use Rattle.rt_gen_queue.specs.Line.{Line, plain}
-use Rattle.rt_gen_queue.specs.SpawnCode.{fill_code}
-use Rattle.rt_gen_queue.proofs.Placing.{fill_long}
-use Rattle.rt_gen_queue.proofs.Nameable.{irq_declared}
+use Rattle.rt_gen_queue.specs.Line.{Line, IsNameable, plain}
+use Rattle.rt_gen_queue.specs.Guards.{enter_line, leave_line}
+use Rattle.rt_gen_queue.specs.SpawnCode.{target_of, fill_code}
+use Rattle.rt_gen_queue.specs.SpawnLines.{fill_lines}
+use Rattle.rt_gen_queue.specs.declared.target.Target.{Target}
 use Rattle.rt_gen_queue.proofs.Facts.{Spawned, arguments, few_arguments}
+use Rattle.rt_gen_queue.proofs.Masks.{enter_named, leave_named}
+use Rattle.rt_gen_queue.proofs.Nameable.{AreClaimed, claimed_both, irq_declared}
+use Rattle.rt_gen_queue.proofs.Named.{task_declared, level_declared, fill_claimed}
+use Rattle.rt_gen_queue.proofs.Placing.{fill_long}
 use Rattle.rt_gen_timer.specs.TimerLines as lines
-use Rattle.rt_gen_timer.specs.TimerCode.{queue_of, armed_task, after_code, choices_code, timer_code}
-use Rattle.rt_gen_timer.specs.declared.armed.ArmedTask.{ArmedTask}
-use Rattle.rt_gen_timer.specs.declared.queue.TimerQueue.{TimerQueue}
+use Rattle.rt_gen_timer.specs.TimerCode.{queue_of, armed_task, after_code, cancel_code, move_code}
+use Rattle.rt_gen_timer.specs.TimerCode.{choices_code, timer_code}
+use Rattle.rt_gen_timer.specs.declared.slots.TheConstants.{MASK, ARGUMENTS}
+
+-- what a plan's tables have of the timer queue
+module _ (plan : Plan) (planned : IsPlan plan) (mono : Mono) (timed : plan.app.now.mono ≡ Some mono) where
+  abbrev of_plan : App
+  of_plan = app_of plan.app.now
+
+  pub first_planned : plan.lay.timer ≡ timer_at of_plan
+  first_planned = ap (λ (l : Layout). l.timer) planned.layout ∙ ap (timed_at of_plan) timed
+
+  pub top_planned : or_zero plan.ceil.timer ≡ ceiling of_plan section.Timer
+  top_planned =
+      ap (λ (c : Ceilings). or_zero c.timer) planned.ceilings
+      ∙ ap (λ o. or_zero (option_map (λ (m : Mono). ceiling of_plan section.Timer) o)) timed
+
+  pub irq_planned : or_zero (irq_number of_plan mono.irq) ≡ or_zero (storage of_plan).timer
+  unfolding storage
+  irq_planned = sym (ap (λ o. or_zero (then_from o (λ (m : Mono). irq_number of_plan m.irq))) timed)
+
+  pub top_small : IsAccepted of_plan → or_zero plan.ceil.timer ≤ 2 ^ plan.app.now.bits
+  top_small accepted =
+      let there : IsSome plan.app.now.mono = subst (λ o. IsSome o) (sym timed) refl in
+      omega (arith, top_planned, (accepted_are_sound of_plan accepted).ceilings section.Timer there)
 
 -- how many lines a `spawn_after` has
 pub after_short : (app : App) (task level slot at : ℕ) (t : Task) → Spawned app task t
     → length (after_code app task level slot at) ≤ 65
 after_short app task level slot at t facts =
-    let q : TimerQueue = queue_of app in
-    let a : ArmedTask = armed_task app task in
+    let a = armed_task app task in
     let args : ℕ = arguments_of app task in
+    let few = few_arguments app task t facts in
+    let long = fill_long app task (slot + 1) in
     let last : List Line =
-    lines.arm_lines q slot level a (at + (12 + args)) ++ lines.full_lines q slot level a (at + (59 + args) + 2) in
-    omega (
-      arith,
-      length-append (fill_code app task (slot + 1)) last,
-      fill_long app task (slot + 1),
-      arguments app task t facts,
-      few_arguments app task t facts,
-    )
+    lines.arm_lines (queue_of app) slot level a (at + (12 + args))
+    ++ lines.full_lines (queue_of app) slot level a (at + (59 + args) + 2) in
+    omega (arith, length-append (fill_code app task (slot + 1)) last, long, arguments app task t facts, few)
 
 -- the interrupt of the monotonic is declared
 pub timer_named : (app : App) → IsAccepted app → IsSome app.mono → HasIrq (names_of app) (queue_of app).irq
@@ -59,19 +90,14 @@ choices_short app level [] at n = omega arith
 choices_short app level (t ∷ ts) at n =
     go (is_software t) (is_armed app n) (λ a. choices_short app level ts a (n + 1))
   where
+    own : List Line
+    own = lines.choice_lines (queue_of app) 0 level (armed_task app n) at
+
     go : (b z : Bool) → ((a : ℕ) → length (choices_code app level a (n + 1) ts) ≤ 26 * armed_count app (n + 1) ts)
-        → length (if b && z
-        then lines.choice_lines (queue_of app) 0 level (armed_task app n) at
-        ++ choices_code app level (at + 26) (n + 1) ts
-        else choices_code app level at (n + 1) ts)
-        ≤ 26 * ((if z then 1 else 0) + armed_count app (n + 1) ts)
+        → length (if b && z then own ++ choices_code app level (at + 26) (n + 1) ts
+        else choices_code app level at (n + 1) ts) ≤ 26 * ((if z then 1 else 0) + armed_count app (n + 1) ts)
     go true true others =
-        omega (
-          arith,
-          others (at + 26),
-          length-append (lines.choice_lines (queue_of app) 0 level (armed_task app n) at)
-              (choices_code app level (at + 26) (n + 1) ts),
-        )
+        omega (arith, others (at + 26), length-append own (choices_code app level (at + 26) (n + 1) ts))
     go true false others = omega (arith, others at)
     go false true others = omega (arith, others at)
     go false false others = omega (arith, others at)
@@ -79,10 +105,87 @@ choices_short app level (t ∷ ts) at n =
 pub timer_short : (app : App) (mono : Mono) (at : ℕ)
     → length (timer_code app mono.priority at) ≤ timer_size app (Some mono)
 timer_short app mono at =
-    let level : ℕ = mono.priority in
-    let choices : List Line = choices_code app level (at + 73) 0 app.tasks in
-    omega (
-      arith,
-      choices_short app level app.tasks (at + 73) 0,
-      length-append choices (plain (instr.Jump (at + 10)) ∷ []),
-    )
+    let choices : List Line = choices_code app mono.priority (at + 73) 0 app.tasks in
+    let short = choices_short app mono.priority app.tasks (at + 73) 0 in
+    omega (arith, short, length-append choices (plain (instr.Jump (at + 10)) ∷ []))
+
+-- the lines of calls and of choices name only what the application declares
+module _ (app : App) (irq : HasIrq (names_of app) (queue_of app).irq) (slot level : ℕ) where
+  abbrev Claimed : List Line → Type 0
+  Claimed = AreClaimed (names_of app)
+
+  enters : IsNameable (names_of app) (lines.enter_timer (queue_of app) slot level)
+  enters = enter_named (names_of app) section.Timer (queue_of app).guard level (slot + MASK) tt
+
+  leaves : IsNameable (names_of app) (lines.leave_timer (queue_of app) slot level)
+  leaves = leave_named (names_of app) section.Timer (queue_of app).guard level (slot + MASK) tt
+
+  module _ (task : ℕ) (t : Task) (facts : Spawned app task t) where
+    abbrev c : Target
+    c = target_of app task
+
+    has : HasTask (names_of app) task
+    has = task_declared app task t facts
+
+    enters_free : (mask : ℕ) → IsNameable (names_of app) (enter_line (section.Free task) c.guard level mask)
+    enters_free mask = enter_named (names_of app) (section.Free task) c.guard level mask has
+
+    leaves_free : (mask : ℕ) → IsNameable (names_of app) (leave_line (section.Free task) c.guard level mask)
+    leaves_free mask = leave_named (names_of app) (section.Free task) c.guard level mask has
+
+    pub after_claimed : (at : ℕ) → Claimed (after_code app task level slot at)
+    after_claimed at =
+        let a = armed_task app task in
+        let arm : List Line =
+        lines.arm_lines (queue_of app) slot level a (at + (12 + c.args))
+        ++ lines.full_lines (queue_of app) slot level a (at + (59 + c.args) + 2) in
+        let armed : Claimed arm = assumption (enters, irq, leaves, has, leaves_free (slot + MASK)) in
+        let mask : ℕ = slot + ARGUMENTS + 8 in
+        let filled : Claimed (fill_lines c level (slot + ARGUMENTS) ++ arm) =
+        claimed_both (names_of app) (fill_lines c level (slot + ARGUMENTS)) arm
+        (fill_claimed (names_of app) c level (slot + ARGUMENTS)) armed in
+        assumption (enters_free mask, has, leaves_free mask, filled)
+
+    pub cancel_claimed : (at : ℕ) → Claimed (cancel_code app task level slot at)
+    cancel_claimed at =
+        assumption (enters, has, irq, leaves, enters_free (slot + MASK), leaves_free (slot + MASK))
+
+    pub move_claimed : (at : ℕ) → Claimed (move_code app task level slot at)
+    move_claimed at = assumption (enters, has, irq, leaves)
+
+    choice_claimed : (at : ℕ) → Claimed (lines.choice_lines (queue_of app) slot level (armed_task app task) at)
+    choice_claimed at =
+        let x = section.Ready (task_priority app task) in
+        let opens = enter_named (names_of app) x c.queue.guard level (slot + ARGUMENTS + 8) tt in
+        let closes = leave_named (names_of app) x c.queue.guard level (slot + ARGUMENTS + 8) tt in
+        assumption (has, irq, leaves, opens, level_declared app task t facts, closes)
+
+module _ (app : App) (accepted : IsAccepted app) (irq : HasIrq (names_of app) (queue_of app).irq) (level : ℕ) where
+  choices_claimed : (ts : List Task) (at n : ℕ) → AreFrom app.tasks n ts
+      → AreClaimed (names_of app) (choices_code app level at n ts)
+  choices_claimed [] at n from = tt
+  choices_claimed (t ∷ ts) at n from =
+      go (is_software t) (is_armed app n) refl (λ a. choices_claimed ts a (n + 1) (rest_from app.tasks n t ts from))
+    where
+      own : List Line
+      own = lines.choice_lines (queue_of app) 0 level (armed_task app n) at
+
+      go : (b z : Bool) → is_software t ≡ b
+          → ((a : ℕ) → AreClaimed (names_of app) (choices_code app level a (n + 1) ts))
+          → AreClaimed (names_of app) (if b && z then own ++ choices_code app level (at + 26) (n + 1) ts
+          else choices_code app level at (n + 1) ts)
+      go true true software others =
+          claimed_both (names_of app) own (choices_code app level (at + 26) (n + 1) ts)
+          (choice_claimed app irq 0 level n t
+          (record { accepted = accepted; at = first_from app.tasks n t ts from; software = software }) at)
+          (others (at + 26))
+      go true false software others = others at
+      go false z software others = others at
+
+  pub timer_claimed : (at : ℕ) → AreClaimed (names_of app) (timer_code app level at)
+  timer_claimed at =
+      let jump : List Line = plain (instr.Jump (at + 10)) ∷ [] in
+      let choices : List Line = choices_code app level (at + 73) 0 app.tasks in
+      let claimed : AreClaimed (names_of app) (choices ++ jump) =
+      claimed_both (names_of app) choices jump (choices_claimed app.tasks (at + 73) 0 (all_from app.tasks)) tt in
+      assumption (enters app irq 0 level, irq, leaves app irq 0 level, claimed)

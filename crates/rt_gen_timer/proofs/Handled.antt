@@ -9,24 +9,25 @@ use Rattle.rt_ids.specs.Content.{Armed, Timed, Message, with_armed}
 use Rattle.rt_lemmas.proofs.Lists.{all_append, all_behind}
 use Rattle.rt_lemmas.proofs.Membership.{all_weaker}
 
--- handles that were given
-abbrev AreGiven : ℕ → List Armed → Type 0
-AreGiven given armed = AllByRecursion (λ b. (0 < b.handle) × (b.handle ≤ given)) armed
+-- a handle that was given, and two that differ
+abbrev IsGiven : ℕ → Armed → Type 0
+IsGiven given b = (0 < b.handle) × (b.handle ≤ given)
+
+abbrev Differ : Armed → Armed → Type 0
+Differ a b = a.handle ≢ b.handle
 
 -- no two armed messages have one handle
 pub apart_of : (t : Timed) → AreHandled t → AreApart t.armed
 apart_of t handled =
-    along_from (λ a b. a.handle ≢ b.handle) t.armed
+    along_from Differ t.armed
     (λ i j a b first second less same. absurd (omega (arith, handled.once i j a b first second same)))
 
-handled_by : (t : Timed) → AreGiven t.given t.armed → AreApart t.armed → AreHandled t
+handled_by : (t : Timed) → AllByRecursion (IsGiven t.given) t.armed → AreApart t.armed → AreHandled t
 handled_by t given apart = record {
   given = given;
   once = λ i j a b first second same.
-      let before : i < j → a.handle ≢ b.handle =
-      along_at (λ a b. a.handle ≢ b.handle) t.armed apart i j a b first second in
-      let behind : j < i → b.handle ≢ a.handle =
-      along_at (λ a b. a.handle ≢ b.handle) t.armed apart j i b a second first in
+      let before : i < j → a.handle ≢ b.handle = along_at Differ t.armed apart i j a b first second in
+      let behind : j < i → b.handle ≢ a.handle = along_at Differ t.armed apart j i b a second first in
       grind (arith, before, behind, same);
 }
 
@@ -35,17 +36,16 @@ pub handled_more : (t : Timed) (instant : ℕ) (m : Message) → AreHandled t �
 handled_more t instant m handled =
     let a : Armed = record { instant = instant; message = m; handle = t.given + 1 } in
     handled_by (with_armed instant m t)
-    (all_append (λ b. (0 < b.handle) × (b.handle ≤ t.given + 1)) t.armed (a ∷ [])
-    (all_weaker (λ b. (0 < b.handle) × (b.handle ≤ t.given)) (λ b. (0 < b.handle) × (b.handle ≤ t.given + 1))
-    (λ b is. (is.0, omega (arith, is.1))) t.armed handled.given) ((omega arith, omega arith), tt))
-    (along_more (λ a b. a.handle ≢ b.handle) t.armed a (apart_of t handled)
-    (all_weaker (λ b. (0 < b.handle) × (b.handle ≤ t.given)) (λ b. b.handle ≢ a.handle) (λ b is. omega (arith, is.1))
-    t.armed handled.given))
+    (all_append (IsGiven (t.given + 1)) t.armed (a ∷ [])
+    (all_weaker (IsGiven t.given) (IsGiven (t.given + 1)) (λ b is. (is.0, omega (arith, is.1))) t.armed handled.given)
+    ((omega arith, omega arith), tt))
+    (along_more Differ t.armed a (apart_of t handled)
+    (all_weaker (IsGiven t.given) (λ b. Differ b a) (λ b is. omega (arith, is.1)) t.armed handled.given))
 
 module _ (t : Timed) (before behind : List Armed) (a : Armed) (handled : AreHandled t)
     (parts : t.armed ≡ before ++ a ∷ behind) where
-  given_all : AreGiven t.given (before ++ a ∷ behind)
-  given_all = subst (AreGiven t.given) parts handled.given
+  given_all : AllByRecursion (IsGiven t.given) (before ++ a ∷ behind)
+  given_all = subst (AllByRecursion (IsGiven t.given)) parts handled.given
 
   apart_all : AreApart (before ++ a ∷ behind)
   apart_all = subst AreApart parts (apart_of t handled)
@@ -53,9 +53,8 @@ module _ (t : Timed) (before behind : List Armed) (a : Armed) (handled : AreHand
   -- a message less
   pub handled_less : AreHandled (record t { armed = before ++ behind })
   handled_less =
-      handled_by (record t { armed = before ++ behind })
-      (all_less (λ b. (0 < b.handle) × (b.handle ≤ t.given)) before behind a given_all)
-      (along_less (λ a b. a.handle ≢ b.handle) before behind a apart_all)
+      handled_by (record t { armed = before ++ behind }) (all_less (IsGiven t.given) before behind a given_all)
+      (along_less Differ before behind a apart_all)
 
   -- a message that goes last, for another instant
   pub handled_last : (instant moved : ℕ)
@@ -63,7 +62,7 @@ module _ (t : Timed) (before behind : List Armed) (a : Armed) (handled : AreHand
   handled_last instant moved =
       let b : Armed = record a { instant = instant } in
       handled_by (record t { moved = moved; armed = (before ++ behind) ++ b ∷ [] })
-      (all_append (λ b. (0 < b.handle) × (b.handle ≤ t.given)) (before ++ behind) (b ∷ []) handled_less.given
-      ((all_behind (λ b. (0 < b.handle) × (b.handle ≤ t.given)) before (a ∷ behind) given_all).0, tt))
-      (along_more (λ a b. a.handle ≢ b.handle) (before ++ behind) b
-      (along_less (λ a b. a.handle ≢ b.handle) before behind a apart_all) (others_apart before behind a apart_all))
+      (all_append (IsGiven t.given) (before ++ behind) (b ∷ []) handled_less.given
+      ((all_behind (IsGiven t.given) before (a ∷ behind) given_all).0, tt))
+      (along_more Differ (before ++ behind) b (along_less Differ before behind a apart_all)
+      (others_apart before behind a apart_all))

@@ -27,10 +27,10 @@ use Rattle.rt_gen_queue.proofs.Layer.{spot, clocks, loads, loads_at, calculates,
 use Rattle.rt_gen_queue.proofs.Numbers.{steps_and}
 use Rattle.rt_gen_queue.proofs.Owning.{home_as, timer_spelled}
 use Rattle.rt_gen_queue.specs.Line.{Line, plain, HasCode}
-use Rattle.rt_gen_timer.proofs.Acting.{Columns, count_open, first_open, instant_open}
+use Rattle.rt_gen_timer.proofs.Acting.{code_first, code_part, Columns, count_open, first_open, instant_open}
 use Rattle.rt_gen_timer.proofs.Alone.{instant_in}
 use Rattle.rt_gen_timer.proofs.Arranged.{IsLeast, none_armed, first_is_armed}
-use Rattle.rt_gen_timer.proofs.Calling.{Inside, entries, at_work, IsInside, columns_now, reads_now, code_first, code_part}
+use Rattle.rt_gen_timer.proofs.Calling.{Inside, entries, at_work, IsInside, columns_now, queue_now}
 use Rattle.rt_gen_timer.proofs.Closing.{closes_timer, closing_lines, closing_fit, closing_placed}
 use Rattle.rt_gen_timer.proofs.Delaying.{at_here, rest_is}
 use Rattle.rt_gen_timer.proofs.Opening.{MayOpen, may_enter}
@@ -223,7 +223,7 @@ judged_words w mask time n row instant other = record w {
 module _ {k : Handler} {d : Took} (known : Known k d) where
   -- the queue's content is what was taken over
   pub same_timed : d.us (Guarded section.Timer) ≡ Delays known.now.spells.timed
-  same_timed = known.agree (Guarded section.Timer) (reads_now known.now) ∙ known.now.spells.is
+  same_timed = queue_now known.now known.agree
 
   -- the first message of the heap, and its instant
   abbrev pub foremost : Entry
@@ -264,7 +264,7 @@ module _ {k : Handler} (may : MayHandle k) where
       → S (setting k) (Now (frame k) (in_section k d done (k.first + 10) d.cells (idle_rest k.app d.us)) (words v))
   idles {d = d} known done v soon counted =
       let x = section.Timer in
-      let same : d.us (Guarded x) ≡ d.vs (Guarded x) = known.agree (Guarded x) (reads_now known.now) in
+      let same : d.us (Guarded x) ≡ d.vs (Guarded x) = same_timed known ∙ sym known.now.spells.is in
       let lines : Straight (setting k) (frame k) (closing_lines k.app k.level (k.first + 10) (plain instr.Ret ∷ []))
       (in_section k d done (k.first + 10) d.cells (idle_rest k.app d.us)) (words v) =
       closes_timer k.level v

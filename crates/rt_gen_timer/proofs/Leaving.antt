@@ -16,7 +16,7 @@ use Rattle.rt_app.specs.Tree.{App}
 use Rattle.rt_gen_timer.proofs.Alike.{AreSame, arranged_same, maps_alike}
 use Rattle.rt_gen_timer.proofs.Alone.{instant_in, number_in, armed_in, timed_row, IsTimerAlone, beside_timer}
 use Rattle.rt_gen_timer.proofs.Alone.{armed_same}
-use Rattle.rt_gen_timer.proofs.Arranged.{IsPicked, IsWithout, left, length_less}
+use Rattle.rt_gen_timer.proofs.Arranged.{IsPicked, IsWithout, left}
 use Rattle.rt_gen_timer.proofs.Handled.{handled_less}
 use Rattle.rt_gen_timer.proofs.Hollow.{IsWhole}
 use Rattle.rt_gen_timer.proofs.Numbered.{all_less}
@@ -48,39 +48,38 @@ module _ {app : App} {before after : List ℕ} (mono : IsSome app.mono) (kept : 
       → SpellsTimer app (slice_index after) (picked.before ++ picked.behind)
       (Delays (record s.timed { armed = rest s.timed.armed }))
   timer_left {entries = entries} s {i = i} {n = n} {next = next} {rest = rest} picked without whole counted =
-      let front : List Entry = picked.before in
-      let behind : List Entry = picked.behind in
-      let parts = picked.parts in
-      let armed : List Armed = rest s.timed.armed in
-      let armed_is = ap rest s.messages ∙ picked.others in
-      let e : Entry = at s.heap i in
-      let others : List Entry = front ++ behind in
       let read = armed_in app before in
+      let e : Entry = at s.heap i in
+      let others : List Entry = picked.before ++ picked.behind in
+      let armed_is = ap rest s.messages ∙ picked.others in
       let places : AllByRecursion (IsTimedPlace app) others =
-      all_less (IsTimedPlace app) front behind e (subst (AllByRecursion (IsTimedPlace app)) parts s.places) in
-      let fewer = left s.arranged front behind parts without in
+      all_less (IsTimedPlace app) picked.before picked.behind e
+      (subst (AllByRecursion (IsTimedPlace app)) picked.parts s.places) in
+      let place : (x : Entry) → 0 < count x others → IsTimedPlace app x =
+      λ x some. all_counted (IsTimedPlace app) others x places some in
+      let fewer = left s.arranged picked.before picked.behind picked.parts without in
       let column : (at_first : ℕ) → (x : Entry) → 0 < count x others → timer_at app + 3 ≤ at_first
       → at_first + armed_messages app ≤ heap_at app
       → slice_index after (at_first + armed_place app x) ≡ slice_index before (at_first + armed_place app x) =
       λ at_first x some least most.
-      (let row = timed_row app x (all_counted (IsTimedPlace app) others x places some) in
+      (let row = timed_row app x (place x some) in
       kept.cells (at_first + armed_place app x) (omega arith) (inl (omega arith))) in
       let instants : AreSame (instant_in app after) (instant_in app before) others =
       λ x some. column (instants_at app) x some (omega arith) (omega arith) in
       record {
-        timed = record s.timed { armed = armed };
+        timed = record s.timed { armed = rest s.timed.armed };
         is = refl;
         messages = armed_is
             ∙ maps_alike read (armed_in app after) others
             (λ x some.
-            armed_same app before after alone x (all_counted (IsTimedPlace app) others x places some) (instants x some)
+            armed_same app before after alone x (place x some) (instants x some)
             (column (handles_at app) x some (omega arith) (omega arith)));
         handled = subst (λ armed. AreHandled (record s.timed { armed = armed }))
-            (sym (armed_is ∙ map-append read front behind))
-            (handled_less s.timed (map read front) (map read behind) (read e) s.handled
-            (s.messages ∙ ap (map read) parts ∙ map-append read front (e ∷ behind)));
+            (sym (armed_is ∙ map-append read picked.before picked.behind))
+            (handled_less s.timed (map read picked.before) (map read picked.behind) (read e) s.handled
+            (s.messages ∙ ap (map read) picked.parts ∙ map-append read picked.before (e ∷ picked.behind)));
         places = places;
-        room = omega (arith, length_less s.arranged front behind e parts, s.arranged.long, s.room);
+        room = omega (arith, fewer.long, whole.long, whole.room);
         count = counted ∙ sym whole.long ∙ fewer.long;
         armings = kept.cells (armings_at app) (omega arith) (inl (omega arith)) ∙ s.armings;
         given = kept.cells (given_at app) (omega arith) (inl (omega arith)) ∙ s.given;

@@ -161,16 +161,7 @@ module _ {n : ℕ} {key : Entry → ℕ} where
       no_greater = behind.no_greater;
     }
 
-    -- the message in hand is put at the hole, after the loop upwards alone
-    pub settled_risen : {ys : List Entry} {j : ℕ} → HasRisen n key e xs i ys j → IsNoGreater n i (keys key xs) (key e)
-        → HasSettled n key e xs i (slice_set ys j e)
-    settled_risen {ys = ys} {j = j} risen no_greater = record {
-      long = length-set ys j e ∙ risen.hole.long;
-      order = closed risen.hole.beside (risen.no_greater no_greater) risen.no_less (put e risen.hole);
-      alike = risen.alike;
-    }
-
-    -- or after both loops
+    -- the message in hand is put at the hole, after both loops
     pub settled_both : {ys zs : List Entry} {j k : ℕ} → HasRisen n key e xs i ys j → HasSunk n key e ys j zs k
         → HasSettled n key e xs i (slice_set zs k e)
     settled_both {zs = zs} {k = k} risen sunk = record {
@@ -178,3 +169,8 @@ module _ {n : ℕ} {key : Entry → ℕ} where
       order = closed sunk.hole.beside sunk.no_greater (sunk.no_less risen.no_less) (put e sunk.hole);
       alike = λ x. sunk.alike x ∙ risen.alike x;
     }
+
+  -- or after the loop upwards alone
+  pub settled_risen : {e : Entry} {xs ys : List Entry} {i j : ℕ} → HasRisen n key e xs i ys j
+      → IsNoGreater n i (keys key xs) (key e) → HasSettled n key e xs i (slice_set ys j e)
+  settled_risen risen no_greater = settled_both risen (sink_ends risen.hole (risen.no_greater no_greater))

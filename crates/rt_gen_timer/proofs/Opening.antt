@@ -1,6 +1,6 @@
 -- The section of an application's timer queue on the window: how it may be entered, what is open inside it, and what is
 -- left of the window outside it.
-use Rattle.std.proofs.Common.{◌≡◌, ℕ, ◌-◌, ◌<◌, false, List, ◌∷◌, length, Option, Some, None, IsSome, option_map}
+use Rattle.std.proofs.Common.{◌≡◌, ℕ, ◌<◌, false, List, ◌∷◌, length, Option, Some, None, IsSome, option_map}
 use Rattle.std.proofs.Common.{refl, sym, ap, ◌∙◌, arith}
 use Rattle.std.specs.List.{AllByRecursion}
 use Rattle.rt_app.proofs.LaidTimer.{timer_is_home}

@@ -1,8 +1,8 @@
--- What the cells of the timer queue spell once a message is put to another instant: it goes last, with the next number
--- and its handle, and the others are as before.
-use Rattle.std.proofs.Common.{◌≡◌, ◌≢◌, ℕ, ◌+◌, ◌<◌, List, [], ◌∷◌, ◌++◌, map, length, IsSome, slice_index, refl, sym}
-use Rattle.std.proofs.Common.{ap, subst, ◌∙◌, arith, append_assoc}
-use Rattle.std.proofs.lemmas.List.{map-append}
+-- A message is put to another instant: the lines by which its row gets it, and what the cells of the timer queue spell
+-- then. It goes last, with the next number and its handle, and the others are as before.
+use Rattle.std.proofs.Common.{◌≡◌, ◌≢◌, ℕ, ◌+◌, ◌^◌, ◌<◌, List, [], ◌∷◌, ◌++◌, map, length, IsSome, slice_index, refl}
+use Rattle.std.proofs.Common.{sym, ap, subst, ◌∙◌, arith, append_assoc}
+use Rattle.std.proofs.lemmas.List.{map-append, length_push}
 use Rattle.std.specs.List.{AllByRecursion}
 use Rattle.rt_app.proofs.Spelling.{IsTimedPlace}
 use Rattle.rt_app.specs.Handled.{AreHandled}
@@ -10,6 +10,11 @@ use Rattle.rt_app.specs.Heap.{IsArranged, at, key_of}
 use Rattle.rt_app.specs.Holding.{SpellsTimer, armed_place}
 use Rattle.rt_app.specs.Layout.{timer_at, given_at, heap_at}
 use Rattle.rt_app.specs.Tree.{App}
+use Rattle.rt_gen_queue.specs.Line.{Line}
+use Rattle.rt_gen_queue.proofs.Numbers.{added}
+use Rattle.rt_gen_queue.proofs.Layer.{Setting, Here, ahead, Straight, calculates, loads, stores, stores_at, reads_open}
+use Rattle.rt_gen_queue.proofs.Layer.{writes_open}
+use Rattle.rt_gen_timer.proofs.Acting.{Columns, columns_on, armings_open, instant_open, number_open}
 use Rattle.rt_gen_timer.proofs.Alone.{instant_in, number_in, handle_in, armed_in}
 use Rattle.rt_gen_timer.proofs.Arranged.{IsOfHandle, others_differ, count_less, length_less, listed_less, elsewhere}
 use Rattle.rt_gen_timer.proofs.Arranged.{move_begins, goes_last}
@@ -20,11 +25,14 @@ use Rattle.rt_gen_timer.proofs.Lasting.{hollow_last, spells_last}
 use Rattle.rt_gen_timer.proofs.Moves.{HasHole, HasSettled, count_put}
 use Rattle.rt_gen_timer.proofs.Numbered.{all_less}
 use Rattle.rt_gen_timer.proofs.Spelled.{place_of, spelled_count, spelled_whole}
+use Rattle.rt_gen_timer.proofs.Window.{Slots, Words, words}
 use Rattle.rt_gen_timer.specs.TimerCode.{queue_of}
-use Rattle.rt_gen_timer.specs.TimerLines.{armings_of, instants_of, numbers_of, handles_of}
+use Rattle.rt_gen_timer.specs.TimerLines.{armings_of, instants_of, numbers_of, handles_of, again_lines}
 use Rattle.rt_gen_timer.specs.declared.queue.TimerQueue.{TimerQueue}
 use Rattle.rt_ids.specs.Content.{Content, Armed, Delays, MayArm, armed_as, without_handle, postponed, with_moved}
 use Rattle.rt_ids.specs.Entry.{Entry}
+use Rattle.rt_ids.specs.Operation.{operate}
+use Rattle.rt_ids.specs.declared.op.Op.TheVariants as op
 
 -- a row has another instant and the next number, and the count of armings is one more
 pub record IsAgain (q : TimerQueue) (row instant a : ℕ) (before after : List ℕ) : Type 0 where
@@ -34,6 +42,34 @@ pub record IsAgain (q : TimerQueue) (row instant a : ℕ) (before after : List �
   pub others : (c : ℕ) → c ≢ armings_of q → c ≢ instants_of q + row → c ≢ numbers_of q + row
       → slice_index after c ≡ slice_index before c
   pub long : length after ≡ length before
+
+module _ {z : Setting} {f : Slots} {q : TimerQueue} {lines : List Line} {h : Here} where
+  -- the row in the hand gets the instant in its slot and the next number, in 5 steps
+  pub again_stands : (w : Words) {a : ℕ} → Columns z q h.held h.cells → slice_index h.cells (armings_of q) ≡ a
+      → a + 1 < 2 ^ 32 → w.hand < q.messages → w.one ≡ 1
+      → ((cells : List ℕ) → IsAgain q w.hand w.instant a h.cells cells
+      → Straight z f lines (record (ahead 5 h) { cells = cells }) (words (record w { arming = a; other = a + 1 })))
+      → Straight z f (again_lines q 0 ++ lines) h (words w)
+  again_stands w {a = a} columns counted small there one on =
+      loads a (reads_open (armings_open columns) counted)
+      (calculates (a + 1) (ap (operate op.Add a) one ∙ added a 1 (a + 1) refl small)
+      (stores (a + 1) refl (writes_open (armings_open columns))
+      (λ c1 first.
+      let columns1 = columns_on columns first.long in
+      stores_at w.hand w.instant refl refl (writes_open (instant_open columns1 there))
+      (λ c2 second.
+      let columns2 = columns_on columns1 second.long in
+      stores_at w.hand a refl refl (writes_open (number_open columns2 there))
+      (λ c3 third.
+      on c3
+      (record {
+        armings = third.others (armings_of q) (omega arith) ∙ second.others (armings_of q) (omega arith) ∙ first.here;
+        instants = third.others (instants_of q + w.hand) (omega arith) ∙ second.here;
+        numbers = third.here;
+        others = λ c no_armings no_instant no_number.
+            third.others c no_number ∙ second.others c no_instant ∙ first.others c no_armings;
+        long = third.long ∙ second.long ∙ first.long;
+      }))))))
 
 -- The message of a handle, at a place of the heap, may be put to another instant.
 pub record MayMove (app : App) (entries : List Entry) (content : Content) (before : List ℕ) (i task handle : ℕ)
@@ -66,6 +102,13 @@ module _ {app : App} {entries : List Entry} {content : Content} {before : List �
     place = place_of may.spells i may.within;
     differ = others_differ may.spells.arranged may.found.before may.found.behind the_one may.found.parts;
   }
+
+  -- with it behind them they are as many
+  pub last_long : size ≡ length (may.found.before ++ (may.found.behind ++ the_one ∷ []))
+  last_long =
+      length_less may.spells.arranged may.found.before may.found.behind the_one may.found.parts
+      ∙ sym (length_push the_others the_one)
+      ∙ ap length (append_assoc may.found.before may.found.behind (the_one ∷ []))
 
   module _ {instant : ℕ} {mid : List ℕ}
       (again : IsAgain (queue_of app) (armed_place app the_one) instant armings_so_far before mid) where

@@ -89,11 +89,7 @@ module _ {app : App} {entries : List Entry} {e : Entry} {content : Content} {m :
 
   pub room : size < armed_messages app
   room =
-      omega (
-        arith,
-        timer_room app entries e may.spells.places may.place may.once,
-        may.spells.arranged.long,
-      )
+      omega (arith, timer_room app entries e may.spells.places may.place may.once, may.spells.arranged.long)
 
   pub counts : HasCounts (queue_of app) armings_before timed.given size before
   counts =
@@ -112,14 +108,7 @@ module _ {app : App} {entries : List Entry} {e : Entry} {content : Content} {m :
     place = may.place;
     differ = all_from_counted (λ x. x ≢ e) entries
         (λ x some same.
-        absurd (omega (
-          arith,
-          some,
-          ap (λ y. count y entries) same,
-          may.once e,
-          count_more e e entries,
-          one_itself e,
-        )));
+        absurd (omega (arith, some, ap (λ y. count y entries) same, may.once e, count_more e e entries, one_itself e)));
   }
 
   -- the heap with one place more, whose message is in hand
@@ -129,12 +118,7 @@ module _ {app : App} {entries : List Entry} {e : Entry} {content : Content} {m :
   module _ {instant : ℕ} {mid : List ℕ}
       (has : HasRow (queue_of app) (armed_place app e) instant armings_before timed.given size before mid) where
     pub is_row : IsRow (queue_of app) (armed_place app e) instant armings_before (timed.given + 1) before mid
-    is_row = record {
-      instants = has.instants;
-      numbers = has.numbers;
-      handles = has.handles;
-      others = has.others;
-    }
+    is_row = record { instants = has.instants; numbers = has.numbers; handles = has.handles; others = has.others }
 
     -- where the loop begins
     pub hole_begins : HasHole (size + 1) (key_of (instant_in app mid) (number_in app mid)) longer size

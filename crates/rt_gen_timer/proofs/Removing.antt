@@ -1,43 +1,29 @@
 -- The code by which a message leaves the heap from a place of it: the last message comes into the hand and fills the
 -- place, and goes up or down from there; or it was the last one itself.
-use Rattle.std.proofs.Common.{◌≡◌, ◌≢◌, ◌⊎◌, ℕ, zero, suc, ◌+◌, ◌-◌, ◌*◌, ◌^◌, ◌<◌, ◌≤◌, ◌++◌, List, [], ◌∷◌}
-use Rattle.std.proofs.Common.{length, take, slice_index, slice_set, refl, sym, ap, subst, ◌∙◌, arith, inl, inr}
+use Rattle.std.proofs.Common.{◌≡◌, ◌≢◌, ◌⊎◌, ℕ, suc, ◌+◌, ◌-◌, ◌*◌, ◌^◌, ◌<◌, ◌≤◌, List, [], ◌∷◌, length, take}
+use Rattle.std.proofs.Common.{slice_index, slice_set, refl, sym, ap, subst, ◌∙◌, arith, inl, inr}
 use Rattle.std.proofs.lemmas.Bool.{cases_lt}
-use Rattle.std.proofs.Math.Nat.{pow-succ'}
 use Rattle.rt_ids.specs.Entry.{Entry}
 use Rattle.rt_ids.specs.Operation.{operate}
 use Rattle.rt_ids.specs.declared.op.Op.TheVariants as op
 use Rattle.rt_gen_queue.specs.Line.{Line, HasCode}
 use Rattle.rt_gen_queue.proofs.Numbers.{one_less, steps_and}
-use Rattle.rt_gen_queue.proofs.Placing.{code_front, code_behind}
-use Rattle.rt_gen_queue.proofs.Layer.{Setting, Here, S, Wrote, Now, Straight, calculates, stores, stores_at, jumps_off}
+use Rattle.rt_gen_queue.proofs.Layer.{Setting, Here, S, moved, Wrote, Now, calculates, stores, stores_at, jumps_off}
 use Rattle.rt_gen_queue.proofs.Layer.{stays, ends, writes_open}
 use Rattle.rt_app.specs.Heap.{IsHeap, at, keys, key_of}
-use Rattle.rt_gen_timer.specs.TimerLines.{heap_of, last_lines, rise_lines, sink_lines, store_at, remove_lines}
+use Rattle.rt_gen_timer.specs.TimerLines.{heap_of, last_lines, store_at, remove_lines}
 use Rattle.rt_gen_timer.specs.declared.queue.TimerQueue.{TimerQueue}
-use Rattle.rt_gen_timer.proofs.Moves.{hole_left, settled_both}
+use Rattle.rt_gen_timer.proofs.Moves.{hole_left}
 use Rattle.rt_gen_timer.proofs.Window.{Slots, Words, words, Scratch, scratch_of, turning}
-use Rattle.rt_gen_timer.proofs.Acting.{Runs, sooner, may_run, Columns, columns_on, count_open, heap_open}
+use Rattle.rt_gen_timer.proofs.Acting.{Runs, sooner, run_stands, code_first, code_part, Columns, columns_on, count_open}
+use Rattle.rt_gen_timer.proofs.Acting.{heap_open}
 use Rattle.rt_gen_timer.proofs.Comparing.{Hand, Place, loads_key}
 use Rattle.rt_gen_timer.proofs.Hollow.{IsBeside, beside_more, beside_one_place, kept_beside}
 use Rattle.rt_gen_timer.proofs.Hollow.{IsWhole, whole_counted, whole_taken, whole_fewer, whole_filled}
+use Rattle.rt_gen_timer.proofs.Sifting.{rise_reach}
 use Rattle.rt_gen_timer.proofs.Rowing.{taken_off}
-use Rattle.rt_gen_timer.proofs.Sifting.{IsReady, IsRisen, rise_reach, rises_stand}
-use Rattle.rt_gen_timer.proofs.Sifting.{MaySink, IsSunk, sink_reach, reach_more, sinks_stand}
+use Rattle.rt_gen_timer.proofs.Settling.{MaySettle, IsSettled, settles_stand}
 use Rattle.rt_gen_timer.proofs.Arranged.{IsWithout, without_last, without_other}
-
--- As many turns lead up to the first place as lead down from it; and how far, as a power of 2.
-sink_doubles : (turns i : ℕ) → sink_reach turns (i + i + 1) ≡ sink_reach turns i + sink_reach turns i + 1
-sink_doubles zero i = omega arith
-sink_doubles (suc turns) i = sink_doubles turns (i + i + 1)
-
-pub reaches_alike : (turns : ℕ) → sink_reach turns 0 + 1 ≡ rise_reach turns
-reaches_alike zero = refl
-reaches_alike (suc turns) = omega (arith, sink_doubles turns 0, reaches_alike turns)
-
-pub reach_is : (turns : ℕ) → rise_reach turns ≡ 2 ^ suc turns
-reach_is zero = refl
-reach_is (suc turns) = omega (arith, reach_is turns, pow-succ' 2 (suc turns))
 
 -- a heap of so many messages is in cells, and a place of it is the hole
 abbrev pub removing : Words → ℕ → ℕ → Words
@@ -112,94 +98,52 @@ Behind z f r h w =
     → S z (Now f (record h { done = b.done; at = h.at + 54; cells = b.cells })
     (words (removed w s r.size hand b.hole t a)))
 
--- where the parts of the code lie
-record AreParts (z : Setting) (f : Slots) (q : TimerQueue) (at : ℕ) : Type 0 where
-  pub first : HasCode z.code at (last_lines q f.slot (at + 54))
-  pub rise : HasCode z.code (at + 7) (rise_lines q f.slot (at + 7))
-  pub sink : HasCode z.code (at + 7 + 15) (sink_lines q f.slot (at + 7 + 15))
-  pub last : HasCode z.code (at + 7 + 15 + 31) (store_at q f.slot (heap_of q) 6 4 ∷ [])
-
-parts_of : {z : Setting} (f : Slots) (q : TimerQueue) (at : ℕ) → HasCode z.code at (remove_lines q f.slot at)
-    → AreParts z f q at
-parts_of {z = z} f q at has =
-    let store : List Line = store_at q f.slot (heap_of q) 6 4 ∷ [] in
-    let sink : List Line = sink_lines q f.slot (at + 22) in
-    let rise : List Line = rise_lines q f.slot (at + 7) in
-    let last : List Line = last_lines q f.slot (at + 54) in
-    let from7 : HasCode z.code (at + 7) (rise ++ (sink ++ store)) =
-    code_behind z.code at (at + 7) last (rise ++ (sink ++ store)) refl has in
-    let from22 : HasCode z.code (at + 7 + 15) (sink ++ store) =
-    code_behind z.code (at + 7) (at + 7 + 15) rise (sink ++ store) refl from7 in
-    let e : at + 22 ≡ at + 7 + 15 = omega arith in
-    record {
-      first = code_front z.code at last (rise ++ (sink ++ store)) has;
-      rise = code_front z.code (at + 7) rise (sink ++ store) from7;
-      sink = subst (λ (to : ℕ). HasCode z.code (at + 7 + 15) (sink_lines q f.slot to)) e
-          (code_front z.code (at + 7 + 15) sink store from22);
-      last = code_behind z.code (at + 7 + 15) (at + 7 + 15 + 31) sink store refl from22;
-    }
-
 module _ {z : Setting} {f : Slots} {r : Removal} {h : Here} (may : MayRemove z f r h) where
+  -- the lines, as they stand
+  abbrev all : List Line
+  all = remove_lines r.queue f.slot h.at
+
   whole_more : IsAll r (r.size + 1) h.cells r.heap
   whole_more = subst (λ m. IsAll r m h.cells r.heap) may.fewer may.whole
-
-  parts : AreParts z f r.queue h.at
-  parts = parts_of f r.queue h.at may.code
 
   module _ {left : List ℕ} (one : Wrote r.queue.at r.size h.cells left) where
     counted : IsAll r (r.size + 1) left r.heap
     counted = whole_counted (omega arith) one whole_more
 
-    -- The loop upwards may begin.
-    may_rise : r.place < r.size
-        → IsReady z f (last_hand r) r.rising r.place
-        (record h { done = steps_and 7 h.done; at = h.at + 7; cells = left })
-        (take r.size r.heap)
-    may_rise less = record {
-      code = parts.rise;
+    -- where the loops begin
+    abbrev looping : Here
+    looping = record h { done = steps_and 7 h.done; at = h.at + 7; cells = left }
+
+    may_settle : r.place < r.size
+        → MaySettle z f (last_hand r) r.rising r.turns (h.at + 22) r.place looping (take r.size r.heap)
+    may_settle less = record {
+      rise = code_part z.code h.at all 7 15 may.code;
+      sink = code_part z.code h.at all 22 31 may.code;
+      next = omega arith;
       runs = sooner may.runs (omega arith);
       reach = may.above less;
-      few = omega (arith, may.few);
+      leads = may.reach;
+      few = may.few;
       small = (whole_more.kept r.size (omega arith)).small;
       columns = columns_on may.columns one.long;
       hollow = whole_taken less counted;
       hole = hole_left r.heap whole_more.long less may.order;
     }
 
-    -- And behind it the loop downwards.
-    may_sink : {b : Place}
-        → IsRisen (last_hand r) r.rising r.place (record h { done = steps_and 7 h.done; at = h.at + 7; cells = left })
-        (take r.size r.heap) b
-        → MaySink z f (last_hand r) r.turns b.hole (record h { done = b.done; at = h.at + 7 + 15; cells = b.cells })
-        b.heap
-    may_sink {b = b} risen = record {
-      code = parts.sink;
-      runs = sooner may.runs (omega (arith, risen.within));
-      reach = omega (arith, may.reach, reaches_alike r.turns, reach_more r.turns 0 b.hole (omega arith));
-      few = may.few;
-      small = (whole_more.kept r.size (omega arith)).small;
-      columns = columns_on may.columns (risen.beside.long ∙ one.long);
-      hollow = risen.hollow;
-      hole = risen.risen.hole;
-    }
-
     -- What is left behind both loops and the last line.
-    filled : {b c : Place} {after : List ℕ} → r.place < r.size
-        → IsRisen (last_hand r) r.rising r.place (record h { done = steps_and 7 h.done; at = h.at + 7; cells = left })
-        (take r.size r.heap) b
-        → IsSunk (last_hand r) r.turns b.hole (record h { done = b.done; at = h.at + 7 + 15; cells = b.cells }) b.heap c
-        → Wrote (heap_of r.queue + c.hole) (r.row (at r.heap r.size)) c.cells after
+    filled : {b : Place} {after : List ℕ} → r.place < r.size
+        → IsSettled (last_hand r) r.rising r.turns r.place looping (take r.size r.heap) b
+        → Wrote (heap_of r.queue + b.hole) (r.row (at r.heap r.size)) b.cells after
         → IsRemoved r h
-        (record c { done = suc c.done; cells = after; heap = slice_set c.heap c.hole (at r.heap r.size) })
-    filled less risen sunk put =
-        let both : IsBeside r.queue left _ = beside_more risen.beside sunk.beside in
-        let all : IsBeside r.queue left _ =
-        beside_more both (beside_one_place r.queue (omega (arith, sunk.hollow.within, sunk.hollow.room)) put) in
+        (record b { done = suc b.done; cells = after; heap = slice_set b.heap b.hole (at r.heap r.size) })
+    filled {b = b} less is put =
+        let room : b.hole < r.queue.messages = omega (arith, is.hollow.within, is.hollow.room) in
+        let all : IsBeside r.queue left _ = beside_more is.beside (beside_one_place r.queue room put) in
         record {
-          within = omega (arith, risen.within, sunk.within);
-          without = without_other r.heap whole_more.long less (settled_both risen.risen sunk.sunk);
+          within = omega (arith, is.within);
+          without = without_other r.heap whole_more.long less is.settled;
           whole =
-              whole_filled (at r.heap r.size) sunk.hollow (kept_beside both (counted.kept r.size (omega arith))) put;
+              whole_filled (at r.heap r.size) is.hollow (kept_beside is.beside (counted.kept r.size (omega arith))) put;
           count = all.others r.queue.at (inl (omega arith)) ∙ one.here;
           others = λ c apart out. all.others c out ∙ one.others c apart;
           long = all.long ∙ one.long;
@@ -221,58 +165,45 @@ module _ {z : Setting} {f : Slots} {r : Removal} {h : Here} (may : MayRemove z f
 
     -- Both loops and the last line, where another than the last message leaves.
     fills : (w : Words) (s : Scratch) → Behind z f r h w → r.place < r.size → let e : Entry = at r.heap r.size in
-        S z (Now f (record h { done = steps_and 7 h.done; at = h.at + 7; cells = left })
-        (words (removed w s r.size (r.row e) r.place (r.instant e) (r.arming e))))
+        S z (Now f looping (words (removed w s r.size (r.row e) r.place (r.instant e) (r.arming e))))
     fills w s on less =
         let e : Entry = at r.heap r.size in
-        let w1 : Words = record w { hand = r.row e; count = r.size } in
-        rises_stand w1 s (may_rise less)
-        (λ b t risen.
-        sinks_stand w1 t (may_sink risen)
-        (λ c u sunk.
-        let puts : Straight z f (store_at r.queue 0 (heap_of r.queue) 6 4 ∷ [])
-        (record h { done = c.done; at = h.at + 7 + 15 + 31; cells = c.cells })
-        (words (removed w u r.size (r.row e) c.hole (r.instant e) (r.arming e))) =
-        stores_at c.hole (r.row e) refl refl
-        (writes_open (heap_open (columns_on may.columns (sunk.beside.long ∙ risen.beside.long ∙ one.long))
-        (omega (arith, sunk.hollow.within, sunk.hollow.room))))
+        settles_stand (record w { hand = r.row e }) s (may_settle less)
+        (λ b t is.
+        moved b.done (h.at + 53) refl (omega arith)
+        (run_stands (record h { done = b.done; at = h.at + 53; cells = b.cells })
+        (removed w t r.size (r.row e) b.hole (r.instant e) (r.arming e)) (store_at r.queue 0 (heap_of r.queue) 6 4 ∷ [])
+        may.runs (omega (arith, is.within)) refl (code_part z.code h.at all 53 1 may.code)
+        (stores_at b.hole (r.row e) refl refl
+        (writes_open (heap_open (columns_on may.columns (is.beside.long ∙ one.long))
+        (omega (arith, is.hollow.within, is.hollow.room))))
         (λ after put.
-        let last : h.at + 54 ≡ suc (h.at + 7 + 15 + 31) = omega arith in
-        ends
-        (subst (λ (to : ℕ). S z (Now f (record h { done = suc c.done; at = to; cells = after })
-        (words (removed w u r.size (r.row e) c.hole (r.instant e) (r.arming e))))) last
-        (on _ (r.row e) (r.instant e) (r.arming e) u (filled less risen sunk put)))) in
-        puts.runs (may_run may.runs (omega (arith, risen.within, sunk.within)) refl refl) parts.last))
+        ends (moved (suc b.done) (h.at + 54) refl (omega arith)
+        (on _ (r.row e) (r.instant e) (r.arming e) t (filled less is put)))))))
 
 -- The message at the hole leaves the heap, within 48 steps, 15 a turn up and 31 a turn down; where it is the last one,
 -- after 4 steps.
 pub removes_stand : {z : Setting} {f : Slots} {r : Removal} {h : Here} (w : Words) → MayRemove z f r h
     → Behind z f r h w → S z (Now f h (words (removing w r.all r.place)))
 removes_stand {z = z} {f = f} {r = r} {h = h} w may on =
-    let e : Entry = at r.heap r.size in
     let n : ℕ = r.size in
     let inside : r.place ≤ n = may.inside in
     let few : n < 2 ^ 31 = may.few in
     let room : n + 1 ≤ r.queue.messages = (whole_more may).room in
     let s : Scratch = record (scratch_of w) { other = n - r.place } in
     let fewer : r.all ≡ suc n = omega (arith, may.fewer) in
-    let takes_last : Straight z f (last_lines r.queue 0 (h.at + 54)) h (words (removing w r.all r.place)) =
-    calculates n (ap (λ k. operate op.Sub k 1) fewer ∙ one_less n (omega arith))
+    run_stands h (removing w r.all r.place) (last_lines r.queue 0 (h.at + 54)) may.runs (omega arith) refl
+    (code_first z.code 7 h.at (all may) may.code)
+    (calculates n (ap (λ k. operate op.Sub k 1) fewer ∙ one_less n (omega arith))
     (stores n refl (writes_open (count_open may.columns))
     (λ left one.
     calculates (n - r.place) (taken_off n r.place (n - r.place) (omega arith) (omega arith))
     (elim (cases_lt r.place n) [
       | inl less ↦
-          (let next : h.at + 7 ≡ steps_and 7 h.at = omega arith in
           stays (omega arith)
-          (loads_key (columns_on may.columns one.long) refl (omega arith) ((counted may one).column n (omega arith))
-          ((counted may one).kept n (omega arith)) (λ v u. (refl, refl))
-          (ends
-          (subst (λ (to : ℕ). S z (Now f (record h { done = steps_and 7 h.done; at = to; cells = left })
-          (words (removed w s n (r.row e) r.place (r.instant e) (r.arming e))))) next
-          (fills may one w s on less)))))
+          (loads_key (columns_on may.columns one.long) refl (omega arith)
+          ((counted may one).column n (omega arith)) ((counted may one).kept n (omega arith)) (λ v u. (refl, refl))
+          (ends (moved (steps_and 7 h.done) (h.at + 7) refl (omega arith) (fills may one w s on less))))
       | inr most ↦
-          jumps_off (omega arith)
-          (on _ w.hand w.instant w.arming s (shortened may one r.place (omega arith)))
-    ]))) in
-    takes_last.runs (may_run may.runs (omega arith) refl refl) (parts may).first
+          jumps_off (omega arith) (on _ w.hand w.instant w.arming s (shortened may one r.place (omega arith)))
+    ]))))

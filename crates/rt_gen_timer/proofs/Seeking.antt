@@ -36,10 +36,11 @@ use Rattle.rt_gen_timer.specs.TimerLines as lines
 use Rattle.rt_gen_timer.specs.declared.armed.ArmedTask.{ArmedTask}
 use Rattle.rt_gen_timer.specs.declared.queue.TimerQueue.{TimerQueue}
 use Rattle.rt_gen_timer.proofs.Window.{Slots, Words, words}
-use Rattle.rt_gen_timer.proofs.Acting.{Lasting, Runs, sooner, may_run, Columns, count_open, heap_open, handle_open}
+use Rattle.rt_gen_timer.proofs.Acting.{Lasting, Runs, sooner, may_run, run_stands, code_first, code_part, Columns}
+use Rattle.rt_gen_timer.proofs.Acting.{count_open, heap_open, handle_open}
 use Rattle.rt_gen_timer.proofs.Arranged.{IsOfHandle}
 use Rattle.rt_gen_timer.proofs.Calling.{Call, MayCall, f, w, may_open, Left, HasCalled, behind_call, Inside, entries}
-use Rattle.rt_gen_timer.proofs.Calling.{at_work, IsInside, columns_now, leaving_fits, leaving_code, code_from, code_first}
+use Rattle.rt_gen_timer.proofs.Calling.{at_work, IsInside, columns_now, leaving_fits, leaving_code}
 use Rattle.rt_gen_timer.proofs.Delaying.{rest_is}
 use Rattle.rt_gen_timer.proofs.Opening.{may_enter}
 use Rattle.rt_gen_timer.proofs.Spelled.{row_of, spelled_count, spelled_column, armed_is, own_task, found_of, missing_of}
@@ -357,7 +358,7 @@ module _ {c : Call} {h : Here} {k : Sought} (seek : MaySeek c h k) where
       finds_stand {z = c.z} {f = f seek.may} {g = g} {h = here o (steps_and 5 h.done) (h.at + 5) (to_do o)}
       {w = opened_words (w seek.may) o.mask (length s.heap)}
       (record {
-        code = code_from c.z.code 5 h.at (find_lines g.queue c.slot c.level g.task k.slot g.missing h.at) seek.code;
+        code = code_part c.z.code h.at (find_lines g.queue c.slot c.level g.task k.slot g.missing h.at) 5 12 seek.code;
         runs = sooner runs_seen (omega (arith, few));
         small = omega (arith, few, few_messages c.z.app seek.may.facts.accepted);
         room = few;

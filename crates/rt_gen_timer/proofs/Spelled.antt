@@ -20,7 +20,7 @@ use Rattle.rt_gen_timer.proofs.Hollow.{IsFirst, IsWhole}
 use Rattle.rt_gen_timer.proofs.Least.{AreApart}
 use Rattle.rt_gen_timer.specs.TimerCode.{queue_of, armed_task}
 use Rattle.rt_gen_timer.specs.TimerLines.{heap_of}
-use Rattle.rt_ids.specs.Content.{Content, MayArm, delays, least_instant, armed_as}
+use Rattle.rt_ids.specs.Content.{Armed, Content, MayArm, delays, least_instant, armed_as}
 use Rattle.rt_ids.specs.Entry.{Entry}
 use Rattle.rt_ids.specs.Lists.{or_zero}
 
@@ -105,8 +105,7 @@ module _ {app : App} {cells : ℕ → ℕ} {entries : List Entry} {content : Con
   pub missing_of : (task wanted : ℕ)
       → ((j : ℕ) → j < length s.heap → handle_at app cells (at s.heap j) ≢ wanted)
       ⊎ ((j : ℕ) × (j < length s.heap) × (handle_at app cells (at s.heap j) ≡ wanted)
-      × ((armed_place app (at s.heap j) < (armed_task app task).first)
-      ⊎ ((armed_task app task).first + (armed_task app task).rows ≤ armed_place app (at s.heap j))))
+      × IsOutside task (armed_place app (at s.heap j)))
       → armed_as task wanted (delays content) ≡ None
   missing_of task wanted (inl none) =
       ap (armed_as task wanted) armed_is ∙ handle_missing s.arranged (armed_at app cells) task wanted none
@@ -127,39 +126,37 @@ module _ (cells : List ℕ) {app : App} {entries : List Entry} {content : Conten
     room = omega (arith, s.room, s.arranged.long);
     long = refl;
     column = spelled_column s;
-    kept = λ j within. record {
-      room = row_of s j within;
-      instants = refl;
-      numbers = refl;
-      small = omega (
-        arith,
-        most,
+    kept = λ j within.
+        let small =
         all_counted (λ e. number_in app cells e < s.timed.given + s.timed.moved) entries (at s.heap j) s.arranged.below
-            (in_queue s.arranged j within),
-      );
-    };
+        (in_queue s.arranged j within) in
+        record { room = row_of s j within; instants = refl; numbers = refl; small = omega (arith, most, small) };
   }
 
   -- so where one more may come
   pub spelled_whole : MayArm content → IsWholeHeap s.heap
   spelled_whole few = whole_within (omega (arith, few_armings s few))
 
+  abbrev IsFirstOf : List Entry → Type 0
+  IsFirstOf heap =
+      IsFirst (queue_of app) (armed_place app) (instant_in app cells) (number_in app cells) cells
+      (least_instant (delays content)) heap
+
   -- The first message of the heap has the least armed instant; where there is none, none is armed.
-  pub first_within : s.timed.given + s.timed.moved ≤ 2 ^ 32
-      → IsFirst (queue_of app) (armed_place app) (instant_in app cells) (number_in app cells) cells
-      (least_instant (delays content)) s.heap
+  pub first_within : s.timed.given + s.timed.moved ≤ 2 ^ 32 → IsFirstOf s.heap
   first_within most = go s.heap s.arranged (whole_within most)
     where
+      read : Entry → Armed
+      read = armed_at app (slice_index cells)
+
       go : (heap : List Entry)
           → IsArranged (instant_in app cells) (number_in app cells) (s.timed.given + s.timed.moved) heap entries
-          → IsWholeHeap heap
-          → IsFirst (queue_of app) (armed_place app) (instant_in app cells) (number_in app cells) cells
-          (least_instant (delays content)) heap
-      go [] a whole = ap least_instant (armed_is s ∙ ap (map (armed_at app (slice_index cells))) (none_armed a refl))
+          → IsWholeHeap heap → IsFirstOf heap
+      go [] a whole = ap least_instant (armed_is s ∙ ap (map read) (none_armed a refl))
       go (e ∷ others) a whole =
-          let none : heap_of (queue_of app) ≡ heap_of (queue_of app) + 0 = omega arith in (
+          let none : heap_of (queue_of app) ≡ heap_of (queue_of app) + 0 = omega arith in
+          let least = (first_is_armed a read (λ x. refl) most (omega arith)).instant in (
             ap (slice_index cells) none ∙ whole.column 0 (omega (arith, whole.long)),
             whole.kept 0 (omega (arith, whole.long)),
-            ap least_instant (armed_is s)
-                ∙ (first_is_armed a (armed_at app (slice_index cells)) (λ x. refl) most (omega arith)).instant,
+            ap least_instant (armed_is s) ∙ least,
           )

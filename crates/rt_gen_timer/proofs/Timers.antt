@@ -34,10 +34,10 @@ use Rattle.rt_gen_queue.proofs.Queueing.{MayReady, ready_stands}
 use Rattle.rt_gen_queue.specs.Guards.{guard_of}
 use Rattle.rt_gen_queue.specs.Line.{plain, HasCode, Line}
 use Rattle.rt_gen_queue.specs.SpawnCode.{ready_code}
-use Rattle.rt_gen_timer.proofs.Acting.{Runs, sooner, may_run}
+use Rattle.rt_gen_timer.proofs.Acting.{Runs, sooner, may_run, run_stands, code_part}
 use Rattle.rt_gen_timer.proofs.Alone.{instant_in, number_in, message_same}
 use Rattle.rt_gen_timer.proofs.Arranged.{IsPicked, length_less}
-use Rattle.rt_gen_timer.proofs.Calling.{entries, columns_now, reads_now, settles, code_from, code_part}
+use Rattle.rt_gen_timer.proofs.Calling.{entries, columns_now, settles}
 use Rattle.rt_gen_timer.proofs.Closing.{closing_lines, closing_fit}
 use Rattle.rt_gen_timer.proofs.Comparing.{Place}
 use Rattle.rt_gen_timer.proofs.Delaying.{at_address}
@@ -53,8 +53,8 @@ use Rattle.rt_gen_timer.proofs.Trying.{choice_at, tries_stand}
 use Rattle.rt_gen_timer.proofs.Turning.{AreSinks, sinks_for, idle_enough}
 use Rattle.rt_gen_timer.proofs.Window.{Words, words, words_of, window_of}
 use Rattle.rt_gen_timer.specs.TimerCalls.{TimersStand}
-use Rattle.rt_gen_timer.specs.TimerCode.{armed_task, queue_of, timer_code}
-use Rattle.rt_gen_timer.specs.TimerLines.{set, fire_lines, alarm_lines}
+use Rattle.rt_gen_timer.specs.TimerCode.{armed_task, queue_of, choices_code, timer_code}
+use Rattle.rt_gen_timer.specs.TimerLines.{set, fire_lines, alarm_lines, front_lines}
 use Rattle.rt_gen_timer.specs.declared.armed.ArmedTask.{ArmedTask}
 use Rattle.rt_ids.specs.Action.{Returns}
 use Rattle.rt_ids.specs.Content.{Message, Values, Delays, timed, with_fired, least, without_least}
@@ -270,14 +270,13 @@ module _ {k : Handler} (u : Due k) where
         (fires (record { opens = (columns_now now {after = b.cells} gone.long).opens; stands = picked.parts; of_task = refl }) refl refl
         (λ vs agree.
         at_address (at + 6) (omega arith)
-        (settles now (record v { place = message_word e; other = to_word })
+        (settles now with_fired (record v { place = message_word e; other = to_word })
         (record {
           spells = again;
           few = omega (arith, few_armings now.spells now.taken.few);
           alone = alone u.may.mono before;
           long = gone.long;
         })
-        (ap (λ c. Delays (with_fired (timed c))) (agree (Guarded x) (reads_now now) ∙ same_timed u.known))
         (λ holder read. agree holder read ∙ u.known.agree holder read)
         (omega (arith, counted, length_less now.spells.arranged picked.before picked.behind e picked.parts))
         (λ closed other us soon left later.
@@ -347,7 +346,9 @@ module _ {k : Handler} (u : Due k) where
         tasks = λ j t there. (let from : 0 + j ≡ j = omega arith in ap (slice_get k.app.tasks) from ∙ there);
         least = omega arith;
         among = omega (arith, slice_get_within k.app.tasks e.task its.0 its.1);
-        code = code_from k.code 73 k.first lines u.may.code;
+        code = code_behind k.code k.first (k.first + 73) (front_lines (queue_of k.app) 0 k.level k.first)
+            (choices_code k.app k.level (k.first + 73) 0 k.app.tasks ++ plain (instr.Jump (k.first + 10)) ∷ []) refl
+            u.may.code;
         runs = sooner runs_here (omega (arith, gone.within));
         row = refl;
       })

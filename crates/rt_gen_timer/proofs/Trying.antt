@@ -2,38 +2,25 @@
 -- that is tried in vain takes 3 steps.
 use Rattle.std.proofs.Common.{◌≡◌, ℕ, suc, ◌+◌, ◌*◌, ◌<◌, ◌≤◌, ◌&&◌, Bool, true, false, List, [], ◌∷◌, ◌++◌, length}
 use Rattle.std.proofs.Common.{Some, option_map, slice_get, if◌then◌else◌, refl, sym, ap, subst, ◌∙◌, arith, inl, inr}
-use Rattle.std.proofs.Common.{append_assoc}
+use Rattle.std.proofs.Common.{append_assoc, take}
 use Rattle.std.proofs.lemmas.Bool.{cases_eq, false≢true, le-ltb}
 use Rattle.rt_app.proofs.ArmedPlaces.{rows, rows_before}
 use Rattle.rt_app.proofs.Spelling.{IsTimedPlace}
 use Rattle.rt_app.specs.Holding.{armed_place}
 use Rattle.rt_app.specs.Level.{is_software, is_armed, armed_count}
 use Rattle.rt_app.specs.Tree.{Task}
-use Rattle.rt_gen_queue.proofs.Layer.{Setting, Here, S, Straight, Now, sets, calculates, jumps_off}
-use Rattle.rt_gen_queue.proofs.Numbers.{steps_and}
+use Rattle.rt_gen_queue.proofs.Layer.{Here, S, Now, sets, calculates, jumps_off}
 use Rattle.rt_gen_queue.proofs.Placing.{code_front, code_behind}
 use Rattle.rt_gen_queue.specs.Line.{Line, HasCode}
-use Rattle.rt_gen_timer.proofs.Acting.{Runs, sooner, may_run}
+use Rattle.rt_gen_timer.proofs.Acting.{Runs, sooner, run_stands}
 use Rattle.rt_gen_timer.proofs.Judging.{Handler, setting, frame}
-use Rattle.rt_gen_timer.proofs.Window.{Words, words, Slots}
+use Rattle.rt_gen_timer.proofs.Window.{Words, words}
 use Rattle.rt_gen_timer.specs.TimerCode.{queue_of, armed_task, choices_code}
-use Rattle.rt_gen_timer.specs.TimerLines.{choice_lines, set, calc, jump_zero}
-use Rattle.rt_gen_timer.specs.declared.armed.ArmedTask.{ArmedTask}
+use Rattle.rt_gen_timer.specs.TimerLines.{choice_lines}
 use Rattle.rt_ids.specs.Entry.{Entry}
 use Rattle.rt_ids.specs.Lists.{is_some_and, or_zero}
 use Rattle.rt_ids.specs.Operation.{number_of}
 use Rattle.rt_lemmas.proofs.Bools.{and_both, and_right}
-use Rattle.rt_ids.specs.declared.op.Op.TheVariants as op
-
--- a row behind those of a task is left to another address, within 3 steps
-passes : {z : Setting} {f : Slots} {lines : List Line} {h : Here} {next : ℕ} (w : Words) (a : ArmedTask)
-    → a.first + a.rows ≤ w.place
-    → S z (Now f (record h { done = steps_and 3 h.done; at = next }) (words (record w { other = 0 })))
-    → Straight z f
-    (set (queue_of z.app) 0 13 (a.first + a.rows)
-    ∷ calc (queue_of z.app) 0 op.Lt 13 7 13 ∷ jump_zero (queue_of z.app) 0 13 next ∷ lines) h (words w)
-passes w a past on =
-    sets (calculates 0 (ap number_of (le-ltb w.place (a.first + a.rows) past)) (jumps_off refl on))
 
 module _ (k : Handler) where
   -- the choice of a task, from an address on
@@ -124,16 +111,15 @@ module _ (k : Handler) where
               (code_front k.code h.at (choice_at n h.at) (more ++ behind) whole))
           | inr apart ↦
               (let less : n < e.task = omega (arith, apart, may.least) in
-              let passing : Straight (setting k) (frame k)
-              (set (queue_of k.app) 0 13 ((armed_task k.app n).first + (armed_task k.app n).rows)
-              ∷ calc (queue_of k.app) 0 op.Lt 13 7 13 ∷ jump_zero (queue_of k.app) 0 13 (h.at + 26) ∷ []) h (words w) =
-              passes w (armed_task k.app n) (rows_past less)
+              run_stands h w (take 3 (choice_at n h.at)) may.runs (omega (arith, one)) refl
+              (whole.0, (whole.1.0, (whole.1.1.0, tt)))
+              (sets
+              (calculates 0 (ap number_of (le-ltb w.place _ (rows_past less)))
+              (jumps_off refl
               (again _ _
-              (behind_one less (omega (arith, one))
+              (behind_one {other = 0} less (omega (arith, one))
               (code_behind k.code h.at (h.at + 26) (choice_at n h.at) (more ++ behind) refl whole))
-              (λ done to other soon has. found done to other (omega (arith, soon, one)) has)) in
-              passing.runs (may_run may.runs (omega (arith, one)) refl refl)
-              (whole.0, (whole.1.0, (whole.1.1.0, tt))))
+              (λ done to other soon has. found done to other (omega (arith, soon, one)) has))))))
         ]
 
   -- so many steps are enough to come to the choice of the message's task

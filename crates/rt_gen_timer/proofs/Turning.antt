@@ -1,18 +1,52 @@
--- How many turns of the loop downwards the timer handler takes: for each binary digit of the number of messages, or for
--- each message, whichever are fewer. So its section is within both of its costs.
+-- How many turns the loops take: that upwards in a `spawn_after`, and that downwards in the timer handler. One for each
+-- binary digit of the number of messages, or for each message, whichever are fewer: so their sections are within both
+-- of their costs.
 use Rattle.std.proofs.Common.{◌≡◌, ℕ, zero, suc, ◌+◌, ◌-◌, ◌*◌, ◌^◌, ◌<◌, ◌≤◌, Bool, true, false, List, [], ◌∷◌}
 use Rattle.std.proofs.Common.{length, if◌then◌else◌, arith, inl, inr}
-use Rattle.std.proofs.Math.Nat.{pow-le-pow_right}
+use Rattle.std.proofs.Math.Nat.{pow-le-pow_right, pow-succ'}
 use Rattle.std.proofs.lemmas.Bool.{cases_lt}
 use Rattle.std.specs.List.{AllByRecursion}
 use Rattle.rt_app.specs.Accepted.{IsAccepted}
 use Rattle.rt_app.specs.Level.{is_armed, armed_capacities, armed_count, armed_messages, armed_tasks}
 use Rattle.rt_app.specs.Limits.{KeepsTaskLimits}
 use Rattle.rt_app.specs.Tree.{Task, App}
-use Rattle.rt_gen_timer.proofs.Calling.{reach_enough}
-use Rattle.rt_gen_timer.proofs.Removing.{reach_is}
 use Rattle.rt_gen_timer.proofs.Sifting.{rise_reach}
+use Rattle.rt_gen_timer.proofs.Settling.{reach_enough, reach_is}
 use Rattle.rt_gen_timer.specs.TimerCalls.{IsSectionCost}
+
+-- the steps of the section in which a message is armed, at most, where the loop upwards may take so many turns
+abbrev pub arm_steps : ℕ → ℕ
+arm_steps turns = 43 + 15 * turns
+
+-- so many turns are enough, and within a cost of the section
+pub record AreTurns (app : App) (cost : ℕ) : Type 0 where
+  pub turns : ℕ
+  pub reach : armed_messages app < rise_reach turns
+  pub few : turns ≤ armed_messages app
+  pub enough : arm_steps turns ≤ cost
+
+pub turns_for : (app : App) (cost : ℕ) → IsSectionCost app cost → AreTurns app cost
+turns_for app cost costs =
+    let by_messages : arm_steps (armed_messages app) ≤ cost → AreTurns app cost =
+    λ enough. record {
+      turns = armed_messages app;
+      reach = reach_enough (armed_messages app);
+      few = omega arith;
+      enough = enough;
+    } in
+    elim costs [
+      | inl is ↦ by_messages (omega (arith, is))
+      | inr (digits, below, is) ↦ elim (cases_lt digits (armed_messages app)) [
+        | inl less ↦
+            record {
+              turns = digits;
+              reach = omega (arith, below, reach_is digits, pow-succ' 2 digits);
+              few = omega (arith, less);
+              enough = omega (arith, is);
+            }
+        | inr most ↦ by_messages (omega (arith, is, most))
+      ]
+    ]
 
 module _ (app : App) where
   -- a task that may be armed has a place at least
@@ -43,7 +77,7 @@ few_tries digits tasks some less few =
       | inl larger ↦ elim (cases_lt 5 digits) [ inl large ↦ omega arith | inr middle ↦ omega (arith, most 5 middle) ]
     ]
 
--- so many turns are enough where a message is armed, and within a cost of the section
+-- so many turns downwards are enough where a message is armed
 pub record AreSinks (app : App) (cost : ℕ) : Type 0 where
   pub turns : ℕ
   pub reach : armed_messages app ≤ rise_reach turns

@@ -5,35 +5,24 @@ use Rattle.rt_gen_queue.specs.Line.{Line}
 use Rattle.rt_gen_queue.proofs.Nameable.{named_behind}
 use Rattle.rt_gen_queue.proofs.Named.{spawned}
 use Rattle.rt_gen_timer.specs.TimerCode.{move_code}
-use Rattle.rt_gen_timer.proofs.Generated.{timer_named}
-use Rattle.rt_gen_timer.proofs.Named.{move_claimed}
+use Rattle.rt_gen_timer.proofs.Generated.{timer_named, move_claimed}
 use Rattle.rt_gen_timer.proofs.generate.gen_move.Goals as goal
 
 pub returns : goal.returns
 returns c =
     let app = app_of c.args.plan.now.app.now in
     let task = spawned app c.args.task c.requires.accepted c.requires.software in
+    let irq = timer_named app c.requires.accepted c.requires.timed in
+    let old : List Line = c.args.code.now.items in
     let code : List Line = move_code app c.args.task c.args.level c.args.slot c.args.entry in
-    let is : c.extend_from_slice.new.self.items ≡ c.args.code.now.items ++ code =
-    rw (
-      c.extend_from_slice.ensures.items,
-      c.in_ok-extend_from_slice.was,
-      c.as_slice.ensures,
-      c.in_ok-push_move.ensures,
-      c.new-lines.ensures,
-      c.in_ok-emitter.ensures.queue,
-      c.in_ok-emitter.ensures.slot,
-      c.armed_of.ensures.is,
-    ) in
+    let is : c.extend_from_slice.new.self.items ≡ old ++ code =
+    rw (c.extend_from_slice.ensures.items, c.in_ok-extend_from_slice.was, c.as_slice.ensures)
+    (rw (c.in_ok-push_move.ensures, c.new-lines.ensures, c.in_ok-emitter.ensures.queue)
+    (rw (c.in_ok-emitter.ensures.slot, c.armed_of.ensures.is))) in
     record {
       code = is;
-      size = omega (
-        arith,
-        ap (λ (ls : List Line). length ls) is,
-        length-append c.args.code.now.items code,
-      );
-      lines = named_behind (names_of app) c.args.code.now.items c.extend_from_slice.new.self.items code is
-          (move_claimed app (timer_named app c.requires.accepted c.requires.timed) c.args.slot c.args.level c.args.task
-          task.0 task.1 c.args.entry);
+      size = omega (arith, ap (λ (ls : List Line). length ls) is, length-append old code);
+      lines = named_behind (names_of app) old c.extend_from_slice.new.self.items code is
+          (move_claimed app irq c.args.slot c.args.level c.args.task task.0 task.1 c.args.entry);
       left = tt;
     }

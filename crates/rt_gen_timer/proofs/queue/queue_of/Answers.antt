@@ -4,7 +4,7 @@ use Rattle.rt_app.specs.declared.plan.Plan.{Plan}
 use Rattle.rt_app.specs.Level.{armed_messages}
 use Rattle.rt_app.specs.View.{app_of}
 use Rattle.rt_app.proofs.ArmedPlaces.{few_messages}
-use Rattle.rt_gen_timer.proofs.Planned.{first_planned, top_planned, irq_planned, top_small}
+use Rattle.rt_gen_timer.proofs.Generated.{first_planned, top_planned, irq_planned, top_small}
 use Rattle.rt_gen_timer.proofs.queue.queue_of.Goals as goal
 
 pub of-requires-clause-greatest : goal.of-requires-clause-greatest
@@ -18,24 +18,13 @@ of-requires-clause-greatest c =
 pub returns : goal.returns
 returns c =
     let plan : Plan = c.args.plan.now in
+    let mono = c.args.mono in
     let counted = ap (λ (a : coded.App). armed_messages (app_of a)) c.requires.rows in
+    let few = few_messages (app_of plan.app.now) c.requires.accepted in
     record {
-      is = rw (
-        c.first_cell.ensures,
-        c.messages.ensures.value,
-        counted,
-        c.of.ensures,
-        c.top_of.ensures,
-        c.irq_number.ensures,
-        c.deref.ensures.value,
-        first_planned plan c.requires.planned c.args.mono c.requires.timed,
-        top_planned plan c.requires.planned c.args.mono c.requires.timed,
-        irq_planned plan c.requires.planned c.args.mono c.requires.timed,
-      );
-      few = omega (
-        arith,
-        c.messages.ensures.value,
-        counted,
-        few_messages (app_of plan.app.now) c.requires.accepted,
-      );
+      is = rw (c.first_cell.ensures, c.messages.ensures.value, counted, c.of.ensures, c.top_of.ensures)
+          (rw (c.irq_number.ensures, c.deref.ensures.value, first_planned plan c.requires.planned mono c.requires.timed)
+          (rw (top_planned plan c.requires.planned mono c.requires.timed)
+          (rw (irq_planned plan c.requires.planned mono c.requires.timed))));
+      few = omega (arith, c.messages.ensures.value, counted, few);
     }

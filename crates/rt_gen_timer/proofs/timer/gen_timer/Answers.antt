@@ -7,8 +7,7 @@ use Rattle.rt_app.specs.View.{app_of}
 use Rattle.rt_gen_queue.specs.Line.{Line, IsNameable}
 use Rattle.rt_gen_queue.proofs.Nameable.{named_behind}
 use Rattle.rt_gen_timer.specs.TimerCode.{timer_code}
-use Rattle.rt_gen_timer.proofs.Generated.{timer_named, timer_short}
-use Rattle.rt_gen_timer.proofs.Named.{timer_claimed}
+use Rattle.rt_gen_timer.proofs.Generated.{timer_named, timer_short, timer_claimed}
 use Rattle.rt_gen_timer.proofs.timer.gen_timer.Goals as goal
 
 pub returns : goal.returns
