@@ -27,7 +27,7 @@ use Rattle.rt_gen_queue.proofs.Layer.{spot, clocks, loads, loads_at, calculates,
 use Rattle.rt_gen_queue.proofs.Numbers.{steps_and}
 use Rattle.rt_gen_queue.proofs.Owning.{home_as, timer_spelled}
 use Rattle.rt_gen_queue.specs.Line.{Line, plain, HasCode}
-use Rattle.rt_gen_timer.proofs.Acting.{code_first, code_part, Columns, count_open, first_open, instant_open}
+use Rattle.rt_gen_timer.proofs.Acting.{run_stands, code_first, code_part, Columns, count_open, first_open, instant_open}
 use Rattle.rt_gen_timer.proofs.Alone.{instant_in}
 use Rattle.rt_gen_timer.proofs.Arranged.{IsLeast, none_armed, first_is_armed}
 use Rattle.rt_gen_timer.proofs.Calling.{Inside, entries, at_work, IsInside, columns_now, queue_now}
@@ -265,9 +265,16 @@ module _ {k : Handler} (may : MayHandle k) where
   idles {d = d} known done v soon counted =
       let x = section.Timer in
       let same : d.us (Guarded x) ≡ d.vs (Guarded x) = same_timed known ∙ sym known.now.spells.is in
-      let lines : Straight (setting k) (frame k) (closing_lines k.app k.level (k.first + 10) (plain instr.Ret ∷ []))
-      (in_section k d done (k.first + 10) d.cells (idle_rest k.app d.us)) (words v) =
-      closes_timer k.level v
+      run_stands {f = frame k} {k = done + 8} (in_section k d done (k.first + 10) d.cells (idle_rest k.app d.us)) v
+      (closing_lines k.app k.level (k.first + 10) (plain instr.Ret ∷ []))
+      (record {
+        time = (omega arith, (omega (arith, may.least), (omega arith, tt)));
+        saves = saves_inside (may_enter (may_open may));
+      })
+      (omega arith) (closing_fit k.app k.level (k.first + 10) (plain instr.Ret ∷ []) refl)
+      (closing_placed k.app k.level k.code (frame k) (k.first + 10) (plain instr.Ret ∷ [])
+      (code_part k.code k.first (timer_code k.app k.level k.first) 10 8 may.code))
+      (closes_timer k.level v
       (record {
         accepted = may.accepted;
         mono = may.mono;
@@ -290,16 +297,7 @@ module _ {k : Handler} (may : MayHandle k) where
       agree holder read
       ∙ known.agree holder
       (reads_more (storage k.app) (AtLevel k.level) (opened (setting k) (frame k) x k.level) [] holder read)
-      ∙ known.now.taken.agree holder read)).spells) in
-      lines.runs
-      (record {
-        time = (omega arith, (omega (arith, may.least), (omega arith, tt)));
-        saves = saves_inside (may_enter (may_open may));
-        long = refl;
-        fit = closing_fit k.app k.level (k.first + 10) (plain instr.Ret ∷ []) refl;
-      })
-      (closing_placed k.app k.level k.code (frame k) (k.first + 10) (plain instr.Ret ∷ [])
-      (code_part k.code k.first (timer_code k.app k.level k.first) 10 8 may.code))
+      ∙ known.now.taken.agree holder read)).spells))
 
   -- what is told where the first message is due
   abbrev pub IsDue : Words → Type 0
@@ -357,9 +355,13 @@ module _ {k : Handler} (may : MayHandle k) where
   pub judges_stand : (w : Words) → IsDue w → S (setting k) (Now (frame k) (begun k) (words w))
   judges_stand w dues =
       let x = section.Timer in
-      let lines : Straight (setting k) (frame k) (due_lines (queue_of k.app) 0 k.level (k.first + 10) (k.first + 18))
-      (begun k) (words w) =
-      enters {values = k.values} {rest = λ vs. does Clocks vs (clock_rest k.app)} (may_enter (may_open may))
+      let front : HasCode k.code k.first (due_lines (queue_of k.app) 0 k.level (k.first + 10) (k.first + 18)) =
+      code_first k.code 10 k.first (timer_code k.app k.level k.first) may.code in
+      run_stands {f = frame k} {k = 10} (begun k) w (due_lines (queue_of k.app) 0 k.level (k.first + 10) (k.first + 18))
+      (record { time = (omega arith, (omega arith, tt)); saves = saves_below (frame k) [] tt }) (omega arith)
+      (and_both _ _ (enter_fits x (queue_of k.app).guard k.level 9 24 9) refl)
+      (front.0 ∙ ap Some (sym (enter_placed x (queue_of k.app).guard k.level 9 0)), front.1)
+      (enters {values = k.values} {rest = λ vs. does Clocks vs (clock_rest k.app)} (may_enter (may_open may))
       (omega (arith, may.least)) refl
       (λ mask vs cells queues taken.
       sets
@@ -373,14 +375,4 @@ module _ {k : Handler} (may : MayHandle k) where
         taken = taken;
         spells = timer_spelled k.app (slice_index cells) (queues (Guarded x)) (vs (Guarded x)) taken.spelled;
       } in
-      judges {d = d} (record { now = now; agree = agree }) w mask time dues)))) in
-      let front : HasCode k.code k.first (due_lines (queue_of k.app) 0 k.level (k.first + 10) (k.first + 18)) =
-      code_first k.code 10 k.first (timer_code k.app k.level k.first) may.code in
-      lines.runs
-      (record {
-        time = (omega arith, (omega arith, tt));
-        saves = saves_below (frame k) [] tt;
-        long = refl;
-        fit = and_both _ _ (enter_fits section.Timer (queue_of k.app).guard k.level 9 24 9) refl;
-      })
-      (front.0 ∙ ap Some (sym (enter_placed section.Timer (queue_of k.app).guard k.level 9 0)), front.1)
+      judges {d = d} (record { now = now; agree = agree }) w mask time dues)))))

@@ -25,7 +25,7 @@ use Rattle.rt_code.specs.declared.instr.Instr.TheVariants as instr
 use Rattle.rt_gen_queue.specs.Guards.{guard_of, leave}
 use Rattle.rt_gen_queue.specs.Line.{Line, HasCode, plain}
 use Rattle.rt_gen_queue.proofs.Entering.{opened, enters, leaves, enter_placed, enter_fits, saves_inside, saves_below}
-use Rattle.rt_gen_queue.proofs.Layer.{Setting, Here, S, Now, is_there, Straight, sets, loads, calculates, loads_at, copies}
+use Rattle.rt_gen_queue.proofs.Layer.{Setting, Here, S, Now, is_there, sets, loads, calculates, loads_at, copies}
 use Rattle.rt_gen_queue.proofs.Layer.{jumps_off, stays, ends, moved, lasts_less, reads_open}
 use Rattle.rt_gen_queue.proofs.Numbers.{one_less, steps_and}
 use Rattle.rt_gen_queue.proofs.Owning.{timer_spelled}
@@ -36,7 +36,7 @@ use Rattle.rt_gen_timer.specs.TimerLines as lines
 use Rattle.rt_gen_timer.specs.declared.armed.ArmedTask.{ArmedTask}
 use Rattle.rt_gen_timer.specs.declared.queue.TimerQueue.{TimerQueue}
 use Rattle.rt_gen_timer.proofs.Window.{Slots, Words, words}
-use Rattle.rt_gen_timer.proofs.Acting.{Lasting, Runs, sooner, may_run, run_stands, code_first, code_part, Columns}
+use Rattle.rt_gen_timer.proofs.Acting.{Lasting, Runs, sooner, run_stands, code_first, code_part, Columns}
 use Rattle.rt_gen_timer.proofs.Acting.{count_open, heap_open, handle_open}
 use Rattle.rt_gen_timer.proofs.Arranged.{IsOfHandle}
 use Rattle.rt_gen_timer.proofs.Calling.{Call, MayCall, f, w, may_open, Left, HasCalled, behind_call, Inside, entries}
@@ -138,9 +138,11 @@ module _ {z : Setting} {f : Slots} {g : Search} {h : Here} {w : Words} (may : Ma
         let last : ℕ = g.task.first + g.task.rows in
         let below : ℕ = number_of (nat_lt p g.task.first) in
         let both : ℕ = number_of (nat_lt below (number_of (nat_lt p last))) in
-        let tests : Straight z f (own_lines g.queue 0 g.task g.missing)
-        (record h { done = done; at = steps_and 6 h.at }) (words (looking w j p x)) =
-        sets
+        run_stands (record h { done = done; at = steps_and 6 h.at }) (looking w j p x)
+        (own_lines g.queue 0 g.task g.missing) may.runs (omega arith) refl
+        (code_behind z.code h.at (steps_and 6 h.at) (search_lines g.queue f.slot g.slot g.missing h.at)
+        (own_lines g.queue f.slot g.task g.missing) (omega arith) may.code)
+        (sets
         (calculates (number_of (nat_lt p last)) refl
         (sets
         (calculates below refl
@@ -153,17 +155,14 @@ module _ {z : Setting} {f : Slots} {g : Search} {h : Here} {w : Words} (may : Ma
               (record { inside = inside; is = is; least = least; less = less }) (omega arith)))
           | inr (off, out) ↦
               jumps_off off (none (steps_and 6 done) j p both below (inr (j, inside, is, out)) (omega arith))
-        ]))))) in
-        tests.runs (may_run may.runs (omega arith) refl refl)
-        (code_behind z.code h.at (steps_and 6 h.at) (search_lines g.queue f.slot g.slot g.missing h.at)
-        (own_lines g.queue f.slot g.task g.missing) (omega arith) may.code)
+        ]))))))
 
     -- no place is left
     none_left : Searches 0
     none_left done p o inside soon others =
-        let ends_off : Straight z f (take 1 (turn_lines g h.at)) (record h { done = done }) (words (looking w 0 p o)) =
-        jumps_off refl (none (suc done) 0 p o w.right (inl (λ j less. others j (omega arith) less)) (omega arith)) in
-        ends_off.runs (may_run may.runs (omega arith) refl refl) (may.code.0, tt)
+        run_stands (record h { done = done }) (looking w 0 p o) (take 1 (turn_lines g h.at)) may.runs (omega arith) refl
+        (may.code.0, tt)
+        (jumps_off refl (none (suc done) 0 p o w.right (inl (λ j less. others j (omega arith) less)) (omega arith)))
 
     -- One turn: the place before the hole has the handle, or the others are searched.
     turn : {i : ℕ} → Searches i → Searches (suc i)
@@ -171,8 +170,11 @@ module _ {z : Setting} {f : Slots} {g : Search} {h : Here} {w : Words} (may : Ma
         let r : ℕ = g.row (at g.heap i) in
         let has : ℕ = g.handle (at g.heap i) in
         let is : ℕ = number_of (has == g.wanted) in
-        let turns_once : Straight z f (turn_lines g h.at) (record h { done = done }) (words (looking w (suc i) p o)) =
-        stays (omega arith)
+        run_stands (record h { done = done }) (looking w (suc i) p o) (turn_lines g h.at) may.runs (omega arith)
+        (ap (λ b. b && true) may.there)
+        (code_front z.code h.at (search_lines g.queue f.slot g.slot g.missing h.at)
+        (own_lines g.queue f.slot g.task g.missing) may.code)
+        (stays (omega arith)
         (calculates i (one_less i (omega (arith, may.small)))
         (loads_at i r refl (reads_open (heap_open may.columns (omega (arith, may.room))) (may.column i inside))
         (loads_at r has refl (reads_open (handle_open may.columns (may.rows i inside)) (may.handles i inside))
@@ -190,10 +192,7 @@ module _ {z : Setting} {f : Slots} {g : Search} {h : Here} {w : Words} (may : Ma
                 | inl this ↦ subst (λ k. g.handle (at g.heap k) ≢ g.wanted) (omega (arith, this)) apart
                 | inr other ↦ others j (omega (arith, other)) less
               ])))
-        ]))))) in
-        turns_once.runs (may_run may.runs (omega arith) refl (ap (λ b. b && true) may.there))
-        (code_front z.code h.at (search_lines g.queue f.slot g.slot g.missing h.at)
-        (own_lines g.queue f.slot g.task g.missing) may.code)
+        ]))))))
 
     -- the loop, by the places that are left
     searches : (i : ℕ) → Searches i
@@ -314,9 +313,12 @@ module _ {c : Call} {h : Here} {k : Sought} (seek : MaySeek c h k) where
   closes : (o : Taken) {done : ℕ} (v : Words) → IsInside (seen o) → done ≤ h.done + (6 * armed_messages c.z.app + 12)
       → OnNone → S c.z (Now (f seek.may) (here o done (h.at + k.missing) (follow o.values false)) (words v))
   closes o {done = done} v now early missed =
-      let leaving : Straight c.z (f seek.may) (leave c.z.app section.Timer c.level 9 ∷ plain (instr.Set 0 1) ∷ [])
-      (here o done (h.at + k.missing) (follow o.values false)) (words v) =
-      leaves c.level refl refl refl now.taken.spelled
+      let behind : List Line = plain (instr.Set 0 1) ∷ [] in
+      run_stands (here o done (h.at + k.missing) (follow o.values false)) v
+      (leave c.z.app section.Timer c.level 9 ∷ behind) runs_seen (omega (arith, early))
+      (leaving_fits c.z.app c.level [] behind refl refl)
+      (leaving_code c.z (f seek.may) c.level (h.at + k.missing) [] behind seek.none)
+      (leaves c.level refl refl refl now.taken.spelled
       (λ us later.
       sets
       (ends
@@ -332,11 +334,7 @@ module _ {c : Call} {h : Here} {k : Sought} (seek : MaySeek c h k) where
           queued = now.taken.same.queued;
         };
         agree = λ holder read. later holder read ∙ now.taken.agree holder read;
-      }))))) in
-      leaving.runs
-      (may_run runs_seen (omega (arith, early)) refl
-      (leaving_fits c.z.app c.level [] (plain (instr.Set 0 1) ∷ []) refl refl))
-      (leaving_code c.z (f seek.may) c.level (h.at + k.missing) [] (plain (instr.Set 0 1) ∷ []) seek.none)
+      }))))))
 
   -- Once the section has opened the message is looked for.
   looks : (o : Taken) (now : IsInside (seen o)) → OnSeen → OnNone
@@ -387,8 +385,14 @@ module _ {c : Call} {h : Here} {k : Sought} (seek : MaySeek c h k) where
   pub seeks : OnSeen → OnNone → S c.z (Now (f seek.may) h (words (w seek.may)))
   seeks on missed =
       let x = section.Timer in
-      let opens : Straight c.z (f seek.may) (open_lines (queue_of c.z.app) 0 c.level) h (words (w seek.may)) =
-      enters (may_enter (may_open seek.may)) (omega arith) seek.is
+      let front : HasCode c.z.code h.at (open_lines (queue_of c.z.app) c.slot c.level) =
+      code_first c.z.code 5 h.at
+      (find_lines (queue_of c.z.app) c.slot c.level (armed_task c.z.app c.task) k.slot (h.at + k.missing) h.at)
+      seek.code in
+      run_stands h (w seek.may) (open_lines (queue_of c.z.app) 0 c.level) runs_call (omega arith)
+      (ap (λ b. b && true) (enter_fits x (guard_of c.z.app x) c.level 9 24 9))
+      (front.0 ∙ ap Some (sym (enter_placed x (guard_of c.z.app x) c.level 9 c.slot)), front.1)
+      (enters (may_enter (may_open seek.may)) (omega arith) seek.is
       (λ mask vs cells queues taken.
       let o : Taken = record { mask = mask; values = vs; cells = cells; queues = queues } in
       let now : IsInside (seen o) = record {
@@ -401,12 +405,4 @@ module _ {c : Call} {h : Here} {k : Sought} (seek : MaySeek c h k) where
       (sets
       (loads (length now.spells.heap) (reads_open (count_open (columns_now now refl)) (spelled_count now.spells))
       (copies
-      (ends (moved (steps_and 5 h.done) (h.at + 5) refl (omega arith) (looks o now on missed))))))) in
-      let front : HasCode c.z.code h.at (open_lines (queue_of c.z.app) c.slot c.level) =
-      code_first c.z.code 5 h.at
-      (find_lines (queue_of c.z.app) c.slot c.level (armed_task c.z.app c.task) k.slot (h.at + k.missing) h.at)
-      seek.code in
-      opens.runs
-      (may_run runs_call (omega arith) refl
-      (ap (λ b. b && true) (enter_fits x (guard_of c.z.app x) c.level 9 24 9)))
-      (front.0 ∙ ap Some (sym (enter_placed x (guard_of c.z.app x) c.level 9 c.slot)), front.1)
+      (ends (moved (steps_and 5 h.done) (h.at + 5) refl (omega arith) (looks o now on missed))))))))

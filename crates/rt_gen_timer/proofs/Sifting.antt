@@ -10,7 +10,6 @@ use Rattle.rt_ids.specs.declared.op.Op.TheVariants as op
 use Rattle.rt_code.specs.declared.instr.Instr.TheVariants as instr
 use Rattle.rt_gen_queue.specs.Line.{Line, plain, HasCode}
 use Rattle.rt_gen_queue.proofs.Numbers.{added, one_less, steps_and}
-use Rattle.rt_gen_queue.proofs.Placing.{code_front}
 use Rattle.rt_gen_queue.proofs.Layer.{Setting, Here, S, Wrote, Now, Straight, ahead, calculates, copies, stores_at, jumps}
 use Rattle.rt_gen_queue.proofs.Layer.{jumps_off, stays, writes_open}
 use Rattle.rt_app.specs.Heap.{above, at, keys}
@@ -20,7 +19,7 @@ use Rattle.rt_gen_timer.proofs.Order.{above_less}
 use Rattle.rt_gen_timer.proofs.Moves.{with_moved, HasHole, HasRisen, rise_hole, rise_ends, rise_turn, HasSunk, sink_hole}
 use Rattle.rt_gen_timer.proofs.Moves.{sink_ends, sink_turn}
 use Rattle.rt_gen_timer.proofs.Window.{Slots, Words, words, Scratch}
-use Rattle.rt_gen_timer.proofs.Acting.{Runs, sooner, may_run, Columns, columns_on, heap_open}
+use Rattle.rt_gen_timer.proofs.Acting.{Runs, sooner, run_stands, code_first, Columns, columns_on, heap_open}
 use Rattle.rt_gen_timer.proofs.Comparing.{Hand, Place, key, IsOpen, in_hand, key_from, less_of, compares, loads_key}
 use Rattle.rt_gen_timer.proofs.Hollow.{IsBeside, beside_none, beside_more, beside_one_place, IsKept, hollow_moved}
 
@@ -135,10 +134,9 @@ module _ {z : Setting} {f : Slots} {k : Hand} where
   -- at the first place the loop ends
   first_place : (turns : ℕ) → Rises z f k turns 0
   first_place turns h xs w s ready on =
-      let ends : Straight z f (take 1 (rise_lines k.queue 0 h.at)) h (words (in_hand k w s 0)) =
-      jumps_off refl
-      (on _ s (rise_over (suc h.done) ready (omega arith) (λ some. absurd (omega (arith, some))))) in
-      ends.runs (may_run ready.runs (omega arith) refl refl) (ready.code.0, tt)
+      run_stands h (in_hand k w s 0) (take 1 (rise_lines k.queue 0 h.at)) ready.runs (omega arith) refl
+      (ready.code.0, tt)
+      (jumps_off refl (on _ s (rise_over (suc h.done) ready (omega arith) (λ some. absurd (omega (arith, some))))))
 
   -- One turn below the first place: where the message above is greater it moves down, and the turns behind go on.
   rises_once : {turns i : ℕ} → 0 < i → Rises z f k turns (above i) → Rises z f k (suc turns) i
@@ -153,8 +151,8 @@ module _ {z : Setting} {f : Slots} {k : Hand} where
       let kept : IsKept k.queue k.row k.instant k.arming h.cells x = ready.hollow.kept a inside apart in
       let t : Scratch =
       record s { other = a; row = k.row x; row_instant = k.instant x; row_arming = k.arming x } in
-      let turns_once : Straight z f (rise_lines k.queue 0 h.at) h (words (in_hand k w s i)) =
-      stays some
+      run_stands h (in_hand k w s i) (rise_lines k.queue 0 h.at) ready.runs (omega arith) refl ready.code
+      (stays some
       (calculates (i - 1) (less_one i some (omega (arith, ready.few, ready.hollow.within)))
       (calculates a refl
       (loads_key ready.columns refl (omega (arith, ready.hollow.room)) (ready.hollow.column a inside apart) kept
@@ -168,8 +166,7 @@ module _ {z : Setting} {f : Slots} {k : Hand} where
       (λ lesser left one.
       again (record h { done = steps_and 15 h.done; cells = left }) (with_moved xs i a) w u
       (ready_behind some ready one) (λ c v behind. on c v (risen_behind some ready one (omega arith) behind)))
-      (λ most. on _ u (rise_over (steps_and 12 h.done) ready (omega arith) (λ inner. most)))))))) in
-      turns_once.runs (may_run ready.runs (omega arith) refl refl) ready.code
+      (λ most. on _ u (rise_over (steps_and 12 h.done) ready (omega arith) (λ inner. most)))))))))
 
   -- the loop, by its turns
   rises : (turns i : ℕ) → Rises z f k turns i
@@ -370,8 +367,8 @@ module _ {z : Setting} {f : Slots} {k : Hand} where
       let more : ℕ = number_of (nat_lt (left + 1) k.size) in
       let right : ℕ = left + more in
       let few : k.size < 2 ^ 31 = may.few in
-      let turns_once : Straight z f (sink_lines k.queue 0 h.at) h (words (sinking k w s i)) =
-      looks_below w s may on
+      run_stands h (sinking k w s i) (sink_lines k.queue 0 h.at) may.runs (omega arith) refl may.code
+      (looks_below w s may on
       (λ inside t.
       let second : right < k.size = right_within left k.size inside in
       calculates (left + 1) (added left 1 (left + 1) refl (omega arith))
@@ -383,18 +380,14 @@ module _ {z : Setting} {f : Slots} {k : Hand} where
       let lesser : IsLesser k.size i (keys (key k) xs) (left + less) = lesser_is refl inside refl (ap (λ n. left + n) is) in
       calculates (left + less) (added left less (left + less) refl (omega (arith, lesser.within)))
       (sinks_to (again (left + less)) w (record (two_keys k xs t left right) { less = less; equal = g; work = b }) may on
-      lesser)))))) in
-      turns_once.runs (may_run may.runs (omega arith) refl refl) may.code
+      lesser)))))))
 
   -- below the last places the loop ends
   last_turn : (i : ℕ) → Sinks z f k 0 i
   last_turn i h xs w s may on =
-      let lines : List Line = sink_lines k.queue 0 h.at in
-      let ends : Straight z f (take 4 lines) h (words (sinking k w s i)) =
-      looks_below w s may on (λ inside t. absurd (omega (arith, may.reach))) in
-      ends.runs (may_run may.runs (omega arith) refl refl)
-      (code_front z.code h.at (take 4 (sink_lines k.queue f.slot h.at)) (drop 4 (sink_lines k.queue f.slot h.at))
-      may.code)
+      run_stands h (sinking k w s i) (take 4 (sink_lines k.queue 0 h.at)) may.runs (omega arith) refl
+      (code_first z.code 4 h.at (sink_lines k.queue f.slot h.at) may.code)
+      (looks_below w s may on (λ inside t. absurd (omega (arith, may.reach))))
 
   -- the loop, by its turns
   sinks : (turns i : ℕ) → Sinks z f k turns i

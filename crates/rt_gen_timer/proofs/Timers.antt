@@ -24,7 +24,7 @@ use Rattle.rt_code.specs.Acting.{with_queue}
 use Rattle.rt_code.specs.Masking.{IsWithin}
 use Rattle.rt_gen_queue.proofs.Entering.{leave_placed, saves_inside}
 use Rattle.rt_gen_queue.proofs.Facts.{Spawned, priority, known, few_ready, ready_top, small, few_free}
-use Rattle.rt_gen_queue.proofs.Layer.{Here, S, Frame, Now, inner, returns_here, Straight, ends, sets, calculates}
+use Rattle.rt_gen_queue.proofs.Layer.{Here, S, Frame, Now, inner, returns_here, ends, sets, calculates}
 use Rattle.rt_gen_queue.proofs.Layer.{stays, spot, begins, moved}
 use Rattle.rt_gen_queue.proofs.Numbers.{steps_and, added}
 use Rattle.rt_gen_queue.proofs.Owning.{nobody_keeps}
@@ -34,14 +34,14 @@ use Rattle.rt_gen_queue.proofs.Queueing.{MayReady, ready_stands}
 use Rattle.rt_gen_queue.specs.Guards.{guard_of}
 use Rattle.rt_gen_queue.specs.Line.{plain, HasCode, Line}
 use Rattle.rt_gen_queue.specs.SpawnCode.{ready_code}
-use Rattle.rt_gen_timer.proofs.Acting.{Runs, sooner, may_run, run_stands, code_part}
+use Rattle.rt_gen_timer.proofs.Acting.{Runs, sooner, run_stands, code_part}
 use Rattle.rt_gen_timer.proofs.Alone.{instant_in, number_in, message_same}
 use Rattle.rt_gen_timer.proofs.Arranged.{IsPicked, length_less}
 use Rattle.rt_gen_timer.proofs.Calling.{entries, columns_now, settles}
 use Rattle.rt_gen_timer.proofs.Closing.{closing_lines, closing_fit}
 use Rattle.rt_gen_timer.proofs.Comparing.{Place}
 use Rattle.rt_gen_timer.proofs.Delaying.{at_address}
-use Rattle.rt_gen_timer.proofs.Judging.{AreKept, kept_on, Handler, setting, frame, begun, Known, same_timed, Took, inside}
+use Rattle.rt_gen_timer.proofs.Judging.{AreKept, kept_on, Handler, setting, frame, begun, Known, Took, inside}
 use Rattle.rt_gen_timer.proofs.Judging.{in_section, due_rest, foremost, foremost_instant, is_least, MayHandle, may_open}
 use Rattle.rt_gen_timer.proofs.Judging.{judges_stand}
 use Rattle.rt_gen_timer.proofs.Leaving.{IsAsBefore, alone, timer_left}
@@ -57,9 +57,9 @@ use Rattle.rt_gen_timer.specs.TimerCode.{armed_task, queue_of, choices_code, tim
 use Rattle.rt_gen_timer.specs.TimerLines.{set, fire_lines, alarm_lines, front_lines}
 use Rattle.rt_gen_timer.specs.declared.armed.ArmedTask.{ArmedTask}
 use Rattle.rt_ids.specs.Action.{Returns}
-use Rattle.rt_ids.specs.Content.{Message, Values, Delays, timed, with_fired, least, without_least}
+use Rattle.rt_ids.specs.Content.{Message, Values, timed, with_fired, least, without_least}
 use Rattle.rt_ids.specs.Entry.{Entry}
-use Rattle.rt_ids.specs.Holder.{Holder, Guarded}
+use Rattle.rt_ids.specs.Holder.{Holder}
 use Rattle.rt_ids.specs.Operation.{number_of}
 use Rattle.rt_ids.specs.Storage.{AtLevel}
 use Rattle.rt_ids.specs.declared.limits.TheConstants.{CAPACITY}
@@ -260,8 +260,11 @@ module _ {k : Handler} (u : Due k) where
         let word : v.place + to_word ≡ message_word e =
         omega (arith, row, few_before k.app u.may.accepted e.task) in
         let again = timer_left u.may.mono before now.spells picked gone.without gone.whole gone.count in
-        let fired : Straight (setting k) (frame k) closing (here b.cells done at) (words v) =
-        sets
+        run_stands (here b.cells done at) v closing runs_here (omega (arith, less, gone.within))
+        (closing_fit k.app k.level (at + 6) [] refl)
+        (subst (λ (line : Line). HasCode k.code at (fire ++ (alarm_lines (queue_of k.app) 0 (at + 6) ++ line ∷ [])))
+        (sym (leave_placed x (guard_of k.app x) k.level 9 0)) (code_front k.code at closing ready found))
+        (sets
         (calculates 1 own
         (stays (omega arith)
         (sets
@@ -301,10 +304,7 @@ module _ {k : Handler} (u : Due k) where
           kept = kept_on u.may.kept left later;
           has = code_behind k.code at (at + 13) closing ready refl found;
           in_time = omega (arith, soon, less, gone.within, u.sinks.few);
-        }))))))))))) in
-        fired.runs (may_run runs_here (omega (arith, less, gone.within)) refl (closing_fit k.app k.level (at + 6) [] refl))
-        (subst (λ (line : Line). HasCode k.code at (fire ++ (alarm_lines (queue_of k.app) 0 (at + 6) ++ line ∷ [])))
-        (sym (leave_placed x (guard_of k.app x) k.level 9 0)) (code_front k.code at closing ready found))
+        }))))))))))))
 
   -- The message leaves the heap first, and the choices of other tasks are passed: the handler has returned in time.
   takes_first : (w : Words)
@@ -319,9 +319,9 @@ module _ {k : Handler} (u : Due k) where
       let w1 : Words = record w { place = armed_place k.app e } in
       let lines : List Line = timer_code k.app k.level k.first in
       let its = the_task is_software k.app e.task timed_place.1 in
-      let first : Straight (setting k) (frame k) (set (queue_of k.app) 0 6 0 ∷ []) (here u.d.cells 10 (k.first + 18))
-      (words (record w1 { count = length heap; one = 1; two = 2 })) =
-      sets
+      run_stands (here u.d.cells 10 (k.first + 18)) (record w1 { count = length heap; one = 1; two = 2 })
+      (set (queue_of k.app) 0 6 0 ∷ []) runs_here (omega arith) refl (code_part k.code k.first lines 18 1 u.may.code)
+      (sets
       (ends
       (moved 11 (k.first + 19) refl (omega arith)
       (removes_stand {r = removal} {h = here u.d.cells 11 (k.first + 19)} w1
@@ -352,8 +352,7 @@ module _ {k : Handler} (u : Due k) where
         runs = sooner runs_here (omega (arith, gone.within));
         row = refl;
       })
-      (λ done to other less found. fires_then gone (record v { other = other }) refl refl done to less found)))))) in
-      first.runs (may_run runs_here (omega arith) refl refl) (code_part k.code k.first lines 18 1 u.may.code)
+      (λ done to other less found. fires_then gone (record v { other = other }) refl refl done to less found)))))))
 
 -- the handler may enter the section of the timer queue
 within_timer : (app : App) (mono : Mono) → app.mono ≡ Some mono
