@@ -12,6 +12,7 @@ pub mod Hollow
 pub mod Settling
 pub mod Removing
 pub mod Arranged
+pub mod Appending
 pub mod Choosing
 pub mod Generated
 pub mod Delaying
