@@ -63,7 +63,7 @@ use Rattle.rt_gen_timer.proofs.Opening.{MayOpen, may_enter}
 use Rattle.rt_gen_timer.proofs.Order.{above_less}
 use Rattle.rt_gen_timer.proofs.Pushing.{MayPush, armings_before, size, room, counts, are, is_row, longer, hole_begins}
 use Rattle.rt_gen_timer.proofs.Pushing.{hollow_begins, spelled_more}
-use Rattle.rt_gen_timer.proofs.Rising.{IsReady, IsRisen, rises_stand}
+use Rattle.rt_gen_timer.proofs.Sifting.{IsReady, IsRisen, rises_stand}
 use Rattle.rt_gen_timer.proofs.Rowing.{HasRow, with_row, row_stands}
 use Rattle.rt_gen_timer.proofs.Spelled.{few_armings}
 use Rattle.rt_gen_timer.proofs.Turning.{arm_steps, AreTurns, turns_for}

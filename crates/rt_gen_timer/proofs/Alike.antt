@@ -1,13 +1,16 @@
 -- On counts of a list of messages: one that is counted stands at a place, and splits the list there. And on two
 -- readings of keys that are one on the messages of a list.
-use Rattle.std.proofs.Common.{◌≡◌, ◌≢◌, ℕ, suc, ◌+◌, ◌<◌, ◌≤◌, Bool, true, false, cond, List, [], ◌∷◌, ◌++◌, map}
-use Rattle.std.proofs.Common.{length, slice_set, ◌==◌, ◌&&◌, refl, sym, ap, ◌∙◌, arith, length-set, get_or-set_other}
+use Rattle.std.proofs.Common.{◌≡◌, ◌≢◌, ℕ, ◌+◌, ◌<◌, ◌≤◌, cond, List, [], ◌∷◌, ◌++◌, map, length, take, drop, get_or}
+use Rattle.std.proofs.Common.{slice_set, ◌==◌, ◌&&◌, refl, sym, ap, ◌∙◌, arith, length-set, get_or-set_other}
 use Rattle.std.proofs.lemmas.Bool.{ne_eqb}
+use Rattle.std.proofs.lemmas.List.{take-append-drop}
+use Rattle.std.proofs.lemmas.Option.{slice_get_within, get_or_from_slice_get}
 use Rattle.std.proofs.lemmas.List.Sums.{sum_by-append, sum_by-set, get_or-le-sum_by}
 use Rattle.std.specs.List.{AllByRecursion}
-use Rattle.rt_app.proofs.Counting.{one, count_more, same_entry, one_itself, all_counted, counted}
+use Rattle.rt_app.proofs.Counting.{one, count_more, one_itself, all_counted, counted, counted_at as stands_at}
 use Rattle.rt_app.specs.Heap.{IsRising, IsArranged, above, at, key_of}
-use Rattle.rt_ids.specs.Entry.{Entry, is_same_entry, count}
+use Rattle.rt_ids.specs.Entry.{Entry, count}
+use Rattle.rt_lemmas.proofs.Lists.{drop_as_cons}
 
 -- a message between two lists
 pub count_around : (x : Entry) (before behind : List Entry) (e : Entry)
@@ -53,29 +56,19 @@ pub record IsSplit (xs : List Entry) (e : Entry) : Type 0 where
   pub here : at xs place ≡ e
 
 pub splits : (xs : List Entry) (e : Entry) → 0 < count e xs → IsSplit xs e
-splits [] e some = absurd (omega arith)
-splits (x ∷ xs) e some =
-    go (is_same_entry e x) refl (λ none. splits xs e (omega (arith, count_more e x xs, none)))
-  where
-    go : (b : Bool) → is_same_entry e x ≡ b → (one e x ≡ 0 → IsSplit xs e) → IsSplit (x ∷ xs) e
-    go true is rest = record {
-      before = [];
-      behind = xs;
-      parts = ap (λ y. y ∷ xs) (sym (same_entry e x is));
-      place = 0;
-      within = omega arith;
-      here = sym (same_entry e x is);
+splits xs e some =
+    let one = stands_at xs e some in
+    let within = slice_get_within xs one.0 e one.1 in
+    let here : (d : Entry) → get_or xs one.0 d ≡ e = λ d. get_or_from_slice_get xs one.0 e d one.1 in
+    record {
+      before = take one.0 xs;
+      behind = drop (one.0 + 1) xs;
+      parts = sym (take-append-drop one.0 xs)
+          ∙ ap (λ ys. take one.0 xs ++ ys) (drop_as_cons xs one.0 e within (sym (here e)));
+      place = one.0;
+      within = within;
+      here = here (record { task = 0; place = 0 });
     }
-    go false is rest =
-        let deeper = rest (ap {B = ℕ} (λ b. cond b 1 0) is) in
-        record {
-          before = x ∷ deeper.before;
-          behind = deeper.behind;
-          parts = ap (λ ys. x ∷ ys) deeper.parts;
-          place = suc deeper.place;
-          within = omega (arith, deeper.within);
-          here = deeper.here;
-        }
 
 -- what each counted message has, all have
 pub all_from_counted : (P : Entry → Type 0) (xs : List Entry) → ((x : Entry) → 0 < count x xs → P x)

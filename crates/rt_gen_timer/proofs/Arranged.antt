@@ -133,21 +133,20 @@ module _ {instant arming : Entry → ℕ} {armings : ℕ} {heap entries : List E
         let e : Entry = at heap 0 in
         let key : Entry → ℕ = key_of instant arming in
         let s = splits entries e (in_queue 0 some) in
-        let first : AllByRecursion (λ x. (key e ≤ key x) × (arming x < armings)) (s.before ++ e ∷ s.behind) =
-        subst (AllByRecursion (λ x. (key e ≤ key x) × (arming x < armings))) s.parts
+        let P : Entry → Type 0 = λ x. (key e ≤ key x) × (arming x < armings) in
+        let all : AllByRecursion P (s.before ++ e ∷ s.behind) =
+        subst (AllByRecursion P) s.parts
         (all_both (λ x. key e ≤ key x) (λ x. arming x < armings) entries
         (all_of_heap (λ x. key e ≤ key x) (first_is_least a.order)) a.below) in
-        let found = least_is (map armed_at s.before) (map armed_at s.behind) (armed_at e)
-        (all_map armed_at (λ x. ((key e ≤ key x) × (arming x < armings)) × (arming x < arming e))
-        (λ b. (armed_at e).instant < b.instant)
-        (λ x both. omega (arith, both.0.0, both.1, is e, is x)) s.before
-        (all_both (λ x. (key e ≤ key x) × (arming x < armings)) (λ x. arming x < arming e) s.before
-        (all_front (λ x. (key e ≤ key x) × (arming x < armings)) s.before (e ∷ s.behind) first)
+        let earlier : AllByRecursion (λ x. P x × (arming x < arming e)) s.before =
+        all_both P (λ x. arming x < arming e) s.before (all_front P s.before (e ∷ s.behind) all)
         (along_before (λ x y. arming x < arming y) s.before s.behind e
-        (subst (Along (λ x y. arming x < arming y)) s.parts numbers_along))))
-        (all_map armed_at (λ x. (key e ≤ key x) × (arming x < armings)) (λ b. (armed_at e).instant ≤ b.instant)
-        (λ x both. omega (arith, both.0, both.1, is e, is x)) s.behind
-        (all_behind (λ x. (key e ≤ key x) × (arming x < armings)) s.before (e ∷ s.behind) first).1) in
+        (subst (Along (λ x y. arming x < arming y)) s.parts numbers_along)) in
+        let found = least_is (map armed_at s.before) (map armed_at s.behind) (armed_at e)
+        (all_map armed_at (λ x. P x × (arming x < arming e)) (λ b. (armed_at e).instant < b.instant)
+        (λ x both. omega (arith, both.0.0, both.1, is e, is x)) s.before earlier)
+        (all_map armed_at P (λ b. (armed_at e).instant ≤ b.instant) (λ x both. omega (arith, both.0, both.1, is e, is x))
+        s.behind (all_behind P s.before (e ∷ s.behind) all).1) in
         record {
           picked = picks s found.1 found.2;
           instant = ap least_instant (split_map armed_at s) ∙ found.0;

@@ -45,7 +45,7 @@ use Rattle.rt_gen_timer.proofs.Calling.{leaving_fits, leaving_code, Call, Begins
 use Rattle.rt_gen_timer.proofs.Calling.{behind_call, f, on_window, at_work, columns_now, settles, own_on, stands_called}
 use Rattle.rt_gen_timer.proofs.Comparing.{Place}
 use Rattle.rt_gen_timer.proofs.Delaying.{at_address}
-use Rattle.rt_gen_timer.proofs.Finding.{Taken}
+use Rattle.rt_gen_timer.proofs.Seeking.{Taken}
 use Rattle.rt_gen_timer.proofs.Leaving.{IsAsBefore, alone, timer_left}
 use Rattle.rt_gen_timer.proofs.Marking.{cancels}
 use Rattle.rt_gen_timer.proofs.Removing.{Removal, IsRemoved, removed, removes_stand}

@@ -1,8 +1,7 @@
 -- Two keys are compared without a jump: the instants first, and of equal instants the numbers. Of numbers of 32 bits it
 -- is the order of the keys as one number each.
-use Rattle.std.proofs.Common.{◌≡◌, ℕ, ◌+◌, ◌*◌, ◌^◌, ◌<◌, ◌==◌, ◌&&◌, ◌||◌, nat_lt, Bool, true, false, List, [], ◌∷◌}
-use Rattle.std.proofs.Common.{◌++◌, slice_index, slice_set, bit_and, bit_or, refl, sym, ap, ◌∙◌, arith, inl, inr}
-use Rattle.std.proofs.lemmas.Bool.{cases_lt, lt-ltb, le-ltb}
+use Rattle.std.proofs.Common.{◌≡◌, ℕ, ◌+◌, ◌*◌, ◌^◌, ◌<◌, ◌==◌, ◌&&◌, ◌||◌, nat_lt, Bool, List, [], ◌∷◌}
+use Rattle.std.proofs.Common.{◌++◌, slice_index, slice_set, bit_and, bit_or, ap, ◌∙◌, arith}
 use Rattle.std.proofs.lemmas.Bool.Decides.{nat_tests}
 use Rattle.rt_ids.specs.Entry.{Entry}
 use Rattle.rt_ids.specs.Operation.{number_of}
@@ -17,45 +16,17 @@ use Rattle.rt_gen_timer.proofs.Window.{Slots, Words, words, Scratch, turning}
 use Rattle.rt_gen_timer.proofs.Acting.{Columns, heap_open, instant_open, number_open}
 use Rattle.rt_gen_timer.proofs.Hollow.{IsKept, IsHollow}
 
--- both of two tests, as numbers
+-- both of two tests, and one of two, as numbers
 and_numbers : (a b : Bool) → bit_and (number_of a) (number_of b) ≡ number_of (a && b)
-and_numbers true true = refl
-and_numbers true false = refl
-and_numbers false true = refl
-and_numbers false false = refl
+and_numbers a b = grind arith
 
--- one of two tests, as numbers
 or_numbers : (a b : Bool) → bit_or (number_of a) (number_of b) ≡ number_of (a || b)
-or_numbers true true = refl
-or_numbers true false = refl
-or_numbers false true = refl
-or_numbers false false = refl
+or_numbers a b = grind arith
 
 -- of numbers below 2^32 the order of pairs is that of the keys
 pairs_are : (a b c d : ℕ) → b < 2 ^ 32 → d < 2 ^ 32
     → (nat_lt a c || ((a == c) && nat_lt b d)) ≡ nat_lt (a * 2 ^ 32 + b) (c * 2 ^ 32 + d)
-pairs_are a b c d small small_too =
-    elim (cases_lt a c) [
-      | inl less ↦
-          (ap (λ t. t || ((a == c) && nat_lt b d)) (lt-ltb a c less)
-          ∙ sym (lt-ltb (a * 2 ^ 32 + b) (c * 2 ^ 32 + d) (omega arith)))
-      | inr least ↦
-          (ap (λ t. t || ((a == c) && nat_lt b d)) (le-ltb a c least)
-          ∙ elim (cases_lt c a) [
-            | inl more ↦
-                (let e : (a == c) ≡ false = grind (arith, nat_tests) in
-                ap (λ t. t && nat_lt b d) e ∙ sym (le-ltb (a * 2 ^ 32 + b) (c * 2 ^ 32 + d) (omega arith)))
-            | inr most ↦
-                (let e : (a == c) ≡ true = grind (arith, nat_tests) in
-                ap (λ t. t && nat_lt b d) e
-                ∙ elim (cases_lt b d) [
-                  | inl below ↦
-                      (lt-ltb b d below ∙ sym (lt-ltb (a * 2 ^ 32 + b) (c * 2 ^ 32 + d) (omega arith)))
-                  | inr above ↦
-                      (le-ltb b d above ∙ sym (le-ltb (a * 2 ^ 32 + b) (c * 2 ^ 32 + d) (omega arith)))
-                ])
-          ])
-    ]
+pairs_are a b c d small small_too = grind (arith, nat_tests)
 
 -- what the loops work on: the columns of a heap, how many messages it has, and the one in hand
 pub record Hand : Type 0 where

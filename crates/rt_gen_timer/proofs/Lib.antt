@@ -6,14 +6,13 @@ pub mod Acting
 pub mod Numbered
 pub mod Alike
 pub mod Comparing
-pub mod Rising
-pub mod Sinking
-pub mod Searching
+pub mod Sifting
 pub mod Seeking
 pub mod Hollow
 pub mod Settling
 pub mod Removing
 pub mod Arranged
+pub mod Appending
 pub mod Choosing
 pub mod Generated
 pub mod Delaying
@@ -25,7 +24,6 @@ pub mod Handled
 pub mod Leaving
 pub mod Closing
 pub mod Marking
-pub mod Finding
 pub mod Calling
 pub mod Cancelling
 pub mod Afters
@@ -36,5 +34,4 @@ pub mod Moving
 pub mod Trying
 pub mod Turning
 pub mod Judging
-pub mod Serving
 pub mod Timers

@@ -15,7 +15,7 @@ use Rattle.rt_code.specs.declared.instr.Note.TheVariants as note
 use Rattle.rt_gen_queue.specs.Line.{Line, noted}
 use Rattle.rt_gen_queue.proofs.Layer.{Setting, Here, does as asks, Wrote, wrote, shows, Writes, store_at_gives}
 use Rattle.rt_gen_queue.proofs.Layer.{mark_gives, window, Now, is_there, MayRun, Straight, slot_of, word_of, by_noted}
-use Rattle.rt_gen_queue.proofs.Layer.{goes_later, behind_line}
+use Rattle.rt_gen_queue.proofs.Layer.{acts_later, behind_line}
 use Rattle.rt_gen_timer.specs.TimerLines.{heap_of}
 use Rattle.rt_gen_timer.specs.declared.queue.TimerQueue.{TimerQueue}
 use Rattle.rt_gen_timer.proofs.Window.{Slots, Words, words}
@@ -67,15 +67,8 @@ module _ {z : Setting} {f : Slots} {lines : List Line} {h : Here} {values : Valu
         in_hands = may.hands;
         of_task = may.of_task;
         shown = word_shown 10 w.instant run refl refl;
-        acts = record {
-          values = values;
-          follows = λ answer. rest;
-          is = doing;
-          on = λ vs agree.
-              let left : List ℕ = slice_set h.cells (heap_of q + w.hole) w.hand in
-              goes_later refl run has
-              (on left vs (wrote (heap_of q + w.hole) w.hand h.cells writes.there) agree);
-        };
+        acts = acts_later (Arms w.instant m) (words w) refl run has doing
+            (λ vs. on (slice_set h.cells (heap_of q + w.hole) w.hand) vs (wrote (heap_of q + w.hole) w.hand h.cells writes.there));
       }))
 
   -- the message of the handle in a slot goes last, for the instant in its slot
@@ -103,15 +96,8 @@ module _ {z : Setting} {f : Slots} {lines : List Line} {h : Here} {values : Valu
         of_task = may.of_task;
         shown = word_shown 1 handle run refl shown;
         put_off = word_shown 10 w.instant run refl refl;
-        acts = record {
-          values = values;
-          follows = λ answer. rest;
-          is = doing;
-          on = λ vs agree.
-              let left : List ℕ = slice_set h.cells (heap_of q + w.hole) w.hand in
-              goes_later refl run has
-              (on left vs (wrote (heap_of q + w.hole) w.hand h.cells writes.there) agree);
-        };
+        acts = acts_later (Moves task handle w.instant) (words w) refl run has doing
+            (λ vs. on (slice_set h.cells (heap_of q + w.hole) w.hand) vs (wrote (heap_of q + w.hole) w.hand h.cells writes.there));
       }))
 
   module _ {task : ℕ} {e : Entry} {before behind : List Entry} {ws : List ℕ} where
@@ -134,13 +120,7 @@ module _ {z : Setting} {f : Slots} {lines : List Line} {h : Here} {values : Valu
           stands = may.stands;
           of_task = may.of_task;
           shown = word_shown 0 handle run refl shown;
-          acts = record {
-            values = values;
-            follows = λ answer. rest;
-            is = doing;
-            on = λ vs agree.
-                goes_later refl run has (on vs agree);
-          };
+          acts = acts_later (Cancels task handle) ws refl run has doing on;
         }))
 
     -- so does one that fires
@@ -160,11 +140,5 @@ module _ {z : Setting} {f : Slots} {lines : List Line} {h : Here} {values : Valu
           inside = may.opens;
           stands = may.stands;
           of_task = (may.of_task, of_task);
-          acts = record {
-            values = values;
-            follows = λ answer. rest;
-            is = doing;
-            on = λ vs agree.
-                goes_later refl run has (on vs agree);
-          };
+          acts = acts_later (Fires m) ws refl run has doing on;
         }))

@@ -32,7 +32,7 @@ use Rattle.rt_gen_timer.proofs.Calling.{leaving_fits, leaving_code, Call, Begins
 use Rattle.rt_gen_timer.proofs.Calling.{at_work, AgreeInside, columns_now, settles, stands_called}
 use Rattle.rt_gen_timer.proofs.Comparing.{Hand, Place}
 use Rattle.rt_gen_timer.proofs.Delaying.{at_address, delayed, time_stands}
-use Rattle.rt_gen_timer.proofs.Finding.{Taken}
+use Rattle.rt_gen_timer.proofs.Seeking.{Taken}
 use Rattle.rt_gen_timer.proofs.Hollow.{IsBeside, beside_more, beside_one_place, hollow_filled}
 use Rattle.rt_gen_timer.proofs.Lasting.{last_alone}
 use Rattle.rt_gen_timer.proofs.Marking.{moves}
@@ -40,7 +40,7 @@ use Rattle.rt_gen_timer.proofs.Postponing.{IsAgain, again_stands, MayMove, are, 
 use Rattle.rt_gen_timer.proofs.Postponing.{last_long, spelled_moved}
 use Rattle.rt_gen_timer.proofs.Seeking.{handle_steps, MaySeek, seen, runs_seen, IsSeen, seen_words, seeks}
 use Rattle.rt_gen_timer.proofs.Settling.{reach_enough, MaySettle, IsSettled, settles_stand}
-use Rattle.rt_gen_timer.proofs.Sinking.{sinking}
+use Rattle.rt_gen_timer.proofs.Sifting.{sinking}
 use Rattle.rt_gen_timer.proofs.Spelled.{few_armings, row_of}
 
 -- the message of a handle is to be put to another instant

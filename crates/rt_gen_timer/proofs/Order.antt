@@ -1,8 +1,8 @@
 -- On the order of a heap while one message of it is in hand (Williams, Algorithm 232: Heapsort, 1964): its place is a
 -- hole, whose key is not looked at. The key above the hole, or the lesser one below it, goes to the hole, until the one
 -- in hand may fill it.
-use Rattle.std.proofs.Common.{◌≡◌, ◌≢◌, ◌⊎◌, ℕ, zero, suc, ◌+◌, ◌<◌, ◌≤◌, nat_lt, inl, inr, ap, arith}
-use Rattle.std.proofs.lemmas.Bool.{cases_lt, lt-ltb, le-ltb}
+use Rattle.std.proofs.Common.{◌≡◌, ◌≢◌, ℕ, zero, suc, ◌+◌, ◌<◌, ◌≤◌, nat_lt, arith}
+use Rattle.std.proofs.lemmas.Bool.Decides.{nat_tests}
 use Rattle.rt_app.specs.Heap.{above, IsHeap}
 use Rattle.rt_ids.specs.Operation.{number_of}
 
@@ -94,23 +94,12 @@ beside_one {i = i} order same = record {
 pub lesser_is : {n i left right c : ℕ} {key : ℕ → ℕ} → left ≡ i + i + 1 → left < n
     → right ≡ left + number_of (nat_lt (left + 1) n) → c ≡ left + number_of (nat_lt (key right) (key left))
     → IsLesser n i key c
-lesser_is {n = n} {left = left} {right = right} {key = key} is within right_is c_is =
-    let more : (number_of (nat_lt (left + 1) n) ≡ 1) × (left + 1 < n) ⊎ (number_of (nat_lt (left + 1) n) ≡ 0)
-    × (n ≤ left + 1) = numbered (left + 1) n in
-    let less = numbered (key right) (key left) in
-    record {
-      some = grind (arith, more, less);
-      within = grind (arith, more, less);
-      under = grind (arith, more, less);
-      least = λ j positive within below. grind (arith, more, less);
-    }
-  where
-    numbered : (a b : ℕ) → ((number_of (nat_lt a b) ≡ 1) × (a < b)) ⊎ ((number_of (nat_lt a b) ≡ 0) × (b ≤ a))
-    numbered a b =
-        elim (cases_lt a b) [
-          | inl less ↦ inl (ap number_of (lt-ltb a b less), less)
-          | inr most ↦ inr (ap number_of (le-ltb a b most), most)
-        ]
+lesser_is is within right_is c_is = record {
+  some = grind (arith, nat_tests);
+  within = grind (arith, nat_tests);
+  under = grind (arith, nat_tests);
+  least = λ j positive within below. grind (arith, nat_tests);
+}
 
 -- a key that is no greater than the lesser one is no greater than both
 pub no_greater_than_lesser : {n i c : ℕ} {key : ℕ → ℕ} {k : ℕ} → IsLesser n i key c → k ≤ key c → IsNoGreater n i key k

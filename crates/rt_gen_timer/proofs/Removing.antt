@@ -20,7 +20,7 @@ use Rattle.rt_gen_timer.proofs.Acting.{heap_open}
 use Rattle.rt_gen_timer.proofs.Comparing.{Hand, Place, loads_key}
 use Rattle.rt_gen_timer.proofs.Hollow.{IsBeside, beside_more, beside_one_place, kept_beside}
 use Rattle.rt_gen_timer.proofs.Hollow.{IsWhole, whole_counted, whole_taken, whole_fewer, whole_filled}
-use Rattle.rt_gen_timer.proofs.Rising.{rise_reach}
+use Rattle.rt_gen_timer.proofs.Sifting.{rise_reach}
 use Rattle.rt_gen_timer.proofs.Rowing.{taken_off}
 use Rattle.rt_gen_timer.proofs.Settling.{MaySettle, IsSettled, settles_stand}
 use Rattle.rt_gen_timer.proofs.Arranged.{IsWithout, without_last, without_other}

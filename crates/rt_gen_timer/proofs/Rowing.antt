@@ -9,7 +9,7 @@ use Rattle.rt_ids.specs.declared.limits.TheConstants.{CAPACITY}
 use Rattle.rt_ids.specs.declared.op.Op.TheVariants as op
 use Rattle.rt_gen_queue.specs.Line.{Line}
 use Rattle.rt_gen_queue.proofs.Numbers.{added}
-use Rattle.rt_gen_queue.proofs.Layer.{Setting, Here, ahead, Straight, sets, calculates, loads, stores, stores_at}
+use Rattle.rt_gen_queue.proofs.Layer.{Setting, Here, Wrote, ahead, Straight, sets, calculates, loads, stores, stores_at}
 use Rattle.rt_gen_queue.proofs.Layer.{reads_open, writes_open}
 use Rattle.rt_gen_timer.specs.TimerLines.{armings_of, given_of, instants_of, numbers_of, handles_of, row_lines}
 use Rattle.rt_gen_timer.specs.declared.armed.ArmedTask.{ArmedTask}
@@ -57,6 +57,29 @@ with_row w row a g n = record w {
   two = 2;
 }
 
+-- what six stores leave: the counts are one more, and the row has what is stored at it
+row_written : {q : TimerQueue} {row instant a g n : ℕ} {c0 c1 c2 c3 c4 c5 c6 : List ℕ}
+    → Wrote (armings_of q) (a + 1) c0 c1 → Wrote (given_of q) (g + 1) c1 c2 → Wrote q.at (n + 1) c2 c3
+    → Wrote (instants_of q + row) instant c3 c4 → Wrote (numbers_of q + row) a c4 c5
+    → Wrote (handles_of q + row) (g + 1) c5 c6 → row < q.messages → HasRow q row instant a g n c0 c6
+row_written {q = q} {row = row} {c3 = c3} {c6 = c6} w1 w2 w3 w4 w5 w6 there =
+    let behind : (c : ℕ) → c < q.at + 3 → slice_index c6 c ≡ slice_index c3 c =
+    λ c low. w6.others c (omega arith) ∙ w5.others c (omega arith) ∙ w4.others c (omega arith) in
+    record {
+      armings = behind (armings_of q) (omega arith) ∙ w3.others (armings_of q) (omega arith)
+          ∙ w2.others (armings_of q) (omega arith) ∙ w1.here;
+      given = behind (given_of q) (omega arith) ∙ w3.others (given_of q) (omega arith) ∙ w2.here;
+      count = behind q.at (omega arith) ∙ w3.here;
+      instants = w6.others (instants_of q + row) (omega arith) ∙ w5.others (instants_of q + row) (omega arith)
+          ∙ w4.here;
+      numbers = w6.others (numbers_of q + row) (omega arith) ∙ w5.here;
+      handles = w6.here;
+      others = λ c out instant number handle.
+          w6.others c handle ∙ w5.others c number ∙ w4.others c instant ∙ w3.others c (omega (arith, out))
+          ∙ w2.others c (omega (arith, out)) ∙ w1.others c (omega (arith, out));
+      long = w6.long ∙ w5.long ∙ w4.long ∙ w3.long ∙ w2.long ∙ w1.long;
+    }
+
 module _ {z : Setting} {f : Slots} {q : TimerQueue} {lines : List Line} {h : Here} where
   -- the lines stand, in 16 steps
   pub row_stands : (w : Words) (t : ArmedTask) {row a g n : ℕ} → Columns z q h.held h.cells
@@ -94,20 +117,4 @@ module _ {z : Setting} {f : Slots} {q : TimerQueue} {lines : List Line} {h : Her
       let columns5 = columns_on columns4 w5.long in
       stores_at row (g + 1) refl refl (writes_open (handle_open columns5 there))
       (λ c6 w6.
-      let behind : (c : ℕ) → c < q.at + 3 → slice_index c6 c ≡ slice_index c3 c =
-      λ c low. w6.others c (omega arith) ∙ w5.others c (omega arith) ∙ w4.others c (omega arith) in
-      on c6
-      (record {
-        armings = behind (armings_of q) (omega arith) ∙ w3.others (armings_of q) (omega arith)
-            ∙ w2.others (armings_of q) (omega arith) ∙ w1.here;
-        given = behind (given_of q) (omega arith) ∙ w3.others (given_of q) (omega arith) ∙ w2.here;
-        count = behind q.at (omega arith) ∙ w3.here;
-        instants = w6.others (instants_of q + row) (omega arith) ∙ w5.others (instants_of q + row) (omega arith)
-            ∙ w4.here;
-        numbers = w6.others (numbers_of q + row) (omega arith) ∙ w5.here;
-        handles = w6.here;
-        others = λ c out instant number handle.
-            w6.others c handle ∙ w5.others c number ∙ w4.others c instant ∙ w3.others c (omega (arith, out))
-            ∙ w2.others c (omega (arith, out)) ∙ w1.others c (omega (arith, out));
-        long = w6.long ∙ w5.long ∙ w4.long ∙ w3.long ∙ w2.long ∙ w1.long;
-      })))))))))))))))))
+      on c6 (row_written w1 w2 w3 w4 w5 w6 there)))))))))))))))))

@@ -11,8 +11,8 @@ use Rattle.rt_gen_timer.proofs.Window.{Slots, Words, words, Scratch}
 use Rattle.rt_gen_timer.proofs.Acting.{Runs, sooner, Columns, columns_on}
 use Rattle.rt_gen_timer.proofs.Comparing.{Hand, Place, key, IsOpen}
 use Rattle.rt_gen_timer.proofs.Hollow.{IsBeside, beside_more}
-use Rattle.rt_gen_timer.proofs.Rising.{IsReady, rise_reach, rises_stand}
-use Rattle.rt_gen_timer.proofs.Sinking.{MaySink, sink_reach, reach_more, sinking, sinks_stand}
+use Rattle.rt_gen_timer.proofs.Sifting.{IsReady, rise_reach, rises_stand}
+use Rattle.rt_gen_timer.proofs.Sifting.{MaySink, sink_reach, reach_more, sinking, sinks_stand}
 
 -- As many turns lead up to the first place as lead down from it; and how far, as a power of 2.
 sink_doubles : (turns i : ℕ) → sink_reach turns (i + i + 1) ≡ sink_reach turns i + sink_reach turns i + 1

@@ -1,28 +1,358 @@
--- The code of the whole timer handler stands, at the level of the monotonic: by the clock no message is due and it
--- returns, or the first message of the queue is and becomes ready.
-use Rattle.std.proofs.Common.{◌≡◌, ℕ, suc, ◌+◌, ◌≤◌, List, [], ◌∷◌, ◌++◌, drop, length, Some, IsSome, refl, sym}
-use Rattle.std.proofs.Common.{subst, arith}
-use Rattle.rt_app.proofs.TimerCeilings.{timer_within}
+-- The timer handler where a message is due: the first message of the heap leaves it and fires, the section closes with
+-- the alarm set, the message becomes ready at its task's level, and the handler returns. So the code of the whole
+-- handler stands, at the level of the monotonic.
+use Rattle.std.proofs.Common.{◌≡◌, ℕ, ◌+◌, ◌^◌, ◌<◌, ◌≤◌, true, List, [], ◌∷◌, ◌++◌, length, Contains, slice_get}
+use Rattle.std.proofs.Common.{slice_index, Some, IsSome, if◌then◌else◌, refl, sym, ap, subst, ◌∙◌, arith, ◌*◌}
+use Rattle.std.proofs.Common.{◌-◌, nat_lt, drop}
+use Rattle.std.proofs.lemmas.Bool.{lt-ltb}
+use Rattle.std.proofs.lemmas.Option.{slice_get_within}
+use Rattle.rt_app.proofs.ArmedPlaces.{few_before, few_messages}
+use Rattle.rt_app.proofs.Spelling.{IsTimedPlace, the_task}
+use Rattle.rt_app.proofs.TimerCeilings.{mover_within, timer_within}
+use Rattle.rt_app.specs.Accepted.{IsAccepted}
+use Rattle.rt_app.specs.Bodies.{task_priority}
 use Rattle.rt_app.specs.BodyCost.{timer_cost}
-use Rattle.rt_app.specs.Holding.{storage}
-use Rattle.rt_app.specs.Tree.{App}
+use Rattle.rt_app.specs.Ceiling.{ceiling}
+use Rattle.rt_app.specs.Doings.{nothing}
+use Rattle.rt_app.specs.Holding.{storage, armed_place, message_word, message_at, armed_at}
+use Rattle.rt_app.specs.Layout.{memory, ready_room}
+use Rattle.rt_app.specs.Level.{is_software, levels, armed_tasks}
+use Rattle.rt_app.specs.Sending.{act_all, capacity_of, ready_actions}
+use Rattle.rt_app.specs.Tree.{Task, App}
 use Rattle.rt_app.specs.declared.app.Mono.{Mono}
+use Rattle.rt_code.specs.Acting.{with_queue}
 use Rattle.rt_code.specs.Masking.{IsWithin}
-use Rattle.rt_gen_queue.proofs.Layer.{S, spot, begins}
+use Rattle.rt_gen_queue.proofs.Entering.{leave_placed, saves_inside}
+use Rattle.rt_gen_queue.proofs.Facts.{Spawned, priority, known, few_ready, ready_top, small, few_free}
+use Rattle.rt_gen_queue.proofs.Layer.{Here, S, Frame, Now, inner, returns_here, ends, sets, calculates}
+use Rattle.rt_gen_queue.proofs.Layer.{stays, spot, begins, moved}
+use Rattle.rt_gen_queue.proofs.Numbers.{steps_and, added}
+use Rattle.rt_gen_queue.proofs.Owning.{nobody_keeps}
+use Rattle.rt_gen_queue.proofs.Places.{IsPlaceOf}
 use Rattle.rt_gen_queue.proofs.Placing.{code_front, code_behind}
-use Rattle.rt_gen_queue.specs.Line.{Line, plain, HasCode}
-use Rattle.rt_gen_timer.proofs.Closing.{closing_lines}
-use Rattle.rt_gen_timer.proofs.Judging.{idles_stand, judges_stand, Handler, MayHandle, setting, begun, may_open}
-use Rattle.rt_gen_timer.proofs.Serving.{level_within, serves_stand}
-use Rattle.rt_gen_timer.proofs.Turning.{sinks_for, idle_enough}
-use Rattle.rt_gen_timer.proofs.Window.{Words, words_of, window_of}
+use Rattle.rt_gen_queue.proofs.Queueing.{MayReady, ready_stands}
+use Rattle.rt_gen_queue.specs.Guards.{guard_of}
+use Rattle.rt_gen_queue.specs.Line.{plain, HasCode, Line}
+use Rattle.rt_gen_queue.specs.SpawnCode.{ready_code}
+use Rattle.rt_gen_timer.proofs.Acting.{Runs, sooner, run_stands, code_part}
+use Rattle.rt_gen_timer.proofs.Alone.{instant_in, number_in, message_same}
+use Rattle.rt_gen_timer.proofs.Arranged.{IsPicked, length_less}
+use Rattle.rt_gen_timer.proofs.Calling.{entries, columns_now, settles}
+use Rattle.rt_gen_timer.proofs.Closing.{closing_lines, closing_fit}
+use Rattle.rt_gen_timer.proofs.Comparing.{Place}
+use Rattle.rt_gen_timer.proofs.Delaying.{at_address}
+use Rattle.rt_gen_timer.proofs.Judging.{AreKept, kept_on, Handler, setting, frame, begun, Known, Took, inside}
+use Rattle.rt_gen_timer.proofs.Judging.{in_section, due_rest, foremost, foremost_instant, is_least, MayHandle, may_open}
+use Rattle.rt_gen_timer.proofs.Judging.{judges_stand}
+use Rattle.rt_gen_timer.proofs.Leaving.{IsAsBefore, alone, timer_left}
+use Rattle.rt_gen_timer.proofs.Marking.{fires}
+use Rattle.rt_gen_timer.proofs.Opening.{may_enter}
+use Rattle.rt_gen_timer.proofs.Removing.{Removal, IsRemoved, removed, removes_stand}
+use Rattle.rt_gen_timer.proofs.Spelled.{few_armings, place_of, spelled_whole}
+use Rattle.rt_gen_timer.proofs.Trying.{choice_at, tries_stand}
+use Rattle.rt_gen_timer.proofs.Turning.{AreSinks, sinks_for, idle_enough}
+use Rattle.rt_gen_timer.proofs.Window.{Words, words, words_of, window_of}
 use Rattle.rt_gen_timer.specs.TimerCalls.{TimersStand}
-use Rattle.rt_gen_timer.specs.TimerCode.{queue_of, choices_code, timer_code}
-use Rattle.rt_gen_timer.specs.TimerLines.{set, due_lines, remove_lines, front_lines}
+use Rattle.rt_gen_timer.specs.TimerCode.{armed_task, queue_of, choices_code, timer_code}
+use Rattle.rt_gen_timer.specs.TimerLines.{set, fire_lines, alarm_lines, front_lines}
+use Rattle.rt_gen_timer.specs.declared.armed.ArmedTask.{ArmedTask}
+use Rattle.rt_ids.specs.Action.{Returns}
+use Rattle.rt_ids.specs.Content.{Message, Values, timed, with_fired, least, without_least}
+use Rattle.rt_ids.specs.Entry.{Entry}
+use Rattle.rt_ids.specs.Holder.{Holder}
+use Rattle.rt_ids.specs.Operation.{number_of}
 use Rattle.rt_ids.specs.Storage.{AtLevel}
+use Rattle.rt_ids.specs.declared.limits.TheConstants.{CAPACITY}
 use Rattle.rt_lemmas.proofs.Bools.{or_left}
 use Rattle.rt_code.specs.declared.instr.Instr.TheVariants as instr
+use Rattle.rt_gen_queue.proofs.Facts as facts
 use Rattle.rt_ids.specs.declared.ids.Section.TheVariants as section
+
+-- a place of a task that may be armed, by its task
+module _ (app : App) (accepted : IsAccepted app) (e : Entry) (is : IsTimedPlace app e) where
+  task_is : (t : Task) × (slice_get app.tasks e.task ≡ Some t) × (is_software t ≡ true)
+  task_is = the_task is_software app e.task is.1
+
+  spawned : Spawned app e.task task_is.0
+  spawned = record { accepted = accepted; at = task_is.1; software = task_is.2 }
+
+  -- what holds of its task's level holds of the level at which its message becomes ready
+  of_level : (P : ℕ → Type 0) → P task_is.0.priority → P (task_priority app e.task)
+  of_level P = subst P (sym (priority app e.task task_is.0 spawned))
+
+  level_place : IsPlaceOf app (task_priority app e.task) e
+  level_place = of_level (λ p. IsPlaceOf app p e) (facts.place_of app e.task task_is.0 spawned e refl is.2)
+
+  -- the handler may enter its section
+  level_within : (mono : Mono) → app.mono ≡ Some mono
+      → mono.priority ≤ ceiling app (section.Ready (task_priority app e.task))
+  level_within mono timed = mover_within app mono timed e.task (task_priority app e.task) level_place.0 is.0
+
+  -- its row is one of its task's
+  row_own : armed_place app e < (armed_task app e.task).first + (armed_task app e.task).rows
+  row_own =
+      let rows : (armed_task app e.task).rows ≡ capacity_of app e.task =
+      ap {B = ℕ} (λ b. if b then capacity_of app e.task else 0) is.0 in
+      omega (arith, rows, is.2)
+
+  word_small : message_word e < 2 ^ 32
+  word_small = omega (arith, small app e.task task_is.0 spawned, few_free app e.task task_is.0 spawned, is.2)
+
+within_ready : (app : App) (level p : ℕ) → level ≤ ceiling app (section.Ready p)
+    → IsWithin (storage app) (AtLevel level) (AtLevel level) (section.Ready p)
+unfolding storage
+within_ready app level p less = less
+
+-- The message of a place is in the hands; it is to become ready.
+record Carried : Type 0 where
+  pub e : Entry
+  pub m : Message
+  pub done : ℕ
+  pub at : ℕ
+  pub cells : List ℕ
+  pub queues : Holder → List Entry
+  pub values : Values
+
+abbrev in_hands : Handler → Carried → Here
+in_hands k c = record (begun k) {
+  done = c.done;
+  places = c.e ∷ [];
+  at = c.at;
+  cells = c.cells;
+  queues = c.queues;
+  rest = act_all (ready_actions k.app (task_priority k.app c.e.task) c.m ++ Returns ∷ []) nothing c.values;
+}
+
+record MayRise (k : Handler) (c : Carried) : Type 0 where
+  pub handle : MayHandle k
+  pub timed : IsTimedPlace k.app c.e
+  pub of_task : c.m.task ≡ c.e.task
+  pub message : message_at k.app (slice_index c.cells) c.e ≡ c.m
+  pub long : length c.cells ≡ length (memory k.app)
+  pub kept : AreKept k.app k.level c.cells c.queues c.values
+  pub has : HasCode k.code c.at
+      (ready_code k.app c.e.task (task_priority k.app c.e.task) k.level 1 ++ plain instr.Ret ∷ [])
+  pub in_time : c.done + 13 ≤ timer_cost k.app
+
+-- its words are those that a spawn works in
+abbrev carried_frame : Handler → Words → Frame 9 8
+carried_frame k w =
+    inner (frame k) (w.answer ∷ [])
+    (w.instant ∷ w.arming ∷ w.one ∷ w.other ∷ w.right ∷ w.row ∷ w.row_instant ∷ w.row_arming ∷ w.right_row
+    ∷ w.right_instant ∷ w.right_arming ∷ w.less ∷ w.equal ∷ w.two ∷ [])
+
+-- Within 13 steps it has become ready, and the handler has returned.
+readies_stand : (k : Handler) (c : Carried) (w : Words) → MayRise k c
+    → S (setting k) (Now (frame k) (in_hands k c) (words (record w { place = message_word c.e })))
+readies_stand k c w may =
+    let p : ℕ = task_priority k.app c.e.task in
+    let ready = ready_code k.app c.e.task p k.level 1 in
+    let accepted = may.handle.accepted in
+    let there = task_is k.app accepted c.e may.timed in
+    let spawns = spawned k.app accepted c.e may.timed in
+    let asked : MayReady (setting k) (carried_frame k w) (in_hands k c) c.e.task p k.level c.e [] c.m =
+    record {
+      known = of_level k.app accepted c.e may.timed (Contains (levels k.app)) (known k.app c.e.task there.0 spawns);
+      few = of_level k.app accepted c.e may.timed (λ p. ready_room k.app p ≤ 1024)
+          (few_ready k.app c.e.task there.0 spawns);
+      code = code_front k.code c.at ready (plain instr.Ret ∷ []) may.has;
+      time = (omega (arith, may.in_time), (omega (arith, may.in_time), tt));
+      enter = record {
+        room = omega arith;
+        masks = tt;
+        off = omega arith;
+        top = of_level k.app accepted c.e may.timed (λ p. ceiling k.app (section.Ready p) ≤ 2 ^ k.app.bits)
+            (ready_top k.app c.e.task there.0 spawns);
+        within = within_ready k.app k.level p (may.handle.enters c.e may.timed);
+        closed = refl;
+        nobody = nobody_keeps k.app (AtLevel k.level) (AtLevel k.level) (section.Ready p) tt;
+      };
+      hands = record {
+        of_task = (refl, may.of_task);
+        place = level_place k.app accepted c.e may.timed;
+        hands = refl;
+        message = may.message;
+        long = may.long;
+      };
+    } in
+    ready_stands asked (record { first = w.first; second = w.second; third = w.third; fourth = w.hand })
+    (record { count = w.count; index = w.hole; word = w.place; number = w.work; mask = w.mask }) refl
+    (λ r left more us readied.
+    returns_here (code_behind k.code c.at (steps_and 12 c.at) ready (plain instr.Ret ∷ []) (omega arith) may.has).0
+    (omega (arith, may.in_time), (omega (arith, may.in_time), tt)) refl refl refl refl
+    (kept_on may.kept readied.own readied.agree).spells)
+
+-- A message is due in the section of a handler.
+record Due (k : Handler) : Type 0 where
+  pub may : MayHandle k
+  pub sinks : AreSinks k.app k.cost
+  pub d : Took
+  pub known : Known k d
+  pub some : 0 < length known.now.spells.heap
+
+module _ {k : Handler} (u : Due k) where
+  -- the messages of the heap, and the one that is due
+  abbrev heap : List Entry
+  heap = u.known.now.spells.heap
+
+  abbrev e : Entry
+  e = foremost u.known
+
+  abbrev m : Message
+  m = message_at k.app (slice_index u.d.cells) e
+
+  timed_place : IsTimedPlace k.app e
+  timed_place = place_of u.known.now.spells 0 u.some
+
+  abbrev picked : IsPicked (armed_at k.app (slice_index u.d.cells)) (entries (inside k u.d)) e least without_least
+  picked = (is_least u.known u.some).picked
+
+  abbrev removal : Removal
+  removal = record {
+    queue = queue_of k.app;
+    row = armed_place k.app;
+    instant = instant_in k.app u.d.cells;
+    arming = number_in k.app u.d.cells;
+    heap = heap;
+    all = length heap;
+    size = length heap - 1;
+    place = 0;
+    rising = 0;
+    turns = u.sinks.turns;
+  }
+
+  -- where the handler is in its section, by now
+  abbrev here : List ℕ → ℕ → ℕ → Here
+  here cells done at =
+      in_section k u.d done at cells (due_rest k.app (armed_at k.app (slice_index u.d.cells) e) u.d.us)
+
+  -- all that is done there
+  abbrev last_step : ℕ
+  last_step = 80 + 31 * u.sinks.turns + 3 * armed_tasks k.app
+
+  runs_here : Runs (frame k) last_step (here u.d.cells 0 k.first)
+  runs_here = record {
+    time = (omega (arith, u.sinks.few), (omega (arith, u.sinks.enough), (omega (arith, u.sinks.few), tt)));
+    saves = saves_inside (may_enter (may_open u.may));
+  }
+
+  -- behind the removal
+  module _ {b : Place} (gone : IsRemoved removal (here u.d.cells 11 (k.first + 19)) b) where
+    before : IsAsBefore k.app u.d.cells b.cells
+    before = record { cells = gone.others }
+
+    -- With its row in a slot it fires, the section closes with the alarm set, and it becomes ready.
+    fires_then : (v : Words) → v.place ≡ armed_place k.app e → v.count ≡ length heap - 1 → (done at : ℕ)
+        → done ≤ b.done + 3 * armed_tasks k.app → HasCode k.code at (choice_at k e.task at)
+        → S (setting k) (Now (frame k) (here b.cells done at) (words v))
+    fires_then v row counted done at less found =
+        let x = section.Timer in
+        let now = u.known.now in
+        let a : ArmedTask = armed_task k.app e.task in
+        let to_word : ℕ = CAPACITY * e.task - a.first in
+        let fire : List Line = fire_lines (queue_of k.app) 0 a (at + 26) in
+        let ready : List Line =
+        ready_code k.app e.task (task_priority k.app e.task) k.level 1 ++ plain instr.Ret ∷ [] in
+        let closing : List Line = fire ++ closing_lines k.app k.level (at + 6) [] in
+        let own : number_of (nat_lt v.place (a.first + a.rows)) ≡ 1 =
+        ap (λ p. number_of (nat_lt p (a.first + a.rows))) row
+        ∙ ap number_of (lt-ltb (armed_place k.app e) (a.first + a.rows) (row_own k.app u.may.accepted e timed_place)) in
+        let word : v.place + to_word ≡ message_word e =
+        omega (arith, row, few_before k.app u.may.accepted e.task) in
+        let again = timer_left u.may.mono before now.spells picked gone.without gone.whole gone.count in
+        run_stands (here b.cells done at) v closing runs_here (omega (arith, less, gone.within))
+        (closing_fit k.app k.level (at + 6) [] refl)
+        (subst (λ (line : Line). HasCode k.code at (fire ++ (alarm_lines (queue_of k.app) 0 (at + 6) ++ line ∷ [])))
+        (sym (leave_placed x (guard_of k.app x) k.level 9 0)) (code_front k.code at closing ready found))
+        (sets
+        (calculates 1 own
+        (stays (omega arith)
+        (sets
+        (calculates (message_word e)
+        (added v.place to_word (message_word e) word (word_small k.app u.may.accepted e timed_place))
+        (fires (record { opens = (columns_now now {after = b.cells} gone.long).opens; stands = picked.parts; of_task = refl }) refl refl
+        (λ vs agree.
+        at_address (at + 6) (omega arith)
+        (settles now with_fired (record v { place = message_word e; other = to_word })
+        (record {
+          spells = again;
+          few = omega (arith, few_armings now.spells now.taken.few);
+          alone = alone u.may.mono before;
+          long = gone.long;
+        })
+        (λ holder read. agree holder read ∙ u.known.agree holder read)
+        (omega (arith, counted, length_less now.spells.arranged picked.before picked.behind e picked.parts))
+        (λ closed other us soon left later.
+        ends
+        (moved closed (at + 13) refl (omega arith)
+        (readies_stand k
+        (record {
+          e = e;
+          m = m;
+          done = closed;
+          at = at + 13;
+          cells = b.cells;
+          queues = with_queue u.d.queues x (picked.before ++ picked.behind);
+          values = us;
+        }) (record v { other = other })
+        (record {
+          handle = u.may;
+          timed = timed_place;
+          of_task = refl;
+          message = sym (message_same k.app u.d.cells b.cells (alone u.may.mono before) e timed_place);
+          long = left.long ∙ u.may.long;
+          kept = kept_on u.may.kept left later;
+          has = code_behind k.code at (at + 13) closing ready refl found;
+          in_time = omega (arith, soon, less, gone.within, u.sinks.few);
+        }))))))))))))
+
+  -- The message leaves the heap first, and the choices of other tasks are passed: the handler has returned in time.
+  takes_first : (w : Words)
+      → S (setting k) (Now (frame k) (here u.d.cells 10 (k.first + 18)) (words (record w {
+        count = length heap;
+        one = 1;
+        two = 2;
+        place = armed_place k.app e;
+      })))
+  takes_first w =
+      let s = u.known.now.spells in
+      let w1 : Words = record w { place = armed_place k.app e } in
+      let lines : List Line = timer_code k.app k.level k.first in
+      let its = the_task is_software k.app e.task timed_place.1 in
+      run_stands (here u.d.cells 10 (k.first + 18)) (record w1 { count = length heap; one = 1; two = 2 })
+      (set (queue_of k.app) 0 6 0 ∷ []) runs_here (omega arith) refl (code_part k.code k.first lines 18 1 u.may.code)
+      (sets
+      (ends
+      (moved 11 (k.first + 19) refl (omega arith)
+      (removes_stand {r = removal} {h = here u.d.cells 11 (k.first + 19)} w1
+      (record {
+        code = code_part k.code k.first lines 19 54 u.may.code;
+        runs = sooner runs_here (omega arith);
+        above = λ less. omega arith;
+        reach = omega (arith, u.sinks.reach, s.room, s.arranged.long);
+        few = omega (arith, s.room, s.arranged.long, few_messages k.app u.may.accepted);
+        fewer = omega (arith, u.some);
+        inside = omega arith;
+        columns = columns_now u.known.now refl;
+        whole = spelled_whole u.d.cells s u.known.now.taken.few;
+        order = s.arranged.order;
+      })
+      (λ b hand t a y gone.
+      let v : Words = removed w1 y (length heap - 1) hand b.hole t a in
+      moved b.done (k.first + 73) refl (omega arith)
+      (tries_stand k k.app.tasks e 0 (plain (instr.Jump (k.first + 10)) ∷ []) (here b.cells b.done (k.first + 73)) v
+      (record {
+        place = timed_place;
+        tasks = λ j t there. (let from : 0 + j ≡ j = omega arith in ap (slice_get k.app.tasks) from ∙ there);
+        least = omega arith;
+        among = omega (arith, slice_get_within k.app.tasks e.task its.0 its.1);
+        code = code_behind k.code k.first (k.first + 73) (front_lines (queue_of k.app) 0 k.level k.first)
+            (choices_code k.app k.level (k.first + 73) 0 k.app.tasks ++ plain (instr.Jump (k.first + 10)) ∷ []) refl
+            u.may.code;
+        runs = sooner runs_here (omega (arith, gone.within));
+        row = refl;
+      })
+      (λ done to other less found. fires_then gone (record v { other = other }) refl refl done to less found)))))))
 
 -- the handler may enter the section of the timer queue
 within_timer : (app : App) (mono : Mono) → app.mono ≡ Some mono
@@ -30,46 +360,15 @@ within_timer : (app : App) (mono : Mono) → app.mono ≡ Some mono
 unfolding storage
 within_timer app mono is = timer_within app mono is
 
--- the parts of the handler's code
-record AreParts (app : App) (level : ℕ) (code : List Line) (first : ℕ) : Type 0 where
-  pub due : HasCode code first (due_lines (queue_of app) 0 level (first + 10) (first + 18))
-  pub idle : HasCode code (first + 10) (closing_lines app level (first + 10) (plain instr.Ret ∷ []))
-  pub removing : HasCode code (first + 18) (set (queue_of app) 0 6 0 ∷ remove_lines (queue_of app) 0 (suc (first + 18)))
-  pub choices : HasCode code (first + 73)
-      (choices_code app level (first + 73) 0 app.tasks ++ plain (instr.Jump (first + 10)) ∷ [])
-
-parts_of : (app : App) (level : ℕ) (code : List Line) (first : ℕ) → HasCode code first (timer_code app level first)
-    → AreParts app level code first
-parts_of app level code first has =
-    let q = queue_of app in
-    let choices : List Line = choices_code app level (first + 73) 0 app.tasks ++ plain (instr.Jump (first + 10)) ∷ [] in
-    let due : List Line = due_lines q 0 level (first + 10) (first + 18) in
-    let idle : List Line = closing_lines app level (first + 10) (plain instr.Ret ∷ []) in
-    let removing : List Line = set q 0 6 0 ∷ remove_lines q 0 (first + 19) in
-    let front : HasCode code first (due ++ (idle ++ removing)) =
-    code_front code first (front_lines q 0 level first) choices has in
-    let behind : HasCode code (first + 10) (idle ++ removing) =
-    code_behind code first (first + 10) due (idle ++ removing) refl front in
-    let to : first + 19 ≡ suc (first + 18) = omega arith in
-    record {
-      due = code_front code first due (idle ++ removing) front;
-      idle = code_front code (first + 10) idle removing behind;
-      removing = subst (λ (a : ℕ). HasCode code (first + 18) (set q 0 6 0 ∷ remove_lines q 0 a)) to
-          (code_behind code (first + 10) (first + 18) idle removing (omega arith) behind);
-      choices = code_behind code first (first + 73) (front_lines q 0 level first) choices refl has;
-    }
-
 pub timers_stand : TimersStand
 timers_stand app accepted mono is cost costs code first has bodies thread slots cells queues values words_are long
     spelled =
-    let level : ℕ = mono.priority in
-    let parts = parts_of app level code first has in
     let k : Handler = record {
       app = app;
       code = code;
       bodies = bodies;
       thread = thread;
-      level = level;
+      level = mono.priority;
       cost = cost;
       first = first;
       back = drop 24 slots;
@@ -81,34 +380,29 @@ timers_stand app accepted mono is cost costs code first has bodies thread slots 
     let may : MayHandle k = record {
       accepted = accepted;
       mono = subst IsSome (sym is) refl;
+      code = has;
+      least = idle_enough app cost costs;
       kept = record {
-        spells = λ holder kept.
+        spells = λ holder own.
             spelled holder
-            (or_left ((storage app).is_kept (AtLevel level) holder) ((storage app).is_constant (AtLevel level) holder)
-            kept);
+            (or_left ((storage app).is_kept (AtLevel mono.priority) holder)
+            ((storage app).is_constant (AtLevel mono.priority) holder) own);
       };
       long = long;
       within = within_timer app mono is;
+      enters = λ e place. level_within app accepted e place mono is;
     } in
-    let least : 64 ≤ cost = idle_enough app cost costs in
     let within : 0 + 24 ≤ length slots = omega (arith, words_are) in
     begins (record (spot (setting k) (begun k)) { lefts = timer_cost app ∷ []; slots = slots }) (timer_cost app)
     (subst (λ (ss : List ℕ). S (setting k) (record (begun k) { slots = ss })) (sym (window_of 0 slots within))
-    (judges_stand w
-    (record {
-      code = parts.due;
-      time = (omega arith, (omega arith, tt));
-      short = omega (arith, least);
-      may = may_open may;
-      long = long;
-      is = refl;
-    })
-    (idles_stand may least parts.idle)
-    (λ mask time done other d known soon some.
-    serves_stand may
-    (sinks_for app cost accepted costs (omega (arith, some, known.spells.room, known.spells.arranged.long)))
-    (record {
-      removes = parts.removing;
-      choices = parts.choices;
-      enters = λ e place. level_within app accepted e place mono is;
-    }) w mask time done other d known soon some)))
+    (judges_stand may w
+    (λ mask time other d known some.
+    let room = known.now.spells.room in
+    let u : Due k = record {
+      may = may;
+      sinks = sinks_for app cost accepted costs (omega (arith, some, room, known.now.spells.arranged.long));
+      d = d;
+      known = known;
+      some = some;
+    } in
+    takes_first u (record w { mask = mask; answer = time; instant = foremost_instant known; other = other }))))

@@ -10,7 +10,7 @@ use Rattle.rt_app.specs.Accepted.{IsAccepted}
 use Rattle.rt_app.specs.Level.{is_armed, armed_capacities, armed_count, armed_messages, armed_tasks}
 use Rattle.rt_app.specs.Limits.{KeepsTaskLimits}
 use Rattle.rt_app.specs.Tree.{Task, App}
-use Rattle.rt_gen_timer.proofs.Rising.{rise_reach}
+use Rattle.rt_gen_timer.proofs.Sifting.{rise_reach}
 use Rattle.rt_gen_timer.proofs.Settling.{reach_enough, reach_is}
 use Rattle.rt_gen_timer.specs.TimerCalls.{IsSectionCost}
 

@@ -1,24 +1,24 @@
-use Rattle.std.proofs.Common.{◌+◌, subst, OnOk, length, List}
-use Rattle.rt_gen_queue.specs.Line.{Line}
-use Rattle.rt_gen_queue.specs.Making.{Appends}
-use Rattle.rt_gen_timer.proofs.Choosing.{site_of, fired_software, fires, not_fired, fired_lines}
+use Rattle.std.proofs.Common.{◌+◌, ap, ◌∙◌, length}
+use Rattle.rt_ids.specs.Lists.{is_some_and}
+use Rattle.rt_app.specs.Level.{is_software, is_armed}
+use Rattle.rt_app.specs.View.{task_of, app_of}
+use Rattle.rt_gen_timer.proofs.Choosing.{same_choice, not_fired}
 use Rattle.rt_gen_timer.proofs.timer.push_task.Goals as goal
+use Rattle.rt_lemmas.proofs.Bools.{and_left}
 
 pub armed_of-requires-clause-software : goal.armed_of-requires-clause-software
 armed_of-requires-clause-software c =
-    fired_software (site_of c.args.plan.now.app.now c.args.level c.args.number c.args.task.now) c.requires.task
-    (fires c.args.level c.args.number c.args.task.now c.is_fired.ensures c.requires.rows) c.if-not-is_fired.false
+    ap (is_some_and is_software) c.requires.task
+    ∙ and_left (is_software (task_of c.args.task.now)) (is_armed (app_of c.args.plan.now.app.now) c.args.number)
+    (same_choice c.args.number (task_of c.args.task.now) c.is_fired.ensures c.requires.rows c.if-not-is_fired.false)
 
 pub returns-then-not-is_fired : goal.returns-then-not-is_fired
 returns-then-not-is_fired c =
-    not_fired (site_of c.args.plan.now.app.now c.args.level c.args.number c.args.task.now)
-    (c.args.entry + length c.args.lines.now.lines) c.args.lines.now
-    (fires c.args.level c.args.number c.args.task.now c.is_fired.ensures c.requires.rows) c.if-not-is_fired.true
+    not_fired (app_of c.args.plan.now.app.now) c.args.level (c.args.entry + length c.args.lines.now.lines)
+    c.args.number (task_of c.args.task.now) c.args.lines.now
+    (same_choice c.args.number (task_of c.args.task.now) c.is_fired.ensures c.requires.rows c.if-not-is_fired.true)
 
 pub returns : goal.returns
 returns c =
-    subst (λ (ls : List Line). OnOk c.push_choice.result (Appends c.args.lines.now c.push_choice.new.lines ls))
-    (fired_lines (site_of c.args.plan.now.app.now c.args.level c.args.number c.args.task.now) c.requires.emitter
-    c.armed_of.ensures.is c.in_ok-at.ensures.at
-    (fires c.args.level c.args.number c.args.task.now c.is_fired.ensures c.requires.rows) c.if-not-is_fired.false)
-    c.push_choice.ensures
+    rw (same_choice c.args.number (task_of c.args.task.now) c.is_fired.ensures c.requires.rows c.if-not-is_fired.false)
+    (rw (c.requires.emitter, c.armed_of.ensures.is, c.in_ok-at.ensures.at) at c.push_choice.ensures)

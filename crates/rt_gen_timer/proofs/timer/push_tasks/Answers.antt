@@ -1,27 +1,30 @@
-use Rattle.std.proofs.Common.{arith}
+use Rattle.std.proofs.Common.{refl, arith}
 use Rattle.std.proofs.lemmas.List.{length-map}
+use Rattle.rt_lemmas.proofs.Lists.{mapped_read}
 use Rattle.rt_app.specs.View.{task_of}
-use Rattle.rt_gen_timer.proofs.Choosing.{begun, choices_none, choices_next, choices_all, task_there}
+use Rattle.rt_gen_timer.proofs.Choosing.{begun, choices_next, choices_all}
 use Rattle.rt_gen_timer.proofs.timer.push_tasks.Goals as goal
 
 pub loop-number-init : goal.loop-number-init
-loop-number-init c = choices_none (begun c.args.plan.now.app.now c.args.level c.args.entry c.args.lines.now)
+loop-number-init c = refl
 
 pub loop-number-preserved : goal.loop-number-preserved
 loop-number-preserved c =
     choices_next (begun c.args.plan.now.app.now c.args.level c.args.entry c.args.lines.now) c.loop-number.number
-    (omega arith) c.index-task.ensures c.loop-number.invariant c.in_ok-push_task.ensures
+    c.loop-number.lines
+    (mapped_read task_of c.args.plan.now.app.now.tasks.items c.loop-number.number c.index-task.result.now (omega arith)
+    c.index-task.ensures) c.loop-number.invariant c.in_ok-push_task.ensures
 
 pub push_task-requires-clause-task : goal.push_task-requires-clause-task
 push_task-requires-clause-task c =
-    task_there c.args.plan.now.app.now c.loop-number.number c.index-task.result.now (omega arith) c.index-task.ensures
+    mapped_read task_of c.args.plan.now.app.now.tasks.items c.loop-number.number c.index-task.result.now (omega arith)
+    c.index-task.ensures
 
 pub push_task-requires-clause-small : goal.push_task-requires-clause-small
 push_task-requires-clause-small c =
-    let most = c.requires.accepted.limits.few_tasks in
-    omega (arith, most, length-map c.args.plan.now.app.now.tasks.items task_of)
+    omega (arith, c.requires.accepted.limits.few_tasks, length-map c.args.plan.now.app.now.tasks.items task_of)
 
 pub returns : goal.returns
 returns c =
     choices_all (begun c.args.plan.now.app.now c.args.level c.args.entry c.args.lines.now) c.loop-number.number
-    (omega arith) c.loop-number.invariant
+    (omega (arith, length-map c.args.plan.now.app.now.tasks.items task_of)) c.loop-number.invariant

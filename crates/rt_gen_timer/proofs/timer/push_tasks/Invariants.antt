@@ -1,11 +1,6 @@
--- The lines of the tasks so far.
-use Rattle.std.proofs.Common.{◌+◌, length, map, take}
-use Rattle.rt_app.specs.View.{task_of, app_of}
-use Rattle.rt_gen_queue.specs.Making.{Appends}
-use Rattle.rt_gen_timer.specs.TimerCode.{choices_code}
+-- All lines are those of the tasks so far and those of the others.
+use Rattle.rt_gen_timer.proofs.Choosing.{begun, AreLeft}
 use Rattle.rt_gen_timer.proofs.timer.push_tasks.Given as goal
 
 abbrev pub invariant-loop-number : goal.invariant-loop-number
-invariant-loop-number l =
-    Appends l.fn.lines l.lines (choices_code (app_of l.plan.app.now) l.level (l.entry + length l.fn.lines.lines) 0
-    (map task_of (take l.number l.plan.app.now.tasks.items)))
+invariant-loop-number l = AreLeft (begun l.plan.app.now l.level l.entry l.fn.lines) l.number l.lines

@@ -1,8 +1,12 @@
-use Rattle.std.proofs.Common.{append_assoc}
+use Rattle.std.proofs.Common.{ap, [], ◌∷◌}
+use Rattle.rt_gen_timer.proofs.Appending.{then, last}
 use Rattle.rt_gen_timer.proofs.emitter.Emitter.push_again.Goals as goal
 
 pub returns : goal.returns
 returns c =
-    rw (c.in_ok-append-6.ensures, c.in_ok-append-5.ensures, c.in_ok-append-4.ensures, c.in_ok-append-3.ensures)
-    (rw (c.in_ok-append-2.ensures, c.in_ok-append.ensures, c.settle.ensures, c.sink.ensures, c.rise.ensures)
-    (rw (c.again.ensures, c.time.ensures, c.copy.ensures) (simp append_assoc)))
+    then _ _ c.in_ok-append.ensures (ap (λ line. line ∷ []) c.copy.ensures)
+    (then _ _ c.in_ok-append-2.ensures c.time.ensures
+    (then _ _ c.in_ok-append-3.ensures c.again.ensures
+    (then _ _ c.in_ok-append-4.ensures c.rise.ensures
+    (then _ _ c.in_ok-append-5.ensures c.sink.ensures
+    (last _ c.in_ok-append-6.ensures (ap (λ line. line ∷ []) c.settle.ensures))))))

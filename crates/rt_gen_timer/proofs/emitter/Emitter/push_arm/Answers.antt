@@ -1,8 +1,13 @@
-use Rattle.std.proofs.Common.{append_assoc}
+use Rattle.std.proofs.Common.{ap, [], ◌∷◌}
+use Rattle.rt_gen_timer.proofs.Appending.{then, last}
 use Rattle.rt_gen_timer.proofs.emitter.Emitter.push_arm.Goals as goal
 
 pub returns : goal.returns
 returns c =
-    rw (c.in_ok-append-7.ensures, c.in_ok-append-6.ensures, c.in_ok-append-5.ensures, c.in_ok-append-4.ensures)
-    (rw (c.in_ok-append-3.ensures, c.in_ok-append-2.ensures, c.in_ok-append.ensures, c.leave.ensures, c.alarm.ensures)
-    (rw (c.settle.ensures, c.rise.ensures, c.row.ensures, c.time.ensures, c.enter.ensures) (simp append_assoc)))
+    then _ _ c.in_ok-append.ensures (ap (λ line. line ∷ []) c.enter.ensures)
+    (then _ _ c.in_ok-append-2.ensures c.time.ensures
+    (then _ _ c.in_ok-append-3.ensures c.row.ensures
+    (then _ _ c.in_ok-append-4.ensures c.rise.ensures
+    (then _ _ c.in_ok-append-5.ensures (ap (λ line. line ∷ []) c.settle.ensures)
+    (then _ _ c.in_ok-append-6.ensures c.alarm.ensures
+    (last _ c.in_ok-append-7.ensures (ap (λ line. line ∷ []) c.leave.ensures)))))))

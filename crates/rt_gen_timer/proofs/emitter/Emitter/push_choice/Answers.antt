@@ -1,8 +1,11 @@
-use Rattle.std.proofs.Common.{append_assoc}
+use Rattle.std.proofs.Common.{ap, [], ◌∷◌, refl}
+use Rattle.rt_gen_timer.proofs.Appending.{then, last}
 use Rattle.rt_gen_timer.proofs.emitter.Emitter.push_choice.Goals as goal
 
 pub returns : goal.returns
 returns c =
-    rw (c.in_ok-append-5.ensures, c.in_ok-append-4.ensures, c.in_ok-append-3.ensures, c.in_ok-append-2.ensures)
-    (rw (c.in_ok-append.ensures, c.ready.ensures, c.leave.ensures, c.alarm.ensures, c.fire.ensures)
-    (simp append_assoc))
+    then _ _ c.in_ok-append.ensures c.fire.ensures
+    (then _ _ c.in_ok-append-2.ensures c.alarm.ensures
+    (then _ _ c.in_ok-append-3.ensures (ap (λ line. line ∷ []) c.leave.ensures)
+    (then _ _ c.in_ok-append-4.ensures c.ready.ensures
+    (last c.append-4.new.self c.in_ok-append-5.ensures refl))))

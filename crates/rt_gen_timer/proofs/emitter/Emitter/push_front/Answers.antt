@@ -1,7 +1,10 @@
-use Rattle.std.proofs.Common.{append_assoc}
+use Rattle.std.proofs.Common.{refl}
+use Rattle.rt_gen_timer.proofs.Appending.{then, last}
 use Rattle.rt_gen_timer.proofs.emitter.Emitter.push_front.Goals as goal
 
 pub returns : goal.returns
 returns c =
-    rw (c.in_ok-push_remove.ensures, c.in_ok-append-3.ensures, c.in_ok-append-2.ensures, c.in_ok-append.ensures)
-    (rw (c.idle.ensures, c.alarm.ensures, c.due.ensures) (simp append_assoc))
+    then _ _ c.in_ok-append.ensures c.due.ensures
+    (then _ _ c.in_ok-append-2.ensures c.alarm.ensures
+    (then _ _ c.in_ok-append-3.ensures c.idle.ensures
+    (last c.append-3.new.self c.in_ok-push_remove.ensures refl)))

@@ -1,7 +1,11 @@
-use Rattle.std.proofs.Common.{append_assoc}
+use Rattle.std.proofs.Common.{ap, [], ◌∷◌, refl}
+use Rattle.rt_gen_timer.proofs.Appending.{then, last}
 use Rattle.rt_gen_timer.proofs.emitter.Emitter.push_move.Goals as goal
 
 pub returns : goal.returns
 returns c =
-    rw (c.in_ok-append-3.ensures, c.in_ok-append-2.ensures, c.in_ok-append.ensures, c.in_ok-push_again.ensures)
-    (rw (c.in_ok-push_find.ensures, c.missing.ensures, c.leave.ensures, c.alarm.ensures) (simp append_assoc))
+    then c.args.lines.now _ c.in_ok-push_find.ensures refl
+    (then c.push_find.new.lines _ c.in_ok-push_again.ensures refl
+    (then _ _ c.in_ok-append.ensures c.alarm.ensures
+    (then _ _ c.in_ok-append-2.ensures (ap (λ line. line ∷ []) c.leave.ensures)
+    (last _ c.in_ok-append-3.ensures c.missing.ensures))))
