@@ -195,8 +195,8 @@ module _ {c : Call} {delay handle : ℕ} {h : Here} (k : AsksMove c delay handle
       loops_stand : {begin : ℕ} {us : Values} (v : Words) (s : Scratch) → HasBegun v begin us
           → S z (Now (f may) (at_loops begin us) (words (left_words v s j)))
       loops_stand {begin = begin} {us = us} v s begins =
-          let ready : MaySettle z (f may) hand size size (h.at + 17 + 27) j (at_loops begin us) is.now.spells.heap =
-          record {
+          let ready : MaySettle z (f may) hand size size j (at_loops begin us) is.now.spells.heap = record {
+            to = h.at + 17 + 27;
             rise = code_part code (h.at + 17) put_off 12 15 put_off_code;
             sink = code_part code (h.at + 17) put_off 27 31 put_off_code;
             next = omega arith;

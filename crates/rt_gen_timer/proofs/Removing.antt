@@ -115,8 +115,9 @@ module _ {z : Setting} {f : Slots} {r : Removal} {h : Here} (may : MayRemove z f
     looping = record h { done = steps_and 7 h.done; at = h.at + 7; cells = left }
 
     may_settle : r.place < r.size
-        → MaySettle z f (last_hand r) r.rising r.turns (h.at + 22) r.place looping (take r.size r.heap)
+        → MaySettle z f (last_hand r) r.rising r.turns r.place looping (take r.size r.heap)
     may_settle less = record {
+      to = h.at + 22;
       rise = code_part z.code h.at all 7 15 may.code;
       sink = code_part z.code h.at all 22 31 may.code;
       next = omega arith;

@@ -32,8 +32,9 @@ pub reach_enough : (n : ℕ) → n < rise_reach n
 reach_enough zero = omega arith
 reach_enough (suc n) = omega (arith, reach_enough n)
 
--- Both loops may begin, the second at this address: so many turns lead up, and so many down.
-pub record MaySettle (z : Setting) (f : Slots) (k : Hand) (up down to i : ℕ) (h : Here) (xs : List Entry) : Type 0 where
+-- Both loops may begin, the second at an address behind the first: so many turns lead up, and so many down.
+pub record MaySettle (z : Setting) (f : Slots) (k : Hand) (up down i : ℕ) (h : Here) (xs : List Entry) : Type 0 where
+  pub to : ℕ
   pub rise : HasCode z.code h.at (rise_lines k.queue f.slot h.at)
   pub sink : HasCode z.code to (sink_lines k.queue f.slot to)
   pub next : to ≡ h.at + 15
@@ -53,12 +54,12 @@ pub record IsSettled (k : Hand) (up down i : ℕ) (h : Here) (xs : List Entry) (
   pub hollow : IsOpen k b.cells b.heap b.hole
   pub settled : HasSettled k.size (key k) k.hand xs i (slice_set b.heap b.hole k.hand)
 
-pub settles_stand : {z : Setting} {f : Slots} {k : Hand} {up down to i : ℕ} {h : Here} {xs : List Entry} (w : Words)
-    (s : Scratch) → MaySettle z f k up down to i h xs
+pub settles_stand : {z : Setting} {f : Slots} {k : Hand} {up down i : ℕ} {h : Here} {xs : List Entry} (w : Words)
+    (s : Scratch) → MaySettle z f k up down i h xs
     → ((b : Place) (t : Scratch) → IsSettled k up down i h xs b
-    → S z (Now f (record h { done = b.done; at = to + 31; cells = b.cells }) (words (sinking k w t b.hole))))
+    → S z (Now f (record h { done = b.done; at = h.at + 46; cells = b.cells }) (words (sinking k w t b.hole))))
     → S z (Now f h (words (sinking k w s i)))
-settles_stand {z = z} {f = f} {k = k} {up = up} {down = down} {to = to} {i = i} {h = h} {xs = xs} w s may on =
+settles_stand {z = z} {f = f} {k = k} {up = up} {down = down} {i = i} {h = h} {xs = xs} w s may on =
     let ready : IsReady z f k up i h xs = record {
       code = may.rise;
       runs = sooner may.runs (omega arith);
@@ -71,7 +72,7 @@ settles_stand {z = z} {f = f} {k = k} {up = up} {down = down} {to = to} {i = i} 
     } in
     rises_stand (record w { count = k.size }) s ready
     (λ b t risen.
-    let sinks : MaySink z f k down b.hole (record h { done = b.done; at = to; cells = b.cells }) b.heap = record {
+    let sinks : MaySink z f k down b.hole (record h { done = b.done; at = may.to; cells = b.cells }) b.heap = record {
       code = may.sink;
       runs = sooner may.runs (omega (arith, risen.within));
       reach = omega (arith, may.leads, reaches_alike down, reach_more down 0 b.hole (omega arith));
@@ -81,13 +82,14 @@ settles_stand {z = z} {f = f} {k = k} {up = up} {down = down} {to = to} {i = i} 
       hollow = risen.hollow;
       hole = risen.risen.hole;
     } in
-    moved b.done to refl may.next
+    moved b.done may.to refl may.next
     (sinks_stand w t sinks
     (λ c u sunk.
-    on c u
+    moved c.done (h.at + 46) refl (omega (arith, may.next))
+    (on c u
     (record {
       within = omega (arith, risen.within, sunk.within);
       beside = beside_more risen.beside sunk.beside;
       hollow = sunk.hollow;
       settled = settled_both risen.risen sunk.sunk;
-    }))))
+    })))))
