@@ -311,7 +311,8 @@ module _ {k : Handler} (may : MayHandle k) where
   judges {d = d} known w mask time dues =
       let s = known.now.spells in
       let n : ℕ = length s.heap in
-      let columns : Columns (setting k) (queue_of k.app) (opened (setting k) (frame k) section.Timer k.level ∷ []) d.cells =
+      let x = section.Timer in
+      let columns : Columns (setting k) (queue_of k.app) (opened (setting k) (frame k) x k.level ∷ []) d.cells =
       columns_now known.now refl in
       loads n (reads_open (count_open columns) (spelled_count s))
       (elim (cases_lt 0 n) [
