@@ -145,8 +145,8 @@ module _ {instant arming : Entry → ℕ} {armings : ℕ} {heap entries : List E
         let found = least_is (map armed_at s.before) (map armed_at s.behind) (armed_at e)
         (all_map armed_at (λ x. P x × (arming x < arming e)) (λ b. (armed_at e).instant < b.instant)
         (λ x both. omega (arith, both.0.0, both.1, is e, is x)) s.before earlier)
-        (all_map armed_at P (λ b. (armed_at e).instant ≤ b.instant) (λ x both. omega (arith, both.0, both.1, is e, is x))
-        s.behind (all_behind P s.before (e ∷ s.behind) all).1) in
+        (all_map armed_at P (λ b. (armed_at e).instant ≤ b.instant)
+        (λ x both. omega (arith, both.0, both.1, is e, is x)) s.behind (all_behind P s.before (e ∷ s.behind) all).1) in
         record {
           picked = picks s found.1 found.2;
           instant = ap least_instant (split_map armed_at s) ∙ found.0;

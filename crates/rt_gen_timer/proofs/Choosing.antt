@@ -67,7 +67,8 @@ choices_next s n {t = t} mid there left pushed =
     drop_as_cons s.app.tasks n t (slice_get_within s.app.tasks n t there)
     (sym (get_or_from_slice_get s.app.tasks n t t there)) in
     left ∙ ap (λ ts. mid.lines ++ from_task s mid n ts) parts
-    ∙ subst (λ (made : Made). mid.lines ++ from_task s mid n (t ∷ others) ≡ made.lines ++ from_task s made (n + 1) others)
+    ∙ subst
+    (λ (made : Made). mid.lines ++ from_task s mid n (t ∷ others) ≡ made.lines ++ from_task s made (n + 1) others)
     (sym pushed) (by_choice (has_choice s.app n t) others)
   where
     at : ℕ

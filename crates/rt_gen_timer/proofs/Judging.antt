@@ -22,7 +22,7 @@ use Rattle.rt_code.specs.Masking.{IsWithin}
 use Rattle.rt_code.specs.Owning.{Held, Spot, reads, MayLoad, Agree, LeavesMine}
 use Rattle.rt_code.specs.declared.image.BodyRow.{BodyRow}
 use Rattle.rt_gen_queue.proofs.Entering.{opened, enter_placed, enters, saves_below, enter_fits, saves_inside}
-use Rattle.rt_gen_queue.proofs.Layer.{Setting, Here, Straight, GivesBack, next_in_time, returns_here, S, Now, ends, sets}
+use Rattle.rt_gen_queue.proofs.Layer.{Setting, Here, Straight, next_in_time, returns_here, S, Now, ends, sets}
 use Rattle.rt_gen_queue.proofs.Layer.{spot, clocks, loads, loads_at, calculates, stays, jumps_off, reads_open}
 use Rattle.rt_gen_queue.proofs.Numbers.{steps_and}
 use Rattle.rt_gen_queue.proofs.Owning.{home_as, timer_spelled}
@@ -87,14 +87,6 @@ kept_on {app = app} {level = level} {s = s} {after = after} {later = later} {vs 
     go (Own n) own =
         let was = kept.spells (Own n) own in
         (was.0, one (length app.shared + n) (Own n) own (local_is_home app n was.0) was.1)
-
--- A job returns, and what its runner keeps is given back.
-pub returns : {z : Setting} {f : Slots} {lines : List Line} {h : Here} {ws : List ℕ} {values : Values}
-    {rest : Values → Doing Values} → z.caller ≡ None → h.held ≡ [] → h.places ≡ []
-    → h.rest ≡ does Returns values (λ answer. rest) → GivesBack z h values
-    → Straight z f (plain instr.Ret ∷ lines) h ws
-returns own closed empty is back =
-    record { runs = λ may has. returns_here has.0 (next_in_time may) own closed empty is back }
 
 -- A timer handler: its code, its level, its cost, the address where it begins, the slots behind its window, and what it
 -- has where it begins.
@@ -286,18 +278,20 @@ module _ {k : Handler} (may : MayHandle k) where
             (omega (arith, few_armings known.now.spells known.now.taken.few));
       }) refl refl refl
       (λ finished other ws early agree.
-      returns refl refl refl refl
-      (kept_on {s = spot (setting k) (begun k)} {after = d.cells} {later = d.queues} may.kept
-      (record {
-        long = known.now.taken.same.long;
-        touched = known.now.taken.same.touched;
-        queued = known.now.taken.same.queued;
-      })
-      (λ holder read.
-      agree holder read
-      ∙ known.agree holder
-      (reads_more (storage k.app) (AtLevel k.level) (opened (setting k) (frame k) x k.level) [] holder read)
-      ∙ known.now.taken.agree holder read)).spells))
+      record {
+        runs = λ run has. returns_here has.0 (next_in_time run) refl refl refl refl
+            (kept_on {s = spot (setting k) (begun k)} {after = d.cells} {later = d.queues} may.kept
+            (record {
+              long = known.now.taken.same.long;
+              touched = known.now.taken.same.touched;
+              queued = known.now.taken.same.queued;
+            })
+            (λ holder read.
+            agree holder read
+            ∙ known.agree holder
+            (reads_more (storage k.app) (AtLevel k.level) (opened (setting k) (frame k) x k.level) [] holder read)
+            ∙ known.now.taken.agree holder read)).spells;
+      }))
 
   -- what is told where the first message is due
   abbrev pub IsDue : Words → Type 0
@@ -317,7 +311,8 @@ module _ {k : Handler} (may : MayHandle k) where
   judges {d = d} known w mask time dues =
       let s = known.now.spells in
       let n : ℕ = length s.heap in
-      let columns : Columns (setting k) (queue_of k.app) (opened (setting k) (frame k) section.Timer k.level ∷ []) d.cells =
+      let x = section.Timer in
+      let columns : Columns (setting k) (queue_of k.app) (opened (setting k) (frame k) x k.level ∷ []) d.cells =
       columns_now known.now refl in
       loads n (reads_open (count_open columns) (spelled_count s))
       (elim (cases_lt 0 n) [

@@ -68,7 +68,8 @@ module _ {z : Setting} {f : Slots} {lines : List Line} {h : Here} {values : Valu
         of_task = may.of_task;
         shown = word_shown 10 w.instant run refl refl;
         acts = acts_later (Arms w.instant m) (words w) refl run has doing
-            (λ vs. on (slice_set h.cells (heap_of q + w.hole) w.hand) vs (wrote (heap_of q + w.hole) w.hand h.cells writes.there));
+            (λ vs. on (slice_set h.cells (heap_of q + w.hole) w.hand) vs
+            (wrote (heap_of q + w.hole) w.hand h.cells writes.there));
       }))
 
   -- the message of the handle in a slot goes last, for the instant in its slot
@@ -97,7 +98,8 @@ module _ {z : Setting} {f : Slots} {lines : List Line} {h : Here} {values : Valu
         shown = word_shown 1 handle run refl shown;
         put_off = word_shown 10 w.instant run refl refl;
         acts = acts_later (Moves task handle w.instant) (words w) refl run has doing
-            (λ vs. on (slice_set h.cells (heap_of q + w.hole) w.hand) vs (wrote (heap_of q + w.hole) w.hand h.cells writes.there));
+            (λ vs. on (slice_set h.cells (heap_of q + w.hole) w.hand) vs
+            (wrote (heap_of q + w.hole) w.hand h.cells writes.there));
       }))
 
   module _ {task : ℕ} {e : Entry} {before behind : List Entry} {ws : List ℕ} where

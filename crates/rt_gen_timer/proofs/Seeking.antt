@@ -1,8 +1,8 @@
--- A call by a handle: the section of the timer queue opens, and the message of the task that has the handle is looked for
--- in the heap, from its last place down to the first; or none has it, the section closes, and the answer is 1.
+-- A call by a handle: the section of the timer queue opens, and the message of the task that has the handle is looked
+-- for in the heap, from its last place down to the first; or none has it, the section closes, and the answer is 1.
 use Rattle.std.proofs.Common.{◌≡◌, ◌≢◌, ◌⊎◌, ℕ, zero, suc, ◌+◌, ◌*◌, ◌^◌, ◌<◌, ◌≤◌, ◌==◌, ◌&&◌, ◌++◌, ◌∷◌, nat_lt}
-use Rattle.std.proofs.Common.{Bool, true, false, List, [], length, take, Option, Some, is_some, if◌then◌else◌, slice_index}
-use Rattle.std.proofs.Common.{refl, sym, ap, ◌∙◌, subst, arith, inl, inr}
+use Rattle.std.proofs.Common.{Bool, true, false, List, [], length, take, Option, Some, is_some, if◌then◌else◌}
+use Rattle.std.proofs.Common.{slice_index, refl, sym, ap, ◌∙◌, subst, arith, inl, inr}
 use Rattle.std.proofs.lemmas.Bool.{cases_eq}
 use Rattle.std.proofs.lemmas.Bool.Decides.{nat_tests}
 use Rattle.rt_ids.specs.Action.{Enters, Leaves}
@@ -375,7 +375,13 @@ module _ {c : Call} {h : Here} {k : Sought} (seek : MaySeek c h k) where
       moved done (h.at + 17) refl (omega arith)
       (rest_is (k.found o.values) (ap (λ (a : Option Armed). follow o.values (is_some a)) as_armed)
       (on o done j x r
-      (record { now = now; inside = one.inside; of_task = of_task; found = found; early = omega (arith, early, few) }))))
+      (record {
+        now = now;
+        inside = one.inside;
+        of_task = of_task;
+        found = found;
+        early = omega (arith, early, few);
+      }))))
       (λ done j y x r none early.
       rest_is (follow o.values false)
       (ap (λ (a : Option Armed). follow o.values (is_some a)) (missing_of s c.task k.handle none))

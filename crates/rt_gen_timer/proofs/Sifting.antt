@@ -1,8 +1,8 @@
--- The loops in which the message in hand goes up or down from the hole: up within 15 steps a turn, each of which at least
--- halves the place, and down within 31, each of which at least doubles it. What is behind a loop is told by what holds
--- there.
-use Rattle.std.proofs.Common.{◌≡◌, ◌≢◌, ℕ, zero, suc, ◌+◌, ◌-◌, ◌*◌, ◌^◌, ◌<◌, ◌≤◌, nat_lt, List, [], ◌∷◌, ◌++◌, take, drop}
-use Rattle.std.proofs.Common.{refl, sym, ap, ◌∙◌, arith, inl, inr}
+-- The loops in which the message in hand goes up or down from the hole: up within 15 steps a turn, each of which at
+-- least halves the place, and down within 31, each of which at least doubles it. What is behind a loop is told by what
+-- holds there.
+use Rattle.std.proofs.Common.{◌≡◌, ◌≢◌, ℕ, zero, suc, ◌+◌, ◌-◌, ◌*◌, ◌^◌, ◌<◌, ◌≤◌, nat_lt, List, [], ◌∷◌, ◌++◌}
+use Rattle.std.proofs.Common.{take, drop, refl, sym, ap, ◌∙◌, arith, inl, inr}
 use Rattle.std.proofs.lemmas.Bool.{cases_lt, lt-ltb, le-ltb}
 use Rattle.rt_ids.specs.Entry.{Entry}
 use Rattle.rt_ids.specs.Operation.{operate, number_of}
@@ -10,14 +10,14 @@ use Rattle.rt_ids.specs.declared.op.Op.TheVariants as op
 use Rattle.rt_code.specs.declared.instr.Instr.TheVariants as instr
 use Rattle.rt_gen_queue.specs.Line.{Line, plain, HasCode}
 use Rattle.rt_gen_queue.proofs.Numbers.{added, one_less, steps_and}
-use Rattle.rt_gen_queue.proofs.Layer.{Setting, Here, S, Wrote, Now, Straight, ahead, calculates, copies, stores_at, jumps}
-use Rattle.rt_gen_queue.proofs.Layer.{jumps_off, stays, writes_open}
+use Rattle.rt_gen_queue.proofs.Layer.{Setting, Here, S, Wrote, Now, Straight, ahead, calculates, copies, stores_at}
+use Rattle.rt_gen_queue.proofs.Layer.{jumps, jumps_off, stays, writes_open}
 use Rattle.rt_app.specs.Heap.{above, at, keys}
 use Rattle.rt_gen_timer.specs.TimerLines.{heap_of, rise_lines, sink_lines, jump_zero, store_at, copy}
 use Rattle.rt_gen_timer.proofs.Order.{IsNoLess, IsLesser, IsNoGreater, lesser_is, no_greater_than_lesser, none_below}
 use Rattle.rt_gen_timer.proofs.Order.{above_less}
-use Rattle.rt_gen_timer.proofs.Moves.{with_moved, HasHole, HasRisen, rise_hole, rise_ends, rise_turn, HasSunk, sink_hole}
-use Rattle.rt_gen_timer.proofs.Moves.{sink_ends, sink_turn}
+use Rattle.rt_gen_timer.proofs.Moves.{with_moved, HasHole, HasRisen, rise_hole, rise_ends, rise_turn, HasSunk}
+use Rattle.rt_gen_timer.proofs.Moves.{sink_hole, sink_ends, sink_turn}
 use Rattle.rt_gen_timer.proofs.Window.{Slots, Words, words, Scratch}
 use Rattle.rt_gen_timer.proofs.Acting.{Runs, sooner, run_stands, code_first, Columns, columns_on, heap_open}
 use Rattle.rt_gen_timer.proofs.Comparing.{Hand, Place, key, IsOpen, in_hand, key_from, less_of, compares, loads_key}
@@ -377,10 +377,11 @@ module _ {z : Setting} {f : Slots} {k : Hand} where
       (compares_two {left = left} {right = right} w t may (inside, λ same. absurd (omega (arith, same)))
       (second, λ same. absurd (omega (arith, same)))
       (λ less g b is.
-      let lesser : IsLesser k.size i (keys (key k) xs) (left + less) = lesser_is refl inside refl (ap (λ n. left + n) is) in
+      let lesser : IsLesser k.size i (keys (key k) xs) (left + less) =
+      lesser_is refl inside refl (ap (λ n. left + n) is) in
       calculates (left + less) (added left less (left + less) refl (omega (arith, lesser.within)))
-      (sinks_to (again (left + less)) w (record (two_keys k xs t left right) { less = less; equal = g; work = b }) may on
-      lesser)))))))
+      (sinks_to (again (left + less)) w (record (two_keys k xs t left right) { less = less; equal = g; work = b })
+      may on lesser)))))))
 
   -- below the last places the loop ends
   last_turn : (i : ℕ) → Sinks z f k 0 i

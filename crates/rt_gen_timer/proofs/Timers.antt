@@ -259,6 +259,7 @@ module _ {k : Handler} (u : Due k) where
         ∙ ap number_of (lt-ltb (armed_place k.app e) (a.first + a.rows) (row_own k.app u.may.accepted e timed_place)) in
         let word : v.place + to_word ≡ message_word e =
         omega (arith, row, few_before k.app u.may.accepted e.task) in
+        let opens = (columns_now now {after = b.cells} gone.long).opens in
         let again = timer_left u.may.mono before now.spells picked gone.without gone.whole gone.count in
         run_stands (here b.cells done at) v closing runs_here (omega (arith, less, gone.within))
         (closing_fit k.app k.level (at + 6) [] refl)
@@ -270,7 +271,7 @@ module _ {k : Handler} (u : Due k) where
         (sets
         (calculates (message_word e)
         (added v.place to_word (message_word e) word (word_small k.app u.may.accepted e timed_place))
-        (fires (record { opens = (columns_now now {after = b.cells} gone.long).opens; stands = picked.parts; of_task = refl }) refl refl
+        (fires (record { opens = opens; stands = picked.parts; of_task = refl }) refl refl
         (λ vs agree.
         at_address (at + 6) (omega arith)
         (settles now with_fired (record v { place = message_word e; other = to_word })
