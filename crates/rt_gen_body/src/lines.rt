@@ -1,11 +1,10 @@
-ghost use Rattle.std.specs.Prelude.{◌≡◌, ◌<◌, true, [], ◌∷◌, length, slice_get, slice_set, Option, IfOk, OnOk};
+ghost use Rattle.std.specs.Prelude.{◌≡◌, ◌<◌, true, [], ◌∷◌, length, slice_get, slice_set, Option, IsSome, IfOk, OnOk};
 ghost use Rattle.rt_ids.specs.Lists.{is_some_and};
 ghost use Rattle.rt_app.specs.Level.{is_software};
 ghost use Rattle.rt_gen_queue.specs.Line.{plain, noted};
 ghost use Rattle.rt_gen_queue.specs.SpawnCode.{spawn_code};
 ghost use Rattle.rt_gen_timer.specs.TimerCode.{after_code, cancel_code, move_code};
 ghost use Rattle.rt_gen_body.specs.Inside.Generating.{context, IsReady};
-ghost use Rattle.rt_gen_body.specs.Inside.Simple.{is_timed};
 ghost use Rattle.rt_gen_body.specs.Inside.Lines.{next_address, Appends};
 
 use crate::generator::Generator;
@@ -122,7 +121,8 @@ impl Lines {
         task: TaskId,
     ) -> Result<(), NoMemory>
         requires ready { IsReady generator.now }
-        requires timed { is_timed (context generator.now) task ≡ true }
+        requires timed { IsSome (context generator.now).app.mono }
+        requires software { is_some_and is_software (slice_get (context generator.now).app.tasks task) ≡ true }
         ensures { OnOk result (Appends self.old self.new
             (after_code (context generator.now).app task level generator.now.spawns (next_address self.old))) }
     {
@@ -148,7 +148,8 @@ impl Lines {
         task: TaskId,
     ) -> Result<(), NoMemory>
         requires ready { IsReady generator.now }
-        requires timed { is_timed (context generator.now) task ≡ true }
+        requires timed { IsSome (context generator.now).app.mono }
+        requires software { is_some_and is_software (slice_get (context generator.now).app.tasks task) ≡ true }
         ensures { OnOk result (Appends self.old self.new
             (cancel_code (context generator.now).app task level generator.now.spawns (next_address self.old))) }
     {
@@ -175,7 +176,8 @@ impl Lines {
         task: TaskId,
     ) -> Result<(), NoMemory>
         requires ready { IsReady generator.now }
-        requires timed { is_timed (context generator.now) task ≡ true }
+        requires timed { IsSome (context generator.now).app.mono }
+        requires software { is_some_and is_software (slice_get (context generator.now).app.tasks task) ≡ true }
         ensures { OnOk result (Appends self.old self.new
             (move_code (context generator.now).app task level generator.now.spawns (next_address self.old))) }
     {

@@ -1,8 +1,7 @@
 use Rattle.std.proofs.Common.{◌≡◌, length, take, refl, ap, ◌∙◌, arith, append_assoc}
 use Rattle.std.proofs.lemmas.List.{take_more, length-take-le}
 use Rattle.rt_gen_body.specs.Inside.Values.{next_slot}
-use Rattle.rt_gen_body.proofs.Emitted.{next_on, arguments_append}
-use Rattle.rt_gen_body.proofs.Generated.{appends_none}
+use Rattle.rt_gen_body.proofs.Generated.{next_on, arguments_append, appends_none}
 use Rattle.rt_gen_body.proofs.generator.Generator.arguments.Goals as goal
 
 pub loop-arg-init : goal.loop-arg-init

@@ -4,7 +4,7 @@ use Rattle.rt_app.specs.View.{expression_of}
 use Rattle.rt_gen_body.specs.Inside.Values.{arguments_code}
 use Rattle.rt_gen_body.specs.Inside.Lines.{Appends}
 use Rattle.rt_gen_body.specs.Inside.Generating.{context}
-use Rattle.rt_gen_body.proofs.Emitted.{slot_on}
+use Rattle.rt_gen_body.proofs.Generated.{slot_on}
 use Rattle.rt_gen_body.proofs.generator.Generator.arguments.Given as goal
 
 abbrev pub invariant-loop-arg : goal.invariant-loop-arg

@@ -1,7 +1,6 @@
 use Rattle.rt_gen_body.specs.Inside.Lines.{next_address}
 use Rattle.rt_gen_body.specs.Inside.Generating.{context}
-use Rattle.rt_gen_body.proofs.Emitted.{no_message}
-use Rattle.rt_gen_body.proofs.Generated.{task_found, task_not_found}
+use Rattle.rt_gen_body.proofs.Generated.{no_message, task_found, task_not_found}
 use Rattle.rt_gen_body.proofs.generator.Generator.message.Goals as goal
 
 pub message_of-requires-clause-task : goal.message_of-requires-clause-task
