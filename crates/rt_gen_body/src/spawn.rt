@@ -7,7 +7,7 @@ ghost use Rattle.rt_gen_body.specs.Inside.Generating.{context, IsReady};
 
 use crate::body::is_called;
 use crate::generator::{Generator, next_slot};
-use crate::lines::Lines;
+use crate::lines::{Lines, Timed};
 use rt_app::{Expr, Spawn, Task};
 use rt_ids::{NoMemory, TaskId};
 
@@ -64,40 +64,20 @@ impl<'a> Generator<'a> {
         self.plan.app.mono.is_some() && is_called(self.plan.app, number)
     }
 
-    /// What goes of a `spawn_after` whose delay and arguments are there, at a static level.
-    fn delayed(&self, level: u8, number: TaskId, code: &mut Lines) -> Result<(), NoMemory>
+    /// What goes to the timer queue, whose values are there, at a static level; nothing where there is none for the task.
+    fn timed(
+        &self,
+        kind: Timed,
+        level: u8,
+        number: TaskId,
+        code: &mut Lines,
+    ) -> Result<(), NoMemory>
         requires { IsReady self.now }
         ensures { OnOk result (Appends code.old code.new
-            (simple.delayed_code (context self.now) level (next_address code.old) number)) }
+            (simple.timed_code (context self.now) kind level (next_address code.old) number)) }
     {
         if self.is_timed(number) {
-            code.push_after(self, level, number)
-        } else {
-            Ok(())
-        }
-    }
-
-    /// Of a `cancel` whose handle is there.
-    fn cancelled(&self, level: u8, number: TaskId, code: &mut Lines) -> Result<(), NoMemory>
-        requires { IsReady self.now }
-        ensures { OnOk result (Appends code.old code.new
-            (simple.cancelled_code (context self.now) level (next_address code.old) number)) }
-    {
-        if self.is_timed(number) {
-            code.push_cancel(self, level, number)
-        } else {
-            Ok(())
-        }
-    }
-
-    /// Of a `reschedule_after` whose delay and handle are there.
-    fn moved(&self, level: u8, number: TaskId, code: &mut Lines) -> Result<(), NoMemory>
-        requires { IsReady self.now }
-        ensures { OnOk result (Appends code.old code.new
-            (simple.moved_code (context self.now) level (next_address code.old) number)) }
-    {
-        if self.is_timed(number) {
-            code.push_move(self, level, number)
+            code.push_timed(kind, self, level, number)
         } else {
             Ok(())
         }
@@ -131,9 +111,24 @@ impl<'a> Generator<'a> {
     {
         match spawn {
             Spawn::Soon(task, _args, _at) => self.message(level, *task, code),
-            Spawn::After(_word, _delay, task, _args, _at) => self.delayed(level, *task, code),
-            Spawn::Cancel(_word, task, _handle, _at) => self.cancelled(level, *task, code),
-            Spawn::Move(_word, _delay, task, _handle, _at) => self.moved(level, *task, code),
+            Spawn::After(_word, _delay, task, _args, _at) => self.timed(
+                Timed::After,
+                level,
+                *task,
+                code,
+            ),
+            Spawn::Cancel(_word, task, _handle, _at) => self.timed(
+                Timed::Cancel,
+                level,
+                *task,
+                code,
+            ),
+            Spawn::Move(_word, _delay, task, _handle, _at) => self.timed(
+                Timed::Move,
+                level,
+                *task,
+                code,
+            ),
         }
     }
 
