@@ -1,4 +1,4 @@
-use Rattle.std.proofs.Common.{rules, length, refl, sym, ap, ◌∙◌, ℕ, ◌+◌, List, append_assoc}
+use Rattle.std.proofs.Common.{arith, length-append, length, refl, sym, ap, ◌∙◌, ℕ, ◌+◌, List, append_assoc}
 use Rattle.rt_app.specs.Limits.{statements_in}
 use Rattle.rt_app.specs.declared.stmt.Stmt.{Stmt}
 use Rattle.rt_app.specs.View.{block_of}
@@ -115,17 +115,17 @@ pub block-statement-requires : goal.block-statement-requires
 block-statement-requires t c =
     let few =
     statement_within c.args.stmts.now c.loop-stmt.stmt-index c.stmt-item.result c.loop-stmt-test.true c.stmt-item.is in
-    search rules
+    (omega (arith, c.decreases), c.requires)
 
 pub statement-choose_one-requires : goal.statement-choose_one-requires
 statement-choose_one-requires t c =
     let s = ap statements_in (branch_at _ _ _ _ _ _ c.in-Branch.is c.deref.ensures.value refl) in
-    search rules
+    (omega (arith, c.decreases), c.requires)
 
 pub statement-choose_first-requires : goal.statement-choose_first-requires
 statement-choose_first-requires t c =
     let s = ap statements_in (branch_at _ _ _ _ _ _ c.in-Branch.is c.deref-else-is_empty.ensures.value refl) in
-    search rules
+    (omega (arith, c.decreases), c.requires)
 
 pub statement-choose_second-requires : goal.statement-choose_second-requires
 statement-choose_second-requires t c =
@@ -137,14 +137,42 @@ statement-choose_second-requires t c =
     (block_code (context c.args.self.now) c.args.level c.args.lock (next_address c.value.new.code + 1)
     (block_of c.deref-else-is_empty.result.now)) c.in_ok-over-in-Branch.ensures.place
     c.in_ok-over-in-Branch.ensures.lines in
-    search rules
+    (omega (arith, c.decreases), (c.requires, within))
 
 pub statement-repeat-requires : goal.statement-repeat-requires
 statement-repeat-requires t c =
     let s = ap statements_in (repeat_at _ _ _ _ _ _ c.in-Repeat.is c.deref-in-Repeat.ensures.value) in
-    search rules
+    (omega (arith, c.decreases), c.requires)
 
 pub statement-lock-requires : goal.statement-lock-requires
 statement-lock-requires t c =
     let s = ap statements_in (locked_at _ _ _ _ _ c.in-Locked.is c.deref-in-Locked.ensures.value) in
-    search rules
+    (omega (arith, c.decreases), c.requires)
+
+pub choose_one-replace-requires : goal.choose_one-replace-requires
+choose_one-replace-requires t c =
+    rw (c.len-over.ensures, c.in_ok-block.ensures, c.in_ok-push.ensures) (simp length-append (omega arith))
+
+pub choose_first-replace-requires : goal.choose_first-replace-requires
+choose_first-replace-requires t c =
+    rw (c.len-over.ensures, c.in_ok-push-2.ensures, c.in_ok-block.ensures, c.in_ok-push.ensures)
+    (simp length-append (omega arith))
+
+pub choose_second-replace-requires : goal.choose_second-replace-requires
+choose_second-replace-requires t c = rw c.in_ok-block.ensures (simp length-append (omega (arith, c.requires.place)))
+
+pub repeat-replace-requires : goal.repeat-replace-requires
+repeat-replace-requires t c =
+    rw (
+      c.len-over.ensures,
+      c.in_ok-loop_tail.ensures,
+      c.in_ok-block.ensures,
+      c.in_ok-push.ensures,
+    ) (simp length-append (omega arith))
+
+pub choose_first-returns-clause-place : goal.choose_first-returns-clause-place
+choose_first-returns-clause-place t c =
+    rw (c.len-end.ensures, c.in_ok-block.ensures, c.in_ok-push.ensures) (simp behind_at (simp length-append (omega arith)))
+
+pub choose_second-returns : goal.choose_second-returns
+choose_second-returns t c = rw (c.replace.ensures, c.in_ok-end.ensures, c.in_ok-block.ensures) (simp behind_at)
