@@ -39,7 +39,7 @@ use Rattle.rt_gen_body.proofs.Storing.{guard_is}
 use Rattle.rt_gen_body.proofs.Places.{level_inside, needs, Fits, Body, Scope, Inside, Begins}
 use Rattle.rt_gen_body.proofs.Places.{sooner, Performs, goes_behind, listed_by, fewer_visible, front_of, named}
 use Rattle.rt_gen_body.proofs.Places.{block_needs, part_fits}
-use Rattle.rt_gen_body.proofs.Loops.{BlockPerforms, chooses_one, chooses_two, in_loop, loops}
+use Rattle.rt_gen_body.proofs.Loops.{BlockPerforms, chooses, in_loop, loops}
 use Rattle.std.proofs.Math.Nat.{suc-mul}
 use Rattle.rt_app.specs.Spawned.{statement_spawns, spawns}
 use Rattle.rt_app.specs.Variables.{variables, variables_in}
@@ -265,23 +265,15 @@ module _ (b : Body) where
         (next_sets sound.0 fits.variables)
     statement_stands (Assign x e at) p fits sound placed =
         assigns x e at (record { deep = fits.depth; reached = sound.2; meant = placed.1 }) sound.0 placed.0 sound.1
-    statement_stands (Branch e first Empty) p fits sound placed =
-        chooses_one e first (record { deep = omega (arith, fits.depth); reached = sound.0; meant = placed.0 })
+    statement_stands (Branch e first second) p fits sound placed =
+        chooses e first second (record { deep = omega (arith, fits.depth); reached = sound.0; meant = placed.0 })
         (block_stands first p
         (part_fits fits (omega arith) (omega arith, omega arith) (omega arith)
-        (or_left (has_loop first) (has_loop Empty)) (in_front (spawns first) (spawns Empty))) sound.1 placed.1)
-    statement_stands (Branch e first (Then s rest)) p fits sound placed =
-        chooses_two e first s rest
-        (record { deep = omega (arith, fits.depth); reached = sound.0; meant = placed.0 })
-        (block_stands first p
+        (or_left (has_loop first) (has_loop second)) (in_front (spawns first) (spawns second))) sound.1 placed.1)
+        (further second (variables first) (omega (arith, fits.variables))
+        (block_stands second (record p { count = p.count + variables first })
         (part_fits fits (omega arith) (omega arith, omega arith) (omega arith)
-        (or_left (has_loop first) (has_loop (Then s rest))) (in_front (spawns first) (spawns (Then s rest))))
-        sound.1 placed.1)
-        (further (Then s rest) (variables first) (omega (arith, fits.variables))
-        (block_stands (Then s rest) (record p { count = p.count + variables first })
-        (part_fits fits (omega arith) (omega arith, omega arith) (omega arith)
-        (or_right (has_loop first) (has_loop (Then s rest))) (in_back (spawns first) (spawns (Then s rest))))
-        sound.2 placed.2))
+        (or_right (has_loop first) (has_loop second)) (in_back (spawns first) (spawns second))) sound.2 placed.2))
     statement_stands (Repeat x first last turn) p fits sound placed =
         subst (λ (y : ℕ). Performs b p p.visible (λ at. statement_code b.c p.level p.lock at (Repeat y first last turn))
         (statement_steps (cost_measure b.z.app) (Repeat y first last turn)) (run b.z.app (Repeat y first last turn)))

@@ -23,8 +23,8 @@ use Rattle.rt_gen_body.specs.Inside.Lines.{Lines, next_address, Appends, EndsWit
 use Rattle.std.specs.List.{AllByRecursion, range_with_len}
 use Rattle.std.proofs.lemmas.Simd.{map-map}
 use Rattle.std.proofs.lemmas.Option.{slice_get_read, slice_get-map}
-use Rattle.rt_lemmas.proofs.Lists.{mapped_at}
-use Rattle.rt_lemmas.proofs.Membership.{all_at}
+use Rattle.rt_lemmas.proofs.Lists.{all_map, mapped_at}
+use Rattle.rt_lemmas.proofs.Membership.{all_at, all_from_members}
 use Rattle.rt_ids.specs.declared.ids.BodyId.{BodyId}
 use Rattle.rt_ids.specs.declared.ids.BodyId.TheVariants as body
 use Rattle.rt_app.specs.declared.app.App as code
@@ -44,7 +44,7 @@ use Rattle.rt_frames.proofs.Within.{frame_few}
 use Rattle.rt_app.specs.Bodies.{member_at}
 use Rattle.rt_app.specs.Accepted.{IsAccepted}
 use Rattle.rt_gen_body.specs.Inside.Generating.{slots_code}
-use Rattle.rt_gen_body.proofs.Promises.{BodyThere, of_task, body_between, init_stands, idle_stands, task_stands}
+use Rattle.rt_gen_body.proofs.Promises.{contains_range, BodyThere, of_task, body_between, init_stands, idle_stands, task_stands}
 use Rattle.rt_gen_body.proofs.Promises.{called_stands}
 
 -- the address behind lines
@@ -192,21 +192,14 @@ task_not_found app n is = slice_get-map task_of app.tasks.items n ∙ ap (option
 pub small_ceilings : (plan : Plan) → IsAccepted (app_of plan.app.now) → IsPlan plan → (bits : ℕ) (tops : List ℕ)
     → bits ≡ plan.app.now.bits → tops ≡ plan.ceil.shared → AllByRecursion (λ c. c ≤ 2 ^ bits) tops
 small_ceilings plan accepted planned bits tops same is =
+    let app : App = app_of plan.app.now in
+    let all : List ℕ = range_with_len 0 (length app.shared) in
     subst (λ b. AllByRecursion (λ c. c ≤ 2 ^ b) tops) (sym same)
-    (subst (λ (cs : List ℕ). AllByRecursion (λ c. c ≤ 2 ^ plan.app.now.bits) cs)
+    (subst (λ (cs : List ℕ). AllByRecursion (λ c. c ≤ 2 ^ app.bits) cs)
     (sym (is ∙ ap (λ (c : Ceilings). c.shared) planned.ceilings))
-    (tops_small (length (app_of plan.app.now).shared) 0 (length (app_of plan.app.now).shared) (omega arith) refl))
-  where
-    app : App
-    app = app_of plan.app.now
-
-    tops_small : (n i k : ℕ) → i + n ≡ k → k ≡ length app.shared
-        → AllByRecursion (λ c. c ≤ 2 ^ app.bits) (map (λ r. ceiling app (section.Res r)) (range_with_len i n))
-    tops_small zero i k sum all = tt
-    tops_small (suc n) i k sum all = (
-      (accepted_are_sound app accepted).ceilings (section.Res i) (omega arith),
-      tops_small n (i + 1) k (omega arith) all,
-    )
+    (all_map (λ r. ceiling app (section.Res r)) (λ r. r < length app.shared) (λ c. c ≤ 2 ^ app.bits)
+    (λ r within. (accepted_are_sound app accepted).ceilings (section.Res r) within) all
+    (all_from_members (λ r. r < length app.shared) all (contains_range (length app.shared)))))
 
 pub guards_are : (plan : Plan) → IsPlan plan → (bits : ℕ) (tops : List ℕ) (guards : List Guard)
     → bits ≡ plan.app.now.bits → tops ≡ plan.ceil.shared → guards ≡ map (guarded bits) tops

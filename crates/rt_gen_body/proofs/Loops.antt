@@ -3,7 +3,7 @@ use Rattle.std.proofs.Common.{◌≡◌, ℕ, suc, ◌+◌, ◌≤◌, ◌==◌,
 use Rattle.std.proofs.Common.{length, refl, ap, ◌∙◌, subst, arith, length-append, zero, ◌-◌, ◌*◌, ◌^◌, ◌<◌, nat_lt, []}
 use Rattle.std.proofs.Common.{slice_index, slice_set, Contains, inl, inr, get_or-set_same, get_or-set_other, length-set}
 use Rattle.rt_ids.specs.Content.{Values}
-use Rattle.rt_app.specs.Tree.{Expression, Branch, Block, Empty, Then, Statement, Repeat}
+use Rattle.rt_app.specs.Tree.{Expression, Branch, Block, Empty, Then, Repeat}
 use Rattle.rt_app.specs.Steps.{expression_steps, block_steps, statement_steps}
 use Rattle.rt_app.specs.BodyCost.{cost_measure}
 use Rattle.rt_app.specs.Meaning.{Later, value_in, run, run_block, turns_from}
@@ -69,11 +69,13 @@ module _ {b : Body} {p : Scope} where
       (block_steps (cost_measure b.z.app) block) vars vs
   begins_block block at has less begins = next_begins has (omega arith) refl (λ x low. refl) begins
 
-  -- a choice without a second block: its jump leads over the first
-  pub chooses_one : (e : Expression) (first : Block) → Sound b p e → BlockPerforms b p first
-      → Performs b p p.visible (λ at. statement_code b.c p.level p.lock at (Branch e first Empty))
-      (statement_steps (cost_measure b.z.app) (Branch e first Empty)) (run b.z.app (Branch e first Empty))
-  chooses_one e first sound stands = record {
+  -- a choice between two blocks: without a second one its jump leads over the first, and else the first ends with a jump
+  -- over the second
+  pub chooses : (e : Expression) (first second : Block) → Sound b p e → BlockPerforms b p first
+      → BlockPerforms b p second
+      → Performs b p p.visible (λ at. statement_code b.c p.level p.lock at (Branch e first second))
+      (statement_steps (cost_measure b.z.app) (Branch e first second)) (run b.z.app (Branch e first second))
+  chooses e first Empty sound one two = record {
     runs = λ {h} {vars} {vs} later begins is behind.
         let at : ℕ = h.at + length (value_code b.c e) + 1 in
         decides e (at + length (block_code b.c p.level p.lock at first))
@@ -85,18 +87,11 @@ module _ {b : Body} {p : Scope} where
               named refl refl now
               (goes_behind behind1 (omega arith) (omega arith) begins1.known (λ y here. refl))
           | false ↦ λ now.
-              stands.runs later (begins_block first at has (omega arith) begins1) now
+              one.runs later (begins_block first at has (omega arith) begins1) now
               (still_behind behind1 (omega arith) (omega arith) (λ x here. refl))
         ]);
   }
-
-  -- a choice between two blocks: the first ends with a jump over the second
-  pub chooses_two : (e : Expression) (first : Block) (s : Statement) (more : Block) → Sound b p e
-      → BlockPerforms b p first → BlockPerforms b p (Then s more)
-      → Performs b p p.visible (λ at. statement_code b.c p.level p.lock at (Branch e first (Then s more)))
-      (statement_steps (cost_measure b.z.app) (Branch e first (Then s more)))
-      (run b.z.app (Branch e first (Then s more)))
-  chooses_two e first s more sound one two = record {
+  chooses e first (Then s more) sound one two = record {
     runs = λ {h} {vars} {vs} later begins is behind.
         let second : Block = Then s more in
         let at : ℕ = h.at + length (value_code b.c e) + 1 in

@@ -265,13 +265,11 @@ pub record Fits (b : Body) (p : Scope) (n : Needs) : Type 0 where
 pub part_fits : {b : Body} {p q : Scope} {n m : Needs} → Fits b p n → m.depth ≤ n.depth
     → (q.lock + m.locks ≤ p.lock + n.locks) × (q.count + m.variables ≤ p.count + n.variables) → m.steps ≤ n.steps
     → (m.loop ≡ true → n.loop ≡ true) → ((s : Spawn) → IsIn m.sends s → IsIn n.sends s) → Fits b q m
-part_fits fits deep (masks, variables) steps loops sends =
-    let one = fits.depth in let two = fits.masks in let three = fits.variables in let four = fits.steps in
-    record {
-      depth = omega arith;
-      loops = λ is. fits.loops (loops is);
-      masks = omega arith;
-      sends = λ s there. fits.sends s (sends s there);
-      variables = omega arith;
-      steps = omega arith;
-    }
+part_fits fits deep (masks, variables) steps loops sends = record {
+  depth = omega (arith, fits.depth);
+  loops = λ is. fits.loops (loops is);
+  masks = omega (arith, fits.masks);
+  sends = λ s there. fits.sends s (sends s there);
+  variables = omega (arith, fits.variables);
+  steps = omega (arith, fits.steps);
+}

@@ -53,7 +53,7 @@ use Rattle.rt_gen_body.proofs.Owning.{AllSpelled, spelled, known_of, all_agreed}
 use Rattle.rt_ids.specs.declared.ids.BodyId.{BodyId}
 use Rattle.rt_app.specs.Level.{is_software}
 use Rattle.rt_app.specs.Statements.{is_init}
-use Rattle.rt_app.specs.Stack.{thread_frame}
+use Rattle.rt_app.specs.Stack.{thread_frame, thread_words}
 use Rattle.rt_code.specs.declared.image.BodyRow.{BodyRow}
 use Rattle.rt_code.proofs.Standing.{stands_with_more}
 use Rattle.rt_gen_body.specs.Bodies.{BodyStands}
@@ -81,7 +81,7 @@ vars_of args count slots x enough less =
     get_or_append_left (take args slots) (replicate count 0) 0 x (omega (arith, length-take-le args slots enough))
     ∙ get_or-take args slots x 0 less
 
-contains_range : (args y : ℕ) → Contains (range_with_len 0 args) y → y < args
+pub contains_range : (args y : ℕ) → Contains (range_with_len 0 args) y → y < args
 contains_range args y (k, within, is) =
     let less : k < args = omega (arith, length-range_with_len 0 args) in
     omega (arith, get_or-range_with_len 0 args k y less)
@@ -291,19 +291,22 @@ abbrev pub of_task : ℕ → Task → Member
 of_task n t = record { id = body.Task n; priority = t.priority; args = t.args; body = t.body }
 
 -- a body of the thread, declared or not: of one that is not there is the end alone
-thread_stands : (z : Setting) (id : BodyId) (o : Option AppBody) {words : ℕ} (entry : ℕ)
-    → ((b : AppBody) → o ≡ Some b → IsBody (alone z) (of_thread id b) words)
-    → HasCode z.code entry (blocks_of z.app (option_map (of_thread id) o) entry)
+thread_stands : (z : Setting) (id : BodyId) (o : Option AppBody) (entry : ℕ) → IsAccepted z.app → IsSound z.app
+    → z.who ≡ runner_if (is_init id) 0 → member_at z.app id ≡ option_map (of_thread id) o
+    → thread_frame o ≤ thread_words z.app → HasCode z.code entry (blocks_of z.app (option_map (of_thread id) o) entry)
     → Ending (alone z) (entry + length (blocks_of z.app (option_map (of_thread id) o) entry)) (Ends id)
-    → Whole z words entry (cost_of (cost_measure z.app) o) (declared_doing z.app o [] (act (Ends id) nothing))
-thread_stands z id None entry is has ending slots cells queues vs long all taken =
+    → Whole z (thread_words z.app) entry (cost_of (cost_measure z.app) o)
+    (declared_doing z.app o [] (act (Ends id) nothing))
+thread_stands z id None entry accepted sound runs is fits has ending slots cells queues vs long all taken =
     let none : entry + 0 ≡ entry = omega arith in
     let s : State = begun_with slots cells queues vs in
     begins {z = alone z} (calm 1 slots None entry cells queues (act (Ends id) nothing vs)) 1
     (subst (λ at. S (alone z) (job 1 1 at s (act (Ends id) nothing vs))) none
     (ending 1 1 s (omega arith, (omega arith, tt)) taken))
-thread_stands z id (Some b) entry is has ending slots cells queues vs long all taken =
-    whole_stands z entry (Ends id) (is b refl) refl has ending slots cells queues vs long all taken
+thread_stands z id (Some b) entry accepted sound runs is fits has ending slots cells queues vs long all taken =
+    let small = sound.stack_small in
+    whole_stands z entry (Ends id) (is_body (of_thread id b) accepted sound runs is fits (omega arith)) refl has ending
+    slots cells queues vs long all taken
 
 -- the code of a body, declared or not: its blocks, and its last line behind them
 pub record BodyThere (app : App) (id : BodyId) (o : Option Member) (code : List Line) (entry : ℕ) : Type 0 where
@@ -337,7 +340,6 @@ module _ {app : App} (accepted : IsAccepted app) (sound : IsSound app) where
       let lines : List Line = code_of app body.Init m entry in
       let at : ℕ = entry + length (blocks_of app m entry) in
       let there = body_between app body.Init m front more in
-      let small = sound.stack_small in
       let size : suc at ≡ length (front ++ lines) =
       omega (
         arith,
@@ -345,9 +347,7 @@ module _ {app : App} (accepted : IsAccepted app) (sound : IsSound app) where
         length-append (blocks_of app m entry) (end_line app body.Init entry ∷ []),
       ) in
       let z : Setting = runs Starting (length (front ++ lines)) ((front ++ lines) ++ more) bodies None in
-      thread_stands z body.Init app.init entry
-      (λ b is. is_body (of_thread body.Init b) accepted sound refl (ap (option_map (of_thread body.Init)) is)
-      (omega (arith, ap thread_frame is)) (omega arith)) there.blocks
+      thread_stands z body.Init app.init entry accepted sound refl refl (omega arith) there.blocks
       (λ until left t time known.
       by_line instr.Serve (Some (note.End body.Init)) there.last time
       (refl, refl, size, finishes z until left at (Ends body.Init) t known))
@@ -360,11 +360,8 @@ module _ {app : App} (accepted : IsAccepted app) (sound : IsSound app) where
       let entry : ℕ = length front in
       let at : ℕ = entry + length (blocks_of app m entry) in
       let there = body_between app body.Idle m front more in
-      let small = sound.stack_small in
       let z : Setting = runs (AtLevel 0) entry ((front ++ code_of app body.Idle m entry) ++ more) bodies None in
-      thread_stands z body.Idle app.idle entry
-      (λ b is. is_body (of_thread body.Idle b) accepted sound refl (ap (option_map (of_thread body.Idle)) is)
-      (omega (arith, ap thread_frame is)) (omega arith)) there.blocks
+      thread_stands z body.Idle app.idle entry accepted sound refl refl (omega arith) there.blocks
       (λ until left t time known.
       by_line (instr.Jump entry) (Some (note.End body.Idle)) there.last time
       (refl, refl, finishes z until left at (Ends body.Idle) t known))

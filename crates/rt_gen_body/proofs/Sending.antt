@@ -1,6 +1,6 @@
 -- The code of a spawn with its arguments: their values come into the slots of the spawn, and then the message goes, to
 -- the ready queue or to the timer queue, or what its handle takes back or puts to another instant.
-use Rattle.std.proofs.Common.{◌≡◌, ℕ, suc, ◌+◌, ◌-◌, ◌<◌, ◌≤◌, ◌&&◌, true, Some, is_some, IsSome}
+use Rattle.std.proofs.Common.{◌≡◌, ℕ, suc, ◌+◌, ◌-◌, ◌*◌, ◌<◌, ◌≤◌, ◌&&◌, true, Some, is_some}
 use Rattle.std.proofs.Common.{List, [], ◌∷◌, length, map, take, drop, slice_get, slice_index, refl, ap, sym, ◌∙◌, subst}
 use Rattle.std.proofs.Common.{inl, inr, arith, if◌then◌else◌, slice_set, length-append}
 use Rattle.std.specs.List.{AllByRecursion}
@@ -9,10 +9,11 @@ use Rattle.rt_lemmas.proofs.Membership.{all_weaker}
 use Rattle.rt_ids.specs.Lists.{is_some_and, greatest}
 use Rattle.rt_ids.specs.Content.{Values}
 use Rattle.rt_ids.specs.declared.ids.Section.TheVariants as section
-use Rattle.rt_app.specs.declared.costs.TheConstants.{SPAWN_COST, TIMER_QUEUE_WORDS}
+use Rattle.rt_app.specs.declared.costs.TheConstants.{SPAWN_COST, SPAWN_AFTER_COST, MESSAGE_COST, HANDLE_COST}
+use Rattle.rt_app.specs.declared.costs.TheConstants.{HANDLE_MESSAGE_COST, TIMER_QUEUE_WORDS}
 use Rattle.rt_app.specs.Tree.{Spawn, Soon, After, Cancel, Move, Task, App, Expression, Call, Spawns}
 use Rattle.rt_app.specs.Ceiling.{ceiling}
-use Rattle.rt_app.specs.Level.{is_software}
+use Rattle.rt_app.specs.Level.{is_software, armed_messages}
 use Rattle.rt_app.specs.BodyCost.{timer_section_cost, cost_measure}
 use Rattle.rt_app.specs.Frame.{spawn_depth, spawn_words, depth}
 use Rattle.rt_app.specs.Meaning.{value_in, run}
@@ -28,12 +29,10 @@ use Rattle.rt_gen_queue.specs.SpawnCode.{spawn_code}
 use Rattle.rt_gen_queue.proofs.Layer.{Here, S, spot, left_at, lasts_left, goes, copy_gives}
 use Rattle.rt_gen_queue.proofs.Whole.{spawn_stands}
 use Rattle.rt_gen_timer.specs.TimerCode.{after_code, cancel_code, move_code}
-use Rattle.rt_gen_timer.specs.TimerCalls.{MayUsePlaces}
-use Rattle.rt_gen_timer.proofs.Afters.{after_steps, after_goes}
-use Rattle.rt_gen_timer.proofs.Calling.{Call as TimerCall, MayCall, GoesBehind, call_of}
-use Rattle.rt_gen_timer.proofs.Cancelling.{cancel_goes}
-use Rattle.rt_gen_timer.proofs.Moving.{move_goes}
-use Rattle.rt_gen_timer.proofs.Seeking.{handle_steps}
+use Rattle.rt_gen_timer.specs.TimerCalls.{MayUseTimer, MayUsePlaces, StandsBefore}
+use Rattle.rt_gen_timer.proofs.Afters.{afters_stand}
+use Rattle.rt_gen_timer.proofs.Cancelling.{cancels_all_stand}
+use Rattle.rt_gen_timer.proofs.Moving.{moves_all_stand}
 use Rattle.rt_gen_body.specs.Inside.Simple.{values_of, goes_code, send_code, bind_code}
 use Rattle.rt_gen_body.proofs.Owning.{spelled_left, not_open}
 use Rattle.rt_gen_body.proofs.Places.{Body, Scope, listed_by, Begins, State, Settled, then_at, sooner}
@@ -57,9 +56,9 @@ first_value n slot v slots vs within are =
 -- the steps of what goes, without those of its values
 abbrev goes_steps : App → Spawn → ℕ
 goes_steps app (Soon n args place) = SPAWN_COST
-goes_steps app (After word delay n args place) = after_steps app
-goes_steps app (Cancel word n handle place) = handle_steps app
-goes_steps app (Move word delay n handle place) = handle_steps app
+goes_steps app (After word delay n args place) = SPAWN_AFTER_COST + MESSAGE_COST * armed_messages app
+goes_steps app (Cancel word n handle place) = HANDLE_COST + HANDLE_MESSAGE_COST * armed_messages app
+goes_steps app (Move word delay n handle place) = HANDLE_COST + HANDLE_MESSAGE_COST * armed_messages app
 
 -- What follows a spawn, by its answer, which is in the first slot of spawns.
 record Answered (b : Body) (p : Scope) (h : Here) (size cost : ℕ) (vars : List ℕ) (rest : ℕ → Rest) : Type 0 where
@@ -91,36 +90,36 @@ code_called b lines needs n t has there software =
 module _ {b : Body} {p : Scope} {h : Here} {vars : List ℕ} {vs : Values} (q : Spawn) (rest : ℕ → Rest)
     (begins : Begins b p h (goes_code b.c p.level h.at q) (goes_steps b.z.app q) vars vs)
     (on : Answered b p h (length (goes_code b.c p.level h.at q)) (goes_steps b.z.app q) vars rest) where
-  -- a task, and a call for it
-  abbrev call : ℕ → Task → TimerCall
-  call task t = call_of b.z task t p.level b.c.spawns rest vs
+  abbrev left : ℕ
+  left = h.until - h.done - goes_steps b.z.app q
 
-  -- what is behind a call is correct
-  went : (task : ℕ) (t : Task) {lines : List Line} → goes_code b.c p.level h.at q ≡ lines
-      → GoesBehind (call task t) (goes_steps b.z.app q) lines h
-  went task t lines_are answer u gone =
-      let same : (x : ℕ) → x < p.count → slice_index u.slots x ≡ slice_index h.slots x =
-      λ x low. gone.kept x (inl (omega (arith, begins.inside.room, b.floor, b.masks))) in
-      let after : State = record {
-        done = u.done;
-        slots = u.slots;
-        cells = u.cells;
-        vars = vars;
-        queues = u.queues;
-        vs = u.values;
-      } in
-      named refl (ap (λ (ls : List Line). h.at + length ls) (sym lines_are)) refl
-      (on.on answer after gone.in_time gone.answered.1
-      (record {
-        known = record {
-          in_slots = λ x here. same x (begins.inside.below x here) ∙ begins.known.in_slots x here;
-          in_cells = spelled_left (spot b.z h) gone.own gone.agree begins.known.in_cells;
-          long = gone.own.long ∙ begins.known.long;
-          frame = gone.frame ∙ begins.known.frame;
-          variables = begins.known.variables;
-        };
-        kept = λ x here. same x (begins.inside.fixed x here);
-      }))
+  -- it goes by its law, since what is behind its lines is correct in as many steps as are left
+  by_law : {lines : List Line} → goes_code b.c p.level h.at q ≡ lines
+      → (HasCode b.z.code h.at lines → StandsBefore b.z.app b.z.who b.z.code b.z.bodies b.z.thread
+      (goes_steps b.z.app q) b.c.spawns lines rest left (spot b.z h) vs) → S b.z h
+  by_law {lines = lines} lines_are law = record {
+    stands = law (subst (λ (ls : List Line). HasCode b.z.code h.at ls) lines_are begins.has)
+        (λ answer used k slots cells queues ws less gone.
+        let done : ℕ = h.done + goes_steps b.z.app q in
+        let t : State = record { done = done; slots = slots; cells = cells; vars = vars; queues = queues; vs = ws } in
+        let same : (x : ℕ) → x < p.count → slice_index slots x ≡ slice_index h.slots x =
+        λ x low. gone.kept x (inl (omega (arith, begins.inside.room, b.floor, b.masks))) in
+        stands_with_more (storage b.z.app) b.z.bodies b.z.thread b.z.who b.z.code (h.until - done) k
+        (spot b.z (then_at h (h.at + length lines) t (rest answer ws))) (map (λ n. n - used) (left_at h.done h.deadlines))
+        (omega arith) (least_left h.done used (goes_steps b.z.app q) h.deadlines gone.in_time)
+        (subst (λ (ls : List Line). S b.z (then_at h (h.at + length ls) t (rest answer ws))) lines_are
+        (on.on answer t (omega arith) gone.answered.1
+        (record {
+          known = record {
+            in_slots = λ x here. same x (begins.inside.below x here) ∙ begins.known.in_slots x here;
+            in_cells = spelled_left (spot b.z h) gone.own gone.agree begins.known.in_cells;
+            long = gone.own.long ∙ begins.known.long;
+            frame = gone.frame ∙ begins.known.frame;
+            variables = begins.known.variables;
+          };
+          kept = λ x here. same x (begins.inside.fixed x here);
+        }))).stands) (h.until - h.done) (omega (arith, begins.time.0));
+  }
 
   -- no slot of a spawn keeps a mask
   below_spawns : AllByRecursion (λ d. d < b.c.spawns) (saved_slots h.held)
@@ -128,24 +127,17 @@ module _ {b : Body} {p : Scope} {h : Here} {vars : List ℕ} {vs : Values} (q : 
       all_weaker (λ d. (b.top ≤ d) × (d < p.lock)) (λ d. d < b.c.spawns)
       (λ d between. omega (arith, between.1, begins.inside.high)) (saved_slots h.held) begins.inside.saved
 
-  -- its lines are in the code
-  lines_there : {lines : List Line} → goes_code b.c p.level h.at q ≡ lines → HasCode b.z.code h.at lines
-  lines_there lines_are = subst (λ (ls : List Line). HasCode b.z.code h.at ls) lines_are begins.has
-
   -- it may use the timer queue, and the places of a task
-  may_call : {task : ℕ} {t : Task} → Spawned b.z.app task t → IsSome b.z.app.mono
-      → b.c.spawns + TIMER_QUEUE_WORDS ≤ b.words → b.m.priority ≤ ceiling b.z.app section.Timer
-      → MayCall (call task t) (goes_steps b.z.app q) h
-  may_call facts timed words within = record {
-    facts = facts;
-    timed = timed;
+  may_use : b.c.spawns + TIMER_QUEUE_WORDS ≤ b.words → b.m.priority ≤ ceiling b.z.app section.Timer
+      → MayUseTimer b.z.app b.z.who (goes_steps b.z.app q) p.level b.c.spawns (spot b.z h)
+  may_use words within = record {
     cells = begins.known.long;
     frame = omega (arith, begins.known.frame);
     masks = below_spawns;
     closed = not_open h.held p.locked section.Timer (λ r. refl) begins.inside.are;
     within = b.facts.enters section.Timer within;
     off = begins.inside.off;
-    time = begins.time;
+    enough = lasts_left h.done (goes_steps b.z.app q) h.deadlines begins.time.1;
   }
 
   may_take : (task : ℕ) → b.m.priority ≤ ceiling b.z.app (section.Free task)
@@ -165,114 +157,83 @@ goes_on {b = b} {p = p} {h = h} {vars = vars} {vs = vs} (Soon task args place) r
     let q : Spawn = Soon task args place in
     let t : Task = sound.sound.0 in
     let one = sound.sound.1 in
-    let lines : List Line = spawn_code b.z.app task p.level b.c.spawns h.at in
-    let lines_are : goes_code b.c p.level h.at q ≡ lines =
-    code_called b (λ a. spawn_code a task p.level b.c.spawns h.at) (λ a. true) task t refl one.is_there one.software in
-    record {
-      stands =
-          spawn_stands b.z.app task t b.z.code b.z.bodies b.z.thread b.z.who p.level b.c.spawns
-          (h.until - h.done - SPAWN_COST) (h.until - h.done) (spot b.z h) (value_in vars vs) args place rest vs
-          b.facts.accepted one.is_there one.software (lines_there q rest begins on lines_are)
-          (record {
-            cells = begins.known.long;
-            frame = omega (arith, sound.words, begins.known.frame);
-            masks = below_spawns q rest begins on;
-            closed = (
-              not_open h.held p.locked (section.Free task) (λ r. refl) begins.inside.are,
-              not_open h.held p.locked (section.Ready t.priority) (λ r. refl) begins.inside.are,
-            );
-            within = (
-              b.facts.enters (section.Free task) one.within,
-              b.facts.enters (section.Ready t.priority) sound.sound.2,
-            );
-            off = begins.inside.off;
-            steps = lasts_left h.done SPAWN_COST h.deadlines begins.time.1;
-          }) (omega (arith, begins.time.0)) (ap (λ count. take count (drop b.c.spawns h.slots)) (sym one.arguments) ∙ come)
-          is
-          (λ granted used k slots cells queues ws less gone.
-          let done : ℕ = h.done + SPAWN_COST in
-          let h2 : Here =
-          record h {
-            done = done;
-            slots = slots;
-            at = h.at + length lines;
-            cells = cells;
-            queues = queues;
-            rest = rest granted ws;
-          } in
-          stands_with_more (storage b.z.app) b.z.bodies b.z.thread b.z.who b.z.code (h.until - done) k (spot b.z h2)
-          (map (λ n. n - used) (left_at h.done h.deadlines)) (omega arith)
-          (least_left h.done used SPAWN_COST h.deadlines gone.steps)
-          (went q rest begins on task t lines_are granted
-          (record { done = done; slots = slots; cells = cells; queues = queues; values = ws })
-          (record {
-            answered = (omega (arith, gone.answer.0), gone.answer.1);
-            frame = gone.frame;
-            kept = λ d. elim [ inl below ↦ gone.kept d (inl below) | inr above ↦ gone.kept d (inr (omega arith)) ];
-            in_time = omega arith;
-            own = gone.own;
-            agree = gone.agree;
-          })).stands);
-    }
+    by_law q rest begins on
+    (code_called b (λ a. spawn_code a task p.level b.c.spawns h.at) (λ a. true) task t refl one.is_there one.software)
+    (λ has behind k enough.
+    spawn_stands b.z.app task t b.z.code b.z.bodies b.z.thread b.z.who p.level b.c.spawns (left q rest begins on) k
+    (spot b.z h) (value_in vars vs) args place rest vs b.facts.accepted one.is_there one.software has
+    (record {
+      cells = begins.known.long;
+      frame = omega (arith, sound.words, begins.known.frame);
+      masks = below_spawns q rest begins on;
+      closed = (
+        not_open h.held p.locked (section.Free task) (λ r. refl) begins.inside.are,
+        not_open h.held p.locked (section.Ready t.priority) (λ r. refl) begins.inside.are,
+      );
+      within = (
+        b.facts.enters (section.Free task) one.within,
+        b.facts.enters (section.Ready t.priority) sound.sound.2,
+      );
+      off = begins.inside.off;
+      steps = lasts_left h.done SPAWN_COST h.deadlines begins.time.1;
+    }) enough (ap (λ count. take count (drop b.c.spawns h.slots)) (sym one.arguments) ∙ come) is
+    (λ granted used i slots cells queues ws less gone.
+    behind granted used i slots cells queues ws less
+    (record {
+      answered = (omega (arith, gone.answer.0), gone.answer.1);
+      frame = gone.frame;
+      kept = λ d. elim [ inl below ↦ gone.kept d (inl below) | inr above ↦ gone.kept d (inr (omega arith)) ];
+      in_time = gone.steps;
+      own = gone.own;
+      agree = gone.agree;
+    })))
 goes_on {b = b} {p = p} {h = h} {vars = vars} {vs = vs} (After word delay task args place) rest sound begins come is
     on =
     let q : Spawn = After word delay task args place in
     let s = sound.sound in
-    let t : Task = s.0 in
     let one = s.1 in
-    let lines_are : goes_code b.c p.level h.at q ≡ after_code b.z.app task p.level b.c.spawns h.at =
-    code_called b (λ a. after_code a task p.level b.c.spawns h.at) (λ a. is_some a.mono) task t (ap is_some s.4.1)
-    one.is_there one.software in
+    let timed = ap is_some s.4.1 in
     let values = first_value (length args) b.c.spawns (value_in vars vs delay) h.slots (map (value_in vars vs) args)
     (omega (arith, sound.words, begins.known.frame)) come in
-    after_goes {cost = timer_section_cost b.z.app} {delay = value_in vars vs delay}
-    {args = map (value_in vars vs) args}
-    (may_call q rest begins on (record { accepted = b.facts.accepted; at = one.is_there; software = one.software })
-    (rw s.4.1 refl) sound.words s.5)
-    (record {
-      armed = s.3;
-      costs = inl refl;
-      places = may_take q rest begins on task one.within;
-      code = lines_there q rest begins on lines_are;
-      delay_is = values.0;
-      args_are = ap (λ count. take count (drop (b.c.spawns + 1) h.slots)) (sym one.arguments) ∙ values.1;
-      is = is;
-    }) (went q rest begins on task t lines_are)
+    by_law q rest begins on
+    (code_called b (λ a. after_code a task p.level b.c.spawns h.at) (λ a. is_some a.mono) task s.0 timed one.is_there
+    one.software)
+    (λ has.
+    afters_stand b.z.app task s.0 b.z.code b.z.bodies b.z.thread b.z.who p.level b.c.spawns (left q rest begins on)
+    (timer_section_cost b.z.app) (value_in vars vs delay) (spot b.z h) (map (value_in vars vs) args) rest vs
+    b.facts.accepted timed one.is_there one.software s.3 (inl refl) has (may_use q rest begins on sound.words s.5)
+    (may_take q rest begins on task one.within) values.0
+    (ap (λ count. take count (drop (b.c.spawns + 1) h.slots)) (sym one.arguments) ∙ values.1) is)
 goes_on {b = b} {p = p} {h = h} {vars = vars} {vs = vs} (Cancel word task handle place) rest sound begins come is on =
     let q : Spawn = Cancel word task handle place in
-    let t : Task = sound.sound.0 in
-    let one = sound.sound.1 in
-    let lines_are : goes_code b.c p.level h.at q ≡ cancel_code b.z.app task p.level b.c.spawns h.at =
-    code_called b (λ a. cancel_code a task p.level b.c.spawns h.at) (λ a. is_some a.mono) task t
-    (ap is_some one.timed.1) one.is_there one.software in
+    let s = sound.sound in
+    let one = s.1 in
+    let timed = ap is_some one.timed.1 in
     let values = first_value 0 b.c.spawns (value_in vars vs handle) h.slots []
     (omega (arith, sound.words, begins.known.frame)) come in
-    cancel_goes {handle = value_in vars vs handle}
-    (may_call q rest begins on (record { accepted = b.facts.accepted; at = one.is_there; software = one.software })
-    (rw one.timed.1 refl) sound.words one.within)
-    (record {
-      places = may_take q rest begins on task sound.sound.2;
-      code = lines_there q rest begins on lines_are;
-      shown = values.0;
-      is = is;
-    }) (went q rest begins on task t lines_are)
+    by_law q rest begins on
+    (code_called b (λ a. cancel_code a task p.level b.c.spawns h.at) (λ a. is_some a.mono) task s.0 timed one.is_there
+    one.software)
+    (λ has.
+    cancels_all_stand b.z.app task s.0 b.z.code b.z.bodies b.z.thread b.z.who p.level b.c.spawns
+    (left q rest begins on) (value_in vars vs handle) (spot b.z h) rest vs b.facts.accepted timed one.is_there
+    one.software has (may_use q rest begins on sound.words one.within) (may_take q rest begins on task s.2) values.0 is)
 goes_on {b = b} {p = p} {h = h} {vars = vars} {vs = vs} (Move word delay task handle place) rest sound begins come is
     on =
     let q : Spawn = Move word delay task handle place in
-    let t : Task = sound.sound.0 in
     let one = sound.sound.1 in
-    let lines_are : goes_code b.c p.level h.at q ≡ move_code b.z.app task p.level b.c.spawns h.at =
-    code_called b (λ a. move_code a task p.level b.c.spawns h.at) (λ a. is_some a.mono) task t
-    (ap is_some one.timed.1) one.is_there one.software in
+    let timed = ap is_some one.timed.1 in
     let values = first_value 1 b.c.spawns (value_in vars vs delay) h.slots (value_in vars vs handle ∷ [])
     (omega (arith, sound.words, begins.known.frame)) come in
     let second = first_value 0 (b.c.spawns + 1) (value_in vars vs handle) h.slots []
     (omega (arith, sound.words, begins.known.frame)) values.1 in
-    move_goes {delay = value_in vars vs delay} {handle = value_in vars vs handle}
-    (may_call q rest begins on (record { accepted = b.facts.accepted; at = one.is_there; software = one.software })
-    (rw one.timed.1 refl) sound.words one.within)
-    (record { code = lines_there q rest begins on lines_are; delay_is = values.0; shown = second.0; is = is })
-    (went q rest begins on task t lines_are)
+    by_law q rest begins on
+    (code_called b (λ a. move_code a task p.level b.c.spawns h.at) (λ a. is_some a.mono) task sound.sound.0 timed
+    one.is_there one.software)
+    (λ has.
+    moves_all_stand b.z.app task sound.sound.0 b.z.code b.z.bodies b.z.thread b.z.who p.level b.c.spawns
+    (left q rest begins on) (value_in vars vs delay) (value_in vars vs handle) (spot b.z h) rest vs b.facts.accepted
+    timed one.is_there one.software has (may_use q rest begins on sound.words one.within) values.0 second.0 is)
 
 module _ (b : Body) (p : Scope) where
   all_sound : (es : List Expression) → b.c.expressions + greatest (map depth es) ≤ b.top
