@@ -158,9 +158,6 @@ choose_first-replace-requires t c =
     rw (c.len-over.ensures, c.in_ok-push-2.ensures, c.in_ok-block.ensures, c.in_ok-push.ensures)
     (simp length-append (omega arith))
 
-pub choose_second-replace-requires : goal.choose_second-replace-requires
-choose_second-replace-requires t c = rw c.in_ok-block.ensures (simp length-append (omega (arith, c.requires.place)))
-
 pub repeat-replace-requires : goal.repeat-replace-requires
 repeat-replace-requires t c =
     rw (
@@ -169,10 +166,3 @@ repeat-replace-requires t c =
       c.in_ok-block.ensures,
       c.in_ok-push.ensures,
     ) (simp length-append (omega arith))
-
-pub choose_first-returns-clause-place : goal.choose_first-returns-clause-place
-choose_first-returns-clause-place t c =
-    rw (c.len-end.ensures, c.in_ok-block.ensures, c.in_ok-push.ensures) (simp behind_at (simp length-append (omega arith)))
-
-pub choose_second-returns : goal.choose_second-returns
-choose_second-returns t c = rw (c.replace.ensures, c.in_ok-end.ensures, c.in_ok-block.ensures) (simp behind_at)
