@@ -36,7 +36,7 @@ use Rattle.rt_gen_body.specs.Inside.Values.{Context, next_slot}
 use Rattle.rt_gen_body.specs.Inside.Blocks.{guard_at, block_code, statement_code}
 use Rattle.rt_gen_body.proofs.Owning.{resource_cell, spelled_inside, spelled_outside, spelled_agreed, open_as}
 use Rattle.rt_gen_body.proofs.Storing.{guard_is}
-use Rattle.rt_gen_body.proofs.Places.{level_inside, needs, Fits, Body, Scope, Inside, Begins}
+use Rattle.rt_gen_body.proofs.Places.{inside_as, level_inside, needs, Fits, Body, Scope, Inside, Begins}
 use Rattle.rt_gen_body.proofs.Places.{sooner, Performs, goes_behind, listed_by, fewer_visible, front_of, named}
 use Rattle.rt_gen_body.proofs.Places.{block_needs, part_fits}
 use Rattle.rt_gen_body.proofs.Loops.{BlockPerforms, chooses, in_loop, loops}
@@ -208,21 +208,6 @@ at_least : (n m : ℕ) → 0 < n → m ≤ n * m
 at_least zero m some = absurd (omega arith)
 at_least (suc n) m some = omega (arith, suc-mul n m)
 
--- further on, behind more variables
-inside_more : {b : Body} {p : Scope} {held : List Held} (visible : List ℕ) (n : ℕ)
-    → ((y : ℕ) → Contains visible y → y < p.count + n) → p.count + n ≤ b.c.expressions → Inside b p held
-    → Inside b (record p { visible = visible; count = p.count + n }) held
-inside_more visible n below room inside = record {
-  below = below;
-  fixed = λ y here. omega (arith, inside.fixed y here);
-  room = room;
-  low = inside.low;
-  high = inside.high;
-  saved = inside.saved;
-  are = inside.are;
-  off = inside.off;
-}
-
 -- a block that uses later variables alone may stand where earlier ones are the next
 further : {b : Body} {p : Scope} (block : Block) (n : ℕ) → p.count + n ≤ b.c.expressions
     → BlockPerforms b (record p { count = p.count + n }) block → BlockPerforms b p block
@@ -233,7 +218,8 @@ further {p = p} block n room performs = record {
         has = begins.has;
         time = begins.time;
         known = begins.known;
-        inside = inside_more p.visible n (λ y here. omega (arith, begins.inside.below y here)) room begins.inside;
+        inside = inside_as p.visible p.fixed n (λ y here. omega (arith, begins.inside.below y here))
+            (λ y here. omega (arith, begins.inside.fixed y here)) room begins.inside;
       }) is (record { on = after.on });
 }
 
@@ -332,9 +318,10 @@ module _ (b : Body) where
                       has = code_behind b.z.code h.at (h.at + length first) first others refl begins.has;
                       time = sooner (omega arith) begins;
                       known = settled.known;
-                      inside = inside_more visible (variables_in s)
+                      inside = inside_as visible p.fixed (variables_in s)
                           (behind_below b.z.app (listed_by b.m) p.count p.visible s begins.inside.below)
-                          (omega (arith, fits.variables)) begins.inside;
+                          (λ y here. omega (arith, begins.inside.fixed y here)) (omega (arith, fits.variables))
+                          begins.inside;
                     }) refl
                     (record {
                       on = λ t2 within2 settled2.

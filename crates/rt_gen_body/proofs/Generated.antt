@@ -1,23 +1,18 @@
 -- How the code of a body comes about: what a generator's calls append, one after the other, is the code of what they are
 -- for, and so the whole code of a body stands.
 use Rattle.std.proofs.Common.{◌==◌, ◌≡◌, ◌≢◌, refl, sym, ap, subst, ◌∙◌, ℕ, zero, suc, map, ◌+◌, ◌≤◌, ◌<◌, List, []}
-use Rattle.std.proofs.Common.{◌∷◌, ◌++◌, if◌then◌else◌, None, slice_get, length, get_or, slice_set, true, false}
+use Rattle.std.proofs.Common.{◌∷◌, ◌++◌, None, slice_get, length, get_or, slice_set, true, false}
 use Rattle.std.proofs.Common.{append_assoc, length-append, arith, ◌^◌, Option, Some, option_map}
 use Rattle.std.proofs.lemmas.Bool.{eqb-true, eqb-false}
 use Rattle.std.proofs.lemmas.List.{append-nil}
 use Rattle.std.proofs.Math.Seq.{set-append_seam}
-use Rattle.rt_ids.specs.Lists.{is_some_and}
-use Rattle.rt_app.specs.Level.{is_software}
 use Rattle.rt_app.specs.Limits.{statements_in, statements_of, KeepsTaskLimits}
 use Rattle.rt_app.specs.Tree as tree
-use Rattle.rt_app.specs.View.{expression_of, statement_of, block_of, app_of, task_of, body_of}
-use Rattle.rt_app.specs.declared.expr.Expr.{Expr}
+use Rattle.rt_app.specs.View.{statement_of, block_of, app_of, task_of, body_of}
 use Rattle.rt_app.specs.declared.stmt.Stmt.{Stmt}
 use Rattle.rt_code.specs.declared.instr.Instr.TheVariants as instr
 use Rattle.rt_gen_queue.specs.Line.{Line, plain}
-use Rattle.rt_gen_queue.specs.SpawnCode.{spawn_code}
-use Rattle.rt_gen_body.specs.Inside.Values.{Context, next_slot, expression_code, arguments_code}
-use Rattle.rt_gen_body.specs.Inside.Simple.{message_code}
+use Rattle.rt_gen_body.specs.Inside.Values.{Context}
 use Rattle.rt_gen_body.specs.Inside.Blocks.{branch_code, two_code, first_code, statement_code, block_code}
 use Rattle.rt_gen_body.specs.Inside.Lines.{Lines, next_address, Appends, EndsWith}
 use Rattle.std.specs.List.{AllByRecursion, range_with_len}
@@ -102,39 +97,9 @@ pub two_emitted : (c : Context) (b q r : Lines) (first second : ℕ → List Lin
     → Appends b r (two_code c (next_address b) first second)
 two_emitted c b q r first second e f = rw (f, e) (simp (behind_at, longer, append_assoc, between_seam))
 
--- so many slots on from one
-abbrev pub slot_on : ℕ → ℕ → ℕ
-slot_on zero slot = slot
-slot_on (suc n) slot = slot_on n (next_slot slot)
-
-pub next_on : (n slot : ℕ) → next_slot (slot_on n slot) ≡ slot_on (n + 1) slot
-next_on n slot = go n slot ∙ ap (λ m. slot_on m slot) (let e : suc n ≡ n + 1 = omega arith in e)
-  where
-    go : (n slot : ℕ) → next_slot (slot_on n slot) ≡ slot_on (suc n) slot
-    go zero slot = refl
-    go (suc n) slot = go n (next_slot slot)
-
-pub arguments_append : (c : Context) (xs : List Expr) (x : Expr) (slot : ℕ)
-    → arguments_code c (map expression_of (xs ++ x ∷ [])) slot
-    ≡ arguments_code c (map expression_of xs) slot
-    ++ expression_code c (expression_of x) (slot_on (length xs) slot) c.expressions
-arguments_append c [] x slot = append-nil (expression_code c (expression_of x) slot c.expressions)
-arguments_append c (y ∷ xs) x slot =
-    let first : List Line = expression_code c (expression_of y) slot c.expressions in
-    ap (λ (z : List Line). first ++ z) (arguments_append c xs x (next_slot slot))
-    ∙ sym (append_assoc first (arguments_code c (map expression_of xs) (next_slot slot))
-    (expression_code c (expression_of x) (slot_on (length xs) (next_slot slot)) c.expressions))
-
+-- lines and none behind them
 pub appends_none : (code : Lines) → Appends code code []
 appends_none code = ap (λ (xs : List Line). record code { lines = xs }) (sym (append-nil code.lines))
-
--- no lines where there is no such task
-pub no_message : (c : Context) (level at n : ℕ) (code : Lines) → slice_get c.app.tasks n ≡ None
-    → Appends code code (message_code c level at n)
-no_message c level at n code absent =
-    subst (λ (lines : List Line). Appends code code lines)
-    (sym (ap (λ o. if is_some_and is_software o then spawn_code c.app n level c.spawns at else []) absent))
-    (appends_none code)
 
 at_within : (xs : List Stmt) (i : ℕ) (x : Stmt) → i < length xs
     → statements_in (statement_of (get_or xs i x)) ≤ statements_of (block_of xs)

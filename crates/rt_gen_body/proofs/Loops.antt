@@ -15,7 +15,7 @@ use Rattle.rt_gen_body.specs.Inside.Values.{value_code}
 use Rattle.rt_gen_body.specs.Inside.Blocks.{block_code, statement_code, loop_back}
 use Rattle.rt_gen_body.proofs.Expressions.{Sound, valued, with_value, next_begins, still_known, variable_set}
 use Rattle.rt_gen_body.proofs.Places.{Body, Scope, Begins, sooner, Behind, Performs, goes_behind, still_behind, named}
-use Rattle.rt_gen_body.proofs.Places.{Inside, free_slot, Knows, fewer_visible}
+use Rattle.rt_gen_body.proofs.Places.{Inside, inside_as, free_slot, Knows, fewer_visible}
 use Rattle.std.proofs.lemmas.Bool.{lt-ltb, le-ltb}
 use Rattle.std.proofs.Math.Nat.{suc-mul}
 use Rattle.rt_ids.specs.Operation.{number_of}
@@ -137,16 +137,9 @@ in_loop p = record p { visible = p.count ∷ p.visible; fixed = p.count ∷ p.fi
 
 pub inside_loop : {b : Body} {p : Scope} {held : List Held} → p.count + 1 ≤ b.c.expressions → Inside b p held
     → Inside b (in_loop p) held
-inside_loop {p = p} room inside = record {
-  below = λ y here. within y p.visible inside.below here;
-  fixed = λ y here. within y p.fixed inside.fixed here;
-  room = room;
-  low = inside.low;
-  high = inside.high;
-  saved = inside.saved;
-  are = inside.are;
-  off = inside.off;
-}
+inside_loop {p = p} room inside =
+    inside_as (p.count ∷ p.visible) (p.count ∷ p.fixed) 1 (λ y here. within y p.visible inside.below here)
+    (λ y here. within y p.fixed inside.fixed here) room inside
   where
     within : (y : ℕ) (xs : List ℕ) → ((x : ℕ) → Contains xs x → x < p.count) → Contains (p.count ∷ xs) y
         → y < p.count + 1

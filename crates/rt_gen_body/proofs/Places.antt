@@ -102,6 +102,22 @@ pub record Inside (b : Body) (p : Scope) (held : List Held) : Type 0 where
   pub are : OpenAre held p.locked
   pub off : HoldsOff b.z.app b.z.who b.z.who held p.level
 
+-- further on, with more variables in scope, or more of loops
+pub inside_as : {b : Body} {p : Scope} {held : List Held} (visible fixed : List ℕ) (n : ℕ)
+    → ((y : ℕ) → Contains visible y → y < p.count + n) → ((y : ℕ) → Contains fixed y → y < p.count + n)
+    → p.count + n ≤ b.c.expressions → Inside b p held
+    → Inside b (record p { visible = visible; fixed = fixed; count = p.count + n }) held
+inside_as visible fixed n below loops room inside = record {
+  below = below;
+  fixed = loops;
+  room = room;
+  low = inside.low;
+  high = inside.high;
+  saved = inside.saved;
+  are = inside.are;
+  off = inside.off;
+}
+
 -- a slot below those for masks, or above them, keeps none
 pub free_slot : {b : Body} {p : Scope} {held : List Held} (d : ℕ) → (d < b.top) ⊎ (p.lock ≤ d) → Inside b p held
     → IsFree held d

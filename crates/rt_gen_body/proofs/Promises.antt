@@ -90,13 +90,21 @@ contains_range args y (k, within, is) =
 abbrev pub lines_of : App → Member → ℕ → List Line
 lines_of app m at = block_code (context_of app m) (level_of app m) (first_lock_slot m.args m.body) at m.body.block
 
+-- the runner of a body, and the level that it holds off at its start
+abbrev pub runner_if : Bool → ℕ → Runner
+runner_if starts level = if starts then Starting else AtLevel level
+
+level_at_start : (app : App) (starts : Bool) (p : ℕ)
+    → HoldsOff app (runner_if starts p) (runner_if starts p) [] (if starts then 2 ^ app.bits else p)
+level_at_start app true p = omega arith
+level_at_start app false p = omega arith
+
 -- a body of an application, in a frame of so many words
 pub record IsBody (z : Setting) (m : Member) (words : ℕ) : Type 0 where
   pub accepted : IsAccepted z.app
   pub sound : IsSound z.app
   pub is : member_at z.app m.id ≡ Some m
-  pub facts : Facts z.app z.who m (context_of z.app m)
-  pub off : HoldsOff z.app z.who z.who [] (level_of z.app m)
+  pub runs : z.who ≡ runner_if (is_init m.id) m.priority
   pub room : frame_words m.args m.body ≤ words
   pub word : words < 2 ^ 32
 
@@ -117,6 +125,16 @@ module _ {z : Setting} {m : Member} {words : ℕ} (w : IsBody z m words) where
       all_at (λ m. block_steps (cost_measure z.app) m.body.block + 1 ≤ BODY_COST) (members z.app) one.0 m w.sound.steps
       one.1
 
+  facts : Facts z.app z.who m (context_of z.app m)
+  facts =
+      subst (λ (who : Runner). Facts z.app who m (context_of z.app m)) (sym w.runs)
+      (facts_for z.app w.accepted w.sound m (has_body z.app w.accepted m.id m w.is).is_one (is_init m.id) refl)
+
+  off : HoldsOff z.app z.who z.who [] (level_of z.app m)
+  off =
+      subst (λ (who : Runner). HoldsOff z.app who who [] (level_of z.app m)) (sym w.runs)
+      (level_at_start z.app (is_init m.id) m.priority)
+
   masks_room : first_spawn_slot m.args m.body ≤ words
   masks_room = omega (arith, w.room)
 
@@ -127,7 +145,7 @@ module _ {z : Setting} {m : Member} {words : ℕ} (w : IsBody z m words) where
     c = context_of z.app m;
     words = words;
     top = first_lock_slot m.args m.body;
-    facts = w.facts;
+    facts = facts;
     floor = omega arith;
     masks = omega arith;
     spawns = masks_room;
@@ -198,7 +216,7 @@ module _ {z : Setting} {m : Member} {words : ℕ} (w : IsBody z m words) where
           high = omega arith;
           saved = tt;
           are = tt;
-          off = w.off;
+          off = off;
         };
       }) refl
       (record {
@@ -260,30 +278,6 @@ whole_stands z {m = m} entry action w no_args has ending slots cells queues vs l
     (omega arith, (omega arith, tt)) (record { long = long; all = all; known = taken })
     (λ t within kept known. ending cost cost t (omega arith, (omega arith, tt)) known))
 
--- the runner of a body, and the level that it holds off at its start
-abbrev runner_if : Bool → ℕ → Runner
-runner_if starts level = if starts then Starting else AtLevel level
-
-level_at_start : (app : App) (starts : Bool) (p : ℕ)
-    → HoldsOff app (runner_if starts p) (runner_if starts p) [] (if starts then 2 ^ app.bits else p)
-level_at_start app true p = omega arith
-level_at_start app false p = omega arith
-
-is_body : {z : Setting} {words : ℕ} (m : Member) → IsAccepted z.app → IsSound z.app
-    → z.who ≡ runner_if (is_init m.id) m.priority → member_at z.app m.id ≡ Some m → frame_words m.args m.body ≤ words
-    → words < 2 ^ 32 → IsBody z m words
-is_body {z = z} m accepted sound runs is room word = record {
-  accepted = accepted;
-  sound = sound;
-  is = is;
-  facts = subst (λ (who : Runner). Facts z.app who m (context_of z.app m)) (sym runs)
-      (facts_for z.app accepted sound m (has_body z.app accepted m.id m is).is_one (is_init m.id) refl);
-  off = subst (λ (who : Runner). HoldsOff z.app who who [] (level_of z.app m)) (sym runs)
-      (level_at_start z.app (is_init m.id) m.priority);
-  room = room;
-  word = word;
-}
-
 abbrev of_thread : BodyId → AppBody → Member
 of_thread id b = record { id = id; priority = 0; args = 0; body = b }
 
@@ -305,7 +299,8 @@ thread_stands z id None entry accepted sound runs is fits has ending slots cells
     (ending 1 1 s (omega arith, (omega arith, tt)) taken))
 thread_stands z id (Some b) entry accepted sound runs is fits has ending slots cells queues vs long all taken =
     let small = sound.stack_small in
-    whole_stands z entry (Ends id) (is_body (of_thread id b) accepted sound runs is fits (omega arith)) refl has ending
+    whole_stands z entry (Ends id)
+    (record { accepted = accepted; sound = sound; is = is; runs = runs; room = fits; word = omega arith }) refl has ending
     slots cells queues vs long all taken
 
 -- the code of a body, declared or not: its blocks, and its last line behind them
@@ -371,7 +366,14 @@ module _ {app : App} (accepted : IsAccepted app) (sound : IsSound app) where
       (there : BodyThere app (body.Task n) (Some (of_task n t)) code entry) where
     task_body : {thread : ℕ} {bodies : List BodyRow} {caller : Option (List ℕ)}
         → IsBody (runs (AtLevel t.priority) thread code bodies caller) (of_task n t) (frame_words t.args t.body)
-    task_body = is_body (of_task n t) accepted sound refl (ap (option_map (of_task n)) is) (omega arith) short
+    task_body = record {
+      accepted = accepted;
+      sound = sound;
+      is = ap (option_map (of_task n)) is;
+      runs = refl;
+      room = omega arith;
+      word = short;
+    }
 
     last_is : (called : Bool) → is_software t ≡ called
         → slice_get code (entry + length (blocks_of app (Some (of_task n t)) entry))

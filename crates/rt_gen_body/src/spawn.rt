@@ -1,5 +1,5 @@
-ghost use Rattle.std.specs.Prelude.{◌≡◌, map, slice_get, Some, OnOk};
-ghost use Rattle.rt_app.specs.View.{expression_of, spawn_of, task_of};
+ghost use Rattle.std.specs.Prelude.{◌≡◌, map, OnOk};
+ghost use Rattle.rt_app.specs.View.{expression_of, spawn_of};
 ghost use Rattle.rt_gen_body.specs.Inside.Values as values;
 ghost use Rattle.rt_gen_body.specs.Inside.Simple as simple;
 ghost use Rattle.rt_gen_body.specs.Inside.Lines.{next_address, Appends};
@@ -8,7 +8,7 @@ ghost use Rattle.rt_gen_body.specs.Inside.Generating.{context, IsReady};
 use crate::body::is_called;
 use crate::generator::{Generator, next_slot};
 use crate::lines::{Lines, Timed};
-use rt_app::{Expr, Spawn, Task};
+use rt_app::{Expr, Spawn};
 use rt_ids::{NoMemory, TaskId};
 
 impl<'a> Generator<'a> {
@@ -25,35 +25,16 @@ impl<'a> Generator<'a> {
         Ok(())
     }
 
-    /// The spawn of a declared task whose arguments are there; nothing where it is bound to an interrupt.
-    fn message_of(
-        &self,
-        level: u8,
-        number: TaskId,
-        task: &Task,
-        code: &mut Lines,
-    ) -> Result<(), NoMemory>
-        requires ready { IsReady self.now }
-        requires task { slice_get (context self.now).app.tasks number ≡ Some (task_of task.now) }
-        ensures { OnOk result (Appends code.old code.new
-            (simple.message_code (context self.now) level (next_address code.old) number)) }
-    {
-        if task.is_software() {
-            code.push_spawn(self, level, number)
-        } else {
-            Ok(())
-        }
-    }
-
     /// The spawn of a task whose arguments are there, at a static level; nothing where it is no software task.
     fn message(&self, level: u8, number: TaskId, code: &mut Lines) -> Result<(), NoMemory>
         requires { IsReady self.now }
         ensures { OnOk result (Appends code.old code.new
             (simple.message_code (context self.now) level (next_address code.old) number)) }
     {
-        match self.plan.app.task(number) {
-            Some(task) => self.message_of(level, number, task, code),
-            None => Ok(()),
+        if is_called(self.plan.app, number) {
+            code.push_spawn(self, level, number)
+        } else {
+            Ok(())
         }
     }
 
