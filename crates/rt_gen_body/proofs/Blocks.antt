@@ -125,8 +125,8 @@ module _ (b : Body) (p : Scope) (r place : ℕ) (inner : Block) (sound : IsSound
             (all_weaker (λ d. (b.top ≤ d) × (d < p.lock)) (λ d. (b.top ≤ d) × (d < next_slot p.lock))
             (λ d between. (between.0, omega (arith, between.1))) (saved_slots held) inside.saved);
         are = (refl, inside.are);
-        off = subst (λ (g : Guard). HoldsOff b.z.app b.z.who b.z.who (opened ∷ held) (max p.level g.ceiling)) (sym guard)
-            (level_inside b.z.app b.z.who held p.level opened inside.off);
+        off = subst (λ (g : Guard). HoldsOff b.z.app b.z.who b.z.who (opened ∷ held) (max p.level g.ceiling))
+            (sym guard) (level_inside b.z.app b.z.who held p.level opened inside.off);
       }
 
   pub locks : BlockPerforms b (in_lock b p r) inner
@@ -140,7 +140,7 @@ module _ (b : Body) (p : Scope) (r place : ℕ) (inner : Block) (sound : IsSound
         let code : List Line = block_code b.c (max p.level (guard_at b.c r).ceiling) (next_slot p.lock) at inner in
         let last : List Line = leave_line (section.Res r) (guard_at b.c r) p.level p.lock ∷ [] in
         let next : suc h.at ≡ at = omega arith in
-        let has : HasCode b.z.code at (code ++ last) = subst (λ a. HasCode b.z.code a (code ++ last)) next begins.has.1 in
+        let has = subst (λ a. HasCode b.z.code a (code ++ last)) next begins.has.1 in
         let cell = resource_cell b.z.app r sound.is_there in
         let same : (saved y : ℕ) → y < b.c.expressions → slice_index (saving kind saved h.slots) y
         ≡ slice_index h.slots y =

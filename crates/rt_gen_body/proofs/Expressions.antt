@@ -18,8 +18,8 @@ use Rattle.rt_app.specs.Meaning.{Later, value_in, run}
 use Rattle.rt_code.specs.declared.instr.Instr.{Instr}
 use Rattle.rt_code.specs.declared.instr.Instr.TheVariants as instr
 use Rattle.rt_gen_queue.specs.Line.{Line, plain, HasCode}
-use Rattle.rt_gen_queue.proofs.Layer.{Here, S, IsFree, Gives, goes, set_gives, copy_gives, calc_gives, load_gives, store_gives}
-use Rattle.rt_gen_queue.proofs.Layer.{emits_here, posts_here, clocks_here}
+use Rattle.rt_gen_queue.proofs.Layer.{Here, S, IsFree, Gives, goes, set_gives, copy_gives, calc_gives, load_gives}
+use Rattle.rt_gen_queue.proofs.Layer.{store_gives, emits_here, posts_here, clocks_here}
 use Rattle.rt_gen_queue.proofs.Placing.{code_behind}
 use Rattle.rt_gen_body.specs.Inside.Values.{Context, next_slot, expression_code, value_code}
 use Rattle.rt_gen_body.proofs.Owning.{HasCell, resource_cell, local_cell, reads_cell, writes_cell, spelled_agreed}
@@ -347,7 +347,8 @@ module _ {b : Body} {p : Scope} where
       stores_value e (b.c.locals + l) (Own l) sound (local_at b l meant.0)
       (λ held are. local_owned b.facts held p.locked l to)
 
-  pub pends : (i : ℕ) → Performs b p p.visible (λ at. plain (instr.Post (slice_index b.c.numbers i)) ∷ []) 1 (run b.z.app (Pend i))
+  pub pends : (i : ℕ) → Performs b p p.visible (λ at. plain (instr.Post (slice_index b.c.numbers i)) ∷ []) 1
+      (run b.z.app (Pend i))
   pends i = record {
     runs = λ {h} {vars} {vs} later begins is behind.
         posts_here (subst (λ (irq : ℕ). slice_get b.z.code h.at ≡ Some (plain (instr.Post irq)))

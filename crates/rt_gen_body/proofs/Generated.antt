@@ -1,5 +1,5 @@
--- How the code of a body comes about: what a generator's calls append, one after the other, is the code of what they are
--- for, and so the whole code of a body stands.
+-- How the code of a body comes about: what a generator's calls append, one after the other, is the code of what they
+-- are for, and so the whole code of a body stands.
 use Rattle.std.proofs.Common.{◌==◌, ◌≡◌, ◌≢◌, refl, sym, ap, subst, ◌∙◌, ℕ, zero, suc, map, ◌+◌, ◌≤◌, ◌<◌, List, []}
 use Rattle.std.proofs.Common.{◌∷◌, ◌++◌, None, slice_get, length, get_or, slice_set, true, false}
 use Rattle.std.proofs.Common.{append_assoc, length-append, arith, ◌^◌, Option, Some, option_map}
@@ -39,8 +39,8 @@ use Rattle.rt_frames.proofs.Within.{frame_few}
 use Rattle.rt_app.specs.Bodies.{member_at}
 use Rattle.rt_app.specs.Accepted.{IsAccepted}
 use Rattle.rt_gen_body.specs.Inside.Generating.{slots_code}
-use Rattle.rt_gen_body.proofs.Promises.{contains_range, BodyThere, of_task, body_between, init_stands, idle_stands, task_stands}
-use Rattle.rt_gen_body.proofs.Promises.{called_stands}
+use Rattle.rt_gen_body.proofs.Promises.{contains_range, BodyThere, of_task, body_between, init_stands, idle_stands}
+use Rattle.rt_gen_body.proofs.Promises.{task_stands, called_stands}
 
 -- the address behind lines
 pub behind_at : (n : ℕ) (xs ys : List Line) → n + length (xs ++ ys) ≡ n + length xs + length ys

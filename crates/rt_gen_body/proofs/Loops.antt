@@ -69,8 +69,8 @@ module _ {b : Body} {p : Scope} where
       (block_steps (cost_measure b.z.app) block) vars vs
   begins_block block at has less begins = next_begins has (omega arith) refl (λ x low. refl) begins
 
-  -- a choice between two blocks: without a second one its jump leads over the first, and else the first ends with a jump
-  -- over the second
+  -- a choice between two blocks: without a second one its jump leads over the first, and else the first ends with a
+  -- jump over the second
   pub chooses : (e : Expression) (first second : Block) → Sound b p e → BlockPerforms b p first
       → BlockPerforms b p second
       → Performs b p p.visible (λ at. statement_code b.c p.level p.lock at (Branch e first second))

@@ -1,7 +1,7 @@
 -- What is known of a body, of what its code is generated with and of a place in it, what a statement asks of the frame
 -- there, and what it means that code does what it is to do.
-use Rattle.std.proofs.Common.{◌≡◌, ℕ, ◌^◌, ◌<◌, ◌≤◌, max, true, List, [], ◌∷◌, ◌||◌, length, map, slice_index, arith, ◌≢◌, ◌⊎◌}
-use Rattle.std.proofs.Common.{◌+◌, Contains, ◌++◌, refl, sym, ◌∙◌, subst, inl, inr, Bool}
+use Rattle.std.proofs.Common.{◌≡◌, ℕ, ◌^◌, ◌<◌, ◌≤◌, max, true, List, [], ◌∷◌, ◌||◌, length, map, slice_index, arith}
+use Rattle.std.proofs.Common.{◌≢◌, ◌⊎◌, ◌+◌, Contains, ◌++◌, refl, sym, ◌∙◌, subst, inl, inr, Bool}
 use Rattle.rt_ids.specs.Holder.{Guarded, Own, Holder}
 use Rattle.rt_ids.specs.Storage.{Runner, Starting, AtLevel}
 use Rattle.rt_ids.specs.declared.ids.Section.{Section}
@@ -40,8 +40,8 @@ use Rattle.rt_app.specs.BodyCost.{cost_measure}
 use Rattle.rt_app.specs.Frame.{statement_depth, block_depth, is_loop, has_loop, statement_locks, locks, spawn_words}
 
 -- a section that opens raises the level that is held off
-pub level_inside : (app : App) (who : Runner) (held : List Held) (level : ℕ) (h : Held) → HoldsOff app who who held level
-    → HoldsOff app who who (h ∷ held) (max level (ceiling app h.section))
+pub level_inside : (app : App) (who : Runner) (held : List Held) (level : ℕ) (h : Held)
+    → HoldsOff app who who held level → HoldsOff app who who (h ∷ held) (max level (ceiling app h.section))
 level_inside app Starting held level h off = omega (arith, off)
 level_inside app (AtLevel p) held level h off = omega (arith, off)
 

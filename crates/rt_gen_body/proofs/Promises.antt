@@ -300,8 +300,8 @@ thread_stands z id None entry accepted sound runs is fits has ending slots cells
 thread_stands z id (Some b) entry accepted sound runs is fits has ending slots cells queues vs long all taken =
     let small = sound.stack_small in
     whole_stands z entry (Ends id)
-    (record { accepted = accepted; sound = sound; is = is; runs = runs; room = fits; word = omega arith }) refl has ending
-    slots cells queues vs long all taken
+    (record { accepted = accepted; sound = sound; is = is; runs = runs; room = fits; word = omega arith }) refl has
+    ending slots cells queues vs long all taken
 
 -- the code of a body, declared or not: its blocks, and its last line behind them
 pub record BodyThere (app : App) (id : BodyId) (o : Option Member) (code : List Line) (entry : ℕ) : Type 0 where
@@ -418,7 +418,8 @@ module _ {app : App} (accepted : IsAccepted app) (sound : IsSound app) where
               follows = λ answer. behind;
               is = refl;
               on = λ us agree.
-                  stands_with_more (storage app) bodies thread (AtLevel t.priority) code steps (cost + steps - suc s.done)
+                  stands_with_more (storage app) bodies thread (AtLevel t.priority) code steps
+                  (cost + steps - suc s.done)
                   (calm (left - s.done - 1) frame None (return_address frame) s.cells s.queues (behind us))
                   ((left - s.done - 1) ∷ []) (omega arith) (omega arith, tt)
                   (goes (left - s.done - 1) s.cells s.queues us (omega arith)

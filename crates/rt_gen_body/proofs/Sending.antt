@@ -105,8 +105,9 @@ module _ {b : Body} {p : Scope} {h : Here} {vars : List ℕ} {vs : Values} (q : 
         let same : (x : ℕ) → x < p.count → slice_index slots x ≡ slice_index h.slots x =
         λ x low. gone.kept x (inl (omega (arith, begins.inside.room, b.floor, b.masks))) in
         stands_with_more (storage b.z.app) b.z.bodies b.z.thread b.z.who b.z.code (h.until - done) k
-        (spot b.z (then_at h (h.at + length lines) t (rest answer ws))) (map (λ n. n - used) (left_at h.done h.deadlines))
-        (omega arith) (least_left h.done used (goes_steps b.z.app q) h.deadlines gone.in_time)
+        (spot b.z (then_at h (h.at + length lines) t (rest answer ws)))
+        (map (λ n. n - used) (left_at h.done h.deadlines)) (omega arith)
+        (least_left h.done used (goes_steps b.z.app q) h.deadlines gone.in_time)
         (subst (λ (ls : List Line). S b.z (then_at h (h.at + length ls) t (rest answer ws))) lines_are
         (on.on answer t (omega arith) gone.answered.1
         (record {

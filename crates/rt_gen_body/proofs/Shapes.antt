@@ -1,5 +1,6 @@
--- The lines of a body, one by one: they name only what the application declares, there are no more of them than the rule
--- on sizes counts, they end as it is fixed, and those of a body that emits literals and pends interrupts alone are fixed.
+-- The lines of a body, one by one: they name only what the application declares, there are no more of them than the
+-- rule on sizes counts, they end as it is fixed, and those of a body that emits literals and pends interrupts alone are
+-- fixed.
 use Rattle.std.proofs.Common.{◌≡◌, ℕ, ◌+◌, ◌≤◌, max, Bool, true, false, if◌then◌else◌, Option, Some, None}
 use Rattle.std.proofs.Common.{option_map, is_some, List, [], ◌∷◌, ◌++◌, length, slice_get, sum_by, refl, ap, subst}
 use Rattle.std.proofs.Common.{arith, length-append, ◌<◌, map, slice_index, sym, ◌==◌}
@@ -24,7 +25,8 @@ use Rattle.rt_app.proofs.Members.{has_body, made_of}
 use Rattle.rt_app.proofs.Sound.{accepted_are_sound}
 use Rattle.rt_code.specs.declared.instr.Instr.TheVariants as instr
 use Rattle.rt_gen_queue.specs.Line.{Line, plain, noted}
-use Rattle.rt_gen_body.specs.Inside.Values.{Context, next_slot, load, store, expression_code, value_code, arguments_code}
+use Rattle.rt_gen_body.specs.Inside.Values.{Context, next_slot, load, store, expression_code, value_code}
+use Rattle.rt_gen_body.specs.Inside.Values.{arguments_code}
 use Rattle.rt_gen_timer.specs.TimerCode.{queue_of}
 use Rattle.rt_gen_queue.proofs.Named.{spawned, task_declared, spawn_claimed}
 use Rattle.rt_gen_timer.proofs.Generated.{after_short, timer_named}
@@ -127,12 +129,14 @@ module _ {app : App} (m : Member) (accepted : IsAccepted app) where
   )
   goes_fine level at (Cancel word task handle place) = (
     HANDLE_COST,
-    timed task (λ t irq facts. record { named = cancel_claimed app irq c.spawns level task t facts at; few = omega arith }),
+    timed task
+        (λ t irq facts. record { named = cancel_claimed app irq c.spawns level task t facts at; few = omega arith }),
     omega arith,
   )
   goes_fine level at (Move word delay task handle place) = (
     HANDLE_COST,
-    timed task (λ t irq facts. record { named = move_claimed app irq c.spawns level task t facts at; few = omega arith }),
+    timed task
+        (λ t irq facts. record { named = move_claimed app irq c.spawns level task t facts at; few = omega arith }),
     omega arith,
   )
 

@@ -128,8 +128,8 @@ impl Lines {
         Ok(())
     }
 
-    /// The lines of a call that goes to the timer queue for a software task, whose delay, arguments and handle stand in the
-    /// slots from one on, at a static level.
+    /// The lines of a call that goes to the timer queue for a software task, whose delay, arguments and handle stand in
+    /// the slots from one on, at a static level.
     pub(crate) fn push_timed(
         &mut self,
         kind: Timed,

@@ -45,7 +45,8 @@ impl<'a> Generator<'a> {
         self.plan.app.mono.is_some() && is_called(self.plan.app, number)
     }
 
-    /// What goes to the timer queue, whose values are there, at a static level; nothing where there is none for the task.
+    /// What goes to the timer queue, whose values are there, at a static level; nothing where there is none for the
+    /// task.
     fn timed(
         &self,
         kind: Timed,
