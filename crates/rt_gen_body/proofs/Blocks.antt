@@ -77,8 +77,8 @@ module _ (b : Body) (p : Scope) (r place : ℕ) (inner : Block) (sound : IsSound
   abbrev kind : Kind
   kind = kind_of (guard_at b.c r) p.level p.lock
 
-  abbrev opened : Held
-  opened = record { section = section.Res r; kind = kind }
+  abbrev open_now : Held
+  open_now = record { section = section.Res r; kind = kind }
 
   -- its guard is the section's
   guard : guard_at b.c r ≡ guard_of b.z.app (section.Res r)
@@ -109,7 +109,7 @@ module _ (b : Body) (p : Scope) (r place : ℕ) (inner : Block) (sound : IsSound
     nobody = b.facts.shared p.locked r sound;
   }
 
-  inside_lock : {held : List Held} → Inside b p held → Inside b (in_lock b p r) (opened ∷ held)
+  inside_lock : {held : List Held} → Inside b p held → Inside b (in_lock b p r) (open_now ∷ held)
   inside_lock {held = held} inside =
       let next : next_slot p.lock ≡ p.lock + 1 = omega (arith, fits.masks, b.spawns, b.word) in
       record {
@@ -125,8 +125,8 @@ module _ (b : Body) (p : Scope) (r place : ℕ) (inner : Block) (sound : IsSound
             (all_weaker (λ d. (b.top ≤ d) × (d < p.lock)) (λ d. (b.top ≤ d) × (d < next_slot p.lock))
             (λ d between. (between.0, omega (arith, between.1))) (saved_slots held) inside.saved);
         are = (refl, inside.are);
-        off = subst (λ (g : Guard). HoldsOff b.z.app b.z.who b.z.who (opened ∷ held) (max p.level g.ceiling))
-            (sym guard) (level_inside b.z.app b.z.who held p.level opened inside.off);
+        off = subst (λ (g : Guard). HoldsOff b.z.app b.z.who b.z.who (open_now ∷ held) (max p.level g.ceiling))
+            (sym guard) (level_inside b.z.app b.z.who held p.level open_now inside.off);
       }
 
   pub locks : BlockPerforms b (in_lock b p r) inner
@@ -157,7 +157,7 @@ module _ (b : Body) (p : Scope) (r place : ℕ) (inner : Block) (sound : IsSound
             in_slots = λ y here.
                 same saved y (omega (arith, begins.inside.below y here, begins.inside.room))
                 ∙ begins.known.in_slots y here;
-            in_cells = spelled_inside opened (passed (spot b.z h)) taken begins.known.in_cells;
+            in_cells = spelled_inside open_now (passed (spot b.z h)) taken begins.known.in_cells;
             long = taken.same.long ∙ begins.known.long;
             frame = (saved_beside (guard_at b.c r) p.level p.lock saved h.slots).long ∙ begins.known.frame;
             variables = begins.known.variables;
@@ -177,11 +177,11 @@ module _ (b : Body) (p : Scope) (r place : ℕ) (inner : Block) (sound : IsSound
               }) (code_behind b.z.code at (at + length code) code last refl has).0 refl
               (omega (arith, begins.time.0), (omega (arith, cost_is), (sooner (omega arith) begins).1)) refl
               (cell.for (slice_index t.cells) (t.queues (Guarded (section.Res r))) (t.vs (Guarded (section.Res r)))
-              (known.in_cells.has cell (reads_inside b.z.app b.z.who h.held opened (section.Res r) refl)))
+              (known.in_cells.has cell (reads_inside b.z.app b.z.who h.held open_now (section.Res r) refl)))
               (λ us agree.
               goes_behind behind (omega (arith, length-append code last)) (omega arith) (record {
                 in_slots = known.in_slots;
-                in_cells = spelled_agreed agree (spelled_outside opened known.in_cells);
+                in_cells = spelled_agreed agree (spelled_outside open_now known.in_cells);
                 long = known.long;
                 frame = known.frame;
                 variables = known.variables;

@@ -299,11 +299,11 @@ module _ (app : App) (accepted : IsAccepted app) where
       (body_is id) (lines_fine id (member_at app id) entry refl).few
 
 -- what a block that is fixed emits and pends first
-abbrev emitted : ℕ → List Line → List Line
-emitted value more = plain (instr.Set 0 value) ∷ plain (instr.Emit 0) ∷ more
+abbrev emit_first : ℕ → List Line → List Line
+emit_first value more = plain (instr.Set 0 value) ∷ plain (instr.Emit 0) ∷ more
 
-abbrev pended : ℕ → List Line → List Line
-pended irq more = plain (instr.Post irq) ∷ more
+abbrev pend_first : ℕ → List Line → List Line
+pend_first irq more = plain (instr.Post irq) ∷ more
 
 -- it brings in no variables, and its lines are these, where expressions are evaluated in the first slot
 block_fixed : (app : App) (c : Context) (level lock at : ℕ) (b : Block) {lines : List Line}
@@ -311,13 +311,13 @@ block_fixed : (app : App) (c : Context) (level lock at : ℕ) (b : Block) {lines
     → (variables b ≡ 0) × (c.expressions ≡ 0 → block_code c level lock at b ≡ lines)
 block_fixed app c level lock at Empty {lines = lines} known is = (refl, λ first. same_Some [] lines is)
 block_fixed app c level lock at (Then (Emit (Num value)) rest) {lines = lines} known is =
-    let one = made_of (emitted value) (fixed_block app rest) lines is in
+    let one = made_of (emit_first value) (fixed_block app rest) lines is in
     let more = block_fixed app c level lock (at + 2) rest known one.1 in (
       omega (arith, more.0),
       λ first. rw (first, more.1 first) one.2,
     )
 block_fixed app c level lock at (Then (Pend irq) rest) {lines = lines} known is =
-    let one = made_of (pended (or_zero (irq_number app irq))) (fixed_block app rest) lines is in
+    let one = made_of (pend_first (or_zero (irq_number app irq))) (fixed_block app rest) lines is in
     let more = block_fixed app c level lock (at + 1) rest known one.1 in (
       omega (arith, more.0),
       λ first. rw (known irq, more.1 first) one.2,

@@ -47,7 +47,7 @@ impl<'a> Generator<'a> {
 
     /// What goes to the timer queue, whose values are there, at a static level; nothing where there is none for the
     /// task.
-    fn timed(
+    fn append_timed(
         &self,
         kind: Timed,
         level: u8,
@@ -93,19 +93,19 @@ impl<'a> Generator<'a> {
     {
         match spawn {
             Spawn::Soon(task, _args, _at) => self.message(level, *task, code),
-            Spawn::After(_word, _delay, task, _args, _at) => self.timed(
+            Spawn::After(_word, _delay, task, _args, _at) => self.append_timed(
                 Timed::After,
                 level,
                 *task,
                 code,
             ),
-            Spawn::Cancel(_word, task, _handle, _at) => self.timed(
+            Spawn::Cancel(_word, task, _handle, _at) => self.append_timed(
                 Timed::Cancel,
                 level,
                 *task,
                 code,
             ),
-            Spawn::Move(_word, _delay, task, _handle, _at) => self.timed(
+            Spawn::Move(_word, _delay, task, _handle, _at) => self.append_timed(
                 Timed::Move,
                 level,
                 *task,
