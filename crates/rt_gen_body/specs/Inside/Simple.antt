@@ -36,7 +36,7 @@ module _ (c : Context) where
   abbrev pub is_timed : ℕ → Bool
   is_timed n = is_some c.app.mono && is_some_and is_software (slice_get c.app.tasks n)
 
-  -- likewise what goes to the timer queue, whose delay, arguments and handle are there
+  -- what goes to the timer queue, whose delay, arguments and handle are there; none where there is none for the task
   abbrev pub timed_code : Timed → ℕ → ℕ → ℕ → List Line
   timed_code kind level at n = if is_timed n then timed_lines kind c.app n level c.spawns at else []
 
