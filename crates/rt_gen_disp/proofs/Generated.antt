@@ -1,31 +1,19 @@
 -- How the code of a dispatcher comes about.
-use Rattle.std.proofs.Common.{◌≡◌, ℕ, zero, suc, ◌+◌, ◌<◌, ◌≤◌, ◌==◌, Bool, true, false, Some, None, List, [], ◌∷◌}
-use Rattle.std.proofs.Common.{◌++◌, length, map, slice_get, get_or, refl, ap, sym, ◌∙◌, subst, arith, append_assoc}
-use Rattle.std.proofs.Common.{length-append, if◌then◌else◌, drop}
-use Rattle.std.proofs.lemmas.Option.{slice_get_read, slice_get_past, same_Some, none-some}
-use Rattle.std.proofs.lemmas.List.{append-nil, length-map}
-use Rattle.std.proofs.lemmas.List.FromFn.{map-range_with_len_more}
-use Rattle.rt_lemmas.proofs.Bools.{and_left}
-use Rattle.rt_lemmas.proofs.Lists.{mapped_at, drop_as_cons}
+use Rattle.rt_gen_queue.proofs.Vocabulary.{App, Bool, IsAccepted, IsPlan, Line, List, None, Plan, Some, Task, []}
+use Rattle.rt_gen_queue.proofs.Vocabulary.{and_left, ap, app_of, append-nil, append_assoc, arith, drop, drop_as_cons}
+use Rattle.rt_gen_queue.proofs.Vocabulary.{false, get_or, if◌then◌else◌, is_of_level, is_software, length}
+use Rattle.rt_gen_queue.proofs.Vocabulary.{length-append, length-map, map, mapped_at, none-some, plain, queue_at, refl}
+use Rattle.rt_gen_queue.proofs.Vocabulary.{same_Some, slice_get, slice_get_read, subst, suc, sym, task_of, true, zero}
+use Rattle.rt_gen_queue.proofs.Vocabulary.{ℕ, ◌++◌, ◌+◌, ◌<◌, ◌==◌, ◌∙◌, ◌∷◌, ◌≡◌, ◌≤◌}
+use Rattle.std.proofs.lemmas.{List.FromFn.map-range_with_len_more, Option.slice_get_past}
 use Rattle.std.specs.Int.{from_bool}
 use Rattle.rt_app.specs.declared.app.App as code
 use Rattle.rt_app.specs.declared.app.Task as row
-use Rattle.rt_app.specs.declared.plan.Plan.{Plan}
-use Rattle.rt_app.specs.Tree.{Task, App}
-use Rattle.rt_app.specs.Level.{is_software, is_of_level}
-use Rattle.rt_app.specs.Plan.{IsPlan}
-use Rattle.rt_app.specs.Accepted.{IsAccepted}
-use Rattle.rt_app.specs.View.{task_of, app_of}
 use Rattle.rt_code.specs.declared.instr.Instr.TheVariants as instr
-use Rattle.rt_gen_queue.specs.Line.{Line, plain}
-use Rattle.rt_gen_queue.specs.Queue.{queue_at}
-use Rattle.rt_gen_queue.specs.declared.target.Target.{Target}
-use Rattle.rt_gen_queue.proofs.Planned.{target_read, target_made}
-use Rattle.rt_gen_disp.specs.declared.called.Called.{Called}
-use Rattle.rt_gen_disp.specs.Code.{argument_lines, choice_code, choices_code, called_at, next_for, last_from}
-use Rattle.rt_gen_disp.specs.declared.lines.Exit.{Exit}
-use Rattle.rt_gen_disp.specs.Inside.Generating.{task_code}
+use Rattle.rt_gen_queue.{proofs.Planned.target_made, proofs.Planned.target_read, specs.declared.target.Target.Target}
 use Rattle.rt_gen_disp.proofs.Sizes.{choice_long}
+use Rattle.rt_gen_disp.specs.{Inside.Generating.task_code, declared.called.Called.Called, declared.lines.Exit.Exit}
+use Rattle.rt_gen_disp.specs.Code.{argument_lines, called_at, choice_code, choices_code, last_from, next_for}
 
 -- one argument more
 pub arguments_more : (old lines new : List Line) (inputs k : ℕ)
@@ -148,9 +136,8 @@ with_row r args c = record {
 }
 
 -- what is read of the plan's tables makes what the dispatcher has of a task
-pub called_made : (plan : Plan) (n r : ℕ) (t : Task) (accepted : IsAccepted (app_of plan.app.now))
+pub called_made : {plan : Plan} (n r : ℕ) {t : Task} (accepted : IsAccepted (app_of plan.app.now))
     (planned : IsPlan plan) (there : slice_get (app_of plan.app.now).tasks n ≡ Some t) (software : is_software t ≡ true)
-    → with_row r t.args (target_read plan n t accepted planned there software)
-    ≡ called_at (app_of plan.app.now) n r t
-called_made plan n r t accepted planned there software =
-    ap (with_row r t.args) (target_made plan n t accepted planned there software)
+    → with_row r t.args (target_read n accepted planned there software) ≡ called_at (app_of plan.app.now) n r t
+called_made n r {t = t} accepted planned there software =
+    ap (with_row r t.args) (target_made n accepted planned there software)

@@ -1,23 +1,11 @@
 -- The ready queue of a level with an oldest message, and without it once its count and its head have been stored.
-use Rattle.std.proofs.Common.{◌≡◌, ◌≢◌, ℕ, suc, ◌+◌, ◌%◌, ◌<◌, List, [], ◌∷◌, length, map, slice_get, slice_index, Some}
-use Rattle.std.proofs.Common.{refl, ap, sym, ◌∙◌, arith}
-use Rattle.std.specs.List.{AllByRecursion}
-use Rattle.std.proofs.lemmas.Nat.{mod_below}
-use Rattle.std.proofs.Math.Nat.{mod-add-mod}
-use Rattle.rt_ids.specs.Holder.{Holder, Guarded}
-use Rattle.rt_ids.specs.Content.{Messages, Values}
-use Rattle.rt_ids.specs.Entry.{Entry}
-use Rattle.rt_ids.specs.Storage.{At, In}
+use Rattle.rt_gen_queue.proofs.Vocabulary.{AllByRecursion, App, AreSpelled, At, Entry, Guarded, Holder, In, List}
+use Rattle.rt_gen_queue.proofs.Vocabulary.{Messages, Some, SpellsReady, Values, [], ap, arith, home_of, length, map}
+use Rattle.rt_gen_queue.proofs.Vocabulary.{message_at, message_word, ready_at, ready_is_home, ready_room, refl}
+use Rattle.rt_gen_queue.proofs.Vocabulary.{slice_get, slice_index, suc, sym, ℕ, ◌%◌, ◌+◌, ◌<◌, ◌∙◌, ◌∷◌, ◌≡◌, ◌≢◌}
+use Rattle.std.proofs.{Math.Nat.mod-add-mod, lemmas.Nat.mod_below}
 use Rattle.rt_ids.specs.declared.ids.Section.TheVariants as section
-use Rattle.rt_app.specs.Tree.{App}
-use Rattle.rt_app.specs.Layout.{home_of, ready_at, ready_room}
-use Rattle.rt_app.specs.Holding.{message_at, message_word, SpellsReady}
-use Rattle.rt_app.proofs.LaidQueues.{ready_is_home}
-use Rattle.rt_gen_queue.specs.Called.{AreSpelled}
-use Rattle.rt_gen_queue.proofs.Layer.{Wrote}
-use Rattle.rt_gen_queue.proofs.Numbers.{small_rest}
-use Rattle.rt_gen_queue.proofs.Places.{IsPlaceOf}
-use Rattle.rt_gen_queue.proofs.Queues.{message_alike}
+use Rattle.rt_gen_queue.proofs.{Layer.Wrote, Numbers.small_rest, Places.IsPlaceOf, Queues.message_alike}
 use Rattle.rt_gen_disp.proofs.Dispatchers.{Dispatcher}
 
 -- messages are what the cells of their places hold

@@ -1,24 +1,15 @@
 -- The sixteen slots of a dispatcher's frame, each by the name of what it is for: a write into one of them computes.
-use Rattle.std.proofs.Common.{◌≡◌, ℕ, ◌+◌, ◌-◌, ◌*◌, ◌/◌, ◌%◌, ◌<◌, ◌≤◌, ◌==◌, ◌||◌, nat_le, true, List, [], ◌∷◌, ◌++◌}
-use Rattle.std.proofs.Common.{length, take, drop, replicate, slice_index, refl, ap, sym, ◌∙◌, arith, subst}
-use Rattle.std.specs.List.{AllByRecursion}
-use Rattle.std.proofs.lemmas.Bool.{le-leb}
-use Rattle.std.proofs.lemmas.List.{length-append, length-replicate, length-take-le, take-append-le, take_at}
-use Rattle.std.proofs.lemmas.List.FromFn.{fill_by_all}
-use Rattle.std.proofs.lemmas.Nat.{div-mul-add, mod-mul-add}
-use Rattle.std.proofs.Math.Nat.{mul-le-mul_left}
-use Rattle.rt_lemmas.proofs.Bools.{and_both, or_right}
-use Rattle.rt_lemmas.proofs.Membership.{all_append, all_weaker}
-use Rattle.rt_ids.specs.Operation.{operate}
+use Rattle.rt_gen_queue.proofs.Vocabulary.{AllByRecursion, BodyRow, List, [], all_append, all_weaker, and_both, ap}
+use Rattle.rt_gen_queue.proofs.Vocabulary.{arith, body_frame, caller_frame, drop, kind_of, le-leb, length}
+use Rattle.rt_gen_queue.proofs.Vocabulary.{length-append, length-replicate, length-take-le, mod-mul-add, nat_le}
+use Rattle.rt_gen_queue.proofs.Vocabulary.{operate, or_right, refl, replicate, saved_slot, slice_index, subst, sym}
+use Rattle.rt_gen_queue.proofs.Vocabulary.{take, take-append-le, take_at, true, ℕ, ◌%◌, ◌*◌, ◌++◌, ◌+◌, ◌-◌, ◌/◌, ◌<◌}
+use Rattle.rt_gen_queue.proofs.Vocabulary.{◌==◌, ◌||◌, ◌∙◌, ◌∷◌, ◌≡◌, ◌≤◌}
+use Rattle.std.proofs.{Math.Nat.mul-le-mul_left, lemmas.List.FromFn.fill_by_all, lemmas.Nat.div-mul-add}
 use Rattle.rt_ids.specs.declared.op.Op.TheVariants as op
-use Rattle.rt_code.specs.Owning.{saved_slot}
-use Rattle.rt_code.specs.Stack.{arguments_fit, body_frame, caller_frame}
-use Rattle.rt_code.specs.declared.image.BodyRow.{BodyRow}
-use Rattle.rt_gen_queue.specs.Guards.{kind_of}
+use Rattle.rt_code.specs.Stack.{arguments_fit}
+use Rattle.rt_gen_queue.proofs.{Layer.Frame, Masks.saves_in, Numbers.multiplied}
 use Rattle.rt_gen_queue.specs.declared.guard.Guard.{Guard}
-use Rattle.rt_gen_queue.proofs.Layer.{Frame}
-use Rattle.rt_gen_queue.proofs.Masks.{saves_in}
-use Rattle.rt_gen_queue.proofs.Numbers.{multiplied}
 
 pub record Words : Type 0 where
   -- the arguments of the message
@@ -104,13 +95,7 @@ module _ (w : Words) (row : BodyRow) (few : row.args ≤ 4) (fits : row.args ≤
   own_arguments back = length-take-le row.args (caller_frame (words w) back) (omega arith)
 
   pub frame_long : (back : ℕ) → length (body_frame (caller_frame (words w) back) row 0) ≡ row.frame
-  frame_long back =
-      omega (
-        arith,
-        length-append (take row.args (caller_frame (words w) back)) (replicate (row.frame - row.args) 0),
-        length-replicate {A = ℕ} (row.frame - row.args) 0,
-        own_arguments back,
-      )
+  frame_long back = simp (length-append, length-replicate) (omega (arith, own_arguments back))
 
   pub frame_begins : (back : ℕ) → take row.args (body_frame (caller_frame (words w) back) row 0)
       ≡ take row.args (firsts w)

@@ -1,40 +1,23 @@
 -- Sections of queues: how they open and close, by their ceilings, at any level, on any window.
-use Rattle.std.proofs.Common.{◌≡◌, ◌⊎◌, ℕ, suc, ◌+◌, ◌^◌, ◌<◌, ◌≤◌, ◌==◌, nat_le, Bool, true, false}
-use Rattle.std.proofs.Common.{if◌then◌else◌, List, [], ◌∷◌, ◌++◌, Some, length, map, Contains}
-use Rattle.std.proofs.Common.{slice_index, slice_set, refl, sym, ap, subst, ◌∙◌, arith, inl, inr, length-set}
-use Rattle.std.specs.List.{AllByRecursion}
-use Rattle.std.proofs.lemmas.Bool.{le-leb}
-use Rattle.std.proofs.lemmas.List.{set-get_or, map-append}
-use Rattle.rt_lemmas.proofs.Bools.{and_left, and_right, and_both}
-use Rattle.rt_lemmas.proofs.Lists.{all_behind}
-use Rattle.rt_lemmas.proofs.Membership.{all_has, all_append, all_weaker}
-use Rattle.rt_ids.specs.Holder.{Holder, Guarded}
-use Rattle.rt_ids.specs.Content.{Content, Values, put_at}
-use Rattle.rt_ids.specs.Entry.{Entry}
-use Rattle.rt_ids.specs.Action.{Enters, Leaves}
-use Rattle.rt_ids.specs.Doing.{Doing, does}
-use Rattle.rt_ids.specs.Storage.{Runner, Starting, AtLevel, At}
-use Rattle.rt_ids.specs.declared.ids.Section.{Section}
-use Rattle.rt_app.specs.Tree.{App}
-use Rattle.rt_app.specs.Ceiling.{ceiling}
-use Rattle.rt_app.specs.Holding.{storage}
-use Rattle.rt_app.specs.Layout.{home_of}
-use Rattle.rt_code.specs.Acting.{with_queue}
-use Rattle.rt_code.specs.Masking.{TakesOver, IsMask, IsKindFor, IsWithin, NobodyKeeps, opening, closing, saving}
-use Rattle.rt_code.specs.Owning.{Marked, Raised, Masked, Held, is_open, saved_slot, saved_slots, reads}
-use Rattle.rt_code.specs.Owning.{Agree, LeavesMine}
-use Rattle.rt_code.specs.Standing.{passed}
+use Rattle.rt_gen_queue.proofs.Vocabulary.{Agree, AllByRecursion, App, At, AtLevel, Bool, Contains, Content, Doing}
+use Rattle.rt_gen_queue.proofs.Vocabulary.{Enters, Entry, Guarded, HasCode, Held, Holder, HoldsOff, IsKindFor, IsMask}
+use Rattle.rt_gen_queue.proofs.Vocabulary.{IsWithin, Leaves, LeavesMine, Line, List, Marked, Masked, NobodyKeeps}
+use Rattle.rt_gen_queue.proofs.Vocabulary.{Raised, Runner, Section, Some, Starting, TakesOver, Values, [], all_append}
+use Rattle.rt_gen_queue.proofs.Vocabulary.{all_behind, all_has, all_weaker, and_both, and_left, and_right, ap, arith}
+use Rattle.rt_gen_queue.proofs.Vocabulary.{ceiling, closing, does, enter, enter_line, false, guard_of, home_of}
+use Rattle.rt_gen_queue.proofs.Vocabulary.{if◌then◌else◌, inl, inr, is_open, kind_at, kind_of, le-leb, leave}
+use Rattle.rt_gen_queue.proofs.Vocabulary.{leave_line, length, length-set, map, map-append, nat_le, noted, opening}
+use Rattle.rt_gen_queue.proofs.Vocabulary.{passed, put_at, reads, refl, saved_slot, saved_slots, saving, slice_index}
+use Rattle.rt_gen_queue.proofs.Vocabulary.{slice_set, storage, subst, suc, sym, true, with_queue, ℕ, ◌++◌, ◌+◌, ◌<◌}
+use Rattle.rt_gen_queue.proofs.Vocabulary.{◌==◌, ◌^◌, ◌∙◌, ◌∷◌, ◌≡◌, ◌≤◌, ◌⊎◌}
+use Rattle.std.proofs.lemmas.List.{set-get_or}
 use Rattle.rt_code.specs.declared.instr.Note.TheVariants as note
-use Rattle.rt_gen_queue.specs.Line.{Line, noted, HasCode}
-use Rattle.rt_gen_queue.specs.Guards.{value_of, guard_of, kind_of, kind_at, enter_line, leave_line, enter, leave}
-use Rattle.rt_gen_queue.specs.Spawning.{HoldsOff}
-use Rattle.rt_gen_queue.specs.declared.guard.Guard.{Guard}
-use Rattle.rt_gen_queue.proofs.Masks.{of_kinds, mask_of, saves_in}
-use Rattle.rt_gen_queue.proofs.Owning.{IsQueue, unread, reads_inside, agree_out, leaves_out}
-use Rattle.rt_gen_queue.proofs.Layer.{Now, InTime, Lasts, lasts_less, Setting, Here, spot, S, Frame, window}
-use Rattle.rt_gen_queue.proofs.Layer.{Saves, window_set}
-use Rattle.rt_gen_queue.proofs.Layer.{window_there, fits, all_fit, placed, MayRun, Straight, next_in_time}
-use Rattle.rt_gen_queue.proofs.Layer.{enters_here, leaves_here}
+use Rattle.rt_gen_queue.proofs.Layer.{Frame, Here, InTime, Lasts, MayRun, Now, S, Saves, Setting, Straight, all_fit}
+use Rattle.rt_gen_queue.proofs.Layer.{enters_here, fits, lasts_less, leaves_here, next_in_time, placed, spot, window}
+use Rattle.rt_gen_queue.proofs.Layer.{window_set, window_there}
+use Rattle.rt_gen_queue.proofs.Masks.{mask_of, of_kinds, saves_in}
+use Rattle.rt_gen_queue.proofs.Owning.{IsQueue, agree_out, leaves_out, reads_inside, unread}
+use Rattle.rt_gen_queue.specs.{Guards.value_of, declared.guard.Guard.Guard}
 
 pub kind_fits : (app : App) (who : Runner) (held : List Held) (x : Section) (level slot : ℕ)
     → HoldsOff app who who held level → ceiling app x ≤ 2 ^ app.bits
@@ -148,6 +131,8 @@ module _ {size mask : ℕ} where
           }) is
           (λ saved vs cells queues taken.
           let kept = saves_mask f (guard_of z.app x) level saved ws there in
+          let around =
+          lasts_less (suc h.done + length lines) (h.done + suc (length lines)) h.deadlines (omega arith) run.time.1 in
           subst (λ slots. S z (record (within h (opened z f x level) cost cells queues (rest vs)) { slots = slots }))
           (sym kept.1)
           ((on kept.0 vs cells queues
@@ -159,14 +144,7 @@ module _ {size mask : ℕ} where
             few = taken.few;
           })).runs
           (record {
-            time = (
-              omega (arith, run.time.0),
-              (
-                omega arith,
-                lasts_less (suc h.done + length lines) (h.done + suc (length lines)) h.deadlines (omega arith)
-                    run.time.1,
-              ),
-            );
+            time = (omega (arith, run.time.0), (omega arith, around));
             saves = saves_inside may;
             long = length-set ws mask kept.0 ∙ run.long;
             fit = and_right (fits size mask (enter z.app x level mask).0) (all_fit size mask lines) run.fit;
@@ -224,21 +202,14 @@ module _ (x : Section) (g : Guard) (level mask : ℕ) where
       → enter_line x g level (s + mask) ∷ (map (placed s) lines ++ leave_line x g level (s + mask) ∷ [])
       ≡ map (placed s) (section_lines lines)
   section_placed s lines =
-      ap (λ line. line ∷ (map (placed s) lines ++ leave_line x g level (s + mask) ∷ []))
-      (sym (enter_placed x g level mask s))
-      ∙ ap (λ line. placed s (enter_line x g level mask) ∷ (map (placed s) lines ++ line ∷ []))
-      (sym (leave_placed x g level mask s))
-      ∙ ap (λ ls. placed s (enter_line x g level mask) ∷ ls)
-      (sym (map-append (placed s) lines (leave_line x g level mask ∷ [])))
+      let both = map-append (placed s) lines (leave_line x g level mask ∷ []) in
+      rw (enter_placed x g level mask s, both, leave_placed x g level mask s) refl
 
   pub section_fits : (size free : ℕ) (lines : List Line) → all_fit size free lines ≡ true
       → all_fit size free (section_lines lines) ≡ true
   section_fits size free lines fit =
-      and_both (fits size free (enter_line x g level mask).0)
-      (all_fit size free (lines ++ leave_line x g level mask ∷ []))
-      (enter_fits x g level mask size free)
-      (fits_append size free lines (leave_line x g level mask ∷ []) fit
-      (and_both (fits size free (leave_line x g level mask).0) true (leave_fits x g level mask size free) refl))
+      rw (enter_fits x g level mask size free)
+      (fits_append size free lines (leave_line x g level mask ∷ []) fit (rw (leave_fits x g level mask size free) refl))
 
 -- the code of a whole section
 pub section_stands : {size mask : ℕ} {z : Setting} {f : Frame size mask} {h : Here} {x : Section}

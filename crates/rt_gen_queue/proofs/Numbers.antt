@@ -1,10 +1,6 @@
 -- Rests of divisions, as a ring's places come round, and sums and differences of 32 bits that do not wrap.
-use Rattle.std.proofs.Common.{◌≡◌, ◌≢◌, ℕ, zero, suc, ◌+◌, ◌-◌, ◌*◌, ◌%◌, ◌^◌, ◌<◌, ◌≤◌, ◌==◌, false, sym, ap}
-use Rattle.std.proofs.Common.{◌∙◌, arith, inl, inr, if◌then◌else◌, Bool}
-use Rattle.std.proofs.lemmas.Bool.{cases_lt}
-use Rattle.std.proofs.lemmas.Bool.Decides.{nat_tests}
-use Rattle.std.proofs.lemmas.Nat.{mod-mul-add}
-use Rattle.rt_ids.specs.Operation.{operate}
+use Rattle.rt_gen_queue.proofs.Vocabulary.{Bool, ap, arith, false, if◌then◌else◌, mod-mul-add, nat_tests, operate, suc}
+use Rattle.rt_gen_queue.proofs.Vocabulary.{sym, zero, ℕ, ◌%◌, ◌*◌, ◌+◌, ◌-◌, ◌<◌, ◌==◌, ◌^◌, ◌∙◌, ◌≡◌, ◌≢◌, ◌≤◌}
 use Rattle.rt_ids.specs.declared.op.Op.TheVariants as op
 
 pub small_rest : (n size : ℕ) → n < size → n % size ≡ n
@@ -18,23 +14,11 @@ rest_round n size least less = let e : 1 * size + (n - size) ≡ n = omega arith
 -- from one place on, places that are less than a round apart differ
 pub apart : (first i j size : ℕ) → first < size → i < j → j < size → (first + i) % size ≢ (first + j) % size
 apart first i j size start less within same =
-    elim (cases_lt (first + i) size) [
-      | inl low ↦ elim (cases_lt (first + j) size) [
-        | inl low_too ↦
-            (let e : first + i ≡ first + j =
-            sym (small_rest (first + i) size low) ∙ same ∙ small_rest (first + j) size low_too in
-            omega (arith, e))
-        | inr high ↦
-            (let e : first + i ≡ first + j - size =
-            sym (small_rest (first + i) size low) ∙ same ∙ rest_round (first + j) size high (omega arith) in
-            omega (arith, e))
-      ]
-      | inr high ↦
-          (let e : first + i - size ≡ first + j - size =
-          sym (rest_round (first + i) size high (omega arith)) ∙ same
-          ∙ rest_round (first + j) size (omega arith) (omega arith) in
-          omega (arith, e))
-    ]
+    let low = small_rest (first + i) size in
+    let low_too = small_rest (first + j) size in
+    let round = rest_round (first + i) size in
+    let round_too = rest_round (first + j) size in
+    grind (arith, low, low_too, round, round_too)
 
 pub added : (a b c : ℕ) → a + b ≡ c → c < 2 ^ 32 → operate op.Add a b ≡ c
 added a b c is small = ap (λ k. k % 2 ^ 32) is ∙ small_rest c (2 ^ 32) small
@@ -51,9 +35,6 @@ pub rest_of : (a b : ℕ) → 0 < b → operate op.Rem a b ≡ a % b
 rest_of a b some =
     let e : (b == 0) ≡ false = grind (arith, nat_tests) in
     ap (λ (zero : Bool). if zero then a else a % b) e
-
-pub not_zero : (n : ℕ) → (suc n == 0) ≡ false
-not_zero n = grind (arith, nat_tests)
 
 -- so many steps, and those of what comes behind
 abbrev pub steps_and : ℕ → ℕ → ℕ

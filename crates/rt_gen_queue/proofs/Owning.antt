@@ -1,23 +1,15 @@
 -- What a job owns of the queues: their cells where their section is opens, and nothing of them where it is not.
-use Rattle.std.proofs.Common.{◌≡◌, ◌≢◌, ℕ, ◌<◌, ◌||◌, Bool, true, false, if◌then◌else◌, List, ◌∷◌}
-use Rattle.std.proofs.Common.{length, slice_index, refl, sym, ap, subst, ◌∙◌}
-use Rattle.std.proofs.lemmas.Option.{slice_get_within}
-use Rattle.rt_lemmas.proofs.Bools.{or_left, or_neither}
-use Rattle.rt_lemmas.proofs.Places.{at_read}
-use Rattle.rt_ids.specs.Holder.{Holder, Guarded, Own, is_same_section, is_same_holder}
-use Rattle.rt_ids.specs.Content.{Content, Values, put_at}
-use Rattle.rt_ids.specs.Entry.{Entry, count}
-use Rattle.rt_ids.specs.Storage.{Runner, Starting, AtLevel, Home, At, In, Nowhere}
-use Rattle.rt_ids.specs.declared.ids.Section.{Section}
+use Rattle.rt_gen_queue.proofs.Vocabulary.{Agree, App, At, AtLevel, Bool, Content, Entry, Guarded, Held, Holder, Home}
+use Rattle.rt_gen_queue.proofs.Vocabulary.{In, LeavesMine, List, MayLoad, MayStore, NobodyKeeps, Own, Runner, Section}
+use Rattle.rt_gen_queue.proofs.Vocabulary.{SpellsFree, SpellsReady, SpellsTimer, Spot, Starting, Values, ap, count}
+use Rattle.rt_gen_queue.proofs.Vocabulary.{false, home_of, if◌then◌else◌, is_open, is_same_holder, is_same_section}
+use Rattle.rt_gen_queue.proofs.Vocabulary.{length, memory, one_section, or_left, owns_open, owns_reads, put_at, reads}
+use Rattle.rt_gen_queue.proofs.Vocabulary.{reads_more, refl, same_section, slice_get_within, slice_index, storage}
+use Rattle.rt_gen_queue.proofs.Vocabulary.{subst, sym, true, with_queue, ℕ, ◌<◌, ◌||◌, ◌∙◌, ◌∷◌, ◌≡◌, ◌≢◌}
+use Rattle.rt_lemmas.proofs.{Bools.or_neither, Places.at_read}
+use Rattle.rt_ids.specs.Storage.{Nowhere}
 use Rattle.rt_ids.specs.declared.ids.Section.TheVariants as section
-use Rattle.rt_app.specs.Tree.{App}
-use Rattle.rt_app.specs.Layout.{memory, home_of}
-use Rattle.rt_app.specs.Holding.{storage, SpellsFree, SpellsReady, SpellsTimer}
-use Rattle.rt_code.specs.Acting.{with_queue}
-use Rattle.rt_code.specs.Masking.{NobodyKeeps}
-use Rattle.rt_code.specs.Owning.{Held, Spot, is_open, reads, MayLoad, MayStore, Agree, LeavesMine}
 use Rattle.rt_gen_queue.proofs.Layer.Jobs.{Setting}
-use Rattle.rt_code.proofs.Mine.{one_section, same_section, owns_reads, owns_open, reads_more}
 
 -- the sections of queues
 abbrev pub IsQueue : Section → Type 0

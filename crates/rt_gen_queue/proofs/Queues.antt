@@ -1,30 +1,17 @@
 -- What the cells of a queue spell once a place is taken from the stack of free ones, and once a message is in the ring.
-use Rattle.std.proofs.Common.{◌≡◌, ◌≢◌, ℕ, zero, suc, ◌+◌, ◌-◌, ◌*◌, ◌%◌, ◌==◌, ◌<◌, List, [], ◌∷◌, ◌++◌, length}
-use Rattle.std.proofs.Common.{map, Some, option_map, slice_get, slice_index, Contains, refl, sym, ap, ◌∙◌, arith}
-use Rattle.std.proofs.Common.{inl, inr}
-use Rattle.std.specs.List.{AllByRecursion, range_with_len}
-use Rattle.std.proofs.lemmas.Option.{none-some, same_Some, slice_get_within}
-use Rattle.std.proofs.lemmas.List.{length-append, ext_get_or}
-use Rattle.std.proofs.lemmas.List.FromFn.{length-map-range_with_len, get_or-map-range_with_len}
-use Rattle.rt_lemmas.proofs.Bools.{and_left}
-use Rattle.rt_lemmas.proofs.Membership.{all_append}
+use Rattle.rt_gen_queue.proofs.Vocabulary.{AllByRecursion, App, At, Contains, Content, Entry, Guarded, In, List}
+use Rattle.rt_gen_queue.proofs.Vocabulary.{Messages, Number, Some, SpellsFree, SpellsReady, Task, [], all_append}
+use Rattle.rt_gen_queue.proofs.Vocabulary.{and_left, ap, arguments_of, arith, capacity_is, capacity_of, ext_get_or}
+use Rattle.rt_gen_queue.proofs.Vocabulary.{free_at, get_or-map-range_with_len, home_of, inl, input_is_home, inputs_at}
+use Rattle.rt_gen_queue.proofs.Vocabulary.{inr, is_of_level, is_software, length, length-append}
+use Rattle.rt_gen_queue.proofs.Vocabulary.{length-map-range_with_len, levels, map, message_at, message_word, messages}
+use Rattle.rt_gen_queue.proofs.Vocabulary.{none-some, number, option_map, or_zero, range_with_len, ready_at}
+use Rattle.rt_gen_queue.proofs.Vocabulary.{ready_is_home, ready_room, refl, same_Some, slice_get, slice_get_within}
+use Rattle.rt_gen_queue.proofs.Vocabulary.{slice_index, suc, sym, the_task, zero, ℕ, ◌%◌, ◌*◌, ◌++◌, ◌+◌, ◌-◌, ◌<◌}
+use Rattle.rt_gen_queue.proofs.Vocabulary.{◌==◌, ◌∙◌, ◌∷◌, ◌≡◌, ◌≢◌}
 use Rattle.rt_lemmas.proofs.Places.{at_either}
-use Rattle.rt_ids.specs.Lists.{or_zero}
-use Rattle.rt_ids.specs.Holder.{Guarded}
-use Rattle.rt_ids.specs.Content.{Content, Number, Messages, number, messages}
-use Rattle.rt_ids.specs.Entry.{Entry}
-use Rattle.rt_ids.specs.Storage.{At, In}
 use Rattle.rt_ids.specs.declared.ids.Section.TheVariants as section
-use Rattle.rt_app.specs.Tree.{Task, App}
-use Rattle.rt_app.specs.Level.{is_software, is_of_level, levels}
-use Rattle.rt_app.specs.Sending.{capacity_of}
-use Rattle.rt_app.specs.Layout.{free_at, inputs_at, ready_at, ready_room, home_of}
-use Rattle.rt_app.specs.Holding.{message_word, arguments_of, message_at, SpellsFree, SpellsReady}
-use Rattle.rt_app.proofs.LaidQueues.{capacity_is, input_is_home, ready_is_home}
-use Rattle.rt_app.proofs.Spelling.{the_task}
-use Rattle.rt_gen_queue.proofs.Numbers.{apart}
-use Rattle.rt_gen_queue.proofs.Places.{IsPlaceOf}
-use Rattle.rt_gen_queue.proofs.Layer.Instructions.{Wrote}
+use Rattle.rt_gen_queue.proofs.{Layer.Instructions.Wrote, Numbers.apart, Places.IsPlaceOf}
 
 -- the first free place is taken, and the count is one less
 pub free_taken : {app : App} {n : ℕ} {e : Entry} {others : List Entry} {content : Content} {before after : List ℕ}
@@ -47,15 +34,14 @@ free_taken {app = app} {n = n} {others = others} {before = before} spells wrote 
           ∙ spells.stack (suc i) x at;
     }
 
-map_range_alike : (f g : ℕ → ℕ) (a n : ℕ) → ((k : ℕ) → k < n → f (a + k) ≡ g (a + k))
-    → map f (range_with_len a n) ≡ map g (range_with_len a n)
-map_range_alike f g a n same =
-    ext_get_or 0 (map f (range_with_len a n)) (map g (range_with_len a n))
-    (length-map-range_with_len f a n ∙ sym (length-map-range_with_len g a n))
+-- what a function gives of so many numbers from one on is a list that has it
+pub range_is : (f : ℕ → ℕ) (a n : ℕ) (xs : List ℕ) → length xs ≡ n → ((k : ℕ) → k < n → f (a + k) ≡ slice_index xs k)
+    → map f (range_with_len a n) ≡ xs
+range_is f a n xs long same =
+    ext_get_or 0 (map f (range_with_len a n)) xs (length-map-range_with_len f a n ∙ sym long)
     (λ i less.
     let within : i < n = omega (arith, length-map-range_with_len f a n) in
-    get_or-map-range_with_len f a n i (a + i) 0 within refl ∙ same i within
-    ∙ sym (get_or-map-range_with_len g a n i (a + i) 0 within refl))
+    get_or-map-range_with_len f a n i (a + i) 0 within refl ∙ same i within)
 
 -- a message goes by the cells of its place alone
 pub message_alike : (app : App) (p : ℕ) (before after : ℕ → ℕ) (e : Entry) → IsPlaceOf app p e
@@ -68,13 +54,15 @@ message_alike app p before after e is left =
     let arguments : arguments_of app e.task ≡ t.args = ap (λ o. or_zero (option_map (λ t. t.args) o)) task.1 in
     let place : e.place < t.capacity = omega (arith, is.1, capacity) in
     let first : ℕ = inputs_at app e.task + e.place * arguments_of app e.task in
+    let later : List ℕ = map after (range_with_len first (arguments_of app e.task)) in
     ap (λ args. record { task = e.task; args = args })
-    (map_range_alike before after first (arguments_of app e.task)
+    (range_is before first (arguments_of app e.task) later (length-map-range_with_len after first _)
     (λ k less.
     let d : first + k ≡ inputs_at app e.task + e.place * t.args + k =
     ap (λ a. inputs_at app e.task + e.place * a + k) arguments in
     left (first + k)
-    (ap (home_of app) d ∙ input_is_home app e.task t task.1 software e.place k place (omega arith))))
+    (ap (home_of app) d ∙ input_is_home app e.task t task.1 software e.place k place (omega arith))
+    ∙ sym (get_or-map-range_with_len after first (arguments_of app e.task) k (first + k) 0 less refl)))
 
 at_not_in : (app : App) (c d : ℕ) (x : _) (e : Entry) → home_of app c ≡ At x → home_of app d ≡ In e → d ≢ c
 at_not_in app c d x e at in_ same =

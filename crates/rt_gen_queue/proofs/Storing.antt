@@ -1,37 +1,22 @@
 -- The code by which a spawn stores the arguments in the cells of its place, and makes the word of its message.
-use Rattle.std.proofs.Common.{◌≡◌, ◌≢◌, ℕ, zero, suc, ◌+◌, ◌*◌, ◌<◌, ◌≤◌, true, List, [], ◌∷◌, ◌++◌, length, map}
-use Rattle.std.proofs.Common.{slice_index, refl, sym, ap, subst, ◌∙◌, arith, inl, inr, take, drop}
-use Rattle.std.specs.List.{range_with_len}
-use Rattle.std.proofs.lemmas.Bool.{cases_lt, lt-ltb}
-use Rattle.std.proofs.lemmas.List.{get_or_append_left, map-append, length-append, ext_get_or, length-take-le}
-use Rattle.std.proofs.lemmas.List.{get_or-take}
-use Rattle.std.proofs.lemmas.List.FromFn.{length-map-range_with_len, get_or-map-range_with_len}
+use Rattle.rt_gen_queue.proofs.Vocabulary.{Entry, Guarded, HasCode, Holder, Home, In, LeavesMine, Line, List, MayLoad}
+use Rattle.rt_gen_queue.proofs.Vocabulary.{Task, [], ap, arguments_of, arith, capacity_of, cases_lt, count, count_more}
+use Rattle.rt_gen_queue.proofs.Vocabulary.{drop, fill_code, get_or-take, get_or_append_left, home_of, inl}
+use Rattle.rt_gen_queue.proofs.Vocabulary.{input_is_home, inputs_at, inr, length, length-append, length-take-le, lt-ltb}
+use Rattle.rt_gen_queue.proofs.Vocabulary.{map, map-append, may_load, memory, message_at, message_word, mine, owns_open}
+use Rattle.rt_gen_queue.proofs.Vocabulary.{plain, queued, queues_same, range_with_len, refl, slice_index, storage}
+use Rattle.rt_gen_queue.proofs.Vocabulary.{store_code, subst, suc, sym, take, true, zero, ℕ, ◌*◌, ◌++◌, ◌+◌, ◌<◌, ◌∙◌}
+use Rattle.rt_gen_queue.proofs.Vocabulary.{◌∷◌, ◌≡◌, ◌≢◌, ◌≤◌}
 use Rattle.std.proofs.lemmas.Nat.{mul-le}
-use Rattle.rt_lemmas.proofs.Bools.{and_both}
-use Rattle.rt_ids.specs.Holder.{Holder, Guarded}
-use Rattle.rt_ids.specs.Entry.{Entry, count}
-use Rattle.rt_ids.specs.Storage.{Home, In}
 use Rattle.rt_ids.specs.declared.op.Op.TheVariants as op
-use Rattle.rt_app.specs.Tree.{Task}
-use Rattle.rt_app.specs.Sending.{capacity_of}
-use Rattle.rt_app.specs.Layout.{memory, inputs_at, home_of}
-use Rattle.rt_app.specs.Holding.{storage, message_word, message_at, arguments_of}
-use Rattle.rt_app.proofs.Counting.{count_more}
-use Rattle.rt_app.proofs.LaidQueues.{input_is_home}
-use Rattle.rt_code.specs.Owning.{mine, MayLoad, LeavesMine}
-use Rattle.rt_code.proofs.Mine.{queued, queues_same, owns_open, may_load}
 use Rattle.rt_code.specs.declared.instr.Instr.TheVariants as instr
-use Rattle.rt_gen_queue.specs.Line.{Line, plain, HasCode}
-use Rattle.rt_gen_queue.specs.SpawnLines.{store_code}
-use Rattle.rt_gen_queue.specs.SpawnCode.{fill_code}
+use Rattle.rt_gen_queue.proofs.{Placing.stores_long, Planned.lines_by_layout, Queues.range_is}
+use Rattle.rt_gen_queue.proofs.Facts.{Spawned, arguments, capacity, few_arguments, few_free, small}
+use Rattle.rt_gen_queue.proofs.Layer.{Frame, Here, InTime, Now, S, Saves, Setting, Straight, ahead, all_fit, calculates}
+use Rattle.rt_gen_queue.proofs.Layer.{ends, moved, placed, sets, spot, stores_at}
 use Rattle.rt_gen_queue.proofs.Numbers.{added, multiplied, steps_and, steps_are}
-use Rattle.rt_gen_queue.proofs.Owning.{home_as, stores_place, place_in_memory}
-use Rattle.rt_gen_queue.proofs.Inputs.{lines_by_layout}
-use Rattle.rt_gen_queue.proofs.Facts.{Spawned, capacity, arguments, few_arguments, few_free, small}
-use Rattle.rt_gen_queue.proofs.Placing.{stores_long}
-use Rattle.rt_gen_queue.proofs.Layer.{Setting, Here, ahead, InTime, spot, S, Frame, Now, Saves, all_fit, placed}
-use Rattle.rt_gen_queue.proofs.Layer.{Straight, ends, moved, sets, calculates, stores_at, is_there}
-use Rattle.rt_gen_queue.proofs.Words.{Arguments, Scratch, words, listed}
+use Rattle.rt_gen_queue.proofs.Owning.{home_as, place_in_memory, stores_place}
+use Rattle.rt_gen_queue.proofs.Words.{Arguments, Scratch, listed, words}
 
 -- the cell of an argument of a place
 abbrev pub argument_at : Setting → ℕ → Entry → ℕ → ℕ
@@ -66,17 +51,14 @@ stores_placed : (count cell slot from : ℕ)
     → store_code count cell slot from ≡ map (placed slot) (store_code count cell 0 from)
 stores_placed zero cell slot from = refl
 stores_placed (suc count) cell slot from =
-    let e : slot + from ≡ slot + (0 + from) = omega arith in
-    ap (λ k. plain (instr.StoreAt (cell + from) (slot + 7) k) ∷ store_code count cell slot (from + 1)) e
-    ∙ ap (λ ls. plain (instr.StoreAt (cell + from) (slot + 7) (slot + (0 + from))) ∷ ls)
-    (stores_placed count cell slot (from + 1))
+    let e : slot + (0 + from) ≡ slot + from = omega arith in
+    rw (e, stores_placed count cell slot (from + 1)) refl
 
 stores_fit : (count cell from : ℕ) (lines : List Line) → from + count ≤ 4 → all_fit 9 8 lines ≡ true
     → all_fit 9 8 (store_code count cell 0 from ++ lines) ≡ true
 stores_fit zero cell from lines few fit = fit
 stores_fit (suc count) cell from lines few fit =
-    and_both (is_there 9 (0 + from)) (all_fit 9 8 (store_code count cell 0 (from + 1) ++ lines))
-    (lt-ltb (0 + from) 9 (omega arith)) (stores_fit count cell (from + 1) lines (omega arith) fit)
+    rw (lt-ltb (0 + from) 9 (omega arith)) (stores_fit count cell (from + 1) lines (omega arith) fit)
 
 module _ {z : Setting} {f : Frame 9 8} {h : Here} {task : ℕ} {t : Task} {e : Entry} (may : MayFill z f h task t e)
     (a : Arguments) (s : Scratch) where
@@ -126,12 +108,7 @@ module _ {z : Setting} {f : Frame 9 8} {h : Here} {task : ℕ} {t : Task} {e : E
       })
       (λ cells wrote.
       all_stored more (from + 1) (omega arith)
-      (record {
-        of_task = hands.of_task;
-        place = hands.place;
-        some = hands.some;
-        long = wrote.long ∙ hands.long;
-      })
+      (record { of_task = hands.of_task; place = hands.place; some = hands.some; long = wrote.long ∙ hands.long })
       (λ done at left done_is at_is filled.
       on done at left (omega arith) (omega arith)
       (record {
@@ -188,12 +165,7 @@ module _ {z : Setting} {f : Frame 9 8} {h : Here} {task : ℕ} {t : Task} {e : E
       sets
       (calculates (e.place * args_of) (multiplied e.place args_of (e.place * args_of) refl (omega arith))
       (all_stored args_of 0 (omega arith)
-      (record {
-        of_task = may.hands.of_task;
-        place = may.hands.place;
-        some = may.hands.some;
-        long = may.hands.long;
-      })
+      (record { of_task = may.hands.of_task; place = may.hands.place; some = may.hands.some; long = may.hands.long })
       (λ done at left done_is at_is filled.
       sets
       (calculates (message_word e) (added e.place (16 * task) (message_word e) word
@@ -209,18 +181,6 @@ module _ {z : Setting} {f : Frame 9 8} {h : Here} {task : ℕ} {t : Task} {e : E
         fit = stores_fit args_of (inputs_at z.app task) 0 (last 0) (omega (arith, few_args)) refl;
       }) (subst (HasCode z.code h.at) (code_is f.slot) may.code)
 
--- cells that have these words
-words_are : (cells : ℕ → ℕ) (words : List ℕ) (first n : ℕ) → n ≤ length words
-    → ((k : ℕ) → k < n → cells (first + k) ≡ slice_index words k)
-    → map cells (range_with_len first n) ≡ take n words
-words_are cells words first n long same =
-    ext_get_or 0 (map cells (range_with_len first n)) (take n words)
-    (length-map-range_with_len cells first n ∙ sym (length-take-le n words long))
-    (λ i less.
-    let within : i < n = omega (arith, length-map-range_with_len cells first n) in
-    get_or-map-range_with_len cells first n i (first + i) 0 within refl ∙ same i within
-    ∙ sym (get_or-take n words i 0 within))
-
 -- the message has the arguments
 pub message_is : {z : Setting} {task : ℕ} {t : Task} {e : Entry} {values before after : List ℕ}
     → Spawned z.app task t → e.task ≡ task → 4 ≤ length values → Filled z task e values 0 before after
@@ -235,9 +195,9 @@ message_is {z = z} {task = task} {t = t} {e = e} {values = values} {after = afte
           (arguments_of z.app n));
     }) of_task
     ∙ ap (λ ws. record { task = task; args = ws })
-    (words_are (slice_index after) values (inputs_at z.app task + e.place * count) count
-    (omega (arith, args, few, long))
-    (λ k less. filled.there k (omega arith) less)
+    (range_is (slice_index after) (inputs_at z.app task + e.place * count) count (take count values)
+    (length-take-le count values (omega (arith, args, few, long)))
+    (λ k less. filled.there k (omega arith) less ∙ sym (get_or-take count values k 0 less))
     ∙ ap (λ n. take n values) args)
 
 -- With a place in its hands that was nobody's, whose cells alone it changes, a job leaves its own as it was.

@@ -1,27 +1,19 @@
 -- Lines of a run that are not silent: those that ask the core for something, and those whose note says what is done.
-use Rattle.std.proofs.Common.{◌≡◌, ℕ, suc, ◌+◌, ◌^◌, ◌<◌, true, Some, None, List, ◌∷◌, length, map}
-use Rattle.std.proofs.Common.{slice_index, slice_set, refl, sym, ap, subst, ◌∙◌, arith, length-set}
-use Rattle.rt_lemmas.proofs.Bools.{and_right}
-use Rattle.rt_ids.specs.Holder.{Holder, Guarded}
-use Rattle.rt_ids.specs.Content.{Values, delays, least_instant}
-use Rattle.rt_ids.specs.Entry.{Entry}
-use Rattle.rt_ids.specs.Action.{Action, Emits, Posts, Clocks, SetsAlarm, effect}
-use Rattle.rt_ids.specs.Doing.{Doing, does}
+use Rattle.rt_gen_queue.proofs.Vocabulary.{Action, Agree, Clocks, Doing, Emits, Entry, Guarded, HasCode, Holder, Instr}
+use Rattle.rt_gen_queue.proofs.Vocabulary.{Line, LineFits, List, None, Posts, SetsAlarm, Some, Values, and_right, ap}
+use Rattle.rt_gen_queue.proofs.Vocabulary.{arith, delays, does, effect, is_open, least_instant, length, length-set, map}
+use Rattle.rt_gen_queue.proofs.Vocabulary.{passed, plain, refl, slice_index, slice_set, storage, subst, suc, sym, true}
+use Rattle.rt_gen_queue.proofs.Vocabulary.{ℕ, ◌+◌, ◌<◌, ◌^◌, ◌∙◌, ◌∷◌, ◌≡◌}
 use Rattle.rt_ids.specs.declared.ids.Section.TheVariants as section
-use Rattle.rt_app.specs.Holding.{storage}
 use Rattle.rt_code.specs.Acting.{Acts}
-use Rattle.rt_code.specs.Owning.{is_open, Agree}
-use Rattle.rt_code.specs.Standing.{LineFits, passed}
-use Rattle.rt_code.specs.declared.instr.Instr.{Instr}
 use Rattle.rt_code.specs.declared.instr.Instr.TheVariants as instr
-use Rattle.rt_gen_queue.specs.Line.{Line, plain, HasCode}
-use Rattle.rt_gen_queue.proofs.Layer.Jobs.{Setting, Here, lasts_less, spot}
-use Rattle.rt_gen_queue.proofs.Layer.Correct.{S, Later, Gives, at_passed, by_line}
-use Rattle.rt_gen_queue.proofs.Layer.Window.{Frame, window, Now, is_free, window_set, window_free}
-use Rattle.rt_gen_queue.proofs.Layer.Window.{window_there, free_there}
-use Rattle.rt_gen_queue.proofs.Layer.Runs.{fits, all_fit, placed, MayRun, Straight, next_in_time, first_fits, slot_of}
+use Rattle.rt_gen_queue.proofs.Layer.Correct.{Gives, Later, S, at_passed, by_line}
+use Rattle.rt_gen_queue.proofs.Layer.Jobs.{Here, Setting, lasts_less, spot}
+use Rattle.rt_gen_queue.proofs.Layer.Requests.{alarms_here, clocks_here, emits_here, no_alarm_here, posts_here}
+use Rattle.rt_gen_queue.proofs.Layer.Runs.{MayRun, Straight, all_fit, first_fits, fits, next_in_time, placed, slot_of}
 use Rattle.rt_gen_queue.proofs.Layer.Runs.{word_of}
-use Rattle.rt_gen_queue.proofs.Layer.Requests.{emits_here, posts_here, clocks_here, alarms_here, no_alarm_here}
+use Rattle.rt_gen_queue.proofs.Layer.Window.{Frame, Now, free_there, is_free, window, window_free, window_set}
+use Rattle.rt_gen_queue.proofs.Layer.Window.{window_there}
 
 -- The place behind a line that may have changed all but the open sections and the deadlines.
 abbrev pub behind_line : Here → List Entry → List ℕ → (Holder → List Entry) → Doing Values → Here

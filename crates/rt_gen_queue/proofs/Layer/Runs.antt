@@ -1,33 +1,21 @@
 -- Lines that run one after another on a window of the frame, their slots numbered from the window's first. That they
 -- are in the code, that there is time for them, and that they write free slots of the window is asked once for all of
 -- them; each line then asks for what it alone needs.
-use Rattle.std.proofs.Common.{◌≡◌, ℕ, suc, ◌+◌, ◌<◌, ◌==◌, ◌&&◌, Bool, true, false}
-use Rattle.std.proofs.Common.{option_map, List, [], ◌∷◌, length, map, slice_index, slice_set}
-use Rattle.std.proofs.Common.{refl, ap, subst, ◌∙◌, arith, length-set}
-use Rattle.std.proofs.lemmas.Bool.{ltb-true}
-use Rattle.std.proofs.lemmas.Bool.Decides.{nat_tests}
-use Rattle.rt_lemmas.proofs.Bools.{and_left, and_right}
-use Rattle.rt_ids.specs.Holder.{Guarded}
-use Rattle.rt_ids.specs.Operation.{operate}
-use Rattle.rt_ids.specs.Storage.{At}
-use Rattle.rt_ids.specs.declared.ids.Section.{Section}
+use Rattle.rt_gen_queue.proofs.Vocabulary.{At, Bool, Guarded, HasCode, Instr, Line, List, Note, Section, [], and_left}
+use Rattle.rt_gen_queue.proofs.Vocabulary.{and_right, ap, arith, false, home_of, is_open, length, length-set, ltb-true}
+use Rattle.rt_gen_queue.proofs.Vocabulary.{map, memory, nat_tests, operate, option_map, plain, refl, slice_index}
+use Rattle.rt_gen_queue.proofs.Vocabulary.{slice_set, subst, suc, true, ℕ, ◌&&◌, ◌+◌, ◌<◌, ◌==◌, ◌∙◌, ◌∷◌, ◌≡◌}
 use Rattle.rt_ids.specs.declared.op.Op.{Op}
-use Rattle.rt_app.specs.Layout.{memory, home_of}
-use Rattle.rt_code.specs.Owning.{is_open}
-use Rattle.rt_code.specs.declared.instr.Instr.{Instr}
 use Rattle.rt_code.specs.declared.instr.Instr.TheVariants as instr
-use Rattle.rt_code.specs.declared.instr.Note.{Note}
 use Rattle.rt_code.specs.declared.instr.Note.TheVariants as note
-use Rattle.rt_gen_queue.specs.Line.{Line, plain, HasCode}
+use Rattle.rt_gen_queue.proofs.Layer.Correct.{Gives, S, goes}
+use Rattle.rt_gen_queue.proofs.Layer.Instructions.{IsFree, Reads, Writes, Wrote, calc_gives, copy_gives, jump_by_gives}
+use Rattle.rt_gen_queue.proofs.Layer.Instructions.{jump_gives, load_at_gives, load_gives, set_gives, store_at_gives}
+use Rattle.rt_gen_queue.proofs.Layer.Instructions.{store_gives, wrote}
+use Rattle.rt_gen_queue.proofs.Layer.Jobs.{Here, InTime, Setting, lasts_less, spot}
+use Rattle.rt_gen_queue.proofs.Layer.Window.{Frame, Now, Saves, free_there, is_free, is_there, window, window_free}
+use Rattle.rt_gen_queue.proofs.Layer.Window.{window_read, window_set, window_there}
 use Rattle.rt_gen_queue.proofs.Owning.{at_in_memory, loads_open, stores_open}
-use Rattle.rt_gen_queue.proofs.Layer.Jobs.{Setting, Here, InTime, spot, lasts_less}
-use Rattle.rt_gen_queue.proofs.Layer.Correct.{S, Gives, goes}
-use Rattle.rt_gen_queue.proofs.Layer.Instructions.{Reads, Writes, Wrote, wrote, IsFree, set_gives}
-use Rattle.rt_gen_queue.proofs.Layer.Instructions.{copy_gives, calc_gives}
-use Rattle.rt_gen_queue.proofs.Layer.Instructions.{load_gives, load_at_gives, store_gives, store_at_gives, jump_gives}
-use Rattle.rt_gen_queue.proofs.Layer.Instructions.{jump_by_gives}
-use Rattle.rt_gen_queue.proofs.Layer.Window.{Frame, window, Now, Saves, is_there, is_free, window_read, window_set}
-use Rattle.rt_gen_queue.proofs.Layer.Window.{window_there, window_free, free_there}
 
 -- an instruction whose slots are numbered from a slot on
 abbrev pub shifted : ℕ → Instr → Instr
