@@ -139,14 +139,10 @@ module _ {d : Dispatcher} {cells : List ℕ} {queues : Holder → List Entry} {v
           one = loaded.late 8 (omega arith) ∙ tells.unit_is;
           place = loaded.late 9 (omega arith) ∙ tells.place_is;
         }) (loaded.late 5 (omega arith) ∙ tells.left_is) in
+        let fits = start_fits (queue_at d.app d.level) (called_at d.app o.task row t) to in
         subst (λ slots. S (job d) (chosen done until deadline to slots)) (words_are after long)
         (run.runs
-        (record {
-          time = (omega arith, (omega arith, (omega arith, tt)));
-          saves = saves;
-          long = refl;
-          fit = start_fits (queue_at d.app d.level) (called_at d.app o.task row t) to;
-        })
+        (record { time = (omega arith, (omega arith, (omega arith, tt))); saves = saves; long = refl; fit = fits })
         (subst (HasCode d.code to) (start_placed (queue_at d.app d.level) (called_at d.app o.task row t) to)
         (subst (λ a. HasCode d.code to (start_code a)) same has)))
 

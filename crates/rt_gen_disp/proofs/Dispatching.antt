@@ -1,10 +1,11 @@
 -- The code of a dispatcher stands.
 use Rattle.rt_gen_queue.proofs.Vocabulary.{AreSpelled, At, AtLevel, BodyRow, Doing, Entry, Guarded, HasCode, Holder}
 use Rattle.rt_gen_queue.proofs.Vocabulary.{KeepsTaskLimits, Line, List, Messages, None, Rest, Section, SpellsReady}
-use Rattle.rt_gen_queue.proofs.Vocabulary.{StandsFrom, Values, [], accepted_are_sound, all_at, ap, arith, capacity_is}
-use Rattle.rt_gen_queue.proofs.Vocabulary.{drop, home_of, is_of_level, length, map, memory, message_at, message_word}
-use Rattle.rt_gen_queue.proofs.Vocabulary.{messages, or_left, queue_at, ready_is_home, refl, slice_index, start_doing}
-use Rattle.rt_gen_queue.proofs.Vocabulary.{storage, subst, suc, sym, the_task, true, ℕ, ◌+◌, ◌<◌, ◌∙◌, ◌∷◌, ◌≡◌, ◌≤◌}
+use Rattle.rt_gen_queue.proofs.Vocabulary.{StandsFrom, Values, [], accepted_are_sound, all_at, ap, arith, calm}
+use Rattle.rt_gen_queue.proofs.Vocabulary.{capacity_is, drop, home_of, is_of_level, length, map, memory, message_at}
+use Rattle.rt_gen_queue.proofs.Vocabulary.{message_word, messages, or_left, queue_at, ready_is_home, refl, slice_index}
+use Rattle.rt_gen_queue.proofs.Vocabulary.{start_doing, storage, subst, suc, sym, the_task, true, ℕ, ◌+◌, ◌<◌, ◌∙◌, ◌∷◌}
+use Rattle.rt_gen_queue.proofs.Vocabulary.{◌≡◌, ◌≤◌}
 use Rattle.rt_ids.specs.declared.ids.Section.TheVariants as section
 use Rattle.rt_app.specs.{BodyCost.dispatcher_cost, Doings.dispatcher_doing}
 use Rattle.rt_app.specs.{declared.costs.TheConstants.DISPATCHER_WORDS}
@@ -142,8 +143,7 @@ module _ (d : Dispatcher) (at : ℕ) (choices : HasCode d.code (at + 18) (choice
   -- whatever is ready
   entered_run : {m : Moment} {w : Words} {vs : Values} {deadline : ℕ} → m.at ≡ suc at
       → HasTime d (tasks_of d) (15 + m.done) m.until deadline → AreSpelled d.app d.level m.cells m.queues vs
-      → Spelled d x m.cells m.queues vs
-      → Straight (job d) own (drop 1 lines)
+      → Spelled d x m.cells m.queues vs → Straight (job d) own (drop 1 lines)
       (within d x deadline m [] (start_doing d.app d.level (messages (vs (Guarded x))) vs)) (words w)
   entered_run {m = m} {w = w} {vs = vs} {deadline = deadline} at_is time spelled spells =
       let ready =
@@ -186,30 +186,17 @@ module _ (d : Dispatcher) (at : ℕ) (choices : HasCode d.code (at + 18) (choice
   dispatches front bodies rows_are slots cells queues vs words_long long kept =
       let m : Moment =
       record { done = 0; until = dispatcher_cost d.app d.level; at = at; cells = cells; queues = queues } in
-      let begin : List ℕ → Here = λ slots. record (outside m [] (dispatcher_doing d.app d.level vs)) { slots = slots } in
+      let start : Here = outside m [] (dispatcher_doing d.app d.level vs) in
+      let begin : List ℕ → Here = λ slots. record start { slots = slots } in
       let run : Straight (job d) own lines (begin []) (words (words_of slots)) =
       front_run refl refl refl (record { long = long; each = kept }) in
+      let fits = front_fits (queue_at d.app d.level) at in
       rw rows_are
-      (begins
-      (record {
-        held = [];
-        lefts = m.until ∷ [];
-        places = [];
-        slots = slots;
-        caller = None;
-        address = at;
-        cells = cells;
-        queues = queues;
-        rest = dispatcher_doing d.app d.level vs;
-      }) m.until
+      (begins (calm m.until slots None at cells queues (dispatcher_doing d.app d.level vs)) m.until
       (subst (λ slots. S (job d) (begin slots)) (words_are slots words_long)
       (run.runs
-      (record {
-        time = (omega arith, (omega arith, tt));
-        saves = tt;
-        long = refl;
-        fit = front_fits (queue_at d.app d.level) at;
-      }) (subst (HasCode d.code at) (front_placed (queue_at d.app d.level) at) front))))
+      (record { time = (omega arith, (omega arith, tt)); saves = tt; long = refl; fit = fits })
+      (subst (HasCode d.code at) (front_placed (queue_at d.app d.level) at) front))))
 
 pub dispatchers_stand : DispatchersStand
 dispatchers_stand app accepted level is code at has entry bodies rows_are stand thread =

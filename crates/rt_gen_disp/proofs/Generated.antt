@@ -21,8 +21,8 @@ pub arguments_more : (old lines new : List Line) (inputs k : ℕ)
     → new ≡ old ++ argument_lines inputs (k + 1)
 arguments_more old lines new inputs k before pushed =
     let load : ℕ → Line = λ j. plain (instr.LoadAt j (inputs + j) 7) in
-    pushed ∙ ap (λ ls. ls ++ load k ∷ []) before ∙ append_assoc old (argument_lines inputs k) (load k ∷ [])
-    ∙ ap (λ ls. old ++ ls) (sym (map-range_with_len_more load 0 k k (omega arith)))
+    let more = map-range_with_len_more load 0 k k (omega arith) in
+    rw (pushed, before, more, append_assoc)
 
 -- the tasks from one on, where there is one
 pub tasks_left : (items : List row.Task) (n : ℕ) (t : row.Task) → n < length items → t ≡ get_or items n t
@@ -41,8 +41,7 @@ abbrev pub with_rest : Site → List Line → ℕ → ℕ → List Task → List
 with_rest s lines n r ts = lines ++ choices_code s.app s.level s.exit (s.entry + length lines) n r ts
 
 -- what is left behind the lines of a task
-rest_next : (s : Site) (lines : List Line) (n r : ℕ) (t : Task) (ts : List Task)
-    → with_rest s lines n r (t ∷ ts)
+rest_next : (s : Site) (lines : List Line) (n r : ℕ) (t : Task) (ts : List Task) → with_rest s lines n r (t ∷ ts)
     ≡ with_rest s (lines ++ task_code s.app s.level s.exit (s.entry + length lines) n r (Some t)) (n + 1)
     (r + from_bool (is_software t)) ts
 rest_next s lines n r t ts =
@@ -87,8 +86,7 @@ no_task app items n is beyond =
 
 -- what is left behind the lines of a task of the code
 pub choices_next : (s : Site) (items : List row.Task) (lines : List Line) (r : ℕ) {n : ℕ} {t : row.Task}
-    → n < length items → t ≡ get_or items n t
-    → with_rest s lines n r (map task_of (drop n items))
+    → n < length items → t ≡ get_or items n t → with_rest s lines n r (map task_of (drop n items))
     ≡ with_rest s (lines
     ++ task_code s.app s.level s.exit (s.entry + length lines) n r (slice_get (map task_of items) n)) (n + 1)
     (r + from_bool (is_software (task_of t))) (map task_of (drop (n + 1) items))
@@ -126,14 +124,7 @@ none_behind level found n (u ∷ ts) (suc j) less there of =
 
 -- what a spawn is made of, as the dispatcher has it
 abbrev pub with_row : ℕ → ℕ → Target → Called
-with_row r args c = record {
-  task = c.task;
-  row = r;
-  args = args;
-  free = c.free;
-  inputs = c.inputs;
-  guard = c.guard;
-}
+with_row r args c = record { task = c.task; row = r; args = args; free = c.free; inputs = c.inputs; guard = c.guard }
 
 -- what is read of the plan's tables makes what the dispatcher has of a task
 pub called_made : {plan : Plan} (n r : ℕ) {t : Task} (accepted : IsAccepted (app_of plan.app.now))

@@ -117,8 +117,7 @@ module _ {app : App} {level : ℕ} {cells : List ℕ} {queues : Holder → List 
 
 -- others leave it as it is
 pub spelled_taken : {app : App} {level : ℕ} {s : Spot} {values vs : Values} {cells : List ℕ}
-    {queues : Holder → List Entry} (x : Section)
-    → TakesOver (storage app) (AtLevel level) x s values vs cells queues
+    {queues : Holder → List Entry} (x : Section) → TakesOver (storage app) (AtLevel level) x s values vs cells queues
     → AreSpelled app level s.cells s.queues values → AreSpelled app level cells queues vs
 spelled_taken {app = app} {level = level} {s = s} x taken spelled =
     spelled_on spelled taken.same.long (λ h may. taken.agree h (reads_kept app level s.held h may))

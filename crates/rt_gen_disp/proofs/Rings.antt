@@ -1,21 +1,12 @@
 -- The ready queue of a level with an oldest message, and without it once its count and its head have been stored.
-use Rattle.rt_gen_queue.proofs.Vocabulary.{AllByRecursion, App, AreSpelled, At, Entry, Guarded, Holder, In, List}
-use Rattle.rt_gen_queue.proofs.Vocabulary.{Messages, Some, SpellsReady, Values, [], ap, arith, home_of, length, map}
-use Rattle.rt_gen_queue.proofs.Vocabulary.{message_at, message_word, ready_at, ready_is_home, ready_room, refl}
-use Rattle.rt_gen_queue.proofs.Vocabulary.{slice_get, slice_index, suc, sym, ℕ, ◌%◌, ◌+◌, ◌<◌, ◌∙◌, ◌∷◌, ◌≡◌, ◌≢◌}
+use Rattle.rt_gen_queue.proofs.Vocabulary.{AreSpelled, At, Entry, Guarded, Holder, In, List, Messages, Some}
+use Rattle.rt_gen_queue.proofs.Vocabulary.{SpellsReady, Values, ap, arith, home_of, length, map, message_at}
+use Rattle.rt_gen_queue.proofs.Vocabulary.{message_word, ready_at, ready_is_home, ready_room, refl, slice_get}
+use Rattle.rt_gen_queue.proofs.Vocabulary.{slice_index, suc, sym, ℕ, ◌%◌, ◌+◌, ◌<◌, ◌∙◌, ◌∷◌, ◌≡◌, ◌≢◌}
 use Rattle.std.proofs.{Math.Nat.mod-add-mod, lemmas.Nat.mod_below}
 use Rattle.rt_ids.specs.declared.ids.Section.TheVariants as section
-use Rattle.rt_gen_queue.proofs.{Layer.Wrote, Numbers.small_rest, Places.IsPlaceOf, Queues.message_alike}
+use Rattle.rt_gen_queue.proofs.{Layer.Wrote, Numbers.small_rest, Queues.messages_alike}
 use Rattle.rt_gen_disp.proofs.Dispatchers.{Dispatcher}
-
--- messages are what the cells of their places hold
-messages_alike : (app : App) (p : ℕ) (before after : ℕ → ℕ) (es : List Entry) → AllByRecursion (IsPlaceOf app p) es
-    → ((e : Entry) (c : ℕ) → home_of app c ≡ In e → before c ≡ after c)
-    → map (message_at app before) es ≡ map (message_at app after) es
-messages_alike app p before after [] placed left = refl
-messages_alike app p before after (e ∷ es) placed left =
-    ap (λ m. m ∷ map (message_at app before) es) (message_alike app p before after e placed.0 (left e))
-    ∙ ap (λ ms. message_at app after e ∷ ms) (messages_alike app p before after es placed.1 left)
 
 -- where the queue's cells begin, where its oldest message is, and where the next one is
 abbrev pub at_of : Dispatcher → ℕ

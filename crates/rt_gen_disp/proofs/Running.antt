@@ -1,16 +1,17 @@
 -- What a dispatcher does once the oldest message is that of one of its tasks: it starts the message, gives its place
 -- back, calls the body and returns.
-use Rattle.rt_gen_queue.proofs.Vocabulary.{AreSpelled, AtLevel, BodyRow, Bool, Ends, Enters, Entry, FREE_COST, Frees}
-use Rattle.rt_gen_queue.proofs.Vocabulary.{Guarded, Holder, Leaves, Line, List, Marked, Message, Messages, None, Number}
-use Rattle.rt_gen_queue.proofs.Vocabulary.{Option, Posts, Rest, Returns, Section, Some, SpellsFree, SpellsReady, Stands}
-use Rattle.rt_gen_queue.proofs.Vocabulary.{Task, Values, [], act, act_all, and_left, and_right, ap, arith, body_cost}
-use Rattle.rt_gen_queue.proofs.Vocabulary.{body_frame, caller_frame, calm, cost_measure, count, dispatcher_number, drop}
-use Rattle.rt_gen_queue.proofs.Vocabulary.{effect as action_effect, eq-eqb, eqb-true, false, free_at, if◌then◌else◌}
-use Rattle.rt_gen_queue.proofs.Vocabulary.{is_of_level, is_software, length, map, message_at, messages, nat_tests}
-use Rattle.rt_gen_queue.proofs.Vocabulary.{none-some, noted, nothing, number, operate, or_left, queue_at, queued_more}
-use Rattle.rt_gen_queue.proofs.Vocabulary.{refl, row_for, rows_for, same_Some, slice_get, slice_index, start_doing}
-use Rattle.rt_gen_queue.proofs.Vocabulary.{storage, subst, suc, sym, take, take-append-le, true, with_queue, zero}
-use Rattle.rt_gen_queue.proofs.Vocabulary.{zero-add, ℕ, ◌++◌, ◌+◌, ◌-◌, ◌<◌, ◌==◌, ◌∙◌, ◌∷◌, ◌≡◌, ◌≤◌}
+use Rattle.rt_gen_queue.proofs.Vocabulary.{AreSpelled, AtLevel, BodyRow, Bool, Content, Ends, Enters, Entry, FREE_COST}
+use Rattle.rt_gen_queue.proofs.Vocabulary.{Frees, Guarded, Holder, Leaves, Line, List, Marked, Message, Messages, None}
+use Rattle.rt_gen_queue.proofs.Vocabulary.{Number, Option, Posts, Rest, Returns, Section, Some, SpellsFree, SpellsReady}
+use Rattle.rt_gen_queue.proofs.Vocabulary.{Stands, Task, Values, [], act, act_all, and_left, and_right, ap, arith}
+use Rattle.rt_gen_queue.proofs.Vocabulary.{body_cost, body_frame, caller_frame, calm, cost_measure, count}
+use Rattle.rt_gen_queue.proofs.Vocabulary.{dispatcher_number, drop, effect as action_effect, eq-eqb, eqb-true, false}
+use Rattle.rt_gen_queue.proofs.Vocabulary.{free_at, if◌then◌else◌, is_of_level, is_software, length, map, message_at}
+use Rattle.rt_gen_queue.proofs.Vocabulary.{messages, nat_tests, none-some, noted, nothing, number, operate, or_left}
+use Rattle.rt_gen_queue.proofs.Vocabulary.{queue_at, queued_more, refl, row_for, rows_for, same_Some, slice_get}
+use Rattle.rt_gen_queue.proofs.Vocabulary.{slice_index, start_doing, storage, subst, suc, sym, take, take-append-le}
+use Rattle.rt_gen_queue.proofs.Vocabulary.{true, with_queue, zero, zero-add, ℕ, ◌++◌, ◌+◌, ◌-◌, ◌<◌, ◌==◌, ◌∙◌, ◌∷◌}
+use Rattle.rt_gen_queue.proofs.Vocabulary.{◌≡◌, ◌≤◌}
 use Rattle.rt_ids.specs.Action.{Starts}
 use Rattle.rt_ids.specs.declared.ids.BodyId.TheVariants as body
 use Rattle.rt_ids.specs.declared.ids.Section.TheVariants as section
@@ -22,7 +23,7 @@ use Rattle.rt_code.specs.declared.instr.Note.TheVariants as note
 use Rattle.rt_gen_queue.proofs.{Entering.enters, Entering.leaves, Layer.Correct.does as asks, Numbers.added}
 use Rattle.rt_gen_queue.proofs.{Places.IsPlaceOf, Places.entry_at}
 use Rattle.rt_gen_queue.proofs.Facts.{Spawned, capacity, few_arguments, few_free, free_top, priority as own_priority}
-use Rattle.rt_gen_queue.proofs.Layer.{Here, Straight, begins, by_noted, calculates, calls_here, goes_later, loads}
+use Rattle.rt_gen_queue.proofs.Layer.{Here, Now, Straight, acts_later, begins, by_noted, calculates, calls_here, loads}
 use Rattle.rt_gen_queue.proofs.Layer.{mark_gives, next_in_time, posts, reads_open, returns_here, skips_off, stays}
 use Rattle.rt_gen_queue.proofs.Layer.{stores_at, writes_open}
 use Rattle.rt_gen_queue.proofs.Owning.{free_back, free_spelled, put_here, queue_here}
@@ -151,8 +152,9 @@ module _ {d : Dispatcher} (c : Chosen d) where
         let inner : List ℕ = body_frame back called 0 in
         let args_are : take c.task.args inner ≡ c.args =
         frame_begins w called few fits (suc m.at) ∙ sym holds.arguments in
+        let all_fit = frame_fits w called few fits in
         calls_here called has.0 (next_in_time run)
-        (record { own = refl; is_there = c.there; closed = refl; some = omega arith; fits = frame_fits w called few fits })
+        (record { own = refl; is_there = c.there; closed = refl; some = omega arith; fits = all_fit })
         (subst (λ k. Stands (storage d.app) d.code (rows d) d.thread (AtLevel d.level) k
         (calm left inner (Some back) called.entry m.cells m.queues (body_rest vs))) steps_are
         (subst (λ given. Stands (storage d.app) d.code (rows d) d.thread (AtLevel d.level) (cost_of_body + steps)
@@ -229,8 +231,7 @@ module _ {d : Dispatcher} (c : Chosen d) where
 
   -- out of the section of the ready queue
   leave_run : {m : Moment} {w : Words} {vs : Values} {deadline : ℕ} → 9 + cost_of_body + m.done ≤ m.until → HoldsIn w
-      → Kept m vs → Spelled d ready m.cells m.queues vs
-      → Straight (job d) own (drop 3 (own_lines 0))
+      → Kept m vs → Spelled d ready m.cells m.queues vs → Straight (job d) own (drop 3 (own_lines 0))
       (within d ready deadline m (entry_of ∷ []) (leave_rest vs)) (words w)
   leave_run enough holds spelled spells =
       leaves d.level refl refl refl spells
@@ -240,14 +241,13 @@ module _ {d : Dispatcher} (c : Chosen d) where
   started : {m : Moment} {w : Words} {vs : Values} {deadline : ℕ} {es : List Entry} {lines : List Line}
       (rest : Rest) → IsOldest d m.cells m.queues vs entry_of es → HoldsIn w
       → ((ws : Values) (queues : Holder → List Entry) → AreSpelled d.app d.level m.cells queues ws
-      → Spelled d ready m.cells queues ws
-      → Straight (job d) own lines
+      → Spelled d ready m.cells queues ws → Straight (job d) own lines
       (within d ready deadline (record m { done = suc m.done; at = suc m.at; queues = queues })
       (entry_of ∷ []) (rest ws)) (words w))
       → Straight (job d) own (noted instr.Mark (note.Start c.number 0) ∷ lines)
       (within d ready deadline m [] (act (Starts d.level message_of) rest vs)) (words w)
   started {m = m} {w = w} {vs = vs} {deadline = deadline} {es = es} rest oldest holds on =
-      let h : Here = record (within d ready deadline m [] (act (Starts d.level message_of) rest vs)) { slots = words w } in
+      let h : Here = Now own (within d ready deadline m [] (act (Starts d.level message_of) rest vs)) (words w) in
       let few : c.task.args ≤ 4 = few_arguments d.app c.number c.task facts in
       let known : arguments_in (rows d) c.number ≡ c.task.args =
       rw zero-add at (arguments_from d.entry 0 c.number d.app.tasks c.task c.at facts.software) in
@@ -264,24 +264,18 @@ module _ {d : Dispatcher} (c : Chosen d) where
         shown =
             subst (λ k. c.args ≡ take k (words w)) (sym known)
             (holds.arguments ∙ sym (take-append-le c.task.args (firsts w) (drop 4 (words w)) few));
-        acts = record {
-          values = vs;
-          follows = λ answer. rest;
-          is = refl;
-          on = λ ws agree.
-              let us : Values = action_effect (Starts d.level message_of) ws in
-              let content : us (Guarded ready) ≡ Messages (map (message_at d.app (slice_index m.cells)) es) =
-              put_here d.app (AtLevel d.level) ws ready (Messages (drop 1 (messages (ws (Guarded ready)))))
-              ∙ ap (λ c. Messages (drop 1 (messages c))) (agree (Guarded ready) (reads_here d ready) ∙ oldest.content) in
-              goes_later refl run has
-              (on us later
-              (spelled_put ready (Messages (drop 1 (messages (ws (Guarded ready))))) tt
-              (spelled_agreed (alone d ready) oldest.spelled agree))
-              (subst (λ entries. (storage d.app).Spells (Guarded ready) (slice_index m.cells) entries (us (Guarded ready)))
-              (sym (queue_here d.app (AtLevel d.level) m.queues ready es))
-              (for_ready d (slice_index m.cells) es (us (Guarded ready))
-              (subst (λ c'. SpellsReady d.app (slice_index m.cells) d.level es c') (sym content) oldest.rest))));
-        };
+        acts = acts_later (Starts d.level message_of) (words w) refl run has refl (λ ws agree.
+            let us : Values = action_effect (Starts d.level message_of) ws in
+            let first_off : Values → Content = λ vs. Messages (drop 1 (messages (vs (Guarded ready)))) in
+            let was = agree (Guarded ready) (reads_here d ready) ∙ oldest.content in
+            let content : us (Guarded ready) ≡ Messages (map (message_at d.app (slice_index m.cells)) es) =
+            put_here d.app (AtLevel d.level) ws ready (first_off ws) ∙ ap (λ c. Messages (drop 1 (messages c))) was in
+            on us later
+            (spelled_put ready (first_off ws) tt (spelled_agreed (alone d ready) oldest.spelled agree))
+            (subst (λ xs. (storage d.app).Spells (Guarded ready) (slice_index m.cells) xs (us (Guarded ready)))
+            (sym (queue_here d.app (AtLevel d.level) m.queues ready es))
+            (for_ready d (slice_index m.cells) es (us (Guarded ready))
+            (subst (λ c'. SpellsReady d.app (slice_index m.cells) d.level es c') (sym content) oldest.rest))));
       }))
 
   -- and where more are ready the dispatcher is pended again

@@ -1,11 +1,10 @@
 -- The sixteen slots of a dispatcher's frame, each by the name of what it is for: a write into one of them computes.
-use Rattle.rt_gen_queue.proofs.Vocabulary.{AllByRecursion, BodyRow, List, [], all_append, all_weaker, and_both, ap}
-use Rattle.rt_gen_queue.proofs.Vocabulary.{arith, body_frame, caller_frame, drop, kind_of, le-leb, length}
-use Rattle.rt_gen_queue.proofs.Vocabulary.{length-append, length-replicate, length-take-le, mod-mul-add, nat_le}
-use Rattle.rt_gen_queue.proofs.Vocabulary.{operate, or_right, refl, replicate, saved_slot, slice_index, subst, sym}
-use Rattle.rt_gen_queue.proofs.Vocabulary.{take, take-append-le, take_at, true, ℕ, ◌%◌, ◌*◌, ◌++◌, ◌+◌, ◌-◌, ◌/◌, ◌<◌}
-use Rattle.rt_gen_queue.proofs.Vocabulary.{◌==◌, ◌||◌, ◌∙◌, ◌∷◌, ◌≡◌, ◌≤◌}
-use Rattle.std.proofs.{Math.Nat.mul-le-mul_left, lemmas.List.FromFn.fill_by_all, lemmas.Nat.div-mul-add}
+use Rattle.rt_gen_queue.proofs.Vocabulary.{AllByRecursion, BodyRow, List, [], all_append, all_weaker, and_both, arith}
+use Rattle.rt_gen_queue.proofs.Vocabulary.{body_frame, caller_frame, drop, kind_of, le-leb, length, length-append}
+use Rattle.rt_gen_queue.proofs.Vocabulary.{length-replicate, length-take-le, nat_le, operate, or_right, refl, replicate}
+use Rattle.rt_gen_queue.proofs.Vocabulary.{saved_slot, slice_index, subst, sym, take, take-append-le, take_at, true, ℕ}
+use Rattle.rt_gen_queue.proofs.Vocabulary.{◌*◌, ◌++◌, ◌+◌, ◌-◌, ◌<◌, ◌==◌, ◌||◌, ◌∙◌, ◌∷◌, ◌≡◌, ◌≤◌}
+use Rattle.std.proofs.{Math.Nat.mul-le-mul_left, lemmas.List.FromFn.fill_by_all}
 use Rattle.rt_ids.specs.declared.op.Op.TheVariants as op
 use Rattle.rt_code.specs.Stack.{arguments_fit}
 use Rattle.rt_gen_queue.proofs.{Layer.Frame, Masks.saves_in, Numbers.multiplied}
@@ -101,20 +100,14 @@ module _ (w : Words) (row : BodyRow) (few : row.args ≤ 4) (fits : row.args ≤
       ≡ take row.args (firsts w)
   frame_begins back =
       take_at (take row.args (caller_frame (words w) back)) (replicate (row.frame - row.args) 0) row.args
-      (own_arguments back)
-      ∙ take-append-le row.args (firsts w) (drop 4 (caller_frame (words w) back)) few
+      (own_arguments back) ∙ take-append-le row.args (firsts w) (drop 4 (caller_frame (words w) back)) few
 
 -- what operations give on small numbers
 pub task_in : (task place : ℕ) → place < 16 → operate op.Div (16 * task + place) 16 ≡ task
-task_in task place less =
-    let e : 16 * task + place ≡ task * 16 + place = omega arith in
-    ap (λ w. w / 16) e ∙ div-mul-add task 16 place less
+task_in task place less = omega arith
 
 pub place_in : (task place : ℕ) → place < 16 → operate op.Rem (16 * task + place) 16 ≡ place
-place_in task place less =
-    let e : 16 * task + place ≡ task * 16 + place = omega arith in
-    ap (λ w. w % 16) e ∙ mod-mul-add task 16 place less
+place_in task place less = omega arith
 
 pub times : (place args : ℕ) → place < 16 → args ≤ 4 → operate op.Mul place args ≡ place * args
-times place args less few =
-    multiplied place args (place * args) refl (omega (arith, mul-le-mul_left place few))
+times place args less few = multiplied place args (place * args) refl (omega (arith, mul-le-mul_left place few))

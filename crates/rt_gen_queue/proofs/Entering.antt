@@ -12,9 +12,9 @@ use Rattle.rt_gen_queue.proofs.Vocabulary.{slice_set, storage, subst, suc, sym, 
 use Rattle.rt_gen_queue.proofs.Vocabulary.{◌==◌, ◌^◌, ◌∙◌, ◌∷◌, ◌≡◌, ◌≤◌, ◌⊎◌}
 use Rattle.std.proofs.lemmas.List.{set-get_or}
 use Rattle.rt_code.specs.declared.instr.Note.TheVariants as note
-use Rattle.rt_gen_queue.proofs.Layer.{Frame, Here, InTime, Lasts, MayRun, Now, S, Saves, Setting, Straight, all_fit}
-use Rattle.rt_gen_queue.proofs.Layer.{enters_here, fits, lasts_less, leaves_here, next_in_time, placed, spot, window}
-use Rattle.rt_gen_queue.proofs.Layer.{window_set, window_there}
+use Rattle.rt_gen_queue.proofs.Layer.{Frame, Here, InTime, Now, S, Saves, Setting, Straight, all_fit, enters_here, fits}
+use Rattle.rt_gen_queue.proofs.Layer.{lasts_less, leaves_here, next_in_time, placed, spot, window, window_set}
+use Rattle.rt_gen_queue.proofs.Layer.{window_there}
 use Rattle.rt_gen_queue.proofs.Masks.{mask_of, of_kinds, saves_in}
 use Rattle.rt_gen_queue.proofs.Owning.{IsQueue, agree_out, leaves_out, reads_inside, unread}
 use Rattle.rt_gen_queue.specs.{Guards.value_of, declared.guard.Guard.Guard}
@@ -43,8 +43,7 @@ module _ (x : Section) (g : Guard) (level mask : ℕ) where
       ≡ noted (closing (kind (s + mask))) (note.Leave x)) refl refl refl
 
   pub enter_fits : (size free : ℕ) → fits size free (enter_line x g level mask).0 ≡ true
-  enter_fits size free =
-      of_kinds g level (λ kind. fits size free (opening g.value (kind mask)) ≡ true) refl refl refl
+  enter_fits size free = of_kinds g level (λ kind. fits size free (opening g.value (kind mask)) ≡ true) refl refl refl
 
   pub leave_fits : (size free : ℕ) → fits size free (leave_line x g level mask).0 ≡ true
   leave_fits size free = of_kinds g level (λ kind. fits size free (closing (kind mask)) ≡ true) refl refl refl
@@ -165,33 +164,26 @@ module _ {size mask : ℕ} where
           leaves_here (kind_at z.app x level (f.slot + mask))
           (record { outer = outer; deadline = deadline; around = around; innermost = innermost; last = last })
           (has.0 ∙ ap Some (leave_placed x (guard_of z.app x) level mask f.slot)) refl (next_in_time run) is spelled
-          (λ vs agree. (on vs agree).runs
+          (λ vs agree.
+          let inside = rw last at run.time.1 in
+          let masks = rw innermost at run.saves in
+          let behind =
+          lasts_less (suc h.done + length lines) (h.done + suc (length lines)) around (omega arith) inside.1 in
+          (on vs agree).runs
           (record {
-            time = (omega (arith, run.time.0), times run);
-            saves = kept run;
+            time = (omega (arith, run.time.0), behind);
+            saves = all_behind (λ e. (e < f.slot) ⊎ (e ≡ f.slot + mask))
+                (saved_slot (kind_at z.app x level (f.slot + mask))) (saved_slots outer) masks;
             long = run.long;
             fit = and_right (fits size mask (leave z.app x level mask).0) (all_fit size mask lines) run.fit;
           }) has.1);
     }
-      where
-        times : MayRun f (leave z.app x level mask ∷ lines) h ws → Lasts (suc h.done + length lines) around
-        times run =
-            let all : Lasts (h.done + suc (length lines)) (deadline ∷ around) =
-            subst (Lasts (h.done + suc (length lines))) last run.time.1 in
-            lasts_less (suc h.done + length lines) (h.done + suc (length lines)) around (omega arith) all.1
-
-        kept : MayRun f (leave z.app x level mask ∷ lines) h ws → Saves f outer
-        kept run =
-            all_behind (λ e. (e < f.slot) ⊎ (e ≡ f.slot + mask)) (saved_slot (kind_at z.app x level (f.slot + mask)))
-            (saved_slots outer) (subst (λ (hs : List Held). Saves f hs) innermost run.saves)
 
 pub fits_append : (size free : ℕ) (lines more : List Line) → all_fit size free lines ≡ true
     → all_fit size free more ≡ true → all_fit size free (lines ++ more) ≡ true
 fits_append size free [] more fit others = others
 fits_append size free (line ∷ lines) more fit others =
-    and_both (fits size free line.0) (all_fit size free (lines ++ more))
-    (and_left (fits size free line.0) (all_fit size free lines) fit)
-    (fits_append size free lines more (and_right (fits size free line.0) (all_fit size free lines) fit) others)
+    and_both _ _ (and_left _ _ fit) (fits_append size free lines more (and_right _ _ fit) others)
 
 -- the lines of a whole section, likewise
 module _ (x : Section) (g : Guard) (level mask : ℕ) where
@@ -214,20 +206,15 @@ module _ (x : Section) (g : Guard) (level mask : ℕ) where
 -- the code of a whole section
 pub section_stands : {size mask : ℕ} {z : Setting} {f : Frame size mask} {h : Here} {x : Section}
     {level : ℕ} (ws : List ℕ) (lines : List Line) → MayEnter z f h x level → length ws ≡ size
-    → all_fit size mask lines ≡ true
-    → InTime (h.done + length (section_lines x (guard_of z.app x) level mask lines)) h
+    → all_fit size mask lines ≡ true → InTime (h.done + length (section_lines x (guard_of z.app x) level mask lines)) h
     → HasCode z.code h.at (enter z.app x level (f.slot + mask)
     ∷ (map (placed f.slot) lines ++ leave z.app x level (f.slot + mask) ∷ []))
     → Straight z f (section_lines x (guard_of z.app x) level mask lines) h ws → S z (Now f h ws)
 section_stands {size = size} {mask = mask} {z = z} {f = f} {h = h} {x = x} {level = level} ws lines may long fit time
     has run =
+    let fits = section_fits x (guard_of z.app x) level mask size mask lines fit in
     run.runs
-    (record {
-      time = time;
-      saves = saves_below f h.held may.masks;
-      long = long;
-      fit = section_fits x (guard_of z.app x) level mask size mask lines fit;
-    })
+    (record { time = time; saves = saves_below f h.held may.masks; long = long; fit = fits })
     (subst (HasCode z.code h.at) (section_placed x (guard_of z.app x) level mask f.slot lines) has)
 
 -- what is so behind the section of a queue, from what was taken over in it
@@ -249,5 +236,4 @@ module _ {size mask : ℕ} {z : Setting} {f : Frame size mask} {h : Here} {x : S
       → Agree (storage z.app) z.who (opened z f x level ∷ h.held) us ws → Agree (storage z.app) z.who h.held after vs
   agree_left content last inner holder may_read =
       agree_out z h.held (opened z f x level) x content (unread z.app z.who h.held x queue may.closed) last inner holder
-      may_read
-      ∙ taken.agree holder may_read
+      may_read ∙ taken.agree holder may_read

@@ -82,5 +82,4 @@ module _ (app : App) (task : ℕ) (t : Task) (facts : Spawned app task t) where
       (level, subst (λ (n : ℕ). e.place < capacity_of app n) (sym of_task) place)
 
   pub few_ready : ready_room app t.priority ≤ 1024
-  few_ready =
-      few_places app t.priority facts.accepted.limits.tasks (omega (arith, facts.accepted.limits.few_tasks))
+  few_ready = few_places app t.priority facts.accepted.limits.tasks (omega (arith, facts.accepted.limits.few_tasks))

@@ -100,15 +100,14 @@ module _ {z : Setting} {f : Frame 9 8} {h : Here} {task level full : ℕ} {t : T
     long : length cells ≡ length (memory z.app)
     long = taken.same.long ∙ may.long
 
-    granted_stands : {doing : Doing Values} {rest : Rest} {e : Entry}
-        {others : List Entry} (a : Arguments) (s : Scratch) → queues (Guarded places) ≡ e ∷ others
-        → doing ≡ act_all (Takes task ∷ Leaves places ∷ []) rest ws
+    granted_stands : {doing : Doing Values} {rest : Rest} {e : Entry} {es : List Entry} (a : Arguments) (s : Scratch)
+        → queues (Guarded places) ≡ e ∷ es → doing ≡ act_all (Takes task ∷ Leaves places ∷ []) rest ws
         → ((r : Scratch) (left : List ℕ) (more : Holder → List Entry) (us : Values)
         → HasTaken z h task vs e left more us
         → S z (Now f (with_place h e left more (rest us)) (words a (record r { word = e.place }))))
         → Straight z f (drop 1 (take_code z.app task level 0 full))
         (within h (opened z f places level) FREE_COST cells queues doing) (words a s)
-    granted_stands {e = e} {others = others} a s are is on =
+    granted_stands {e = e} {es = others} a s are is on =
         let spells = spelled (e ∷ others) are in
         let room = spells.room in
         let few = few_free z.app task t may.facts in
@@ -116,6 +115,7 @@ module _ {z : Setting} {f : Frame 9 8} {h : Here} {task level full : ℕ} {t : T
         let last : free_at z.app task + 1 + length others ≡ free_at z.app task + (suc (length others) - 0) =
         omega arith in
         let differ : free_at z.app task + 1 + length others ≢ free_at z.app task = omega arith in
+        let place_home = ap (home_of z.app) next ∙ free_home (suc (length others)) room in
         loads (suc (length others)) (reads_open (counts opens long) spells.count)
         (stays (omega arith)
         (sets
@@ -124,11 +124,7 @@ module _ {z : Setting} {f : Frame 9 8} {h : Here} {task level full : ℕ} {t : T
         (λ left wrote.
         takes (length others) e.place refl
         (reads_open
-        (record {
-          opens = opens;
-          long = wrote.long ∙ long;
-          home = ap (home_of z.app) next ∙ free_home (suc (length others)) room;
-        })
+        (record { opens = opens; long = wrote.long ∙ long; home = place_home })
         (wrote.others _ differ ∙ ap (slice_index cells) last ∙ spells.stack 0 e refl))
         (record { opens = opens; first = are; of_task = spells.places.0.0; doing = is })
         (λ us agree.
@@ -175,6 +171,8 @@ module _ {z : Setting} {f : Frame 9 8} {h : Here} {task level full : ℕ} {t : T
         let full_there = has.0 ∙ ap (λ d. Some (noted (instr.Set d 0) (note.Full task))) zeroth in
         let leave_there = has.1.0 ∙ ap Some (sym (leave_placed places free level 8 f.slot)) in
         let around = lasts_less (steps_and 3 h.done + 2) (h.done + 8) h.deadlines (omega arith) may.time.1 in
+        let times : InTime (steps_and 3 h.done + 2) g = (omega (arith, may.time.0), (omega arith, around)) in
+        let fits = leave_fits places free level 8 9 8 in
         let run : Straight z f (drop 2 (end_code z.app task level 0 (full + 2))) g (words a s) =
         refuses opens refl
         (λ us agree.
@@ -191,12 +189,8 @@ module _ {z : Setting} {f : Frame 9 8} {h : Here} {task level full : ℕ} {t : T
         ∙ agree holder (reads_more (storage z.app) z.who (opened z f places level) h.held holder read)
         ∙ taken.agree holder read)))) in
         run.runs
-        (record {
-          time = (omega (arith, may.time.0), (omega arith, around));
-          saves = saves_inside may.enter;
-          long = refl;
-          fit = rw (leave_fits places free level 8 9 8) refl;
-        }) (full_there, (leave_there, tt))
+        (record { time = times; saves = saves_inside may.enter; long = refl; fit = rw fits refl })
+        (full_there, (leave_there, tt))
 
     -- fewer are out than there are places where one is free
     place_left : (e : Entry) (others : List Entry) → queues (Guarded places) ≡ e ∷ others

@@ -64,10 +64,7 @@ module _ {size mask : ℕ} {z : Setting} {f : Frame size mask} {lines : List Lin
       let free = first_fits run in
       asks (Some (note.Full t))
       (in_window d v run free (set_gives (slot_free d run free) (window_free f h.held d free run.saves)))
-      (record {
-        inside = opens;
-        acts = acts_later (Refuses t) (slice_set ws d v) (length-set ws d v) run has doing on;
-      }))
+      (record { inside = opens; acts = acts_later (Refuses t) _ (length-set ws d v) run has doing on }))
 
   -- the message is handed on, and how many are ready is stored
   pub hands_on : {c x p t : ℕ} {m : Message} {e : Entry} {others : List Entry} {values : Values}

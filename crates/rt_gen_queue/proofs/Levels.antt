@@ -2,13 +2,13 @@
 use Rattle.rt_gen_queue.proofs.Vocabulary.{App, Bool, Ceilings, Contains, IsAccepted, IsPlan, Layout, List, None, Plan}
 use Rattle.rt_gen_queue.proofs.Vocabulary.{Some, Task, [], accepted_are_sound, ap, app_of, arith, ceiling, cond}
 use Rattle.rt_gen_queue.proofs.Vocabulary.{eqb-true, false, filter, get_or, guarded, if◌then◌else◌, irq_number}
-use Rattle.rt_gen_queue.proofs.Vocabulary.{is_of_level, is_some, length, length-map, levels, ltb-true, map, mapped_at}
-use Rattle.rt_gen_queue.proofs.Vocabulary.{nat_lt, option_map, or_zero, position, queue_at, ready_at, refl, slice_get}
-use Rattle.rt_gen_queue.proofs.Vocabulary.{slice_get-get_or, slice_index, suc, sum_by, sum_by-cons, sym, task_of}
-use Rattle.rt_gen_queue.proofs.Vocabulary.{then_from, true, ℕ, ◌+◌, ◌<◌, ◌==◌, ◌^◌, ◌∙◌, ◌∷◌, ◌≡◌, ◌≤◌}
-use Rattle.std.{proofs.lemmas.List.get_or-map, proofs.lemmas.List.Sums.passes_at_first, specs.List.position_or_len}
+use Rattle.rt_gen_queue.proofs.Vocabulary.{is_of_level, is_some, length, levels, ltb-true, map, mapped_at, nat_lt}
+use Rattle.rt_gen_queue.proofs.Vocabulary.{option_map, or_zero, position, queue_at, ready_at, refl, slice_get}
+use Rattle.rt_gen_queue.proofs.Vocabulary.{slice_get-get_or, slice_index, suc, sum_by, sum_by-cons, task_of, then_from}
+use Rattle.rt_gen_queue.proofs.Vocabulary.{true, ℕ, ◌+◌, ◌<◌, ◌==◌, ◌^◌, ◌∙◌, ◌∷◌, ◌≡◌, ◌≤◌}
+use Rattle.std.{proofs.lemmas.List.Sums.passes_at_first, specs.List.position_or_len}
 use Rattle.rt_lemmas.proofs.{Membership.any_contained, Places.read_at}
-use Rattle.rt_ids.proofs.Lists.{is_some-position, list_any-map}
+use Rattle.rt_ids.proofs.Lists.{is_some-position, position-map}
 use Rattle.rt_ids.specs.declared.ids.Section.TheVariants as section
 use Rattle.rt_app.specs.declared.app.Task as code
 use Rattle.rt_app.specs.declared.ceilings.ReadyCeiling.{ReadyCeiling}
@@ -44,23 +44,17 @@ top_in queues p = or_zero (option_map (λ r. r.ceiling) (slice_get queues (place
 position_there : (app : App) (p : ℕ) (ps : List ℕ) → Contains ps p
     → slice_get ps (place_in (map (row app) ps) p) ≡ Some p
 position_there app p ps is =
-    go (nat_lt k (length rows)) refl
-    (is_some-position (λ r. r.level == p) rows ∙ list_any-map (row app) (λ r. r.level == p) ps ∙ any_contained p ps is)
+    ap (λ o. slice_get ps (or_zero o)) (position-map (row app) (λ r. r.level == p) ps)
+    ∙ go (nat_lt k (length ps)) refl (is_some-position (λ q. q == p) ps ∙ any_contained p ps is)
   where
-    rows : List ReadyCeiling
-    rows = map (row app) ps
-
     k : ℕ
-    k = position_or_len (λ r. r.level == p) rows
+    k = position_or_len (λ q. q == p) ps
 
-    go : (b : Bool) → nat_lt k (length rows) ≡ b → is_some (cond b (Some k) None) ≡ true
+    go : (b : Bool) → nat_lt k (length ps) ≡ b → is_some (cond b (Some k) None) ≡ true
         → slice_get ps (or_zero (cond b (Some k) None)) ≡ Some p
     go true within some =
-        let less : k < length rows = ltb-true k (length rows) within in
-        let there : k < length ps = omega (arith, length-map ps (row app)) in
-        let passes = passes_at_first (λ r. r.level == p) rows (row app 0) less in
-        let read = ap (λ (r : ReadyCeiling). r.level == p) (get_or-map (row app) ps k 0 (row app 0) there) in
-        slice_get-get_or ps k 0 there ∙ ap Some (eqb-true (get_or ps k 0) p (sym read ∙ passes))
+        let less : k < length ps = ltb-true k (length ps) within in
+        slice_get-get_or ps k 0 less ∙ ap Some (eqb-true (get_or ps k 0) p (passes_at_first (λ q. q == p) ps 0 less))
     go false within some = absurd cc
 
 -- what is made of the levels, at the place of a level

@@ -47,8 +47,7 @@ claimed_both names (line ∷ xs) ys front back =
 pub claimed_each : {X : Type 0} (names : Names) (f : X → Line) (xs : List X)
     → ((x : X) → AreClaimed names (f x ∷ [])) → AreClaimed names (map f xs)
 claimed_each names f [] each = tt
-claimed_each names f (x ∷ xs) each =
-    claimed_both names (f x ∷ []) (map f xs) (each x) (claimed_each names f xs each)
+claimed_each names f (x ∷ xs) each = claimed_both names (f x ∷ []) (map f xs) (each x) (claimed_each names f xs each)
 
 -- what was put behind other lines
 pub named_behind : (names : Names) (front new code : List Line) → new ≡ front ++ code → AreClaimed names code

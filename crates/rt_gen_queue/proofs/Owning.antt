@@ -30,8 +30,7 @@ no_ones app (AtLevel q) (section.Ready p) queue = (refl, refl)
 no_ones app Starting section.Timer queue = (refl, refl)
 no_ones app (AtLevel q) section.Timer queue = (refl, refl)
 
-pub nobody_keeps : (app : App) (who runner : Runner) (x : Section) → IsQueue x
-    → NobodyKeeps (storage app) who runner x
+pub nobody_keeps : (app : App) (who runner : Runner) (x : Section) → IsQueue x → NobodyKeeps (storage app) who runner x
 nobody_keeps app who Starting x queue = (no_ones app Starting x queue).0
 nobody_keeps app who (AtLevel p) x queue = λ q. no_ones app (AtLevel q) x queue
 
@@ -80,8 +79,7 @@ pub apart : (app : App) (a b : ℕ) (x y : Home) → home_of app a ≡ x → hom
 apart app a b x y first second differ same = differ (sym first ∙ ap (home_of app) same ∙ second)
 
 -- a cell that belongs to something is in memory
-pub in_memory : (app : App) (c : ℕ) (home : Home) → home_of app c ≡ home → ¬ (Nowhere ≡ home)
-    → c < length (memory app)
+pub in_memory : (app : App) (c : ℕ) (home : Home) → home_of app c ≡ home → ¬ (Nowhere ≡ home) → c < length (memory app)
 in_memory app c home is some =
     let one = at_read (λ cell. cell.home) (memory app) c home Nowhere is some in
     slice_get_within (memory app) c one.0 one.1

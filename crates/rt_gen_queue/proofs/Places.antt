@@ -26,10 +26,9 @@ removed e (x ∷ xs) some =
   where
     go : (b : Bool) → is_same_entry e x ≡ b → (one e x ≡ 0 → Without e xs (without e xs))
         → Without e (x ∷ xs) (if b then xs else x ∷ without e xs)
-    go true is rest = record {
-      long = refl;
-      counts = λ y. count_more y x xs ∙ ap (λ z. one y z + count y xs) (sym (same_entry e x is));
-    }
+    go true is rest =
+        let same = sym (same_entry e x is) in
+        record { long = refl; counts = λ y. count_more y x xs ∙ ap (λ z. one y z + count y xs) same }
     go false is rest =
         let others = rest (ap {B = ℕ} (λ b. cond b 1 0) is) in
         record {

@@ -11,12 +11,13 @@ use Rattle.std.proofs.lemmas.Nat.{mod_below}
 use Rattle.rt_ids.specs.declared.ids.Section.TheVariants as section
 use Rattle.rt_app.specs.declared.costs.TheConstants.{READY_COST}
 use Rattle.rt_gen_queue.proofs.{Handing.hands_on, Numbers.added, Numbers.rest_of, Places.IsPlaceOf, Places.ring_room}
-use Rattle.rt_gen_queue.proofs.{Queues.message_alike, Queues.ready_put, Words.Arguments, Words.Scratch, Words.words}
 use Rattle.rt_gen_queue.proofs.Entering.{MayEnter, agree_left, enters, leaves, opened, own_left, reads_it}
 use Rattle.rt_gen_queue.proofs.Entering.{section_stands, within}
 use Rattle.rt_gen_queue.proofs.Layer.{Frame, Here, InTime, Now, Opens, S, Setting, Straight, ahead, calculates, ends}
 use Rattle.rt_gen_queue.proofs.Layer.{loads, posts, reads_open, sets, spot, stores_at, writes_open}
 use Rattle.rt_gen_queue.proofs.Owning.{home_as, is_inside, put_here, queue_here, ready_back, ready_spelled}
+use Rattle.rt_gen_queue.proofs.Queues.{PutsReady, message_alike, ready_put}
+use Rattle.rt_gen_queue.proofs.Words.{Arguments, Scratch, words}
 
 -- a message of a task of the level is in the hands, and its arguments are in the cells of its place
 pub record HasMessage (z : Setting) (h : Here) (p task : ℕ) (e : Entry) (others : List Entry) (m : Message)
@@ -135,24 +136,12 @@ module _ {z : Setting} {f : Frame 9 8} {h : Here} {task p level : ℕ} {e : Entr
         ap (λ k. Messages (messages content ++ k ∷ [])) message_left
         ∙ ap (λ c. Messages (messages c ++ m ∷ [])) (sym (agree (Guarded ring) read))
         ∙ sym (put_here z.app z.who us ring new) ∙ sym (agree2 (Guarded ring) read) in
+        let puts : PutsReady z.app p entries e content cells mid left =
+        record { is = may.known; spells = spells; room = room; place = may.hands.place; ring = put; count = counted } in
         let given : (storage z.app).Spells (Guarded ring) (slice_index left) (entries ++ e ∷ []) (us2 (Guarded ring)) =
         ready_back _ _ _ taken.spelled
         (subst (λ (c : Content). SpellsReady z.app (slice_index left) p (entries ++ e ∷ []) c) content_is
-        (ready_put
-        (record {
-          entries = entries;
-          entry = e;
-          content = content;
-          before = cells;
-          mid = mid;
-          known = may.known;
-          spells = spells;
-          room = room;
-          place = may.hands.place;
-          turn = turn_low;
-          ring = put;
-          counted = counted;
-        }))) in
+        (ready_put puts)) in
         leaves level refl refl refl
         (subst (λ (es : List Entry). (storage z.app).Spells (Guarded ring) (slice_index left) es (us2 (Guarded ring)))
         (sym (queue_here z.app z.who queues ring (entries ++ e ∷ []))) given)

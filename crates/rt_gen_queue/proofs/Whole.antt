@@ -228,11 +228,7 @@ spawn_stands app task t code bodies thread who level slot n k s value args place
         (record { long = readied.own.long; touched = readied.own.touched; queued = readied.own.queued }))
         (λ holder read. readied.agree holder read ∙ taken.agree holder read)))) in
         let zeroth : slot ≡ slot + 0 = omega arith in
+        let time = lasts (steps_and 12 (steps_and (4 + count) 8) + 2) (omega (arith, soon, few)) in
         run.runs
-        (record {
-          time = lasts (steps_and 12 (steps_and (4 + count) 8) + 2) (omega (arith, soon, few));
-          saves = saves_below f s.held may.masks;
-          long = refl;
-          fit = refl;
-        })
+        (record { time = time; saves = saves_below f s.held may.masks; long = refl; fit = refl })
         (has_end.0 ∙ ap (λ d. Some (plain (instr.Set d 1))) zeroth, (has_end.1.0, tt))))

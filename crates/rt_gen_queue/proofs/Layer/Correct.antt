@@ -54,8 +54,7 @@ given h slots to cells = record h { slots = slots; at = to; cells = cells }
 
 -- the same with what its note asks
 pub does : {z : Setting} {h : Here} {i : Instr} {slots : List ℕ} {to : ℕ} {cells : List ℕ} (told : Option Note)
-    → Gives z h i slots to cells
-    → Asks (storage z.app) z.code z.bodies z.thread z.who request.Nothing told
+    → Gives z h i slots to cells → Asks (storage z.app) z.code z.bodies z.thread z.who request.Nothing told
     (passed (spot z (given h slots to cells))) (Later z h)
     → Does (storage z.app) z.code z.bodies z.thread z.who i told (passed (spot z h)) (Later z h)
 does {z = z} {h = h} {i = i} told gives asks = record {

@@ -165,8 +165,7 @@ module _ {z : Setting} {h : Here} where
   mark_gives = by_table instr.Mark tt (kept_same h.held h.slots) (λ b m. refl) refl (λ time b m. refl)
 
   pub jump_gives : {to : ℕ} → Gives z h (instr.Jump to) h.slots to h.cells
-  jump_gives {to = to} =
-      by_table (instr.Jump to) tt (kept_same h.held h.slots) (λ b m. refl) refl (λ time b m. refl)
+  jump_gives {to = to} = by_table (instr.Jump to) tt (kept_same h.held h.slots) (λ b m. refl) refl (λ time b m. refl)
 
   -- a jump that is taken where a slot is 0, by whether it is
   pub jump_by_gives : {s to : ℕ} (test : Bool) → s < length h.slots → (slice_index h.slots s == 0) ≡ test

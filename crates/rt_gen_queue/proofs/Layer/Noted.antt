@@ -40,38 +40,32 @@ module _ {size mask : ℕ} where
     fit = and_right (fits size mask line.0) (all_fit size mask lines) may.fit;
   }
 
-  -- a run that goes on behind a line, as what the line's note asks for
-  pub goes_later : {z : Setting} {f : Frame size mask} {line : Line} {lines : List Line} {h : Here} {ws : List ℕ}
-      {places : List Entry} {cells : List ℕ} {queues : Holder → List Entry} {rest : Doing Values} {after : List ℕ}
-      → length after ≡ length ws → MayRun f (line ∷ lines) h ws → HasCode z.code (suc h.at) (map (placed f.slot) lines)
-      → Straight z f lines (behind_line h places cells queues rest) after
-      → Later z h (passed (spot z (record (behind_line h places cells queues rest) {
-        done = h.done;
-        slots = window f after;
-      })))
-  goes_later {f = f} {h = h} {places = places} {cells = cells} {queues = queues} {rest = rest} {after = after} long may
-      has on =
-      at_passed (record (behind_line h places cells queues rest) { done = h.done; slots = window f after })
-      (on.runs (may_follow places cells queues rest after long may) has)
+  module _ {z : Setting} {f : Frame size mask} {line : Line} {lines : List Line} {h : Here} {ws : List ℕ}
+      {places : List Entry} {cells : List ℕ} {queues : Holder → List Entry} where
+    -- a run that goes on behind a line, as what the line's note asks for
+    pub goes_later : {rest : Doing Values} {after : List ℕ} → length after ≡ length ws → MayRun f (line ∷ lines) h ws
+        → HasCode z.code (suc h.at) (map (placed f.slot) lines)
+        → Straight z f lines (behind_line h places cells queues rest) after
+        → Later z h (passed (spot z (Now f (record (behind_line h places cells queues rest) { done = h.done }) after)))
+    goes_later {rest = rest} {after = after} long may has on =
+        at_passed (Now f (record (behind_line h places cells queues rest) { done = h.done }) after)
+        (on.runs (may_follow places cells queues rest after long may) has)
 
-  -- the next action of what is left to do, as a line's note has it, and the lines behind it
-  pub acts_later : {z : Setting} {f : Frame size mask} {line : Line} {lines : List Line} {h : Here} {ws : List ℕ}
-      {places : List Entry} {cells : List ℕ} {queues : Holder → List Entry} {values : Values}
-      {rest : Values → Doing Values} (action : Action) (after : List ℕ) → length after ≡ length ws
-      → MayRun f (line ∷ lines) h ws → HasCode z.code (suc h.at) (map (placed f.slot) lines)
-      → h.rest ≡ does action values (λ answer. rest)
-      → ((vs : Values) → Agree (storage z.app) z.who h.held vs values
-      → Straight z f lines (behind_line h places cells queues (rest (effect action vs))) after)
-      → Acts (storage z.app) z.bodies z.who action 0
-      (passed (spot z (record (behind_line h places cells queues h.rest) { done = h.done; slots = window f after })))
-      (Later z h)
-  acts_later {places = places} {cells = cells} {queues = queues} {values = values} {rest = rest} action after long may
-      has is on = record {
-        values = values;
-        follows = λ answer. rest;
-        is = is;
-        on = λ vs agree. goes_later long may has (on vs agree);
-      }
+    -- the next action of what is left to do, as a line's note has it, and the lines behind it
+    pub acts_later : {values : Values} {rest : Values → Doing Values} (action : Action) (after : List ℕ)
+        → length after ≡ length ws → MayRun f (line ∷ lines) h ws
+        → HasCode z.code (suc h.at) (map (placed f.slot) lines) → h.rest ≡ does action values (λ answer. rest)
+        → ((vs : Values) → Agree (storage z.app) z.who h.held vs values
+        → Straight z f lines (behind_line h places cells queues (rest (effect action vs))) after)
+        → Acts (storage z.app) z.bodies z.who action 0
+        (passed (spot z (Now f (record (behind_line h places cells queues h.rest) { done = h.done }) after)))
+        (Later z h)
+    acts_later {values = values} {rest = rest} action after long may has is on = record {
+      values = values;
+      follows = λ answer. rest;
+      is = is;
+      on = λ vs agree. goes_later long may has (on vs agree);
+    }
 
   module _ {z : Setting} {f : Frame size mask} {line : Line} {lines : List Line} {h : Here} {ws : List ℕ} where
     -- a line by what fits it where it is
@@ -86,8 +80,7 @@ module _ {size mask : ℕ} where
 
     -- what an instruction gives that writes a free slot of the window
     pub in_window : {i : Instr} {to : ℕ} {cells : List ℕ} (d v : ℕ) → MayRun f (line ∷ lines) h ws
-        → is_free size mask d ≡ true
-        → Gives z (Now f h ws) i (slice_set (window f ws) (f.slot + d) v) to cells
+        → is_free size mask d ≡ true → Gives z (Now f h ws) i (slice_set (window f ws) (f.slot + d) v) to cells
         → Gives z (Now f h ws) i (window f (slice_set ws d v)) to cells
     in_window {i = i} {to = to} {cells = cells} d v may free gives =
         let there : d < length ws = omega (arith, may.long, free_there size mask d free) in

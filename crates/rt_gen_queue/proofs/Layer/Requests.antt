@@ -37,10 +37,8 @@ asks_for : {z : Setting} {h : Here} (i : Instr) (asked : Request) (to : ℕ) →
     → ((time b : ℕ) (m : Bool) → effect i time (processor_of (spot z h) b m)
     ≡ Leads (record { address = to; basepri = b; primask = m; slots = h.slots; cells = h.cells }) asked)
     → MayAccess (storage z.app) z.who (spot z h)
-    (access_of i (processor_of (spot z h) 0 false))
-    → Asks (storage z.app) z.code z.bodies z.thread z.who asked None
-    (record (passed (spot z h)) { address = to }) (Later z h)
-    → S z h
+    (access_of i (processor_of (spot z h) 0 false)) → Asks (storage z.app) z.code z.bodies z.thread z.who asked None
+    (record (passed (spot z h)) { address = to }) (Later z h) → S z h
 asks_for {z = z} {h = h} i asked to here time leads may asks =
     by_line i None here time
     (record {
@@ -90,12 +88,7 @@ module _ {z : Setting} {h : Here} where
       → slice_get z.code h.at ≡ Some (plain (instr.Clock d)) → InTime (suc h.done) h → d < length h.slots
       → IsFree h.held d → h.rest ≡ does Clocks values follows
       → ((now : ℕ) (vs : Values) → now < 2 ^ 31 → Agree (storage z.app) z.who h.held vs values
-      → S z (record h {
-        done = suc h.done;
-        slots = slice_set h.slots d now;
-        at = suc h.at;
-        rest = follows now vs;
-      }))
+      → S z (record h { done = suc h.done; slots = slice_set h.slots d now; at = suc h.at; rest = follows now vs }))
       → S z h
   clocks_here {d = d} {values = values} {follows = follows} here time there free is on =
       by_line (instr.Clock d) None here time
@@ -167,8 +160,7 @@ module _ {z : Setting} {h : Here} where
   -- the job returns
   pub returns_here : {values : Values} {rest : Values → Doing Values}
       → slice_get z.code h.at ≡ Some (plain instr.Ret) → InTime (suc h.done) h → z.caller ≡ None → h.held ≡ []
-      → h.places ≡ [] → h.rest ≡ does Returns values (λ answer. rest) → GivesBack z h values
-      → S z h
+      → h.places ≡ [] → h.rest ≡ does Returns values (λ answer. rest) → GivesBack z h values → S z h
   returns_here {values = values} {rest = rest} here time own closed empty is back =
       asks_for {z = z} {h = h} instr.Ret request.Return h.at here time
       (λ now b m. effect_is_done instr.Ret now (processor_of (spot z h) b m) refl refl) tt

@@ -66,10 +66,8 @@ module _ {size mask : ℕ} where
       ∙ ap (λ (ys : List ℕ). f.front ++ ys) (set-append_left ws f.back d v there)
 
   -- the slots of the window are there
-  pub window_there : (f : Frame size mask) (ws : List ℕ) (d : ℕ) → d < length ws
-      → f.slot + d < length (window f ws)
-  window_there f ws d there =
-      omega (arith, f.begins, length-append f.front (ws ++ f.back), length-append ws f.back)
+  pub window_there : (f : Frame size mask) (ws : List ℕ) (d : ℕ) → d < length ws → f.slot + d < length (window f ws)
+  window_there f ws d there = omega (arith, f.begins, length-append f.front (ws ++ f.back), length-append ws f.back)
 
   -- a free slot may be written
   pub window_free : (f : Frame size mask) (held : List Held) (d : ℕ) → is_free size mask d ≡ true → Saves f held
@@ -123,8 +121,7 @@ frame_at size mask slots slot within = record {
 pub framed : (size mask : ℕ) (slots : List ℕ) (slot : ℕ) (within : slot + size ≤ length slots)
     → slots ≡ window (frame_at size mask slots slot within) (read_words slots slot size)
 framed size mask slots slot within =
-    sym (take-append-drop slot slots)
-    ∙ ap (λ (ys : List ℕ). take slot slots ++ ys) (read_behind slots slot size within)
+    sym (take-append-drop slot slots) ∙ ap (λ (ys : List ℕ). take slot slots ++ ys) (read_behind slots slot size within)
 
 -- what is outside of it is the same, whatever is in it
 module _ {size mask : ℕ} (f : Frame size mask) (ws vs : List ℕ) (same : length ws ≡ length vs) where
@@ -146,5 +143,4 @@ module _ {size mask : ℕ} (f : Frame size mask) (ws vs : List ℕ) (same : leng
     where
       behind : (us : List ℕ) (k : ℕ)
           → slice_index (window f us) (length f.front + (length us + k)) ≡ slice_index f.back k
-      behind us k =
-          get_or-append-add f.front (us ++ f.back) (length us + k) 0 ∙ get_or-append-add us f.back k 0
+      behind us k = get_or-append-add f.front (us ++ f.back) (length us + k) 0 ∙ get_or-append-add us f.back k 0

@@ -11,8 +11,7 @@ own c = dispatcher_code (app_of c.args.plan.now.app.now) c.args.level c.in_ok-en
 -- the lines were generated into none, and then put behind the code
 appended : (c : goal.After-drop-lines-2) → c.extend_from_slice.new.self.items ≡ c.args.code.now.items ++ own c
 appended c =
-    c.in_ok-extend_from_slice.ensures.items
-    ∙ ap (λ lines. c.args.code.now.items ++ lines)
+    c.in_ok-extend_from_slice.ensures.items ∙ ap (λ lines. c.args.code.now.items ++ lines)
     (c.deref-2.ensures.value ∙ c.in_ok-generate.ensures ∙ ap (λ lines. lines ++ own c) c.new-lines.ensures.items)
 
 pub returns-clause-lines : goal.returns-clause-lines

@@ -13,8 +13,7 @@ loop-number-preserved c =
       | then-is_of_level w ↦ w.last-is ∙ rw (sym c.is_of_level.ensures ∙ w.if-is_of_level.true)
       | else-is_of_level w ↦ w.last-is ∙ rw (sym c.is_of_level.ensures ∙ w.if-is_of_level.false)
     ] in
-    c.loop-number.invariant
-    ∙ ap (last_from c.args.level c.loop-number.last c.loop-number.number)
+    c.loop-number.invariant ∙ ap (last_from c.args.level c.loop-number.last c.loop-number.number)
     (tasks_left c.args.tasks.now c.loop-number.number c.index-tasks-number.result c.loop-number-test.true
     c.index-tasks-number.is)
     ∙ ap (λ k. last_from c.args.level k (c.loop-number.number + 1)
