@@ -1,12 +1,11 @@
 -- A window of the frame: so many slots that one piece of code works in, as a list of words, with the slots before and
 -- behind them. A write into one of them is a write into the list, and that computes. One slot of the window is for the
 -- mask of a section.
-use Rattle.rt_gen_queue.proofs.Vocabulary.{AllByRecursion, Bool, Held, List, [], all_weaker, and_left, and_right, ap}
-use Rattle.rt_gen_queue.proofs.Vocabulary.{append_assoc, arith, drop, drop-cons, false≢true, get_or_append_left, inl}
-use Rattle.rt_gen_queue.proofs.Vocabulary.{inr, length, length-append, length-take-le, ltb-true, nat_lt, nat_tests, not}
-use Rattle.rt_gen_queue.proofs.Vocabulary.{refl, saved_slots, slice_index, slice_set, subst, suc, sym, take}
-use Rattle.rt_gen_queue.proofs.Vocabulary.{take-append-drop, true, zero, ℕ, ◌&&◌, ◌++◌, ◌+◌, ◌-◌, ◌<◌, ◌==◌, ◌∙◌, ◌∷◌}
-use Rattle.rt_gen_queue.proofs.Vocabulary.{◌≡◌, ◌≢◌, ◌≤◌, ◌⊎◌}
+use Rattle.rt_gen_queue.proofs.Vocabulary.{AllByRecursion, Bool, Held, List, [], all_weaker, and_left, ap, append_assoc}
+use Rattle.rt_gen_queue.proofs.Vocabulary.{arith, drop, drop-cons, get_or_append_left, inl, inr, length, length-append}
+use Rattle.rt_gen_queue.proofs.Vocabulary.{length-take-le, ltb-true, nat_lt, nat_tests, not, refl, saved_slots}
+use Rattle.rt_gen_queue.proofs.Vocabulary.{slice_index, slice_set, suc, sym, take, take-append-drop, true, zero, ℕ}
+use Rattle.rt_gen_queue.proofs.Vocabulary.{◌&&◌, ◌++◌, ◌+◌, ◌-◌, ◌<◌, ◌==◌, ◌∙◌, ◌∷◌, ◌≡◌, ◌≢◌, ◌≤◌, ◌⊎◌}
 use Rattle.std.proofs.lemmas.List.{get_or-append-add, set-append_left, set-append_right}
 use Rattle.rt_gen_queue.proofs.Layer.{Instructions.IsFree, Jobs.Here}
 
@@ -29,11 +28,7 @@ pub free_there : (size mask d : ℕ) → is_free size mask d ≡ true → d < si
 free_there size mask d free = ltb-true d size (and_left (nat_lt d size) (not (d == mask)) free)
 
 not_the_mask : (size mask d : ℕ) → is_free size mask d ≡ true → d ≢ mask
-not_the_mask size mask d free same =
-    let e : not (mask == mask) ≡ true =
-    subst (λ (k : ℕ). not (k == mask) ≡ true) same (and_right (nat_lt d size) (not (d == mask)) free) in
-    let is : (mask == mask) ≡ true = grind (arith, nat_tests) in
-    false≢true (sym (ap not is) ∙ e)
+not_the_mask size mask d free same = grind (arith, nat_tests)
 
 module _ {size mask : ℕ} where
   -- all slots, with these words in the window
