@@ -3,9 +3,10 @@
 use Rattle.rt_gen_queue.proofs.Vocabulary.{Agree, App, AreSpelled, At, AtLevel, Bool, Content, Entry, Guarded, Held}
 use Rattle.rt_gen_queue.proofs.Vocabulary.{Holder, Home, List, MayLoad, Number, Own, Section, SpellsReady, Spot}
 use Rattle.rt_gen_queue.proofs.Vocabulary.{TakesOver, Values, [], ap, arith, ceiling, false, home_of, if◌then◌else◌}
-use Rattle.rt_gen_queue.proofs.Vocabulary.{is_open, is_same_holder, kind_at, length, local_is_home, owns_open}
+use Rattle.rt_gen_queue.proofs.Vocabulary.{is_open, is_same_holder, kind_at, length, local_is_home, or_right, owns_open}
 use Rattle.rt_gen_queue.proofs.Vocabulary.{owns_reads, put_at, reads, refl, resource_is_home, same_section, slice_index}
 use Rattle.rt_gen_queue.proofs.Vocabulary.{storage, subst, sym, true, ℕ, ◌+◌, ◌^◌, ◌||◌, ◌∙◌, ◌≡◌, ◌≤◌}
+use Rattle.rt_lemmas.proofs.Bools.{or_assoc}
 use Rattle.rt_ids.specs.declared.ids.Section.TheVariants as section
 use Rattle.rt_gen_queue.proofs.{Entering.MayEnter, Layer.Here}
 use Rattle.rt_gen_queue.proofs.Owning.{IsQueue, home_as, is_inside, nobody_keeps, other_holder, unread}
@@ -48,13 +49,7 @@ MayRead app level h = ((storage app).is_kept (AtLevel level) h || (storage app).
 -- with any sections open it may read the same and more
 reads_kept : (app : App) (level : ℕ) (held : List Held) (h : Holder) → MayRead app level h
     → reads (storage app) (AtLevel level) held h ≡ true
-reads_kept app level held (Guarded x) may =
-    merged (is_open held x) ((storage app).is_kept (AtLevel level) (Guarded x))
-    ((storage app).is_constant (AtLevel level) (Guarded x)) may
-  where
-    merged : (a b c : Bool) → (b || c) ≡ true → ((a || b) || c) ≡ true
-    merged true b c e = refl
-    merged false b c e = e
+reads_kept app level held (Guarded x) may = or_assoc (is_open held x) _ _ ∙ or_right (is_open held x) _ may
 reads_kept app level held (Own n) may = may
 
 -- no queue is among it

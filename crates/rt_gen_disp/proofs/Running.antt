@@ -1,17 +1,17 @@
 -- What a dispatcher does once the oldest message is that of one of its tasks: it starts the message, gives its place
 -- back, calls the body and returns.
-use Rattle.rt_gen_queue.proofs.Vocabulary.{AreSpelled, AtLevel, BodyRow, Bool, Content, Ends, Enters, Entry, FREE_COST}
-use Rattle.rt_gen_queue.proofs.Vocabulary.{Frees, Guarded, Holder, Leaves, Line, List, Marked, Message, Messages, None}
-use Rattle.rt_gen_queue.proofs.Vocabulary.{Number, Option, Posts, Rest, Returns, Section, Some, SpellsFree, SpellsReady}
-use Rattle.rt_gen_queue.proofs.Vocabulary.{Stands, Task, Values, [], act, act_all, and_left, and_right, ap, arith}
-use Rattle.rt_gen_queue.proofs.Vocabulary.{body_cost, body_frame, caller_frame, calm, cost_measure, count}
-use Rattle.rt_gen_queue.proofs.Vocabulary.{dispatcher_number, drop, effect as action_effect, eq-eqb, eqb-true, false}
-use Rattle.rt_gen_queue.proofs.Vocabulary.{free_at, if◌then◌else◌, is_of_level, is_software, length, map, message_at}
-use Rattle.rt_gen_queue.proofs.Vocabulary.{messages, nat_tests, none-some, noted, nothing, number, operate, or_left}
-use Rattle.rt_gen_queue.proofs.Vocabulary.{queue_at, queued_more, refl, row_for, rows_for, same_Some, slice_get}
-use Rattle.rt_gen_queue.proofs.Vocabulary.{slice_index, start_doing, storage, subst, suc, sym, take, take-append-le}
-use Rattle.rt_gen_queue.proofs.Vocabulary.{true, with_queue, zero, zero-add, ℕ, ◌++◌, ◌+◌, ◌-◌, ◌<◌, ◌==◌, ◌∙◌, ◌∷◌}
-use Rattle.rt_gen_queue.proofs.Vocabulary.{◌≡◌, ◌≤◌}
+use Rattle.rt_gen_queue.proofs.Vocabulary.{AreSpelled, AtLevel, BodyRow, Content, Ends, Enters, Entry, FREE_COST, Frees}
+use Rattle.rt_gen_queue.proofs.Vocabulary.{Guarded, Holder, Leaves, Line, List, Marked, Message, Messages, None, Number}
+use Rattle.rt_gen_queue.proofs.Vocabulary.{Option, Posts, Rest, Returns, Section, Some, SpellsFree, SpellsReady, Stands}
+use Rattle.rt_gen_queue.proofs.Vocabulary.{Task, Values, [], act, act_all, and_left, and_right, ap, arith, body_cost}
+use Rattle.rt_gen_queue.proofs.Vocabulary.{body_frame, caller_frame, calm, cost_measure, count, dispatcher_number, drop}
+use Rattle.rt_gen_queue.proofs.Vocabulary.{effect as action_effect, eq-eqb, eqb-true, false, free_at, inl, inr}
+use Rattle.rt_gen_queue.proofs.Vocabulary.{is_of_level, is_software, length, map, message_at, messages, nat_tests}
+use Rattle.rt_gen_queue.proofs.Vocabulary.{none-some, noted, nothing, number, operate, or_left, queue_at, queued_more}
+use Rattle.rt_gen_queue.proofs.Vocabulary.{refl, row_for, rows_for, same_Some, slice_get, slice_index, start_doing}
+use Rattle.rt_gen_queue.proofs.Vocabulary.{storage, subst, suc, sym, take, take-append-le, true, with_queue, zero}
+use Rattle.rt_gen_queue.proofs.Vocabulary.{zero-add, ℕ, ◌+◌, ◌-◌, ◌<◌, ◌==◌, ◌∙◌, ◌∷◌, ◌≡◌, ◌≤◌}
+use Rattle.std.proofs.lemmas.Bool.{cases_Bool}
 use Rattle.rt_ids.specs.Action.{Starts}
 use Rattle.rt_ids.specs.declared.ids.BodyId.TheVariants as body
 use Rattle.rt_ids.specs.declared.ids.Section.TheVariants as section
@@ -42,17 +42,13 @@ arguments_from entry n k [] t at software = absurd (none-some t at)
 arguments_from entry n zero (u ∷ ts) t at software =
     let here : (n == n + 0) ≡ true = eq-eqb n (n + 0) (omega arith) in rw (same_Some u t at, software, here) refl
 arguments_from entry n (suc k) (u ∷ ts) t at software =
-    go (is_software u)
-    (subst (λ i. arguments_in (rows_for entry (n + 1) ts) i ≡ t.args) next
-    (arguments_from entry (n + 1) k ts t at software))
-  where
-    next : n + 1 + k ≡ n + suc k
-    next = omega arith
-
-    go : (b : Bool) → arguments_in (rows_for entry (n + 1) ts) (n + suc k) ≡ t.args
-        → arguments_in ((if b then row_for entry n u ∷ [] else []) ++ rows_for entry (n + 1) ts) (n + suc k) ≡ t.args
-    go true rest = let other : (n == n + suc k) ≡ false = grind (arith, nat_tests) in rw other rest
-    go false rest = rest
+    let next : n + 1 + k ≡ n + suc k = omega arith in
+    let rest = rw next at (arguments_from entry (n + 1) k ts t at software) in
+    let other : (n == n + suc k) ≡ false = grind (arith, nat_tests) in
+    elim (cases_Bool (is_software u)) [
+      | inl passes ↦ rw (passes, other) rest
+      | inr fails ↦ rw fails rest
+    ]
 
 -- the oldest message of a level as memory has it
 pub record IsOldest (d : Dispatcher) (cells : List ℕ) (queues : Holder → List Entry) (vs : Values) (o : Entry)

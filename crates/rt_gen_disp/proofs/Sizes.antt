@@ -1,11 +1,11 @@
 -- How many lines a dispatcher has.
-use Rattle.rt_gen_queue.proofs.Vocabulary.{AllByRecursion, App, AreFrom, BodyRow, Bool, KeepsTaskLimits, Line, List}
-use Rattle.rt_gen_queue.proofs.Vocabulary.{Some, Task, [], all_at, all_from, and_left, arith, cond, false, first_from}
-use Rattle.rt_gen_queue.proofs.Vocabulary.{if◌then◌else◌, is_of_level, is_software, length, length-append}
-use Rattle.rt_gen_queue.proofs.Vocabulary.{length-map-range_with_len, queue_at, refl, rest_from, row_for, rows_for}
-use Rattle.rt_gen_queue.proofs.Vocabulary.{slice_get, subst, sum_by-cons, sym, true, zero-add, ℕ, ◌*◌, ◌++◌, ◌+◌, ◌==◌}
-use Rattle.rt_gen_queue.proofs.Vocabulary.{◌∷◌, ◌≡◌, ◌≤◌}
-use Rattle.std.specs.Prelude.{count_by}
+use Rattle.rt_gen_queue.proofs.Vocabulary.{AllByRecursion, App, AreFrom, BodyRow, KeepsTaskLimits, Line, List, Some}
+use Rattle.rt_gen_queue.proofs.Vocabulary.{Task, [], all_at, all_from, and_left, arith, cond, false, first_from, inl}
+use Rattle.rt_gen_queue.proofs.Vocabulary.{inr, is_of_level, is_software, length, length-append}
+use Rattle.rt_gen_queue.proofs.Vocabulary.{length-map-range_with_len, queue_at, rest_from, row_for, rows_for, slice_get}
+use Rattle.rt_gen_queue.proofs.Vocabulary.{subst, sum_by-cons, sym, true, zero-add, ℕ, ◌*◌, ◌++◌, ◌+◌, ◌==◌, ◌∷◌, ◌≡◌}
+use Rattle.rt_gen_queue.proofs.Vocabulary.{◌≤◌}
+use Rattle.std.{proofs.lemmas.Bool.cases_Bool, specs.Prelude.count_by}
 use Rattle.rt_app.specs.BodyCost.{dispatcher_size}
 use Rattle.rt_gen_queue.specs.declared.queue.ReadyQueue.{ReadyQueue}
 use Rattle.rt_gen_disp.specs.Code.{called_at, choice_code, choice_lines, choices_code, dispatcher_code, exit_of}
@@ -38,37 +38,32 @@ pub choices_grow : {app : App} {level : ℕ} {exit : Exit} {entry : ℕ → ℕ}
     → P at n (count_by (is_of_level level) ts) (choices_code app level exit at n row ts)
 choices_grow grows [] at n row from rows = grows.none at n from
 choices_grow {app = app} {level = level} {exit = exit} {entry = entry} {P = P} grows (t ∷ ts) at n row from rows =
+    let all : List BodyRow = rows_for entry 0 app.tasks in
+    let here : slice_get app.tasks n ≡ Some t = first_from app.tasks n t ts from in
+    let behind = rest_from app.tasks n t ts from in
+    let more : AreFrom all row (row_for entry n t ∷ rows_for entry (n + 1) ts) → AreFrom all (row + 1)
+    (rows_for entry (n + 1) ts) =
+    rest_from all row (row_for entry n t) (rows_for entry (n + 1) ts) in
     subst (λ k. P at n k (choices_code app level exit at n row (t ∷ ts)))
     (sym (sum_by-cons (λ t. cond (is_of_level level t) 1 0) t ts))
-    (by_level (is_of_level level t) (is_software t) refl (and_left (is_software t) (t.priority == level)) rows
-    (λ at row rows. choices_grow grows ts at (n + 1) row (rest_from app.tasks n t ts from) rows))
-  where
-    all : List BodyRow
-    all = rows_for entry 0 app.tasks
-
-    k : ℕ
-    k = count_by (is_of_level level) ts
-
-    here : slice_get app.tasks n ≡ Some t
-    here = first_from app.tasks n t ts from
-
-    by_level : (b z : Bool) → is_of_level level t ≡ b → (b ≡ true → z ≡ true)
-        → AreFrom all row ((if z then row_for entry n t ∷ [] else []) ++ rows_for entry (n + 1) ts)
-        → ((at row : ℕ) → AreFrom all row (rows_for entry (n + 1) ts)
-        → P at (n + 1) k (choices_code app level exit at (n + 1) row ts))
-        → P at n (cond b 1 0 + k) (if b
-        then choice_code app level exit at n row t
-        ++ choices_code app level exit (at + (17 + t.args)) (n + 1) (row + 1) ts
-        else choices_code app level exit at (n + 1) (if z then row + 1 else row) ts)
-    by_level true true of both rows rest =
-        grows.next at n row k t _
-        (record { at = here; of = of; there = first_from all row (row_for entry n t) _ rows })
-        (rest (at + (17 + t.args)) (row + 1) (rest_from all row (row_for entry n t) _ rows))
-    by_level true false of both rows rest = absurd (cc (both refl))
-    by_level false true of both rows rest =
-        rw zero-add
-        (grows.other at n k t _ here of (rest at (row + 1) (rest_from all row (row_for entry n t) _ rows)))
-    by_level false false of both rows rest = rw zero-add (grows.other at n k t _ here of (rest at row rows))
+    (elim (cases_Bool (is_of_level level t)) [
+      | inl of ↦
+          (let mine = rw (and_left (is_software t) (t.priority == level) of) at rows in
+          rw of
+          (grows.next at n row _ t _ (record { at = here; of = of; there = first_from all row _ _ mine })
+          (choices_grow grows ts (at + (17 + t.args)) (n + 1) (row + 1) behind (more mine))))
+      | inr other ↦
+          elim (cases_Bool (is_software t)) [
+            | inl is ↦
+                (let mine = rw is at rows in
+                rw (other, is, zero-add)
+                (grows.other at n _ t _ here other (choices_grow grows ts at (n + 1) (row + 1) behind (more mine))))
+            | inr no_software ↦
+                (let others = rw no_software at rows in
+                rw (other, no_software, zero-add)
+                (grows.other at n _ t _ here other (choices_grow grows ts at (n + 1) row behind others)))
+          ]
+    ])
 
 pub dispatcher_short : (app : App) (p at : ℕ) → AllByRecursion KeepsTaskLimits app.tasks
     → length (dispatcher_code app p at) ≤ dispatcher_size app p

@@ -1,12 +1,12 @@
 -- The ready queue of a level, as a plan has it in its tables.
 use Rattle.rt_gen_queue.proofs.Vocabulary.{App, Bool, Ceilings, Contains, IsAccepted, IsPlan, Layout, List, None, Plan}
 use Rattle.rt_gen_queue.proofs.Vocabulary.{Some, Task, [], accepted_are_sound, ap, app_of, arith, ceiling, cond}
-use Rattle.rt_gen_queue.proofs.Vocabulary.{eqb-true, false, filter, get_or, guarded, if◌then◌else◌, irq_number}
-use Rattle.rt_gen_queue.proofs.Vocabulary.{is_of_level, is_some, length, levels, ltb-true, map, mapped_at, nat_lt}
-use Rattle.rt_gen_queue.proofs.Vocabulary.{option_map, or_zero, position, queue_at, ready_at, refl, slice_get}
+use Rattle.rt_gen_queue.proofs.Vocabulary.{eqb-true, false, filter, get_or, guarded, if◌then◌else◌, inl, inr}
+use Rattle.rt_gen_queue.proofs.Vocabulary.{irq_number, is_of_level, is_some, length, levels, ltb-true, map, mapped_at}
+use Rattle.rt_gen_queue.proofs.Vocabulary.{nat_lt, option_map, or_zero, position, queue_at, ready_at, refl, slice_get}
 use Rattle.rt_gen_queue.proofs.Vocabulary.{slice_get-get_or, slice_index, suc, sum_by, sum_by-cons, task_of, then_from}
 use Rattle.rt_gen_queue.proofs.Vocabulary.{true, ℕ, ◌+◌, ◌<◌, ◌==◌, ◌^◌, ◌∙◌, ◌∷◌, ◌≡◌, ◌≤◌}
-use Rattle.std.{proofs.lemmas.List.Sums.passes_at_first, specs.List.position_or_len}
+use Rattle.std.{proofs.lemmas.Bool.cases_Bool, proofs.lemmas.List.Sums.passes_at_first, specs.List.position_or_len}
 use Rattle.rt_lemmas.proofs.{Membership.any_contained, Places.read_at}
 use Rattle.rt_ids.proofs.Lists.{is_some-position, position-map}
 use Rattle.rt_ids.specs.declared.ids.Section.TheVariants as section
@@ -23,13 +23,12 @@ capacity_at p t = if is_of_level p t then t.capacity else 0
 
 pub room_first : (p : ℕ) (t : code.Task) (ts : List code.Task)
     → room_of p (t ∷ ts) ≡ capacity_at p (task_of t) + room_of p ts
-room_first p t ts = go (is_of_level p (task_of t))
-  where
-    go : (b : Bool) → sum_by (λ (t : Task). t.capacity)
-        (if b then task_of t ∷ filter (is_of_level p) (map task_of ts) else filter (is_of_level p) (map task_of ts))
-        ≡ (if b then (task_of t).capacity else 0) + room_of p ts
-    go true = sum_by-cons (λ (t : Task). t.capacity) (task_of t) (filter (is_of_level p) (map task_of ts))
-    go false = omega arith
+room_first p t ts =
+    elim (cases_Bool (is_of_level p (task_of t))) [
+      | inl passes ↦
+          rw passes (sum_by-cons (λ (t : Task). t.capacity) (task_of t) (filter (is_of_level p) (map task_of ts)))
+      | inr fails ↦ rw fails (omega arith)
+    ]
 
 abbrev pub row : App → ℕ → ReadyCeiling
 row app p = record { level = p; ceiling = ceiling app (section.Ready p) }
@@ -72,14 +71,11 @@ ceiling_at_level app p ps is =
 pub above_is : (app : App) (p : ℕ) (ps : List ℕ)
     → length (filter (λ r. nat_lt p r.level) (map (row app) ps)) ≡ length (filter (nat_lt p) ps)
 above_is app p [] = refl
-above_is app p (q ∷ ps) = go (nat_lt p q) (above_is app p ps)
-  where
-    go : (b : Bool) → length (filter (λ r. nat_lt p r.level) (map (row app) ps)) ≡ length (filter (nat_lt p) ps)
-        → length (if b then row app q ∷ filter (λ r. nat_lt p r.level) (map (row app) ps)
-        else filter (λ r. nat_lt p r.level) (map (row app) ps))
-        ≡ length (if b then q ∷ filter (nat_lt p) ps else filter (nat_lt p) ps)
-    go true rest = ap suc rest
-    go false rest = rest
+above_is app p (q ∷ ps) =
+    elim (cases_Bool (nat_lt p q)) [
+      | inl passes ↦ rw passes (ap suc (above_is app p ps))
+      | inr fails ↦ rw fails (above_is app p ps)
+    ]
 
 -- what the tables have for a level
 abbrev pub queue_read : Plan → ℕ → ReadyQueue

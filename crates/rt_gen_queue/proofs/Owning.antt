@@ -2,10 +2,11 @@
 use Rattle.rt_gen_queue.proofs.Vocabulary.{Agree, App, At, AtLevel, Bool, Content, Entry, Guarded, Held, Holder, Home}
 use Rattle.rt_gen_queue.proofs.Vocabulary.{In, LeavesMine, List, MayLoad, MayStore, NobodyKeeps, Own, Runner, Section}
 use Rattle.rt_gen_queue.proofs.Vocabulary.{SpellsFree, SpellsReady, SpellsTimer, Spot, Starting, Values, ap, count}
-use Rattle.rt_gen_queue.proofs.Vocabulary.{false, home_of, if◌then◌else◌, is_open, is_same_holder, is_same_section}
-use Rattle.rt_gen_queue.proofs.Vocabulary.{length, memory, one_section, or_left, owns_open, owns_reads, put_at, reads}
-use Rattle.rt_gen_queue.proofs.Vocabulary.{reads_more, refl, same_section, slice_get_within, slice_index, storage}
-use Rattle.rt_gen_queue.proofs.Vocabulary.{subst, sym, true, with_queue, ℕ, ◌<◌, ◌||◌, ◌∙◌, ◌∷◌, ◌≡◌, ◌≢◌}
+use Rattle.rt_gen_queue.proofs.Vocabulary.{false, home_of, if◌then◌else◌, inl, inr, is_open, is_same_holder}
+use Rattle.rt_gen_queue.proofs.Vocabulary.{is_same_section, length, memory, one_section, or_left, owns_open, owns_reads}
+use Rattle.rt_gen_queue.proofs.Vocabulary.{put_at, reads, reads_more, refl, same_section, slice_get_within, slice_index}
+use Rattle.rt_gen_queue.proofs.Vocabulary.{storage, subst, sym, true, with_queue, ℕ, ◌<◌, ◌||◌, ◌∙◌, ◌∷◌, ◌≡◌, ◌≢◌}
+use Rattle.std.proofs.lemmas.Bool.{cases_Bool}
 use Rattle.rt_lemmas.proofs.{Bools.or_neither, Places.at_read}
 use Rattle.rt_ids.specs.Storage.{Nowhere}
 use Rattle.rt_ids.specs.declared.ids.Section.TheVariants as section
@@ -134,14 +135,14 @@ module _ (app : App) (who : Runner) where
   -- another holder, where this section's is not read
   pub other_holder : (held : List Held) (x : Section) (h : Holder) → reads (storage app) who held (Guarded x) ≡ false
       → reads (storage app) who held h ≡ true → is_same_holder (Guarded x) h ≡ false
-  other_holder held x h none may = go (is_same_holder (Guarded x) h) refl
-    where
-      go : (b : Bool) → is_same_holder (Guarded x) h ≡ b → b ≡ false
-      go true is =
-          let e : reads (storage app) who held (Guarded x) ≡ true =
-          subst (λ (k : Holder). reads (storage app) who held k ≡ true) (same_holder x h is) may in
-          cc (e, none)
-      go false is = refl
+  other_holder held x h none may =
+      elim (cases_Bool (is_same_holder (Guarded x) h)) [
+        | inl is ↦
+            (let e : reads (storage app) who held (Guarded x) ≡ true =
+            subst (λ (k : Holder). reads (storage app) who held k ≡ true) (same_holder x h is) may in
+            cc (e, none))
+        | inr differs ↦ differs
+      ]
 
   pub put_here : (vs : Values) (x : Section) (content : Content) → put_at vs (Guarded x) content (Guarded x) ≡ content
   put_here vs x content = ap (λ (b : Bool). if b then content else vs (Guarded x)) (same_section x)
