@@ -1,11 +1,11 @@
 -- How the code of a dispatcher comes about.
 use Rattle.rt_gen_queue.proofs.Vocabulary.{App, Bool, IsAccepted, IsPlan, Line, List, None, Plan, Some, Task, []}
 use Rattle.rt_gen_queue.proofs.Vocabulary.{and_left, ap, app_of, append-nil, append_assoc, arith, drop, drop_as_cons}
-use Rattle.rt_gen_queue.proofs.Vocabulary.{false, get_or, if◌then◌else◌, is_of_level, is_software, length}
+use Rattle.rt_gen_queue.proofs.Vocabulary.{false, get_or, if◌then◌else◌, inl, inr, is_of_level, is_software, length}
 use Rattle.rt_gen_queue.proofs.Vocabulary.{length-append, length-map, map, mapped_at, none-some, plain, queue_at, refl}
 use Rattle.rt_gen_queue.proofs.Vocabulary.{same_Some, slice_get, slice_get_read, subst, suc, sym, task_of, true, zero}
 use Rattle.rt_gen_queue.proofs.Vocabulary.{ℕ, ◌++◌, ◌+◌, ◌<◌, ◌==◌, ◌∙◌, ◌∷◌, ◌≡◌, ◌≤◌}
-use Rattle.std.proofs.lemmas.{List.FromFn.map-range_with_len_more, Option.slice_get_past}
+use Rattle.std.proofs.lemmas.{Bool.cases_Bool, List.FromFn.map-range_with_len_more, Option.slice_get_past}
 use Rattle.std.specs.Int.{from_bool}
 use Rattle.rt_app.specs.declared.app.App as code
 use Rattle.rt_app.specs.declared.app.Task as row
@@ -45,31 +45,26 @@ rest_next : (s : Site) (lines : List Line) (n r : ℕ) (t : Task) (ts : List Tas
     ≡ with_rest s (lines ++ task_code s.app s.level s.exit (s.entry + length lines) n r (Some t)) (n + 1)
     (r + from_bool (is_software t)) ts
 rest_next s lines n r t ts =
-    go (is_of_level s.level t) (is_software t) (and_left (is_software t) (t.priority == s.level))
-  where
-    at : ℕ
-    at = s.entry + length lines
-
-    own : List Line
-    own = choice_code s.app s.level s.exit at n r t
-
-    more : ℕ → ℕ → List Line
-    more a k = choices_code s.app s.level s.exit a (n + 1) k ts
-
-    go : (b z : Bool) → (b ≡ true → z ≡ true)
-        → lines ++ (if b then own ++ more (at + (17 + t.args)) (r + 1) else more at (if z then r + 1 else r))
-        ≡ with_rest s (lines ++ (if b then own else [])) (n + 1) (r + from_bool z) ts
-    go true true both =
-        let long =
-        choice_long (queue_at s.app s.level) (called_at s.app n r t) (next_for s.exit n (at + (17 + t.args))) at in
-        let behind : at + (17 + t.args) ≡ s.entry + length (lines ++ own) =
-        omega (arith, length-append lines own, long) in
-        ap (λ a. lines ++ (own ++ more a (r + 1))) behind
-        ∙ sym (append_assoc lines own (more (s.entry + length (lines ++ own)) (r + 1)))
-    go true false both = absurd (cc (both refl))
-    go false true both = rw append-nil refl
-    go false false both =
-        let same : r ≡ r + 0 = omega arith in ap (λ k. lines ++ more at k) same ∙ rw append-nil refl
+    let at : ℕ = s.entry + length lines in
+    let own : List Line = choice_code s.app s.level s.exit at n r t in
+    let more : ℕ → ℕ → List Line = λ a k. choices_code s.app s.level s.exit a (n + 1) k ts in
+    elim (cases_Bool (is_of_level s.level t)) [
+      | inl of ↦
+          (let long =
+          choice_long (queue_at s.app s.level) (called_at s.app n r t) (next_for s.exit n (at + (17 + t.args))) at in
+          let behind : at + (17 + t.args) ≡ s.entry + length (lines ++ own) =
+          omega (arith, length-append lines own, long) in
+          rw (of, and_left (is_software t) (t.priority == s.level) of)
+          (ap (λ a. lines ++ (own ++ more a (r + 1))) behind
+          ∙ sym (append_assoc lines own (more (s.entry + length (lines ++ own)) (r + 1)))))
+      | inr other ↦
+          elim (cases_Bool (is_software t)) [
+            | inl is ↦ rw (other, is, append-nil) refl
+            | inr fails ↦
+                (let same : r ≡ r + 0 = omega arith in
+                rw (other, fails, append-nil) (ap (λ k. lines ++ more at k) same))
+          ]
+    ]
 
 -- a task of the code, as it stands among the tasks of the definitions
 pub task_there : (app : code.App) (items : List row.Task) (n : ℕ) (t : row.Task) → items ≡ app.tasks.items
