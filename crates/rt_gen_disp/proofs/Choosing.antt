@@ -1,10 +1,10 @@
 -- The task of the oldest message is looked for among the tasks of its level, and its message is run.
-use Rattle.rt_gen_queue.proofs.Vocabulary.{Bool, Entry, HasCode, Holder, KeepsTaskLimits, Line, List, None, Section}
-use Rattle.rt_gen_queue.proofs.Vocabulary.{Some, Task, Values, [], all_at, all_from, and_left, ap, arith, body_cost}
-use Rattle.rt_gen_queue.proofs.Vocabulary.{capacity_is, capacity_of, cost_measure, count, count_more, drop, eqb-true}
-use Rattle.rt_gen_queue.proofs.Vocabulary.{false, filter, greatest, guard_of, if◌then◌else◌, input_is_home, inputs_at}
-use Rattle.rt_gen_queue.proofs.Vocabulary.{inr, is_of_level, is_software, layout, length, map, message_at, mine}
-use Rattle.rt_gen_queue.proofs.Vocabulary.{nat_tests, number_of, one_itself, operate, option_map, or_zero, plain}
+use Rattle.rt_gen_queue.proofs.Vocabulary.{Bool, Entry, HasCode, Holder, KeepsTaskLimits, Line, List, Message, None}
+use Rattle.rt_gen_queue.proofs.Vocabulary.{Section, Some, Task, Values, [], all_at, all_from, and_left, ap, arith}
+use Rattle.rt_gen_queue.proofs.Vocabulary.{body_cost, capacity_is, capacity_of, cost_measure, count, count_more, drop}
+use Rattle.rt_gen_queue.proofs.Vocabulary.{eqb-true, false, filter, greatest, guard_of, if◌then◌else◌, input_is_home}
+use Rattle.rt_gen_queue.proofs.Vocabulary.{inputs_at, inr, is_of_level, is_software, layout, length, map, message_at}
+use Rattle.rt_gen_queue.proofs.Vocabulary.{mine, nat_tests, number_of, one_itself, operate, option_map, or_zero, plain}
 use Rattle.rt_gen_queue.proofs.Vocabulary.{queue_at, range_with_len, refl, same_Some, slice_get, slice_index}
 use Rattle.rt_gen_queue.proofs.Vocabulary.{start_doing, subst, suc, sym, take, take-append-le, the_task, true, ℕ, ◌*◌}
 use Rattle.rt_gen_queue.proofs.Vocabulary.{◌++◌, ◌+◌, ◌-◌, ◌<◌, ◌==◌, ◌∙◌, ◌∷◌, ◌≡◌, ◌≢◌, ◌≤◌}
@@ -93,18 +93,12 @@ module _ {d : Dispatcher} {cells : List ℕ} {queues : Holder → List Entry} {v
     limits : KeepsTaskLimits t
     limits = all_at KeepsTaskLimits d.app.tasks o.task t d.accepted.limits.tasks is.at
 
+    abbrev message : Message
+    message = message_at d.app (slice_index cells) o
+
     abbrev own_task : Chosen d
-    own_task = record {
-      number = o.task;
-      task = t;
-      at = is.at;
-      of = is.of;
-      row = row;
-      there = is.there;
-      place = o.place;
-      less = less;
-      args = (message_at d.app (slice_index cells) o).args;
-    }
+    own_task =
+        record { number = o.task; task = t; row = row; is = is; place = o.place; less = less; args = message.args }
 
     abbrev spread : Spread
     spread = record { entry = o; behind = o.place * t.args; count = t.args }

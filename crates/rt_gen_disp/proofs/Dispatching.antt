@@ -125,13 +125,10 @@ module _ (d : Dispatcher) (at : ℕ) (choices : HasCode d.code (at + 18) (choice
       (words (record w { left = suc (length es) }))
   some_run {m = m} {vs = vs} {deadline = deadline} {o = o} {es = es} w at_is time ring =
       take_run w ring (λ stored is.
-      let oldest : IsOldest d stored m.queues vs o es = record {
-        spelled = spelled_written x tt ring.spelled is.long is.elsewhere;
-        queue = ring.queue;
-        content = ring.spells.messages ∙ ap Messages is.messages;
-        rest = is.spells;
-        placed = ring.spells.places.0;
-      } in
+      let kept = spelled_written x tt ring.spelled is.long is.elsewhere in
+      let now = ring.spells.messages ∙ ap Messages is.messages in
+      let oldest : IsOldest d stored m.queues vs o es =
+      record { spelled = kept; queue = ring.queue; content = now; rest = is.spells; placed = ring.spells.places.0 } in
       let to : at + 18 ≡ steps_and 12 m.at = omega (arith, at_is) in
       subst (λ ms. S (job d) (Now own (within d x deadline (behind_taking m stored) []
       (start_doing d.app d.level ms vs)) (words (taken_words w m.cells o es)))) (sym is.messages)

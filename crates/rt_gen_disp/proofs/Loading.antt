@@ -67,11 +67,9 @@ module _ (d : Dispatcher) (s : Spread) where
       → HasCode d.code h.at (load_lines d s from more ++ lines) → GoesOn d s h lines from more → S (job d) h
   all_load lines zero from {h = h} may has on =
       let is : s.count ≡ from = omega (arith, may.all) in
-      on h.done h.at h.slots (omega arith) (omega arith) has (record {
-        begins = ap (λ k. take k h.slots) is ∙ sym (append-nil (take from h.slots));
-        late = λ k late. refl;
-        long = refl;
-      })
+      let begins = ap (λ k. take k h.slots) is ∙ sym (append-nil (take from h.slots)) in
+      on h.done h.at h.slots (omega arith) (omega arith) has
+      (record { begins = begins; late = λ k late. refl; long = refl })
   all_load lines (suc more) from {h = h} may has on =
       let v : ℕ = slice_index h.cells (first_of d s + from) in
       let less : from < s.count = omega (arith, may.all) in

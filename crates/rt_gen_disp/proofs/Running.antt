@@ -6,11 +6,11 @@ use Rattle.rt_gen_queue.proofs.Vocabulary.{Option, Posts, Rest, Returns, Section
 use Rattle.rt_gen_queue.proofs.Vocabulary.{Task, Values, [], act, act_all, and_left, and_right, ap, arith, body_cost}
 use Rattle.rt_gen_queue.proofs.Vocabulary.{body_frame, caller_frame, calm, cost_measure, count, dispatcher_number, drop}
 use Rattle.rt_gen_queue.proofs.Vocabulary.{effect as action_effect, eq-eqb, eqb-true, false, free_at, inl, inr}
-use Rattle.rt_gen_queue.proofs.Vocabulary.{is_of_level, is_software, length, map, message_at, messages, nat_tests}
-use Rattle.rt_gen_queue.proofs.Vocabulary.{none-some, noted, nothing, number, operate, or_left, queue_at, queued_more}
-use Rattle.rt_gen_queue.proofs.Vocabulary.{refl, row_for, rows_for, same_Some, slice_get, slice_index, start_doing}
-use Rattle.rt_gen_queue.proofs.Vocabulary.{storage, subst, suc, sym, take, take-append-le, true, with_queue, zero}
-use Rattle.rt_gen_queue.proofs.Vocabulary.{zero-add, ℕ, ◌+◌, ◌-◌, ◌<◌, ◌==◌, ◌∙◌, ◌∷◌, ◌≡◌, ◌≤◌}
+use Rattle.rt_gen_queue.proofs.Vocabulary.{is_software, length, map, message_at, messages, nat_tests, none-some, noted}
+use Rattle.rt_gen_queue.proofs.Vocabulary.{nothing, number, operate, or_left, queue_at, queued_more, refl, row_for}
+use Rattle.rt_gen_queue.proofs.Vocabulary.{rows_for, same_Some, slice_get, slice_index, start_doing, storage, subst}
+use Rattle.rt_gen_queue.proofs.Vocabulary.{suc, sym, take, take-append-le, true, with_queue, zero, zero-add, ℕ, ◌+◌}
+use Rattle.rt_gen_queue.proofs.Vocabulary.{◌-◌, ◌<◌, ◌==◌, ◌∙◌, ◌∷◌, ◌≡◌, ◌≤◌}
 use Rattle.std.proofs.lemmas.Bool.{cases_Bool}
 use Rattle.rt_ids.specs.Action.{Starts}
 use Rattle.rt_ids.specs.declared.ids.BodyId.TheVariants as body
@@ -29,11 +29,11 @@ use Rattle.rt_gen_queue.proofs.Layer.{stores_at, writes_open}
 use Rattle.rt_gen_queue.proofs.Owning.{free_back, free_spelled, put_here, queue_here}
 use Rattle.rt_gen_queue.proofs.Returning.{Returned, free_home, frees, given_back, room_left}
 use Rattle.rt_gen_queue.specs.Called.{CalledAtLevel, CalledTaskStands}
+use Rattle.rt_gen_disp.{proofs.Sizes.IsTask, specs.Code.called_at, specs.Code.start_lines}
 use Rattle.rt_gen_disp.proofs.Dispatchers.{Dispatcher, Moment, Spelled, alone, job, outside, rows, within}
 use Rattle.rt_gen_disp.proofs.Kept.{for_ready, may_enter, open_here, reads_here, spelled_agreed, spelled_put}
 use Rattle.rt_gen_disp.proofs.Kept.{spelled_taken, spelled_written}
 use Rattle.rt_gen_disp.proofs.Words.{Words, firsts, frame_begins, frame_fits, frame_long, own, words}
-use Rattle.rt_gen_disp.specs.Code.{called_at, start_lines}
 
 -- how many arguments a software task takes, as the rows of bodies tell it
 arguments_from : (entry : ℕ → ℕ) (n k : ℕ) (ts : List Task) (t : Task) → slice_get ts k ≡ Some t → is_software t ≡ true
@@ -63,10 +63,8 @@ pub record IsOldest (d : Dispatcher) (cells : List ℕ) (queues : Holder → Lis
 pub record Chosen (d : Dispatcher) : Type 0 where
   pub number : ℕ
   pub task : Task
-  pub at : slice_get d.app.tasks number ≡ Some task
-  pub of : is_of_level d.level task ≡ true
   pub row : ℕ
-  pub there : slice_get (rows d) row ≡ Some (row_for d.entry number task)
+  pub is : IsTask d.app d.level d.entry number row task
   pub place : ℕ
   pub less : place < task.capacity
   pub args : List ℕ
@@ -118,20 +116,18 @@ module _ {d : Dispatcher} (c : Chosen d) where
   leave_rest = act (Leaves ready) (act (Enters free FREE_COST) give_rest)
 
   facts : Spawned d.app c.number c.task
-  facts = record {
-    accepted = d.accepted;
-    at = c.at;
-    software = and_left (is_software c.task) (c.task.priority == d.level) c.of;
-  }
+  facts =
+      let software = and_left (is_software c.task) (c.task.priority == d.level) c.is.of in
+      record { accepted = d.accepted; at = c.is.at; software = software }
 
   level_is : c.task.priority ≡ d.level
-  level_is = eqb-true c.task.priority d.level (and_right (is_software c.task) (c.task.priority == d.level) c.of)
+  level_is = eqb-true c.task.priority d.level (and_right (is_software c.task) (c.task.priority == d.level) c.is.of)
 
   body_stands : CalledAtLevel d.app c.number d.level c.task d.code (row_for d.entry c.number c.task)
   body_stands =
       subst (λ (q : ℕ). CalledAtLevel d.app c.number q c.task d.code (row_for d.entry c.number c.task)) level_is
-      (subst (λ (o : Option Task). CalledTaskStands d.app c.number o d.code (row_for d.entry c.number c.task)) c.at
-      (d.bodies c.number c.task c.at c.of))
+      (subst (λ (o : Option Task). CalledTaskStands d.app c.number o d.code (row_for d.entry c.number c.task)) c.is.at
+      (d.bodies c.number c.task c.is.at c.is.of))
 
   -- the body runs, and the dispatcher returns
   call_run : {m : Moment} {w : Words} {vs : Values} → 2 + cost_of_body + m.done ≤ m.until → HoldsIn w → Kept m vs
@@ -150,7 +146,7 @@ module _ {d : Dispatcher} (c : Chosen d) where
         frame_begins w called few fits (suc m.at) ∙ sym holds.arguments in
         let all_fit = frame_fits w called few fits in
         calls_here called has.0 (next_in_time run)
-        (record { own = refl; is_there = c.there; closed = refl; some = omega arith; fits = all_fit })
+        (record { own = refl; is_there = c.is.there; closed = refl; some = omega arith; fits = all_fit })
         (subst (λ k. Stands (storage d.app) d.code (rows d) d.thread (AtLevel d.level) k
         (calm left inner (Some back) called.entry m.cells m.queues (body_rest vs))) steps_are
         (subst (λ given. Stands (storage d.app) d.code (rows d) d.thread (AtLevel d.level) (cost_of_body + steps)
@@ -171,14 +167,10 @@ module _ {d : Dispatcher} (c : Chosen d) where
       → Straight (job d) own (drop 5 (own_lines 0)) (within d free deadline m (entry_of ∷ []) (give_rest vs)) (words w)
   give_run {m = m} {w = w} {vs = vs} enough holds spelled spells once =
       let entries : List Entry = m.queues (Guarded free) in
-      let known : Returned d.app c.number c.task m.cells entries c.place = record {
-        task = facts;
-        long = spelled.long;
-        content = vs (Guarded free);
-        spells = free_spelled d.app c.number (slice_index m.cells) entries (vs (Guarded free)) spells;
-        less = c.less;
-        once = once;
-      } in
+      let was : Content = vs (Guarded free) in
+      let its = free_spelled d.app c.number (slice_index m.cells) entries was spells in
+      let known : Returned d.app c.number c.task m.cells entries c.place =
+      record { task = facts; long = spelled.long; content = was; spells = its; less = c.less; once = once } in
       let room = room_left known in
       let few = few_free d.app c.number c.task facts in
       let count_home = free_home known (free_at d.app c.number) 0 (omega arith) (omega arith) in
@@ -246,7 +238,7 @@ module _ {d : Dispatcher} (c : Chosen d) where
       let h : Here = Now own (within d ready deadline m [] (act (Starts d.level message_of) rest vs)) (words w) in
       let few : c.task.args ≤ 4 = few_arguments d.app c.number c.task facts in
       let known : arguments_in (rows d) c.number ≡ c.task.args =
-      rw zero-add at (arguments_from d.entry 0 c.number d.app.tasks c.task c.at facts.software) in
+      rw zero-add at (arguments_from d.entry 0 c.number d.app.tasks c.task c.is.at facts.software) in
       let later : Holder → List Entry = with_queue m.queues ready es in
       by_noted (λ run has. asks {h = h} (Some (note.Start c.number 0)) mark_gives (record {
         level = d.level;
