@@ -48,27 +48,7 @@ use Rattle.rt_dual.proofs.Halving.{irqs_empty}
 module _ (img : Image) (other : Names) (routes : List (Option ℕ)) (are : AreRoutes img other routes) where
   one_forwarded : (w : What) → rung_by routes w ≡ forward_of img other w
   one_forwarded (what.Post irq) = are irq
-  one_forwarded (what.Pend irq) = refl
-  one_forwarded what.Tick = refl
-  one_forwarded what.Alarm = refl
-  one_forwarded what.AlarmSet = refl
-  one_forwarded (what.Take irq depth) = refl
-  one_forwarded (what.Ret irq) = refl
-  one_forwarded (what.Enter section) = refl
-  one_forwarded (what.Leave section value) = refl
-  one_forwarded (what.Emit value) = refl
-  one_forwarded (what.Placed task) = refl
-  one_forwarded (what.Full task) = refl
-  one_forwarded (what.Ready task) = refl
-  one_forwarded (what.Start task args) = refl
-  one_forwarded (what.Free task) = refl
-  one_forwarded (what.Clock value) = refl
-  one_forwarded (what.Arm task instant) = refl
-  one_forwarded (what.Fire task) = refl
-  one_forwarded (what.Cancel task handle) = refl
-  one_forwarded (what.Move task handle instant) = refl
-  one_forwarded (what.End body) = refl
-  one_forwarded (what.Trap reason) = refl
+  one_forwarded w = refl
 
   pub all_forwarded : (items : List Item) → rung_of routes items ≡ forwarded img other items
   all_forwarded [] = refl

@@ -5,56 +5,12 @@ ghost use Rattle.rt_ids.specs.Event.{Step};
 ghost use Rattle.rt_run.specs.Done.{HasDone};
 ghost use Rattle.rt_run.specs.Sending.{Sends};
 ghost use Rattle.rt_run.specs.Writable.{IsWritable};
-ghost use Rattle.rt_run.specs.Inside.Writing.{HasNumbers, HasLevel};
 
 use crate::kept::Kept;
 use rt_core::Core;
-use rt_ids::Section;
 use rt_outside::Failed;
+use rt_run::numbers_fit;
 use rt_trace::{Item, What, line};
-
-/// The numbers of an item are in range, as each is that the code holds.
-fn numbers_fit(what: &What)
-    ensures { HasNumbers what.now }
-{
-    match what {
-        What::Emit(value) | What::Clock(value) => word_fits(*value),
-        What::Take(_, depth) => word_fits(*depth),
-        What::Enter(section) => level_fits(*section),
-        What::Leave(section, None) => level_fits(*section),
-        What::Leave(section, Some(value)) => {
-            level_fits(*section);
-            word_fits(*value);
-        }
-        What::Start(_, args) => {
-            let _values = args.values();
-        }
-        What::Arm(_, instant) => word_fits(*instant),
-        What::Cancel(_, handle) => word_fits(*handle),
-        What::Move(_, handle, instant) => {
-            word_fits(*handle);
-            word_fits(*instant);
-        }
-        What::Trap(reason) => byte_fits(*reason),
-        _ => {}
-    }
-}
-
-fn word_fits(_number: u32)
-    ensures { _number < 2 ^ 32 }
-{}
-
-fn byte_fits(_number: u8)
-    ensures { _number < 2 ^ 8 }
-{}
-
-fn level_fits(section: Section)
-    ensures { HasLevel section }
-{
-    if let Section::Ready(level) = section {
-        byte_fits(level.0);
-    }
-}
 
 /// One core step. The line of its item, where it shows one, is kept, and the answer is what it shows.
 pub(crate) fn show_step(core: &mut Core, trace: &mut Kept) -> Result<Option<What>, Failed>

@@ -1,32 +1,194 @@
--- The code of every block stands: it does what the block means, within the block's steps.
-use Rattle.std.proofs.Common.{◌≡◌, ℕ, zero, suc, ◌+◌, ◌-◌, ◌*◌, ◌<◌, ◌≤◌, ◌⊎◌, List, ◌∷◌, length, Contains, refl, sym}
-use Rattle.std.proofs.Common.{◌∙◌, subst, inl, inr, arith, length-append}
+-- The code of every block stands, with that of sections round blocks: it does what the block means, within its steps.
+use Rattle.std.proofs.Common.{◌≡◌, ℕ, suc, ◌+◌, ◌<◌, ◌≤◌, max, List, [], ◌∷◌, ◌++◌, length, slice_index, Contains, refl}
+use Rattle.std.proofs.Common.{ap, sym, ◌∙◌, subst, arith, length-append, zero, ◌==◌, ◌-◌, ◌*◌, inl, inr}
+use Rattle.std.specs.List.{AllByRecursion, list_any}
+use Rattle.std.proofs.lemmas.Bool.{false_from_ne_true}
+use Rattle.rt_ids.specs.Holder.{Guarded}
+use Rattle.rt_ids.specs.Action.{Leaves}
+use Rattle.rt_ids.specs.Content.{Values}
+use Rattle.rt_ids.specs.declared.ids.Section.TheVariants as section
+use Rattle.rt_ids.specs.declared.limits.TheConstants.{BODY_COST}
+use Rattle.rt_app.specs.Tree.{Block, Locked, App, Statement, Bind, Assign, Branch, Repeat, Emit, Pend, Spawns, Calc}
+use Rattle.rt_app.specs.Tree.{Now, Call, Empty, Then}
+use Rattle.rt_app.specs.Cost.{lock_cost, block_cost, capped}
+use Rattle.rt_app.specs.Steps.{block_steps, statement_steps}
+use Rattle.rt_app.specs.BodyCost.{cost_measure}
+use Rattle.rt_app.specs.Holding.{storage}
+use Rattle.rt_app.specs.Sound.{IsSoundLock, IsSoundStatement, IsSoundBlock}
+use Rattle.rt_app.specs.Sending.{act}
+use Rattle.rt_app.specs.Meaning.{run, run_block}
+use Rattle.rt_app.proofs.Capping.{cap_steps}
+use Rattle.rt_app.proofs.Sound.{accepted_are_sound}
+use Rattle.rt_code.specs.Masking.{IsKindFor, opening, saving}
+use Rattle.rt_code.specs.Owning.{Kind, Held, saved_slot, saved_slots}
+use Rattle.rt_code.specs.Standing.{passed}
+use Rattle.rt_lemmas.proofs.Membership.{all_append, all_has, all_weaker, contained_any, contains_cases, contains_there}
+use Rattle.rt_gen_queue.specs.Line.{Line, HasCode}
+use Rattle.rt_gen_queue.specs.Guards.{guard_of, kind_of, leave_line}
+use Rattle.rt_gen_queue.specs.declared.guard.Guard.{Guard}
+use Rattle.rt_gen_queue.proofs.Layer.{Here, MayOpen, enters_here, leaves_here, spot}
+use Rattle.rt_gen_queue.proofs.Masks.{of_kinds, saved_beside}
+use Rattle.rt_gen_queue.proofs.Owning.{reads_inside}
+use Rattle.rt_gen_queue.proofs.Entering.{kind_fits}
+use Rattle.rt_gen_queue.specs.Spawning.{HoldsOff}
+use Rattle.rt_gen_queue.proofs.Placing.{code_front, code_behind}
+use Rattle.rt_gen_body.specs.Inside.Values.{Context, next_slot}
+use Rattle.rt_gen_body.specs.Inside.Blocks.{guard_at, block_code, statement_code}
+use Rattle.rt_gen_body.proofs.Owning.{resource_cell, spelled_inside, spelled_outside, spelled_agreed, open_as}
+use Rattle.rt_gen_body.proofs.Storing.{guard_is}
+use Rattle.rt_gen_body.proofs.Places.{inside_as, level_inside, needs, Fits, Body, Scope, Inside, Begins}
+use Rattle.rt_gen_body.proofs.Places.{sooner, Performs, goes_behind, listed_by, fewer_visible, front_of, named}
+use Rattle.rt_gen_body.proofs.Places.{block_needs, part_fits}
+use Rattle.rt_gen_body.proofs.Loops.{BlockPerforms, chooses, in_loop, loops}
 use Rattle.std.proofs.Math.Nat.{suc-mul}
-use Rattle.rt_app.specs.Tree.{Statement, Bind, Assign, Branch, Repeat, Locked, Emit, Pend, Spawns, Calc, Now, Call}
-use Rattle.rt_app.specs.Tree.{Block, Empty, Then, App}
 use Rattle.rt_app.specs.Spawned.{statement_spawns, spawns}
 use Rattle.rt_app.specs.Variables.{variables, variables_in}
-use Rattle.rt_app.specs.Steps.{statement_steps, block_steps}
-use Rattle.rt_app.specs.BodyCost.{cost_measure}
 use Rattle.rt_app.specs.Frame.{is_loop, has_loop}
-use Rattle.rt_app.specs.Meaning.{run, run_block}
 use Rattle.rt_app.specs.Accepted.{behind, IsStatementPlaced, IsBlockPlaced}
-use Rattle.rt_app.specs.Sound.{IsSoundStatement, IsSoundBlock}
 use Rattle.rt_app.proofs.Members.{in_front, in_back}
-use Rattle.rt_code.specs.Owning.{Held}
 use Rattle.rt_lemmas.proofs.Bools.{or_left, or_right}
-use Rattle.rt_lemmas.proofs.Membership.{contains_cases, contains_there}
-use Rattle.rt_gen_queue.specs.Line.{Line}
-use Rattle.rt_gen_queue.proofs.Placing.{code_behind}
-use Rattle.rt_gen_body.specs.Inside.Blocks.{statement_code, block_code}
-use Rattle.rt_gen_body.proofs.Branches.{chooses_one, chooses_two}
-use Rattle.rt_gen_body.proofs.Loops.{BlockPerforms, in_loop, loops}
-use Rattle.rt_gen_body.proofs.Places.{Body, Scope, listed_by, Inside, fewer_visible, sooner, front_of, Performs}
-use Rattle.rt_gen_body.proofs.Places.{goes_behind, named}
-use Rattle.rt_gen_body.proofs.Rooms.{needs, block_needs, Fits, part_fits}
-use Rattle.rt_gen_body.proofs.Sections.{in_lock, locks}
 use Rattle.rt_gen_body.proofs.Sending.{sends, binds_sent}
-use Rattle.rt_gen_body.proofs.Simple.{MaySet, sets_variable, binds_time, emits_value, assigns, pends}
+use Rattle.rt_gen_body.proofs.Expressions.{Sets, sets_variable, binds_time, emits_value, assigns, pends}
+
+-- a section costs its steps, where they are few
+section_cost : (app : App) (inner : Block) → 2 + block_steps (cost_measure app) inner ≤ BODY_COST
+    → lock_cost (block_cost (cost_measure app) inner) ≡ 2 + block_steps (cost_measure app) inner
+section_cost app inner few =
+    ap lock_cost (cap_steps.blocks (cost_measure app) inner)
+    ∙ (let e : capped (2 + capped (block_steps (cost_measure app) inner)) ≡ 2
+    + block_steps (cost_measure app) inner = omega arith in e)
+
+-- the slot that keeps a mask
+saved_all : (P : ℕ → Type 0) (g : Guard) (level slot : ℕ) → P slot
+    → AllByRecursion P (saved_slot (kind_of g level slot))
+saved_all P g level slot holds =
+    of_kinds g level (λ kind. AllByRecursion P (saved_slot (kind slot))) tt (holds, tt) (holds, tt)
+
+-- inside a section of a resource
+abbrev pub in_lock : Body → Scope → ℕ → Scope
+in_lock b p r = record p {
+  locked = r ∷ p.locked;
+  level = max p.level (guard_at b.c r).ceiling;
+  lock = next_slot p.lock;
+}
+
+module _ (b : Body) (p : Scope) (r place : ℕ) (inner : Block) (sound : IsSoundLock b.z.app b.m p.locked r)
+    (fits : Fits b p (needs b.z.app (Locked r inner place))) where
+  abbrev kind : Kind
+  kind = kind_of (guard_at b.c r) p.level p.lock
+
+  abbrev open_now : Held
+  open_now = record { section = section.Res r; kind = kind }
+
+  -- its guard is the section's
+  guard : guard_at b.c r ≡ guard_of b.z.app (section.Res r)
+  guard = ap (λ (c : Context). guard_at c r) b.facts.is ∙ guard_is b.z.app b.m r sound.is_there
+
+  opens : opening (guard_at b.c r).value kind
+      ≡ opening ((storage b.z.app).value ((storage b.z.app).ceiling (section.Res r))) kind
+  unfolding storage
+  opens = ap (λ (g : Guard). opening g.value kind) guard
+
+  may_open : {h : Here} {lines : List Line} {cost : ℕ} {vars : List ℕ} {vs : Values} → Begins b p h lines cost vars vs
+      → MayOpen b.z h (section.Res r) kind
+  may_open {h = h} begins = record {
+    mask = subst (λ (g : Guard). IsKindFor (storage b.z.app) b.z.who b.z.who h.held (section.Res r)
+        (kind_of g p.level p.lock)) (sym guard)
+        (kind_fits b.z.app b.z.who h.held (section.Res r) p.level p.lock begins.inside.off
+        ((accepted_are_sound b.z.app b.facts.accepted).ceilings (section.Res r) sound.is_there));
+    slot = saved_all (λ d. (d < length h.slots) × (¬ Contains (saved_slots h.held) d)) (guard_at b.c r) p.level p.lock (
+      omega (arith, begins.known.frame, b.spawns, fits.masks),
+      λ there.
+          let P : ℕ → Type 0 = λ e. (b.top ≤ e) × (e < p.lock) in
+          let found : P p.lock = all_has P (saved_slots h.held) p.lock begins.inside.saved there in
+          omega (arith, found.1),
+    );
+    within = b.facts.enters (section.Res r) sound.within;
+    closed = open_as h.held p.locked (section.Res r) begins.inside.are
+        ∙ false_from_ne_true (list_any (λ q. q == r) p.locked) (λ is. sound.once (contained_any r p.locked is));
+    nobody = b.facts.shared p.locked r sound;
+  }
+
+  inside_lock : {held : List Held} → Inside b p held → Inside b (in_lock b p r) (open_now ∷ held)
+  inside_lock {held = held} inside =
+      let next : next_slot p.lock ≡ p.lock + 1 = omega (arith, fits.masks, b.spawns, b.word) in
+      record {
+        below = inside.below;
+        fixed = inside.fixed;
+        room = inside.room;
+        low = omega (arith, inside.low);
+        high = omega (arith, fits.masks);
+        saved =
+            all_append (λ d. (b.top ≤ d) × (d < next_slot p.lock)) (saved_slot kind) (saved_slots held)
+            (saved_all (λ d. (b.top ≤ d) × (d < next_slot p.lock)) (guard_at b.c r) p.level p.lock
+            (inside.low, omega arith))
+            (all_weaker (λ d. (b.top ≤ d) × (d < p.lock)) (λ d. (b.top ≤ d) × (d < next_slot p.lock))
+            (λ d between. (between.0, omega (arith, between.1))) (saved_slots held) inside.saved);
+        are = (refl, inside.are);
+        off = subst (λ (g : Guard). HoldsOff b.z.app b.z.who b.z.who (open_now ∷ held) (max p.level g.ceiling))
+            (sym guard) (level_inside b.z.app b.z.who held p.level open_now inside.off);
+      }
+
+  pub locks : BlockPerforms b (in_lock b p r) inner
+      → Performs b p p.visible (λ at. statement_code b.c p.level p.lock at (Locked r inner place))
+      (statement_steps (cost_measure b.z.app) (Locked r inner place)) (run b.z.app (Locked r inner place))
+  locks stands = record {
+    runs = λ {h} {vars} {vs} later begins is behind.
+        let cost : ℕ = lock_cost (block_cost (cost_measure b.z.app) inner) in
+        let cost_is = section_cost b.z.app inner fits.steps in
+        let at : ℕ = h.at + 1 in
+        let code : List Line = block_code b.c (max p.level (guard_at b.c r).ceiling) (next_slot p.lock) at inner in
+        let last : List Line = leave_line (section.Res r) (guard_at b.c r) p.level p.lock ∷ [] in
+        let next : suc h.at ≡ at = omega arith in
+        let has = subst (λ a. HasCode b.z.code a (code ++ last)) next begins.has.1 in
+        let cell = resource_cell b.z.app r sound.is_there in
+        let same : (saved y : ℕ) → y < b.c.expressions → slice_index (saving kind saved h.slots) y
+        ≡ slice_index h.slots y =
+        λ saved y low. (saved_beside (guard_at b.c r) p.level p.lock saved h.slots).others y
+        (omega (arith, b.floor, begins.inside.low)) in
+        enters_here kind cost begins.has.0 opens (sooner (omega arith) begins) (may_open begins) is
+        (λ saved ws cells queues taken.
+        named refl next refl
+        (stands.runs (λ vars. act (Leaves (section.Res r)) (later vars))
+        (record {
+          has = code_front b.z.code at code last has;
+          time = (omega (arith, begins.time.0), (omega (arith, cost_is), (sooner (omega arith) begins).1));
+          known = record {
+            in_slots = λ y here.
+                same saved y (omega (arith, begins.inside.below y here, begins.inside.room))
+                ∙ begins.known.in_slots y here;
+            in_cells = spelled_inside open_now (passed (spot b.z h)) taken begins.known.in_cells;
+            long = taken.same.long ∙ begins.known.long;
+            frame = (saved_beside (guard_at b.c r) p.level p.lock saved h.slots).long ∙ begins.known.frame;
+            variables = begins.known.variables;
+          };
+          inside = inside_lock begins.inside;
+        }) refl
+        (record {
+          on = λ t within settled.
+              let known = settled.known in
+              leaves_here kind
+              (record {
+                outer = h.held;
+                deadline = h.done + cost;
+                around = h.deadlines;
+                innermost = refl;
+                last = refl;
+              }) (code_behind b.z.code at (at + length code) code last refl has).0 refl
+              (omega (arith, begins.time.0), (omega (arith, cost_is), (sooner (omega arith) begins).1)) refl
+              (cell.for (slice_index t.cells) (t.queues (Guarded (section.Res r))) (t.vs (Guarded (section.Res r)))
+              (known.in_cells.has cell (reads_inside b.z.app b.z.who h.held open_now (section.Res r) refl)))
+              (λ us agree.
+              goes_behind behind (omega (arith, length-append code last)) (omega arith) (record {
+                in_slots = known.in_slots;
+                in_cells = spelled_agreed agree (spelled_outside open_now known.in_cells);
+                long = known.long;
+                frame = known.frame;
+                variables = known.variables;
+              }) (λ y here.
+              settled.kept y here ∙ same saved y (omega (arith, begins.inside.fixed y here, begins.inside.room))));
+        })));
+  }
 
 -- behind a statement all is in scope that was, and what is new is the next variable
 behind_more : (app : App) (listed : List ℕ) (n : ℕ) (visible : List ℕ) (s : Statement) (y : ℕ) → Contains visible y
@@ -46,21 +208,6 @@ at_least : (n m : ℕ) → 0 < n → m ≤ n * m
 at_least zero m some = absurd (omega arith)
 at_least (suc n) m some = omega (arith, suc-mul n m)
 
--- further on, behind more variables
-inside_more : {b : Body} {p : Scope} {held : List Held} (visible : List ℕ) (n : ℕ)
-    → ((y : ℕ) → Contains visible y → y < p.count + n) → p.count + n ≤ b.c.expressions → Inside b p held
-    → Inside b (record p { visible = visible; count = p.count + n }) held
-inside_more visible n below room inside = record {
-  below = below;
-  fixed = λ y here. omega (arith, inside.fixed y here);
-  room = room;
-  low = inside.low;
-  high = inside.high;
-  saved = inside.saved;
-  are = inside.are;
-  level_is = inside.level_is;
-}
-
 -- a block that uses later variables alone may stand where earlier ones are the next
 further : {b : Body} {p : Scope} (block : Block) (n : ℕ) → p.count + n ≤ b.c.expressions
     → BlockPerforms b (record p { count = p.count + n }) block → BlockPerforms b p block
@@ -71,18 +218,20 @@ further {p = p} block n room performs = record {
         has = begins.has;
         time = begins.time;
         known = begins.known;
-        inside = inside_more p.visible n (λ y here. omega (arith, begins.inside.below y here)) room begins.inside;
+        inside = inside_as p.visible p.fixed n (λ y here. omega (arith, begins.inside.below y here))
+            (λ y here. omega (arith, begins.inside.fixed y here)) room begins.inside;
       }) is (record { on = after.on });
 }
 
 -- the next variable may be set
-next_may : {b : Body} {p : Scope} {x : ℕ} → x ≡ p.count → p.count + 1 ≤ b.c.expressions → MaySet b p x
-next_may is room held inside = (omega arith, λ here. omega (arith, inside.fixed _ here))
-
-next_cases : (p : Scope) {x : ℕ} → x ≡ p.count → (y : ℕ) → Contains (p.count ∷ p.visible) y
-    → (x ≡ y) ⊎ Contains p.visible y
-next_cases p is y here =
-    elim (contains_cases p.count p.visible y here) [ inl e ↦ inl (is ∙ e) | inr old ↦ inr old ]
+next_sets : {b : Body} {p : Scope} {x : ℕ} → x ≡ p.count → p.count + 1 ≤ b.c.expressions
+    → Sets b p x (p.count ∷ p.visible)
+next_sets {p = p} is room = record {
+  small = λ {held} inside. omega arith;
+  free = λ {held} inside here. omega (arith, inside.fixed _ here);
+  cases = λ y here.
+      elim (contains_cases p.count p.visible y here) [ inl e ↦ inl (is ∙ e) | inr old ↦ inr old ];
+}
 
 module _ (b : Body) where
   mutual
@@ -92,34 +241,25 @@ module _ (b : Body) where
         → Performs b p (behind b.z.app (listed_by b.m) p.count p.visible s)
         (λ at. statement_code b.c p.level p.lock at s) (statement_steps (cost_measure b.z.app) s) (run b.z.app s)
     statement_stands (Bind x (Calc e)) p fits sound placed =
-        sets_variable e x (p.count ∷ p.visible)
-        (record { deep = fits.depth; reached = sound.1; meant = placed.1 }) (next_may sound.0 fits.variables)
-        (next_cases p sound.0)
+        sets_variable e (record { deep = fits.depth; reached = sound.1; meant = placed.1 })
+        (next_sets sound.0 fits.variables)
     statement_stands (Bind x (Now at)) p fits sound placed =
-        binds_time x (p.count ∷ p.visible) (next_may sound.0 fits.variables) (next_cases p sound.0)
+        binds_time (next_sets sound.0 fits.variables)
     statement_stands (Bind x (Call q)) p fits sound placed =
-        binds_sent x q (p.count ∷ p.visible)
+        binds_sent q
         (record { deep = fits.depth; words = fits.sends q (0, refl); sound = sound.1; placed = placed.1 })
-        (next_may sound.0 fits.variables) (next_cases p sound.0)
+        (next_sets sound.0 fits.variables)
     statement_stands (Assign x e at) p fits sound placed =
         assigns x e at (record { deep = fits.depth; reached = sound.2; meant = placed.1 }) sound.0 placed.0 sound.1
-    statement_stands (Branch e first Empty) p fits sound placed =
-        chooses_one e first (record { deep = omega (arith, fits.depth); reached = sound.0; meant = placed.0 })
+    statement_stands (Branch e first second) p fits sound placed =
+        chooses e first second (record { deep = omega (arith, fits.depth); reached = sound.0; meant = placed.0 })
         (block_stands first p
         (part_fits fits (omega arith) (omega arith, omega arith) (omega arith)
-        (or_left (has_loop first) (has_loop Empty)) (in_front (spawns first) (spawns Empty))) sound.1 placed.1)
-    statement_stands (Branch e first (Then s rest)) p fits sound placed =
-        chooses_two e first s rest
-        (record { deep = omega (arith, fits.depth); reached = sound.0; meant = placed.0 })
-        (block_stands first p
+        (or_left (has_loop first) (has_loop second)) (in_front (spawns first) (spawns second))) sound.1 placed.1)
+        (further second (variables first) (omega (arith, fits.variables))
+        (block_stands second (record p { count = p.count + variables first })
         (part_fits fits (omega arith) (omega arith, omega arith) (omega arith)
-        (or_left (has_loop first) (has_loop (Then s rest))) (in_front (spawns first) (spawns (Then s rest))))
-        sound.1 placed.1)
-        (further (Then s rest) (variables first) (omega (arith, fits.variables))
-        (block_stands (Then s rest) (record p { count = p.count + variables first })
-        (part_fits fits (omega arith) (omega arith, omega arith) (omega arith)
-        (or_right (has_loop first) (has_loop (Then s rest))) (in_back (spawns first) (spawns (Then s rest))))
-        sound.2 placed.2))
+        (or_right (has_loop first) (has_loop second)) (in_back (spawns first) (spawns second))) sound.2 placed.2))
     statement_stands (Repeat x first last turn) p fits sound placed =
         subst (λ (y : ℕ). Performs b p p.visible (λ at. statement_code b.c p.level p.lock at (Repeat y first last turn))
         (statement_steps (cost_measure b.z.app) (Repeat y first last turn)) (run b.z.app (Repeat y first last turn)))
@@ -138,7 +278,7 @@ module _ (b : Body) where
         placed.1)
     statement_stands (Emit e) p fits sound placed =
         emits_value e (record { deep = fits.depth; reached = sound; meant = placed })
-    statement_stands (Pend i) p fits sound placed = pends i sound
+    statement_stands (Pend i) p fits sound placed = pends i
     statement_stands (Spawns q) p fits sound placed =
         sends q (record { deep = fits.depth; words = fits.sends q (0, refl); sound = sound; placed = placed })
 
@@ -170,7 +310,7 @@ module _ (b : Body) where
           runs = λ {h} {vars} {vs} later begins is after.
               let first : List Line = statement_code b.c p.level p.lock h.at s in
               let others : List Line = block_code b.c p.level p.lock (h.at + length first) rest in
-              one.runs (run_block b.z.app rest later) (front_of {front = first} others (omega arith) refl begins) is
+              one.runs (run_block b.z.app rest later) (front_of first others (omega arith) begins) is
               (record {
                 on = λ t within settled.
                     two.runs later
@@ -178,9 +318,10 @@ module _ (b : Body) where
                       has = code_behind b.z.code h.at (h.at + length first) first others refl begins.has;
                       time = sooner (omega arith) begins;
                       known = settled.known;
-                      inside = inside_more visible (variables_in s)
+                      inside = inside_as visible p.fixed (variables_in s)
                           (behind_below b.z.app (listed_by b.m) p.count p.visible s begins.inside.below)
-                          (omega (arith, fits.variables)) begins.inside;
+                          (λ y here. omega (arith, begins.inside.fixed y here)) (omega (arith, fits.variables))
+                          begins.inside;
                     }) refl
                     (record {
                       on = λ t2 within2 settled2.

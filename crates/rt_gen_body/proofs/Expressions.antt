@@ -1,28 +1,41 @@
--- The code of an expression leaves its value in a slot.
+-- The code of an expression leaves its value in a slot, and statements without blocks do their action, or change their
+-- variable or resource, within their steps.
 use Rattle.std.proofs.Common.{◌≡◌, ◌≢◌, ℕ, suc, ◌+◌, ◌<◌, ◌≤◌, List, [], ◌∷◌, ◌++◌, length, slice_index, slice_set}
 use Rattle.std.proofs.Common.{refl, ap, sym, ◌∙◌, subst, arith, get_or-set_same, ◌⊎◌, inl, inr, get_or-set_other}
-use Rattle.std.proofs.Common.{length-set, length-append}
+use Rattle.std.proofs.Common.{length-set, length-append, ◌==◌, Bool, true, false, Some, slice_get, Contains}
 use Rattle.rt_lemmas.proofs.Bools.{or_left}
 use Rattle.rt_ids.specs.Operation.{operate}
-use Rattle.rt_ids.specs.Holder.{Guarded, Own}
-use Rattle.rt_ids.specs.Content.{Values, number}
+use Rattle.rt_ids.specs.Holder.{Guarded, Own, Holder}
+use Rattle.rt_ids.specs.Content.{Values, number, Number, put_at}
 use Rattle.rt_ids.specs.declared.ids.Section.TheVariants as section
 use Rattle.rt_app.specs.declared.expr.Atom.TheVariants as atom
-use Rattle.rt_app.specs.Tree.{Expression, Num, Read, Oper}
-use Rattle.rt_app.specs.Accepted.{AreMeant}
-use Rattle.rt_app.specs.Sound.{AreReached}
+use Rattle.rt_app.specs.Tree.{Expression, Num, Read, Oper, Assign, Emit, Pend}
+use Rattle.rt_app.specs.Accepted.{AreMeant, IsMeant}
+use Rattle.rt_app.specs.Sound.{AreReached, IsReached, IsChangeable}
 use Rattle.rt_app.specs.Steps.{expression_steps}
 use Rattle.rt_app.specs.Frame.{depth}
-use Rattle.rt_app.specs.Meaning.{Later, value_in}
+use Rattle.rt_app.specs.Meaning.{Later, value_in, run}
 use Rattle.rt_code.specs.declared.instr.Instr.{Instr}
 use Rattle.rt_code.specs.declared.instr.Instr.TheVariants as instr
 use Rattle.rt_gen_queue.specs.Line.{Line, plain, HasCode}
-use Rattle.rt_gen_queue.proofs.Layer.{Here, S, Gives, goes, set_gives, copy_gives, calc_gives, load_gives}
+use Rattle.rt_gen_queue.proofs.Layer.{Here, S, IsFree, Gives, goes, set_gives, copy_gives, calc_gives, load_gives}
+use Rattle.rt_gen_queue.proofs.Layer.{store_gives, emits_here, posts_here, clocks_here}
 use Rattle.rt_gen_queue.proofs.Placing.{code_behind}
-use Rattle.rt_gen_body.specs.Inside.Values.{next_slot, expression_code, value_code}
-use Rattle.rt_gen_body.proofs.Owning.{HasCell, resource_cell, local_cell, reads_cell}
+use Rattle.rt_gen_body.specs.Inside.Values.{Context, next_slot, expression_code, value_code}
+use Rattle.rt_gen_body.proofs.Owning.{HasCell, resource_cell, local_cell, reads_cell, writes_cell, spelled_agreed}
+use Rattle.rt_gen_body.proofs.Owning.{spelled_put, OpenAre}
 use Rattle.rt_gen_body.proofs.Places.{Body, Scope, listed_by, free_slot, Knows, Begins, sooner, front_of, Behind}
-use Rattle.rt_gen_body.proofs.Places.{still_behind, named}
+use Rattle.rt_gen_body.proofs.Places.{still_behind, named, Inside, Performs, goes_behind}
+use Rattle.rt_gen_body.proofs.Storing.{number_is, resource_read, resource_owned, local_owned}
+use Rattle.std.proofs.lemmas.Bool.{eqb-true}
+use Rattle.std.proofs.lemmas.Grind.{get_or-set_at}
+use Rattle.std.proofs.lemmas.Bool.Decides.{nat_tests}
+use Rattle.rt_ids.specs.Action.{Clocks}
+use Rattle.rt_ids.specs.Doing.{does}
+use Rattle.rt_app.specs.declared.expr.Atom.{Atom}
+use Rattle.rt_app.specs.Holding.{storage}
+use Rattle.rt_code.specs.Owning.{Held, owns, Agree}
+use Rattle.rt_gen_body.specs.Inside.Simple.{emit_code, assign_code}
 
 -- A value has come into a slot; but for it, all slots below those that were free and from the top on are as before.
 pub record Evaluated (slot free top result : ℕ) (before after : List ℕ) : Type 0 where
@@ -56,7 +69,7 @@ one_deep (Oper o left right) = omega arith
 -- the cell of a local resource
 pub local_at : (b : Body) (n : ℕ) → n < length b.z.app.locals → HasCell b.z.app (Own n) (b.c.locals + n)
 local_at b n within =
-    subst (λ (k : ℕ). HasCell b.z.app (Own n) (k + n)) (sym b.facts.locals) (local_cell b.z.app n within)
+    subst (λ (c : Context). HasCell b.z.app (Own n) (c.locals + n)) (sym b.facts.is) (local_cell b.z.app n within)
 
 target_free : {b : Body} {p : Scope} {slot free : ℕ} → Target b p slot free → (slot < b.top) ⊎ (p.lock ≤ slot)
 target_free t = elim t.target [ inl below ↦ inl below.1 | inr above ↦ inr above ]
@@ -112,11 +125,12 @@ module _ {b : Body} {p : Scope} {h : Here} {lines : List Line} {cost : ℕ} {var
 module _ {b : Body} {p : Scope} {h : Here} {vars : List ℕ} {vs : Values} where
   -- an expression of one line
   one_line : {i : Instr} {slot free value : ℕ} → Target b p slot free → Begins b p h (plain i ∷ []) 1 vars vs
-      → Gives b.z h i (slice_set h.slots slot value) (suc h.at) h.cells → Follows b h 1 1 slot free value → S b.z h
+      → (slot < length h.slots → IsFree h.held slot
+      → Gives b.z h i (slice_set h.slots slot value) (suc h.at) h.cells) → Follows b h 1 1 slot free value → S b.z h
   one_line {slot = slot} {value = value} t begins gives on =
-      goes begins.has.0 (sooner (omega arith) begins) gives
-      (on (suc h.done) (suc h.at) (slice_set h.slots slot value) (omega arith) (omega arith)
-      (evaluated_at (omega (arith, t.there, begins.known.frame))))
+      let there : slot < length h.slots = omega (arith, t.there, begins.known.frame) in
+      goes begins.has.0 (sooner (omega arith) begins) (gives there (free_slot slot (target_free t) begins.inside))
+      (on (suc h.done) (suc h.at) (slice_set h.slots slot value) (omega arith) (omega arith) (evaluated_at there))
 
 pub evaluates : {b : Body} {p : Scope} (e : Expression) {h : Here} {vars : List ℕ} {vs : Values} {slot free : ℕ}
     → Target b p slot free → free + depth e ≤ suc b.top → AreReached b.z.app b.m p.locked e
@@ -124,22 +138,22 @@ pub evaluates : {b : Body} {p : Scope} (e : Expression) {h : Here} {vars : List 
     → Begins b p h (expression_code b.c e slot free) (expression_steps e) vars vs
     → Follows b h (expression_steps e) (length (expression_code b.c e slot free)) slot free (value_in vars vs e)
     → S b.z h
-evaluates (Num v) t deep reached meant begins on =
-    one_line t begins (set_gives (omega (arith, t.there, begins.known.frame))
-    (free_slot _ (target_free t) begins.inside)) on
+evaluates (Num v) t deep reached meant begins on = one_line t begins (λ there free. set_gives there free) on
 evaluates (Read (atom.Var x) place) {vars = vars} t deep reached meant begins on =
     let below = begins.inside.below x meant in
-    one_line t begins (copy_gives (slice_index vars x) (omega (arith, t.there, begins.known.frame))
-    (omega (arith, t.there, t.low, begins.inside.room, begins.known.frame)) (free_slot _ (target_free t) begins.inside)
+    one_line t begins
+    (λ there free. copy_gives (slice_index vars x) there (omega (arith, t.low, begins.inside.room)) free
     (begins.known.in_slots x meant)) on
 evaluates {b = b} {p = p} (Read (atom.Shared r) place) {h = h} {vs = vs} t deep reached meant begins on =
-    one_line t begins (load_gives (number (vs (Guarded (section.Res r)))) (omega (arith, t.there, begins.known.frame))
-    (free_slot _ (target_free t) begins.inside) (reads_cell (resource_cell b.z.app r meant)
-    (b.facts.resource_read h.held p.locked r begins.inside.are reached) begins.known.long begins.known.in_cells)) on
+    one_line t begins
+    (λ there free. load_gives (number (vs (Guarded (section.Res r)))) there free
+    (reads_cell (resource_cell b.z.app r meant) (resource_read b.facts h.held p.locked r begins.inside.are reached)
+    begins.known.long begins.known.in_cells)) on
 evaluates {b = b} {p = p} (Read (atom.Local n) place) {h = h} {vs = vs} t deep reached meant begins on =
-    one_line t begins (load_gives (number (vs (Own n))) (omega (arith, t.there, begins.known.frame))
-    (free_slot _ (target_free t) begins.inside) (reads_cell (local_at b n meant.0)
-    (or_left _ _ (b.facts.local_owned h.held p.locked n reached)) begins.known.long begins.known.in_cells)) on
+    one_line t begins
+    (λ there free. load_gives (number (vs (Own n))) there free
+    (reads_cell (local_at b n meant.0) (or_left _ _ (local_owned b.facts h.held p.locked n reached))
+    begins.known.long begins.known.in_cells)) on
 evaluates {b = b} {p = p} (Oper op left right) {h = h} {vars = vars} {vs = vs} {slot = slot} {free = free} t deep
     reached meant begins on =
     let left_code : List Line = expression_code b.c left slot free in
@@ -153,14 +167,14 @@ evaluates {b = b} {p = p} (Oper op left right) {h = h} {vars = vars} {vs = vs} {
     let from : free < length h.slots = omega (arith, begins.known.frame) in
     let there : slot < length h.slots = omega (arith, t.there, begins.known.frame) in
     evaluates left t (omega arith) reached.0 meant.0
-    (front_of {front = left_code} (right_code ++ last) (omega arith) refl begins)
+    (front_of left_code (right_code ++ last) (omega arith) begins)
     (λ done1 at1 s1 done1_is at1_is first.
     let has1 : HasCode b.z.code at1 (right_code ++ last) =
     code_behind b.z.code h.at at1 left_code (right_code ++ last) at1_is begins.has in
     evaluates right
     (record { target = inl (omega arith, inside); there = omega arith; low = t.floor; floor = omega (arith, t.floor) })
     (omega arith) reached.1 meant.1
-    (front_of {front = right_code} last (omega arith) refl
+    (front_of right_code last (omega arith)
     (next_begins {few = expression_steps right + 1} has1 (omega arith) first.long
     (λ x less. first.below x (omega (arith, t.floor)) (λ (e : x ≡ slot). omega (arith, t.low))) begins))
     (λ done2 at2 s2 done2_is at2_is second.
@@ -191,7 +205,7 @@ pub with_value : {b : Body} {p : Scope} {visible : List ℕ} {h : Here} {lines :
     {total : ℕ} {later : Later} (e : Expression) (cost : ℕ) → expression_steps e + cost ≤ total → Sound b p e
     → Begins b p h (value_code b.c e ++ lines) total vars vs
     → Behind b p visible h (length (value_code b.c e ++ lines)) total later
-    → ((slots : List ℕ) → slice_index slots b.c.expressions ≡ value_in vars vs e
+    → ((slots : List ℕ) → b.c.expressions < length slots → slice_index slots b.c.expressions ≡ value_in vars vs e
     → Begins b p (valued b h e slots) lines cost vars vs
     → Behind b p visible (valued b h e slots) (length lines) cost later → S b.z (valued b h e slots)) → S b.z h
 with_value {b = b} {p = p} {h = h} {lines = lines} e cost less sound begins behind on =
@@ -200,19 +214,161 @@ with_value {b = b} {p = p} {h = h} {lines = lines} e cost less sound begins behi
     let top : b.top ≤ b.words = omega (arith, b.masks, b.spawns) in
     let next : next_slot b.c.expressions ≡ b.c.expressions + 1 = omega (arith, b.word) in
     evaluates e
-    (record {
-      target = inl (omega arith, omega arith);
-      there = omega arith;
-      low = omega arith;
-      floor = omega arith;
-    })
-    (omega arith) sound.reached sound.meant (front_of {front = test} lines (omega arith) refl begins)
+    (record { target = inl (omega arith, omega arith); there = omega arith; low = omega arith; floor = omega arith })
+    (omega arith) sound.reached sound.meant (front_of test lines (omega arith) begins)
     (λ done at after done_is at_is is.
     let same : (x : ℕ) → x < b.c.expressions → slice_index after x ≡ slice_index h.slots x =
     λ x low. is.below x (omega arith) (λ (e : x ≡ b.c.expressions). omega arith) in
     named done_is at_is refl
-    (on after is.value
+    (on after (omega (arith, is.long, begins.known.frame)) is.value
     (next_begins (code_behind b.z.code h.at (h.at + length test) test lines refl begins.has) (omega arith) is.long same
     begins)
     (still_behind behind (omega (arith, length-append test lines)) (omega arith)
     (λ x here. same x (omega (arith, begins.inside.fixed x here, begins.inside.room))))))
+
+-- the same place of two lists gets the same value
+both_set : (slots vars : List ℕ) (x v y : ℕ) → x < length slots → x < length vars
+    → (y ≢ x → slice_index slots y ≡ slice_index vars y)
+    → slice_index (slice_set slots x v) y ≡ slice_index (slice_set vars x v) y
+both_set slots vars x v y in_slots in_vars other = go (x == y) refl
+  where
+    go : (b : Bool) → (x == y) ≡ b → slice_index (slice_set slots x v) y ≡ slice_index (slice_set vars x v) y
+    go true e =
+        let is : y ≡ x = sym (eqb-true x y e) in
+        get_or-set_at slots x y v 0 is in_slots ∙ sym (get_or-set_at vars x y v 0 is in_vars)
+    go false e =
+        let differ : y ≢ x = grind (arith, nat_tests) in
+        get_or-set_other slots x y v 0 differ ∙ other differ ∙ sym (get_or-set_other vars x y v 0 differ)
+
+-- a variable and its slot get a value
+pub variable_set : {b : Body} {held : List Held} {visible slots cells vars : List ℕ} {vs : Values} (x v : ℕ)
+    (more : List ℕ) → x < b.c.expressions → ((y : ℕ) → Contains more y → (x ≡ y) ⊎ Contains visible y)
+    → Knows b held visible slots cells vars vs → Knows b held more (slice_set slots x v) cells (slice_set vars x v) vs
+variable_set {b = b} {slots = slots} {vars = vars} x v more small cases known = record {
+  in_slots = λ y here.
+      both_set slots vars x v y (omega (arith, known.frame, b.floor, b.masks, b.spawns))
+      (omega (arith, known.variables))
+      (λ differ. elim (cases y here) [ inl is ↦ absurd (differ (sym is)) | inr old ↦ known.in_slots y old ]);
+  in_cells = known.in_cells;
+  long = known.long;
+  frame = length-set slots x v ∙ known.frame;
+  variables = length-set vars x v ∙ known.variables;
+}
+
+-- values that agree in what may be read
+pub known_agreed : {b : Body} {held : List Held} {visible slots cells vars : List ℕ} {vs ws : Values}
+    → Agree (storage b.z.app) b.z.who held ws vs → Knows b held visible slots cells vars vs
+    → Knows b held visible slots cells vars ws
+known_agreed agree known = record {
+  in_slots = known.in_slots;
+  in_cells = spelled_agreed agree known.in_cells;
+  long = known.long;
+  frame = known.frame;
+  variables = known.variables;
+}
+
+-- A variable may be set, and then these are in scope: it has a slot, and no loop has it.
+pub record Sets (b : Body) (p : Scope) (x : ℕ) (more : List ℕ) : Type 0 where
+  pub small : {held : List Held} → Inside b p held → x < b.c.expressions
+  pub free : {held : List Held} → Inside b p held → ¬ Contains p.fixed x
+  pub cases : (y : ℕ) → Contains more y → (x ≡ y) ⊎ Contains p.visible y
+
+pub kept_set : (b : Body) (p : Scope) (slots : List ℕ) (x v y : ℕ) → ¬ Contains p.fixed x → Contains p.fixed y
+    → slice_index (slice_set slots x v) y ≡ slice_index slots y
+kept_set b p slots x v y changes here =
+    get_or-set_other slots x y v 0 (λ (is : y ≡ x). changes (subst (λ (z : ℕ). Contains p.fixed z) is here))
+
+module _ {b : Body} {p : Scope} where
+  -- `let` and assignments to variables
+  pub sets_variable : {x : ℕ} {more : List ℕ} (e : Expression) → Sound b p e → Sets b p x more
+      → Performs b p more (λ at. value_code b.c e ++ plain (instr.Copy x b.c.expressions) ∷ [])
+      (expression_steps e + 1) (λ later vars vs. later (slice_set vars x (value_in vars vs e)) vs)
+  sets_variable {x = x} {more = more} e sound sets = record {
+    runs = λ {h} {vars} {vs} later begins is behind.
+        with_value e 1 (omega arith) sound begins behind
+        (λ slots there result begins1 behind1.
+        let small = sets.small begins.inside in
+        let value : ℕ = value_in vars vs e in
+        goes begins1.has.0 (sooner (omega arith) begins1)
+        (copy_gives value (omega arith) there (free_slot x (inl (omega (arith, b.floor))) begins.inside) result)
+        (named refl refl is
+        (goes_behind behind1 (omega arith) (omega arith) (variable_set x value more small sets.cases begins1.known)
+        (λ y here. kept_set b p slots x value y (sets.free begins.inside) here))));
+  }
+
+  pub emits_value : (e : Expression) → Sound b p e
+      → Performs b p p.visible (λ at. emit_code b.c e) (expression_steps e + 1) (run b.z.app (Emit e))
+  emits_value e sound = record {
+    runs = λ {h} {vars} {vs} later begins is behind.
+        with_value e 1 (omega arith) sound begins behind
+        (λ slots there result begins1 behind1.
+        emits_here (value_in vars vs e) begins1.has.0 (sooner (omega arith) begins1) there result is
+        (λ ws agree.
+        goes_behind behind1 (omega arith) (omega arith) (known_agreed agree begins1.known) (λ y here. refl)));
+  }
+
+  -- a resource, which has a cell, gets a value
+  stores_value : (e : Expression) (cell : ℕ) (holder : Holder) → Sound b p e → HasCell b.z.app holder cell
+      → ((held : List Held) → OpenAre held p.locked → owns (storage b.z.app) b.z.who held holder ≡ true)
+      → Performs b p p.visible (λ at. value_code b.c e ++ plain (instr.Store cell b.c.expressions) ∷ [])
+      (expression_steps e + 1) (λ later vars vs. later vars (put_at vs holder (Number (value_in vars vs e))))
+  stores_value e cell holder sound has own = record {
+    runs = λ {h} {vars} {vs} later begins is behind.
+        with_value e 1 (omega arith) sound begins behind
+        (λ slots there result begins1 behind1.
+        let known = begins1.known in
+        let value : ℕ = value_in vars vs e in
+        goes begins1.has.0 (sooner (omega arith) begins1)
+        (store_gives value there result (writes_cell has (own h.held begins.inside.are) known.long))
+        (named refl refl is (goes_behind behind1 (omega arith) (omega arith) (record {
+          in_slots = known.in_slots;
+          in_cells = spelled_put value has known.long known.in_cells;
+          long = length-set h.cells cell value ∙ known.long;
+          frame = known.frame;
+          variables = known.variables;
+        }) (λ y here. refl))));
+  }
+
+  -- an assignment, to whatever its name stands for
+  pub assigns : (x : Atom) (e : Expression) (place : ℕ) → Sound b p e → IsReached b.z.app b.m p.locked x
+      → IsMeant b.z.app (listed_by b.m) p.visible x → IsChangeable b.z.app b.m p.fixed x
+      → Performs b p p.visible (λ at. assign_code b.c x e) (expression_steps e + 1) (run b.z.app (Assign x e place))
+  assigns (atom.Var x) e place sound to meant changes =
+      sets_variable e sound
+      (record {
+        small = λ {held} inside. omega (arith, inside.below x meant, inside.room);
+        free = λ {held} inside. changes;
+        cases = λ y here. inr here;
+      })
+  assigns (atom.Shared r) e place sound to meant changes =
+      stores_value e r (Guarded (section.Res r)) sound (resource_cell b.z.app r meant)
+      (λ held are. resource_owned b.facts held p.locked p.fixed r are to changes)
+  assigns (atom.Local l) e place sound to meant changes =
+      stores_value e (b.c.locals + l) (Own l) sound (local_at b l meant.0)
+      (λ held are. local_owned b.facts held p.locked l to)
+
+  pub pends : (i : ℕ) → Performs b p p.visible (λ at. plain (instr.Post (slice_index b.c.numbers i)) ∷ []) 1
+      (run b.z.app (Pend i))
+  pends i = record {
+    runs = λ {h} {vars} {vs} later begins is behind.
+        posts_here (subst (λ (irq : ℕ). slice_get b.z.code h.at ≡ Some (plain (instr.Post irq)))
+        (ap (λ (c : Context). slice_index c.numbers i) b.facts.is ∙ number_is b.z.app i b.z.app.irqs) begins.has.0)
+        (sooner (omega arith) begins) is
+        (λ ws agree.
+        goes_behind behind (omega arith) (omega arith) (known_agreed agree begins.known) (λ y here. refl));
+  }
+
+  -- a variable gets the time
+  pub binds_time : {x : ℕ} {more : List ℕ} → Sets b p x more → Performs b p more (λ at. plain (instr.Clock x) ∷ []) 2
+      (λ later vars vs. does Clocks vs (λ time. later (slice_set vars x time)))
+  binds_time {x = x} {more = more} sets = record {
+    runs = λ {h} {vars} {vs} later begins is behind.
+        let small = sets.small begins.inside in
+        clocks_here begins.has.0 (sooner (omega arith) begins)
+        (omega (arith, begins.known.frame, b.floor, b.masks, b.spawns))
+        (free_slot x (inl (omega (arith, b.floor))) begins.inside) is
+        (λ time ws early agree.
+        goes_behind behind (omega arith) (omega arith)
+        (variable_set x time more small sets.cases (known_agreed agree begins.known))
+        (λ y here. kept_set b p h.slots x time y (sets.free begins.inside) here));
+  }

@@ -1,12 +1,25 @@
--- How the code of a body comes about.
-use Rattle.std.proofs.Common.{zero, suc, ◌≡◌, refl, sym, ap, subst, ◌∙◌, ℕ, ◌+◌, ◌≤◌, ◌<◌, ◌^◌, List, [], ◌++◌, length}
-use Rattle.std.proofs.Common.{map, slice_get, get_or, Option, Some, None, option_map, arith}
-use Rattle.std.specs.List.{AllByRecursion, range_with_len}
+-- How the code of a body comes about: what a generator's calls append, one after the other, is the code of what they
+-- are for, and so the whole code of a body stands.
+use Rattle.std.proofs.Common.{◌==◌, ◌≡◌, ◌≢◌, refl, sym, ap, subst, ◌∙◌, ℕ, zero, suc, map, ◌+◌, ◌≤◌, ◌<◌, List, []}
+use Rattle.std.proofs.Common.{◌∷◌, ◌++◌, None, slice_get, length, get_or, slice_set, true, false}
+use Rattle.std.proofs.Common.{append_assoc, length-append, arith, ◌^◌, Option, Some, option_map}
+use Rattle.std.proofs.lemmas.Bool.{eqb-true, eqb-false}
 use Rattle.std.proofs.lemmas.List.{append-nil}
+use Rattle.std.proofs.Math.Seq.{set-append_seam}
+use Rattle.rt_app.specs.Limits.{statements_in, statements_of, KeepsTaskLimits}
+use Rattle.rt_app.specs.Tree as tree
+use Rattle.rt_app.specs.View.{statement_of, block_of, app_of, task_of, body_of}
+use Rattle.rt_app.specs.declared.stmt.Stmt.{Stmt}
+use Rattle.rt_code.specs.declared.instr.Instr.TheVariants as instr
+use Rattle.rt_gen_queue.specs.Line.{Line, plain}
+use Rattle.rt_gen_body.specs.Inside.Values.{Context}
+use Rattle.rt_gen_body.specs.Inside.Blocks.{branch_code, two_code, first_code, statement_code, block_code}
+use Rattle.rt_gen_body.specs.Inside.Lines.{Lines, next_address, Appends, EndsWith}
+use Rattle.std.specs.List.{AllByRecursion, range_with_len}
 use Rattle.std.proofs.lemmas.Simd.{map-map}
 use Rattle.std.proofs.lemmas.Option.{slice_get_read, slice_get-map}
-use Rattle.rt_lemmas.proofs.Lists.{mapped_at}
-use Rattle.rt_lemmas.proofs.Membership.{all_at}
+use Rattle.rt_lemmas.proofs.Lists.{all_map, mapped_at}
+use Rattle.rt_lemmas.proofs.Membership.{all_at, all_from_members}
 use Rattle.rt_ids.specs.declared.ids.BodyId.{BodyId}
 use Rattle.rt_ids.specs.declared.ids.BodyId.TheVariants as body
 use Rattle.rt_app.specs.declared.app.App as code
@@ -14,7 +27,6 @@ use Rattle.rt_app.specs.declared.app.Task as row
 use Rattle.rt_ids.specs.declared.ids.Section.TheVariants as section
 use Rattle.rt_app.specs.declared.plan.Plan.{Plan}
 use Rattle.rt_app.specs.Tree.{Task, App}
-use Rattle.rt_gen_queue.specs.Line.{Line}
 use Rattle.rt_gen_queue.specs.Guards.{guarded}
 use Rattle.rt_gen_queue.specs.declared.guard.Guard.{Guard}
 use Rattle.rt_gen_body.specs.Bodies.{IsBodyOf, DeclaredStands, BodyStands}
@@ -24,14 +36,92 @@ use Rattle.rt_app.specs.Frame.{frame_words}
 use Rattle.rt_app.specs.Plan.{IsPlan}
 use Rattle.rt_app.proofs.Sound.{accepted_are_sound}
 use Rattle.rt_frames.proofs.Within.{frame_few}
-use Rattle.rt_app.specs.View.{app_of, task_of, body_of}
 use Rattle.rt_app.specs.Bodies.{member_at}
-use Rattle.rt_app.specs.Limits.{KeepsTaskLimits}
 use Rattle.rt_app.specs.Accepted.{IsAccepted}
-use Rattle.rt_gen_body.specs.Inside.Lines.{Lines, Appends}
 use Rattle.rt_gen_body.specs.Inside.Generating.{slots_code}
-use Rattle.rt_gen_body.proofs.Promises.{BodyThere, of_task, between, init_stands, idle_stands, task_stands}
-use Rattle.rt_gen_body.proofs.Promises.{called_stands}
+use Rattle.rt_gen_body.proofs.Promises.{contains_range, BodyThere, of_task, body_between, init_stands, idle_stands}
+use Rattle.rt_gen_body.proofs.Promises.{task_stands, called_stands}
+
+-- the address behind lines
+pub behind_at : (n : ℕ) (xs ys : List Line) → n + length (xs ++ ys) ≡ n + length xs + length ys
+behind_at n xs ys = omega (arith, length-append xs ys)
+
+longer : (n : ℕ) (xs : List Line) (x : Line) → n + suc (length (xs ++ x ∷ [])) ≡ n + 1 + length xs + 1
+longer n xs x = omega (arith, length-append xs (x ∷ []))
+
+pub behind_four : (n : ℕ) (xs : List Line) (x y z w : Line)
+    → n + length ((xs ++ x ∷ y ∷ z ∷ []) ++ w ∷ []) ≡ n + length xs + 4
+behind_four n xs x y z w = simp length-append (omega arith)
+
+pub behind_loop : (n : ℕ) (xs head one ys back : List Line) → n + length ((((xs ++ head) ++ one) ++ ys) ++ back)
+    ≡ n + length xs + (length head + length one) + length ys + length back
+behind_loop n xs head one ys back = simp length-append (omega arith)
+
+-- a line in place of the one behind three, and of the one behind a line and others
+pub fourth_seam : (o : List Line) (x y z old new : Line) (rest : List Line)
+    → slice_set (o ++ x ∷ y ∷ z ∷ old ∷ rest) (length (o ++ x ∷ y ∷ z ∷ [])) new ≡ o ++ x ∷ y ∷ z ∷ new ∷ rest
+fourth_seam o x y z old new rest =
+    rw (← append_assoc o (x ∷ y ∷ z ∷ []) (old ∷ rest))
+    (set-append_seam (o ++ x ∷ y ∷ z ∷ []) old rest new ∙ append_assoc o (x ∷ y ∷ z ∷ []) (new ∷ rest))
+
+between_seam : (o one two : List Line) (ahead old new : Line)
+    → slice_set (o ++ ahead ∷ (one ++ old ∷ two)) (length o + 1 + length one) new ≡ o ++ ahead ∷ (one ++ new ∷ two)
+between_seam o one two ahead old new =
+    let long : length o + 1 + length one ≡ length (o ++ ahead ∷ one) = omega (arith, length-append o (ahead ∷ one)) in
+    rw (long, ← append_assoc o (ahead ∷ one) (old ∷ two))
+    (set-append_seam (o ++ ahead ∷ one) old two new ∙ append_assoc o (ahead ∷ one) (new ∷ two))
+
+-- the code of a block, and of what stands behind it
+pub block_code-append : (c : Context) (level lock at : ℕ) (xs ys : List Stmt)
+    → block_code c level lock at (block_of (xs ++ ys))
+    ≡ block_code c level lock at (block_of xs) ++ block_code c level lock
+    (at + length (block_code c level lock at (block_of xs))) (block_of ys)
+block_code-append c level lock at [] ys = ap (λ n. block_code c level lock n (block_of ys)) (omega arith)
+block_code-append c level lock at (x ∷ xs) ys =
+    let first : List Line = statement_code c level lock at (statement_of x) in
+    rw (block_code-append c level lock (at + length first) xs ys) (simp (behind_at, append_assoc))
+
+-- a second block that has no statements is the empty one, and before another the choice is between two
+pub no_second : (n : ℕ) (second : List Stmt) → n ≡ length second → true ≡ (n == 0) → block_of second ≡ tree.Empty
+no_second n [] is e = refl
+no_second n (x ∷ xs) is e = (let zero : n ≡ 0 = eqb-true n 0 (sym e) in absurd (omega arith))
+
+pub some_second : (c : Context) (at : ℕ) (one two : ℕ → List Line) (n : ℕ) (second : List Stmt) → n ≡ length second
+    → false ≡ (n == 0) → branch_code c at one two (block_of second) ≡ two_code c at one two
+some_second c at one two n [] is e = (let some : n ≢ 0 = eqb-false n 0 (sym e) in absurd (some is))
+some_second c at one two n (x ∷ xs) is e = refl
+
+pub two_emitted : (c : Context) (b q r : Lines) (first second : ℕ → List Line)
+    → Appends b q (first_code c (next_address b) (first (next_address b + 1)))
+    → EndsWith q r (length b.lines + 1 + length (first (next_address b + 1))) (second (next_address q))
+    → Appends b r (two_code c (next_address b) first second)
+two_emitted c b q r first second e f = rw (f, e) (simp (behind_at, longer, append_assoc, between_seam))
+
+-- lines and none behind them
+pub appends_none : (code : Lines) → Appends code code []
+appends_none code = ap (λ (xs : List Line). record code { lines = xs }) (sym (append-nil code.lines))
+
+at_within : (xs : List Stmt) (i : ℕ) (x : Stmt) → i < length xs
+    → statements_in (statement_of (get_or xs i x)) ≤ statements_of (block_of xs)
+at_within [] i x within = absurd (omega arith)
+at_within (y ∷ xs) zero x within = omega arith
+at_within (y ∷ xs) (suc i) x within = omega (arith, at_within xs i x (omega arith))
+
+-- a statement of a block is no longer than the block
+pub statement_within : (xs : List Stmt) (i : ℕ) (x : Stmt) → i < length xs → x ≡ get_or xs i x
+    → statements_in (statement_of x) ≤ statements_of (block_of xs)
+statement_within xs i x within is = omega (arith, at_within xs i x within, ap (λ y. statements_in (statement_of y)) is)
+
+-- the jump over a second block stands among the lines of the first
+pub first_within : (c : Context) (a b : Lines) (over : ℕ) (block : List Line) → over ≡ length a.lines + 1 + length block
+    → Appends a b (first_code c (next_address a) block) → over < length b.lines
+first_within c a b over block place e =
+    omega (
+      arith,
+      ap (λ (l : Lines). length l.lines) e,
+      length-append a.lines (first_code c (next_address a) block),
+      length-append block (plain (instr.Jump 0) ∷ []),
+    )
 
 -- a task of the code, as it stands among the tasks of the definitions
 pub task_there : (app : code.App) (items : List row.Task) (n : ℕ) (t : row.Task) → items ≡ app.tasks.items
@@ -48,18 +138,11 @@ pub task_code : (app : code.App) (guards : List Guard) (id : BodyId) {n : ℕ} (
     → guards ≡ guards_of (app_of app) → id ≡ body.Task n → slice_get (app_of app).tasks n ≡ Some (task_of t)
     → slots_code (app_of app) guards t.args t.priority (body_of t.body) at
     ≡ blocks_of (app_of app) (member_at (app_of app) id) at
-task_code app guards id {n = n} t at guarded is there =
-    ap (λ (gs : List Guard). slots_code (app_of app) gs t.args t.priority (body_of t.body) at) guarded
-    ∙ sym (ap (λ (o : Option Task). blocks_of (app_of app)
-    (option_map (λ t. record { id = body.Task n; priority = t.priority; args = t.args; body = t.body }) o) at) there)
-    ∙ ap (λ i. blocks_of (app_of app) (member_at (app_of app) i) at) (sym is)
+task_code app guards id t at guarded is there = rw (guarded, is, there) refl
 
 pub no_task : (app : code.App) (id : BodyId) (n : ℕ) (at : ℕ) → id ≡ body.Task n
     → slice_get (app_of app).tasks n ≡ None → blocks_of (app_of app) (member_at (app_of app) id) at ≡ []
-no_task app id n at named absent =
-    ap (λ i. blocks_of (app_of app) (member_at (app_of app) i) at) named
-    ∙ ap (λ (o : Option Task). blocks_of (app_of app)
-    (option_map (λ t. record { id = body.Task n; priority = t.priority; args = t.args; body = t.body }) o) at) absent
+no_task app id n at named absent = rw (named, absent) refl
 
 -- the same of a task that is found by its number, and of none
 pub task_found : (app : code.App) (n : ℕ) (t : row.Task) → Some t ≡ slice_get app.tasks.items n
@@ -70,28 +153,18 @@ pub task_not_found : (app : code.App) (n : ℕ) → None ≡ slice_get app.tasks
     → slice_get (app_of app).tasks n ≡ None
 task_not_found app n is = slice_get-map task_of app.tasks.items n ∙ ap (option_map task_of) (sym is)
 
-pub appends_none : (code : Lines) → Appends code code []
-appends_none code = ap (λ (xs : List Line). record code { lines = xs }) (sym (append-nil code.lines))
-
 -- the ceilings of a plan are priorities that there are, and how the sections mask by them
 pub small_ceilings : (plan : Plan) → IsAccepted (app_of plan.app.now) → IsPlan plan → (bits : ℕ) (tops : List ℕ)
     → bits ≡ plan.app.now.bits → tops ≡ plan.ceil.shared → AllByRecursion (λ c. c ≤ 2 ^ bits) tops
 small_ceilings plan accepted planned bits tops same is =
+    let app : App = app_of plan.app.now in
+    let all : List ℕ = range_with_len 0 (length app.shared) in
     subst (λ b. AllByRecursion (λ c. c ≤ 2 ^ b) tops) (sym same)
-    (subst (λ (cs : List ℕ). AllByRecursion (λ c. c ≤ 2 ^ plan.app.now.bits) cs)
+    (subst (λ (cs : List ℕ). AllByRecursion (λ c. c ≤ 2 ^ app.bits) cs)
     (sym (is ∙ ap (λ (c : Ceilings). c.shared) planned.ceilings))
-    (tops_small (length (app_of plan.app.now).shared) 0 (length (app_of plan.app.now).shared) (omega arith) refl))
-  where
-    app : App
-    app = app_of plan.app.now
-
-    tops_small : (n i k : ℕ) → i + n ≡ k → k ≡ length app.shared
-        → AllByRecursion (λ c. c ≤ 2 ^ app.bits) (map (λ r. ceiling app (section.Res r)) (range_with_len i n))
-    tops_small zero i k sum all = tt
-    tops_small (suc n) i k sum all = (
-      (accepted_are_sound app accepted).ceilings (section.Res i) (omega arith),
-      tops_small n (i + 1) k (omega arith) all,
-    )
+    (all_map (λ r. ceiling app (section.Res r)) (λ r. r < length app.shared) (λ c. c ≤ 2 ^ app.bits)
+    (λ r within. (accepted_are_sound app accepted).ceilings (section.Res r) within) all
+    (all_from_members (λ r. r < length app.shared) all (contains_range (length app.shared)))))
 
 pub guards_are : (plan : Plan) → IsPlan plan → (bits : ℕ) (tops : List ℕ) (guards : List Guard)
     → bits ≡ plan.app.now.bits → tops ≡ plan.ceil.shared → guards ≡ map (guarded bits) tops
@@ -124,7 +197,7 @@ module _ {app : App} (accepted : IsAccepted app) (front : List Line) where
       there t is =
           subst (λ (o : Option Task). BodyThere app (body.Task n) (option_map (of_task n) o)
           ((front ++ code_of app (body.Task n) (member_at app (body.Task n)) (length front)) ++ more) (length front)) is
-          (between app (body.Task n) (member_at app (body.Task n)) front more)
+          (body_between app (body.Task n) (member_at app (body.Task n)) front more)
 
   pub generated_stands : (id : BodyId) → IsBodyOf app id
       → BodyStands app id (front ++ code_of app id (member_at app id) (length front)) (length front)

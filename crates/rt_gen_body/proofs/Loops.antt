@@ -1,37 +1,30 @@
--- The code of a loop: from its head, turn after turn.
-use Rattle.std.proofs.Common.{◌≡◌, ℕ, zero, suc, ◌+◌, ◌-◌, ◌*◌, ◌^◌, ◌<◌, ◌≤◌, ◌==◌, nat_lt, Bool, true, false, List}
-use Rattle.std.proofs.Common.{[], ◌∷◌, ◌++◌, length, slice_index, slice_set, Contains, refl, ap, ◌∙◌, subst, inl, inr}
-use Rattle.std.proofs.Common.{arith, if◌then◌else◌, get_or-set_same, get_or-set_other, length-set, length-append}
+-- The code of a choice between two blocks, and of a loop: from its head, turn after turn.
+use Rattle.std.proofs.Common.{◌≡◌, ℕ, suc, ◌+◌, ◌≤◌, ◌==◌, max, Bool, true, false, if◌then◌else◌, List, ◌∷◌, ◌++◌}
+use Rattle.std.proofs.Common.{length, refl, ap, ◌∙◌, subst, arith, length-append, zero, ◌-◌, ◌*◌, ◌^◌, ◌<◌, nat_lt, []}
+use Rattle.std.proofs.Common.{slice_index, slice_set, Contains, inl, inr, get_or-set_same, get_or-set_other, length-set}
+use Rattle.rt_ids.specs.Content.{Values}
+use Rattle.rt_app.specs.Tree.{Expression, Branch, Block, Empty, Then, Repeat}
+use Rattle.rt_app.specs.Steps.{expression_steps, block_steps, statement_steps}
+use Rattle.rt_app.specs.BodyCost.{cost_measure}
+use Rattle.rt_app.specs.Meaning.{Later, value_in, run, run_block, turns_from}
+use Rattle.rt_code.specs.declared.instr.Instr.TheVariants as instr
+use Rattle.rt_gen_queue.specs.Line.{Line, plain, HasCode}
+use Rattle.rt_gen_queue.proofs.Layer.{Here, S, goes, jump_gives, jump_by_gives, set_gives, calc_gives}
+use Rattle.rt_gen_queue.proofs.Placing.{code_front, code_behind}
+use Rattle.rt_gen_body.specs.Inside.Values.{value_code}
+use Rattle.rt_gen_body.specs.Inside.Blocks.{block_code, statement_code, loop_back}
+use Rattle.rt_gen_body.proofs.Expressions.{Sound, valued, with_value, next_begins, still_known, variable_set}
+use Rattle.rt_gen_body.proofs.Places.{Body, Scope, Begins, sooner, Behind, Performs, goes_behind, still_behind, named}
+use Rattle.rt_gen_body.proofs.Places.{Inside, inside_as, free_slot, Knows, fewer_visible}
 use Rattle.std.proofs.lemmas.Bool.{lt-ltb, le-ltb}
 use Rattle.std.proofs.Math.Nat.{suc-mul}
 use Rattle.rt_ids.specs.Operation.{number_of}
 use Rattle.rt_ids.specs.declared.op.Op.TheVariants as op
-use Rattle.rt_ids.specs.Content.{Values}
-use Rattle.rt_app.specs.Tree.{Block, Repeat}
-use Rattle.rt_app.specs.Steps.{block_steps, statement_steps}
-use Rattle.rt_app.specs.BodyCost.{cost_measure}
-use Rattle.rt_app.specs.Meaning.{Later, run, run_block, turns_from}
-use Rattle.rt_code.specs.declared.instr.Instr.TheVariants as instr
 use Rattle.rt_code.specs.Owning.{Held}
 use Rattle.rt_lemmas.proofs.Membership.{contains_cases, contains_there, contains_here}
-use Rattle.rt_gen_queue.specs.Line.{Line, plain, HasCode}
-use Rattle.rt_gen_queue.proofs.Layer.{Here, S, goes, set_gives, calc_gives, jump_gives, jump_by_gives}
 use Rattle.rt_gen_queue.proofs.Numbers.{added, steps_and}
-use Rattle.rt_gen_queue.proofs.Placing.{code_front, code_behind}
-use Rattle.rt_gen_body.specs.Inside.Blocks.{loop_back, block_code, statement_code}
-use Rattle.rt_gen_body.proofs.Expressions.{still_known, next_begins}
-use Rattle.rt_gen_body.proofs.Places.{Body, Scope, Inside, free_slot, Knows, Begins, sooner, Behind, Performs}
-use Rattle.rt_gen_body.proofs.Places.{goes_behind, still_behind, named, fewer_visible}
-use Rattle.rt_gen_body.proofs.Simple.{variable_set}
-
--- the steps of so many turns, each with its block and the six of its head and its tail
-abbrev pub spent : ℕ → ℕ → ℕ
-spent zero block = 0
-spent (suc turns) block = block + 6 + spent turns block
-
-spent_is : (turns block : ℕ) → spent turns block ≡ turns * (block + 6)
-spent_is zero block = omega arith
-spent_is (suc turns) block = omega (arith, spent_is turns block, suc-mul turns (block + 6))
+use Rattle.std.proofs.Common.{sym}
+use Rattle.rt_ids.specs.Doing.{Doing}
 
 -- a block does what it means, and leaves in scope what was
 abbrev pub BlockPerforms : Body → Scope → Block → Type 0
@@ -39,22 +32,114 @@ BlockPerforms b p block =
     Performs b p p.visible (λ at. block_code b.c p.level p.lock at block) (block_steps (cost_measure b.z.app) block)
     (run_block b.z.app block)
 
+module _ {b : Body} {p : Scope} where
+  -- A test and the jump behind it: the value decides what is left, and where the code goes on.
+  decides : {visible : List ℕ} {h : Here} {vars : List ℕ} {vs : Values} {total : ℕ} {later : Later} {more : List Line}
+      (e : Expression) (to cost : ℕ) (rest : Bool → Doing Values) → expression_steps e + suc cost ≤ total
+      → Sound b p e → Begins b p h (value_code b.c e ++ plain (instr.JumpZ b.c.expressions to) ∷ more) total vars vs
+      → h.rest ≡ rest (value_in vars vs e == 0)
+      → Behind b p visible h (length (value_code b.c e ++ plain (instr.JumpZ b.c.expressions to) ∷ more)) total later
+      → ((slots : List ℕ)
+      → Begins b p (valued b h e slots) (plain (instr.JumpZ b.c.expressions to) ∷ more) (suc cost) vars vs
+      → HasCode b.z.code (h.at + length (value_code b.c e) + 1) more
+      → Behind b p visible (valued b h e slots) (suc (length more)) (suc cost) later
+      → (stop : Bool) → h.rest ≡ rest stop
+      → S b.z (record (valued b h e slots) {
+        done = suc (h.done + expression_steps e);
+        at = if stop then to else h.at + length (value_code b.c e) + 1;
+      }))
+      → S b.z h
+  decides {h = h} {vars = vars} {vs = vs} {more = more} e to cost rest less sound begins is behind on =
+      let stop : Bool = value_in vars vs e == 0 in
+      let next : h.at + length (value_code b.c e) + 1 ≡ suc (h.at + length (value_code b.c e)) = omega arith in
+      with_value e (suc cost) less sound begins behind
+      (λ slots there result begins1 behind1.
+      goes begins1.has.0 (sooner (omega arith) begins1) (jump_by_gives stop there (ap (λ v. v == 0) result))
+      (subst (λ n. S b.z (record (valued b h e slots) {
+        done = suc (h.done + expression_steps e);
+        at = if stop then to else n;
+      })) next
+      (on slots begins1 (subst (λ n. HasCode b.z.code n more) (sym next) begins1.has.1) behind1 stop is)))
+
+  -- a block behind a jump
+  begins_block : {h : Here} {lines : List Line} {cost : ℕ} {vars : List ℕ} {vs : Values} (block : Block) (at : ℕ)
+      → HasCode b.z.code at (block_code b.c p.level p.lock at block)
+      → suc (block_steps (cost_measure b.z.app) block) ≤ cost → Begins b p h lines cost vars vs
+      → Begins b p (record h { done = suc h.done; at = at }) (block_code b.c p.level p.lock at block)
+      (block_steps (cost_measure b.z.app) block) vars vs
+  begins_block block at has less begins = next_begins has (omega arith) refl (λ x low. refl) begins
+
+  -- a choice between two blocks: without a second one its jump leads over the first, and else the first ends with a
+  -- jump over the second
+  pub chooses : (e : Expression) (first second : Block) → Sound b p e → BlockPerforms b p first
+      → BlockPerforms b p second
+      → Performs b p p.visible (λ at. statement_code b.c p.level p.lock at (Branch e first second))
+      (statement_steps (cost_measure b.z.app) (Branch e first second)) (run b.z.app (Branch e first second))
+  chooses e first Empty sound one two = record {
+    runs = λ {h} {vars} {vs} later begins is behind.
+        let at : ℕ = h.at + length (value_code b.c e) + 1 in
+        decides e (at + length (block_code b.c p.level p.lock at first))
+        (suc (block_steps (cost_measure b.z.app) first))
+        (λ stop. if stop then later vars vs else run_block b.z.app first later vars vs) (omega arith) sound begins is
+        behind
+        (λ slots begins1 has behind1. elim [
+          | true ↦ λ now.
+              named refl refl now
+              (goes_behind behind1 (omega arith) (omega arith) begins1.known (λ y here. refl))
+          | false ↦ λ now.
+              one.runs later (begins_block first at has (omega arith) begins1) now
+              (still_behind behind1 (omega arith) (omega arith) (λ x here. refl))
+        ]);
+  }
+  chooses e first (Then s more) sound one two = record {
+    runs = λ {h} {vars} {vs} later begins is behind.
+        let second : Block = Then s more in
+        let at : ℕ = h.at + length (value_code b.c e) + 1 in
+        let code : List Line = block_code b.c p.level p.lock at first in
+        let to : ℕ = at + length code + 1 in
+        let other : List Line = block_code b.c p.level p.lock to second in
+        let over : List Line = plain (instr.Jump (to + length other)) ∷ other in
+        let all = length-append code over in
+        let steps : ℕ = max (block_steps (cost_measure b.z.app) first) (block_steps (cost_measure b.z.app) second) in
+        decides e to (suc steps)
+        (λ stop. if stop then run_block b.z.app second later vars vs else run_block b.z.app first later vars vs)
+        (omega arith) sound begins is behind
+        (λ slots begins1 has behind1.
+        let over_has = code_behind b.z.code at (at + length code) code over refl has in
+        elim [
+          | true ↦ λ now.
+              two.runs later
+              (begins_block second to (subst (λ a. HasCode b.z.code a other) (omega arith) over_has.1) (omega arith)
+              begins1) now (still_behind behind1 (omega (arith, all)) (omega arith) (λ x here. refl))
+          | false ↦ λ now.
+              one.runs later
+              (begins_block first at (code_front b.z.code at code over has) (omega arith) begins1) now
+              (record {
+                on = λ t within settled.
+                    goes over_has.0 (sooner (omega arith) begins1) jump_gives
+                    (goes_behind behind1 (omega (arith, all)) (omega arith) settled.known settled.kept);
+              })
+        ]);
+  }
+
+-- the steps of so many turns, each with its block and the six of its head and its tail
+abbrev spent : ℕ → ℕ → ℕ
+spent zero block = 0
+spent (suc turns) block = block + 6 + spent turns block
+
+spent_is : (turns block : ℕ) → spent turns block ≡ turns * (block + 6)
+spent_is zero block = omega arith
+spent_is (suc turns) block = omega (arith, spent_is turns block, suc-mul turns (block + 6))
+
 -- inside a loop of the next variable
 abbrev pub in_loop : Scope → Scope
 in_loop p = record p { visible = p.count ∷ p.visible; fixed = p.count ∷ p.fixed; count = p.count + 1 }
 
 pub inside_loop : {b : Body} {p : Scope} {held : List Held} → p.count + 1 ≤ b.c.expressions → Inside b p held
     → Inside b (in_loop p) held
-inside_loop {p = p} room inside = record {
-  below = λ y here. within y p.visible inside.below here;
-  fixed = λ y here. within y p.fixed inside.fixed here;
-  room = room;
-  low = inside.low;
-  high = inside.high;
-  saved = inside.saved;
-  are = inside.are;
-  level_is = inside.level_is;
-}
+inside_loop {p = p} room inside =
+    inside_as (p.count ∷ p.visible) (p.count ∷ p.fixed) 1 (λ y here. within y p.visible inside.below here)
+    (λ y here. within y p.fixed inside.fixed here) room inside
   where
     within : (y : ℕ) (xs : List ℕ) → ((x : ℕ) → Contains xs x → x < p.count) → Contains (p.count ∷ xs) y
         → y < p.count + 1
@@ -64,14 +149,15 @@ inside_loop {p = p} room inside = record {
           | inr old ↦ omega (arith, below y old)
         ]
 
--- a loop's turn, the numbers that it begins with and ends before, and where it ends
+-- a loop's turn and where its code is, the numbers that it begins with and ends before, and where it ends
 pub record Loop : Type 0 where
   pub turn : Block
+  pub from : ℕ
   pub first : ℕ
   pub last : ℕ
   pub end : ℕ
 
--- the lines of a loop's head, and all from there on
+-- the lines of a loop's head, and all from there on, with the head at an address
 abbrev head_lines : Body → Scope → Loop → List Line
 head_lines b p l =
     plain (instr.Set b.c.expressions l.last)
@@ -79,7 +165,7 @@ head_lines b p l =
 
 abbrev turn_lines : Body → Scope → Loop → ℕ → List Line
 turn_lines b p l at =
-    head_lines b p l ++ (block_code b.c p.level p.lock (steps_and 3 at) l.turn ++ loop_back b.c p.count at)
+    head_lines b p l ++ (block_code b.c p.level p.lock l.from l.turn ++ loop_back b.c p.count at)
 
 -- the number that the loop has come to
 number_there : {b : Body} {p : Scope} {h : Here} {lines : List Line} {cost : ℕ} {vs : Values} (vars : List ℕ) (i : ℕ)
@@ -93,6 +179,7 @@ number_there {p = p} vars i begins =
 pub record LoopAt (b : Body) (p : Scope) (l : Loop) (at : ℕ) : Type 0 where
   pub room : b.c.expressions < b.top
   pub word : l.last < 2 ^ 32
+  pub from : l.from ≡ steps_and 3 at
   pub end : l.end ≡ at + length (turn_lines b p l at)
   pub fixed : (y : ℕ) → Contains p.fixed y → y < p.count
   pub stands : l.first < l.last → BlockPerforms b (in_loop p) l.turn
@@ -104,36 +191,37 @@ module _ {b : Body} {p : Scope} {l : Loop} where
       → (number_of (nat_lt (slice_index vars p.count) l.last) == 0) ≡ stop
       → ((after : List ℕ) → length after ≡ length h.slots
       → ((y : ℕ) → y < b.c.expressions → slice_index after y ≡ slice_index h.slots y)
-      → S b.z (record h {
-        done = steps_and 3 h.done;
-        slots = after;
-        at = if stop then l.end else steps_and 3 h.at;
-      }))
+      → S b.z (record h { done = steps_and 3 h.done; slots = after; at = if stop then l.end else l.from }))
       → S b.z h
   head_runs {h = h} {vars = vars} stop loop begins few is on =
-      let room = loop.room in
       let e : ℕ = b.c.expressions in
       let x : ℕ = p.count in
       let one : List ℕ = slice_set h.slots e l.last in
       let test : ℕ = number_of (nat_lt (slice_index vars x) l.last) in
+      let after : List ℕ = slice_set one e test in
       let long : length one ≡ length h.slots = length-set h.slots e l.last in
       let there : e < length h.slots = omega (arith, begins.known.frame, b.masks, b.spawns) in
       let low : x < e = omega (arith, begins.inside.room) in
       let x_is : slice_index one x ≡ slice_index vars x =
       get_or-set_other h.slots e x l.last 0 (omega arith)
       ∙ begins.known.in_slots x (contains_here x p.visible) in
-      let last_is : slice_index one e ≡ l.last = get_or-set_same h.slots e l.last 0 there in
-      let free = free_slot e (inl room) begins.inside in
+      let free = free_slot e (inl loop.room) begins.inside in
       goes begins.has.0 (sooner (omega arith) begins) (set_gives there free)
       (goes begins.has.1.0 (sooner (omega arith) begins)
       (calc_gives test (omega arith) (omega arith) (omega arith) free
       (ap (λ k. number_of (nat_lt k (slice_index one e))) x_is
-      ∙ ap (λ k. number_of (nat_lt (slice_index vars x) k)) last_is))
+      ∙ ap (λ k. number_of (nat_lt (slice_index vars x) k)) (get_or-set_same h.slots e l.last 0 there)))
       (goes begins.has.1.1.0 (sooner (omega arith) begins)
       (jump_by_gives stop (omega (arith, long, length-set one e test))
       (ap (λ k. k == 0) (get_or-set_same one e test 0 (omega arith)) ∙ is))
-      (on (slice_set one e test) (length-set one e test ∙ long)
-      (λ y less. get_or-set_other one e y test 0 (omega arith) ∙ get_or-set_other h.slots e y l.last 0 (omega arith)))))
+      (subst (λ n. S b.z (record h {
+        done = steps_and 3 h.done;
+        slots = after;
+        at = if stop then l.end else n;
+      })) loop.from
+      (on after (length-set one e test ∙ long)
+      (λ y less.
+      get_or-set_other one e y test 0 (omega arith) ∙ get_or-set_other h.slots e y l.last 0 (omega arith))))))
 
   -- the tail of a turn adds one, and goes to the head
   tail_runs : {h : Here} {vars : List ℕ} {vs : Values} {head : ℕ} (i : ℕ) → LoopAt b p l head
@@ -184,22 +272,21 @@ module _ {b : Body} {p : Scope} {l : Loop} where
       (λ y here. same y (omega (arith, loop.fixed y here, begins.inside.room)))))
   loop_turns (suc turns) {h = h} {later = later} i vars loop left begins is behind =
       let x : ℕ = p.count in
-      let cost : ℕ = block_steps (cost_measure b.z.app) l.turn in
-      let turn : List Line = block_code b.c p.level p.lock (steps_and 3 h.at) l.turn in
+      let turn : List Line = block_code b.c p.level p.lock l.from l.turn in
       let tail : List Line = loop_back b.c x h.at in
       let i_is = number_there vars i begins in
       let low : x < b.c.expressions = omega (arith, begins.inside.room) in
-      let code = code_behind b.z.code h.at (steps_and 3 h.at) (head_lines b p l) (turn ++ tail) (omega arith)
-      begins.has in
+      let code =
+      code_behind b.z.code h.at l.from (head_lines b p l) (turn ++ tail) (omega (arith, loop.from)) begins.has in
       head_runs false loop begins (omega arith) (ap (λ b. number_of b == 0) (lt-ltb _ l.last (omega (arith, left.0))))
       (λ after long same.
       (loop.stands (omega (arith, left.0, left.1))).runs (turns_from turns x (suc i) (run_block b.z.app l.turn) later)
-      (next_begins (code_front b.z.code (steps_and 3 h.at) turn tail code) (omega arith) long same begins) is
+      (next_begins (code_front b.z.code l.from turn tail code) (omega arith) long same begins) is
       (record {
         on = λ t within settled.
             tail_runs i loop
             (record {
-              has = code_behind b.z.code (steps_and 3 h.at) (steps_and 3 h.at + length turn) turn tail refl code;
+              has = code_behind b.z.code l.from (l.from + length turn) turn tail refl code;
               time = sooner (omega arith) begins;
               known = settled.known;
               inside = begins.inside;
@@ -208,12 +295,8 @@ module _ {b : Body} {p : Scope} {l : Loop} where
             ∙ i_is) (omega (arith, loop.word))
             (λ last known kept.
             loop_turns turns (suc i) t.vars loop (omega (arith, left.0), omega (arith, left.1))
-            (record {
-              has = begins.has;
-              time = sooner (omega arith) begins;
-              known = known;
-              inside = begins.inside;
-            }) refl
+            (record { has = begins.has; time = sooner (omega arith) begins; known = known; inside = begins.inside })
+            refl
             (still_behind behind refl (omega arith)
             (λ y here.
             kept y (loop.fixed y here) ∙ settled.kept y (contains_there x p.fixed y here)
@@ -230,43 +313,38 @@ pub loops : {b : Body} {p : Scope} (first last : ℕ) (turn : Block)
 loops {b = b} {p = p} first last turn stands room test word = record {
   runs = λ {h} {vars} {vs} later begins is behind.
       let x : ℕ = p.count in
-      let code : ℕ → List Line = λ a. block_code b.c p.level p.lock a turn in
-      let size : ℕ = length (code (h.at + 4)) in
-      let l : Loop = record { turn = turn; first = first; last = last; end = h.at + 4 + size + 3 } in
+      let code : List Line = block_code b.c p.level p.lock (h.at + 4) turn in
+      let l : Loop = record {
+        turn = turn;
+        from = h.at + 4;
+        first = first;
+        last = last;
+        end = h.at + 4 + length code + 3;
+      } in
       let total = spent_is (last - first) (block_steps (cost_measure b.z.app) turn) in
-      let four : h.at + 4 ≡ steps_and 4 h.at = omega arith in
-      let one : h.at + 1 ≡ suc h.at = omega arith in
-      let Lines : ℕ → ℕ → List Line = λ from head.
-      plain (instr.Set b.c.expressions last) ∷ plain (instr.Calc op.Lt b.c.expressions x b.c.expressions)
-      ∷ plain (instr.JumpZ b.c.expressions l.end) ∷ (code from ++ loop_back b.c x head) in
-      let lines_are : Lines (h.at + 4) (h.at + 1) ≡ turn_lines b p l (suc h.at) =
-      ap (λ a. Lines a (h.at + 1)) four ∙ ap (Lines (steps_and 4 h.at)) one in
-      let size_is : 3 + (size + 3) ≡ length (turn_lines b p l (suc h.at)) =
-      omega (
-        arith,
-        length-append (code (h.at + 4)) (loop_back b.c x (h.at + 1)),
-        ap (λ (ls : List Line). length ls) lines_are,
-      ) in
+      let one : suc h.at ≡ h.at + 1 = omega arith in
+      let size = length-append code (loop_back b.c x (h.at + 1)) in
       let there : x < length h.slots = omega (arith, begins.known.frame, b.floor, b.masks, b.spawns) in
       goes begins.has.0 (sooner (omega arith) begins)
       (set_gives there (free_slot x (inl (omega (arith, b.floor))) begins.inside))
+      (named refl one refl
       (loop_turns {l = l} (last - first)
-      {h = record h { done = suc h.done; slots = slice_set h.slots x first; at = suc h.at }} first vars
+      {h = record h { done = suc h.done; slots = slice_set h.slots x first; at = h.at + 1 }} first vars
       (record {
         room = test;
         word = word;
-        end = omega (arith, size_is);
+        from = omega arith;
+        end = omega (arith, size);
         fixed = begins.inside.fixed;
         stands = stands;
       }) (refl, omega arith)
       (record {
-        has = subst (λ (ls : List Line). HasCode b.z.code (suc h.at) ls) lines_are begins.has.1;
+        has = subst (λ a. HasCode b.z.code a (turn_lines b p l (h.at + 1))) one begins.has.1;
         time = sooner (omega (arith, total)) begins;
         known = variable_set x first (x ∷ p.visible) (omega arith) (λ y here. contains_cases x p.visible y here)
             begins.known;
         inside = inside_loop room begins.inside;
       }) is
-      (still_behind behind (omega (arith, size_is, length-append (code (h.at + 4)) (loop_back b.c x (h.at + 1))))
-      (omega (arith, total))
-      (λ y here. get_or-set_other h.slots x y first 0 (omega (arith, begins.inside.fixed y here)))));
+      (still_behind behind (omega (arith, size)) (omega (arith, total))
+      (λ y here. get_or-set_other h.slots x y first 0 (omega (arith, begins.inside.fixed y here))))));
 }

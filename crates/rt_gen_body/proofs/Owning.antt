@@ -1,22 +1,50 @@
 -- How an application keeps resources, each in a cell of its own that spells its value, and what is known of values as
--- code goes on: a resource that may be read has the value that is in its cell.
-use Rattle.std.proofs.Common.{◌≡◌, ◌≢◌, ℕ, ◌+◌, ◌<◌, ◌||◌, Bool, true, false, if◌then◌else◌, List, [], ◌∷◌, length}
-use Rattle.std.proofs.Common.{slice_index, slice_set, refl, ap, sym, ◌∙◌, subst, arith, get_or-set_same}
+-- code goes on: a resource that may be read has the value that is in its cell. The sections that are open while a body
+-- runs are those of the resources that it has locked.
+use Rattle.std.proofs.Common.{◌≡◌, ℕ, ◌||◌, false, List, [], ◌∷◌, refl, ap, ◌∙◌, ◌≢◌, ◌+◌, ◌<◌, Bool}
+use Rattle.std.proofs.Common.{true, if◌then◌else◌, length, slice_index, slice_set, sym, subst, arith, get_or-set_same}
 use Rattle.std.proofs.Common.{get_or-set_other, ◌⊎◌, inl, inr}
-use Rattle.std.proofs.lemmas.Bool.{eqb-true, eq-eqb}
-use Rattle.rt_ids.specs.Holder.{Holder, Guarded, Own, is_same_holder}
+use Rattle.std.specs.List.{list_any}
+use Rattle.std.proofs.lemmas.Bool.{false_from_ne_true, eqb-true, eq-eqb}
+use Rattle.rt_ids.specs.Holder.{is_same_section, Holder, Guarded, Own, is_same_holder}
+use Rattle.rt_ids.specs.declared.ids.Section.TheVariants as section
+use Rattle.rt_code.specs.Owning.{Held, is_open, Spot, owns, reads, MayLoad, MayStore, Agree, LeavesMine}
 use Rattle.rt_ids.specs.Content.{Content, Number, number, Values, put_at}
 use Rattle.rt_ids.specs.Entry.{Entry}
-use Rattle.rt_ids.specs.Storage.{Home, At}
-use Rattle.rt_ids.specs.declared.ids.Section.TheVariants as section
+use Rattle.rt_ids.specs.Storage.{Home, At, Runner, Starting, AtLevel}
 use Rattle.rt_app.specs.Tree.{App}
 use Rattle.rt_app.specs.Layout.{memory}
-use Rattle.rt_app.specs.Holding.{storage}
+use Rattle.rt_app.specs.Holding.{storage, is_kept, is_constant, IsHeld}
 use Rattle.rt_app.proofs.Laid.{long_enough, resource_is_home, local_is_home}
 use Rattle.rt_code.specs.Masking.{TakesOver}
-use Rattle.rt_code.specs.Owning.{Held, Spot, is_open, owns, reads, MayLoad, MayStore, Agree, LeavesMine}
 use Rattle.rt_code.proofs.Mine.{one_section, same_section, reads_more}
 use Rattle.rt_gen_queue.proofs.Layer.{Setting, Here, spot, Reads, Writes}
+use Rattle.rt_ids.specs.declared.ids.Section.{Section}
+use Rattle.rt_lemmas.proofs.Membership.{any_one}
+
+-- the open sections are those of these resources, innermost first
+abbrev pub OpenAre : List Held → List ℕ → Type 0
+OpenAre [] [] = Unit {0}
+OpenAre (h ∷ held) (r ∷ locked) = (h.section ≡ section.Res r) × OpenAre held locked
+OpenAre held locked = ⊥
+
+-- so another section is open where it is one of theirs
+pub open_as : (held : List Held) (locked : List ℕ) (x : Section) → OpenAre held locked
+    → is_open held x ≡ list_any (λ q. is_same_section (section.Res q) x) locked
+open_as [] [] x are = refl
+open_as [] (q ∷ locked) x are = absurd are
+open_as (h ∷ held) [] x are = absurd are
+open_as (h ∷ held) (q ∷ locked) x are =
+    ap (λ y. is_same_section y x || is_open held x) are.0
+    ∙ ap (λ b. is_same_section (section.Res q) x || b) (open_as held locked x are.1)
+
+-- where none of theirs passes for it, it is not
+pub not_open : (held : List Held) (locked : List ℕ) (x : Section)
+    → ((r : ℕ) → is_same_section (section.Res r) x ≡ false) → OpenAre held locked → is_open held x ≡ false
+not_open held locked x apart are =
+    let test : ℕ → Bool = λ q. is_same_section (section.Res q) x in
+    open_as held locked x are
+    ∙ false_from_ne_true (list_any test locked) (λ is. (let one = any_one test locked is in cc (one.3, apart one.1)))
 
 -- what holds something has a cell that spells it
 pub record HasCell (app : App) (holder : Holder) (cell : ℕ) : Type 0 where
@@ -163,3 +191,44 @@ module _ {z : Setting} where
               ∙ ap Number (sym (get_or-set_other cells cell place v 0 (other_cell has at apart)))
         ];
   }
+
+-- all that may be read where no section is open is spelled by cells
+abbrev pub AllSpelled : Setting → List ℕ → (Holder → List Entry) → Values → Type 0
+AllSpelled z cells queues vs =
+    (holder : Holder) → ((storage z.app).is_kept z.who holder || (storage z.app).is_constant z.who holder) ≡ true
+    → (storage z.app).Spells holder (slice_index cells) (queues holder) (vs holder)
+
+read_is : (z : Setting) (holder : Holder) → reads (storage z.app) z.who [] holder
+    ≡ ((storage z.app).is_kept z.who holder || (storage z.app).is_constant z.who holder)
+read_is z (Guarded x) = refl
+read_is z (Own n) = refl
+
+cell_of : (app : App) (who : Runner) (holder : Holder)
+    → (is_kept app who holder || is_constant app who holder) ≡ true → IsHeld app holder
+    → (cell : ℕ) × HasCell app holder cell
+cell_of app who (Guarded (section.Res r)) may within = (r, resource_cell app r within)
+cell_of app who (Own n) may within = (length app.shared + n, local_cell app n within)
+cell_of app Starting holder may within = absurd cc
+cell_of app (AtLevel p) holder may within = absurd cc
+
+-- what was spelled once, and so has cells, is spelled where values are known
+pub spelled : {z : Setting} {cells : List ℕ} {vs : Values} (before : List ℕ) (queues : Holder → List Entry)
+    (old : Values) → AllSpelled z before queues old → IsSpelled z [] cells vs → (later : Holder → List Entry)
+    → AllSpelled z cells later vs
+unfolding storage
+spelled {z = z} {cells = cells} {vs = vs} before queues old taken known later holder may =
+    let one = cell_of z.app z.who holder may (taken holder may).0 in
+    one.1.for (slice_index cells) (later holder) (vs holder) (known.has one.1 (read_is z holder ∙ may))
+
+-- likewise by values that agree in it
+pub all_agreed : (z : Setting) (cells : List ℕ) (queues : Holder → List Entry) {us vs : Values}
+    → Agree (storage z.app) z.who [] us vs → AllSpelled z cells queues vs → AllSpelled z cells queues us
+all_agreed z cells queues agree known holder may = rw (agree holder (read_is z holder ∙ may)) (known holder may)
+
+-- and that is known where they do
+pub known_of : {z : Setting} {cells : List ℕ} {vs : Values} (queues : Holder → List Entry)
+    → AllSpelled z cells queues vs → IsSpelled z [] cells vs
+known_of {z = z} {cells = cells} {vs = vs} queues taken = record {
+  has = λ {holder} has may.
+      has.of (slice_index cells) (queues holder) (vs holder) (taken holder (sym (read_is z holder) ∙ may));
+}

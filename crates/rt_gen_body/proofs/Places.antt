@@ -1,24 +1,64 @@
--- What is known of a body and of a place in it, and what it means that code there does what it is to do.
-use Rattle.std.proofs.Common.{◌≡◌, ◌≢◌, ◌⊎◌, ℕ, ◌+◌, ◌^◌, ◌<◌, ◌≤◌, List, ◌∷◌, length, map, slice_index, Contains}
-use Rattle.std.proofs.Common.{◌++◌, refl, sym, ◌∙◌, subst, inl, inr, arith}
+-- What is known of a body, of what its code is generated with and of a place in it, what a statement asks of the frame
+-- there, and what it means that code does what it is to do.
+use Rattle.std.proofs.Common.{◌≡◌, ℕ, ◌^◌, ◌<◌, ◌≤◌, max, true, List, [], ◌∷◌, ◌||◌, length, map, slice_index, arith}
+use Rattle.std.proofs.Common.{◌≢◌, ◌⊎◌, ◌+◌, Contains, ◌++◌, refl, sym, ◌∙◌, subst, inl, inr, Bool}
+use Rattle.rt_ids.specs.Holder.{Guarded, Own, Holder}
+use Rattle.rt_ids.specs.Storage.{Runner, Starting, AtLevel}
+use Rattle.rt_ids.specs.declared.ids.Section.{Section}
+use Rattle.rt_ids.specs.declared.ids.Section.TheVariants as section
+use Rattle.rt_app.specs.declared.expr.Atom.TheVariants as atom
+use Rattle.rt_app.specs.Tree.{App, Spawn, Statement, Block}
+use Rattle.rt_app.specs.Ceiling.{ceiling}
+use Rattle.rt_app.specs.Accepted.{IsAccepted}
+use Rattle.rt_app.specs.Bodies.{Member}
+use Rattle.rt_app.specs.Sound.{IsChangeable, IsSoundLock}
+use Rattle.rt_code.specs.Masking.{IsWithin, NobodyKeeps}
+use Rattle.rt_code.specs.Owning.{Held, saved_slots}
+use Rattle.rt_gen_body.specs.Inside.Values.{Context}
+use Rattle.rt_gen_body.specs.Inside.Whole.{context_of}
+use Rattle.rt_gen_body.proofs.Owning.{OpenAre, IsSpelled}
 use Rattle.std.specs.List.{AllByRecursion}
 use Rattle.rt_lemmas.proofs.Membership.{all_weaker}
-use Rattle.rt_ids.specs.Holder.{Holder}
 use Rattle.rt_ids.specs.Content.{Values}
 use Rattle.rt_ids.specs.Entry.{Entry}
 use Rattle.rt_ids.specs.Doing.{Doing}
-use Rattle.rt_app.specs.Bodies.{Member}
-use Rattle.rt_app.specs.Holding.{storage}
+use Rattle.rt_app.specs.Holding.{storage, is_kept, is_constant}
+use Rattle.rt_app.specs.Declarations.{owns as owns_local}
+use Rattle.rt_app.specs.Statements.{is_init, is_free}
 use Rattle.rt_app.specs.Layout.{memory}
 use Rattle.rt_app.specs.Meaning.{Later}
-use Rattle.rt_code.specs.Owning.{Held, saved_slots}
 use Rattle.rt_gen_queue.specs.Line.{Line, HasCode}
+use Rattle.rt_gen_queue.specs.Spawning.{HoldsOff}
 use Rattle.rt_gen_queue.proofs.Layer.{Setting, Here, S, InTime, IsFree, lasts_less}
 use Rattle.rt_gen_queue.proofs.Placing.{code_front}
-use Rattle.rt_gen_body.specs.Inside.Values.{Context}
-use Rattle.rt_gen_body.proofs.Facts.{LevelIs, Facts}
-use Rattle.rt_gen_body.proofs.Owning.{IsSpelled}
-use Rattle.rt_gen_body.proofs.Values.{OpenAre}
+use Rattle.rt_ids.specs.Choice.{IsIn}
+use Rattle.rt_ids.specs.declared.limits.TheConstants.{BODY_COST}
+use Rattle.rt_app.specs.Spawned.{statement_spawns, spawns}
+use Rattle.rt_app.specs.Variables.{variables, variables_in}
+use Rattle.rt_app.specs.Steps.{statement_steps, block_steps}
+use Rattle.rt_app.specs.BodyCost.{cost_measure}
+use Rattle.rt_app.specs.Frame.{statement_depth, block_depth, is_loop, has_loop, statement_locks, locks, spawn_words}
+
+-- a section that opens raises the level that is held off
+pub level_inside : (app : App) (who : Runner) (held : List Held) (level : ℕ) (h : Held)
+    → HoldsOff app who who held level → HoldsOff app who who (h ∷ held) (max level (ceiling app h.section))
+level_inside app Starting held level h off = omega (arith, off)
+level_inside app (AtLevel p) held level h off = omega (arith, off)
+
+-- what a body may do, and what its code is generated with
+pub record Facts (app : App) (who : Runner) (m : Member) (c : Context) : Type 0 where
+  pub accepted : IsAccepted app
+  pub is : c ≡ context_of app m
+  -- its runner keeps its local resources, and what it reaches without a lock, unless it lists it to be read alone
+  pub own : (n : ℕ) → owns_local n m ≡ true → is_kept app who (Own n) ≡ true
+  pub free : (r : ℕ) → r < length app.shared → (is_init m.id ≡ true) ⊎ (is_free app m r ≡ true)
+      → (is_kept app who (Guarded (section.Res r)) || is_constant app who (Guarded (section.Res r))) ≡ true
+  pub change : (r : ℕ) → r < length app.shared → (is_init m.id ≡ true) ⊎ (is_free app m r ≡ true)
+      → IsChangeable app m [] (atom.Shared r) → is_kept app who (Guarded (section.Res r)) ≡ true
+  pub shared : (locked : List ℕ) (r : ℕ) → IsSoundLock app m locked r
+      → NobodyKeeps (storage app) who who (section.Res r)
+  -- sections whose ceilings are at least the body's priority may be entered
+  pub enters : (x : Section) → m.priority ≤ ceiling app x → IsWithin (storage app) who who x
 
 -- A body with what its code is generated with, and its frame: so many words, whose slots for masks begin at one.
 pub record Body : Type 0 where
@@ -27,7 +67,7 @@ pub record Body : Type 0 where
   pub c : Context
   pub words : ℕ
   pub top : ℕ
-  pub facts : Facts (storage z.app) z.who z.app m c
+  pub facts : Facts z.app z.who m c
   pub floor : c.expressions ≤ top
   pub masks : top ≤ c.spawns
   pub spawns : c.spawns ≤ words
@@ -60,7 +100,23 @@ pub record Inside (b : Body) (p : Scope) (held : List Held) : Type 0 where
   pub high : p.lock ≤ b.c.spawns
   pub saved : SavedBetween b.top p.lock held
   pub are : OpenAre held p.locked
-  pub level_is : LevelIs b.z.app.bits (storage b.z.app) b.z.who held p.level
+  pub off : HoldsOff b.z.app b.z.who b.z.who held p.level
+
+-- further on, with more variables in scope, or more of loops
+pub inside_as : {b : Body} {p : Scope} {held : List Held} (visible fixed : List ℕ) (n : ℕ)
+    → ((y : ℕ) → Contains visible y → y < p.count + n) → ((y : ℕ) → Contains fixed y → y < p.count + n)
+    → p.count + n ≤ b.c.expressions → Inside b p held
+    → Inside b (record p { visible = visible; fixed = fixed; count = p.count + n }) held
+inside_as visible fixed n below loops room inside = record {
+  below = below;
+  fixed = loops;
+  room = room;
+  low = inside.low;
+  high = inside.high;
+  saved = inside.saved;
+  are = inside.are;
+  off = inside.off;
+}
 
 -- a slot below those for masks, or above them, keeps none
 pub free_slot : {b : Body} {p : Scope} {held : List Held} (d : ℕ) → (d < b.top) ⊎ (p.lock ≤ d) → Inside b p held
@@ -153,14 +209,7 @@ pub goes_behind : {b : Body} {p : Scope} {h : Here} {visible slots cells vars : 
     })
 goes_behind {slots = slots} {cells = cells} {vars = vars} {done = done} {queues = queues} {vs = vs} behind at_is less
     known kept =
-    let t : State = record {
-      done = done;
-      slots = slots;
-      cells = cells;
-      vars = vars;
-      queues = queues;
-      vs = vs;
-    } in
+    let t : State = record { done = done; slots = slots; cells = cells; vars = vars; queues = queues; vs = vs } in
     named refl at_is refl (behind.on t less (record { known = known; kept = kept }))
 
 -- so what is behind them is behind their last ones, which begin where loops' variables are as before
@@ -180,13 +229,63 @@ module _ {b : Body} {p : Scope} {h : Here} {lines : List Line} {cost : ℕ} {var
   pub sooner : {k : ℕ} → k ≤ h.done + cost → Begins b p h lines cost vars vs → InTime k h
   sooner {k = k} less begins = lasts_less k (h.done + cost) (h.until ∷ h.deadlines) less begins.time
 
-  -- the first of the lines
-  pub front_of : {few : ℕ} {front : List Line} (back : List Line) → few ≤ cost → lines ≡ front ++ back
-      → Begins b p h lines cost vars vs → Begins b p h front few vars vs
-  front_of {few = few} {front = front} back less is begins = record {
-    has = code_front b.z.code h.at front back
-        (subst (λ (ls : List Line). HasCode b.z.code h.at ls) is begins.has);
-    time = sooner {k = h.done + few} (omega arith) begins;
-    known = begins.known;
-    inside = begins.inside;
-  }
+-- the first of the lines
+pub front_of : {b : Body} {p : Scope} {h : Here} {few cost : ℕ} {vars : List ℕ} {vs : Values} (front back : List Line)
+    → few ≤ cost → Begins b p h (front ++ back) cost vars vs → Begins b p h front few vars vs
+front_of {b = b} {h = h} front back less begins = record {
+  has = code_front b.z.code h.at front back begins.has;
+  time = sooner (omega arith) begins;
+  known = begins.known;
+  inside = begins.inside;
+}
+
+-- what a statement and a block ask of the frame, and how long they take
+pub record Needs : Type 0 where
+  pub depth : ℕ
+  pub loop : Bool
+  pub locks : ℕ
+  pub sends : List Spawn
+  pub variables : ℕ
+  pub steps : ℕ
+
+abbrev pub needs : App → Statement → Needs
+needs app s = record {
+  depth = statement_depth s;
+  loop = is_loop s;
+  locks = statement_locks s;
+  sends = statement_spawns s;
+  variables = variables_in s;
+  steps = statement_steps (cost_measure app) s;
+}
+
+abbrev pub block_needs : App → Block → Needs
+block_needs app b = record {
+  depth = block_depth b;
+  loop = has_loop b;
+  locks = locks b;
+  sends = spawns b;
+  variables = variables b;
+  steps = block_steps (cost_measure app) b;
+}
+
+-- what needs so much fits where it stands
+pub record Fits (b : Body) (p : Scope) (n : Needs) : Type 0 where
+  pub depth : b.c.expressions + n.depth ≤ b.top
+  pub loops : n.loop ≡ true → b.c.expressions < b.top
+  pub masks : p.lock + n.locks ≤ b.c.spawns
+  pub sends : (q : Spawn) → IsIn n.sends q → b.c.spawns + spawn_words q ≤ b.words
+  pub variables : p.count + n.variables ≤ b.c.expressions
+  pub steps : n.steps ≤ BODY_COST
+
+-- so does a part of it, which stands deeper
+pub part_fits : {b : Body} {p q : Scope} {n m : Needs} → Fits b p n → m.depth ≤ n.depth
+    → (q.lock + m.locks ≤ p.lock + n.locks) × (q.count + m.variables ≤ p.count + n.variables) → m.steps ≤ n.steps
+    → (m.loop ≡ true → n.loop ≡ true) → ((s : Spawn) → IsIn m.sends s → IsIn n.sends s) → Fits b q m
+part_fits fits deep (masks, variables) steps loops sends = record {
+  depth = omega (arith, fits.depth);
+  loops = λ is. fits.loops (loops is);
+  masks = omega (arith, fits.masks);
+  sends = λ s there. fits.sends s (sends s there);
+  variables = omega (arith, fits.variables);
+  steps = omega (arith, fits.steps);
+}

@@ -1,103 +1,307 @@
--- What is promised of the code of each kind of body.
-use Rattle.std.proofs.Common.{◌≡◌, ℕ, suc, ◌+◌, ◌-◌, ◌^◌, ◌<◌, ◌≤◌, Bool, true, false, if◌then◌else◌, Option, Some}
-use Rattle.std.proofs.Common.{None, option_map, List, [], ◌∷◌, ◌++◌, length, slice_get, refl, ap, sym, ◌∙◌, subst}
-use Rattle.std.proofs.Common.{arith, length-append, append_assoc}
-use Rattle.rt_lemmas.proofs.Bools.{or_left}
-use Rattle.rt_lemmas.proofs.Membership.{all_at}
+-- What is promised of the code of each kind of body: it stands, from its entry through its blocks to its end.
+use Rattle.std.proofs.Common.{◌≡◌, ℕ, suc, ◌-◌, Some, None, List, [], slice_get, refl, sym, subst, zero, ◌+◌, ◌^◌, ◌<◌}
+use Rattle.std.proofs.Common.{◌≤◌, max, Bool, true, false, if◌then◌else◌, ◌∷◌, ◌++◌, length, replicate, take, map}
+use Rattle.std.proofs.Common.{slice_index, Contains, ap, ◌∙◌, arith, length-append, Option, option_map}
+use Rattle.std.proofs.Common.{append_assoc}
+use Rattle.rt_ids.specs.Content.{Values}
 use Rattle.rt_ids.specs.Action.{Action, Ends, Returns}
-use Rattle.rt_ids.specs.Storage.{Runner, Starting, AtLevel}
-use Rattle.rt_ids.specs.declared.ids.BodyId.{BodyId}
+use Rattle.rt_ids.specs.Doing.{Doing}
+use Rattle.rt_ids.specs.Storage.{Starting, AtLevel, Runner}
 use Rattle.rt_ids.specs.declared.ids.BodyId.TheVariants as body
-use Rattle.rt_app.specs.Tree.{Body, Task, App}
-use Rattle.rt_app.specs.Bodies.{Member, member_at}
-use Rattle.rt_app.specs.Level.{is_software}
-use Rattle.rt_app.specs.BodyCost.{cost_measure, body_cost, cost_of}
-use Rattle.rt_app.specs.Frame.{frame_words}
-use Rattle.rt_app.specs.Statements.{is_init}
-use Rattle.rt_app.specs.Stack.{thread_frame}
-use Rattle.rt_app.specs.Layout.{memory}
 use Rattle.rt_app.specs.Holding.{storage}
-use Rattle.rt_app.specs.Sending.{Rest, act}
-use Rattle.rt_app.specs.Doings.{nothing, declared_doing, task_doing}
-use Rattle.rt_app.specs.Accepted.{IsAccepted}
-use Rattle.rt_app.specs.Acceptance.{IsSound}
-use Rattle.rt_app.proofs.Members.{has_body}
-use Rattle.rt_code.specs.Standing.{StandsFrom}
-use Rattle.rt_code.specs.declared.image.BodyRow.{BodyRow}
+use Rattle.rt_code.specs.Owning.{Spot}
+use Rattle.rt_code.specs.Stack.{return_address}
+use Rattle.rt_code.specs.Standing.{Stands, Finishes, passed, StandsFrom}
 use Rattle.rt_code.specs.declared.instr.Instr.TheVariants as instr
 use Rattle.rt_code.specs.declared.instr.Note.TheVariants as note
-use Rattle.rt_code.specs.Stack.{return_address}
+use Rattle.rt_gen_queue.specs.Line.{noted, Line, HasCode, plain}
+use Rattle.rt_gen_queue.proofs.Layer.{Setting, Here, Lasts, S, spot, by_line, returns_here, begun, begins}
+use Rattle.std.specs.List.{range_with_len}
+use Rattle.std.proofs.lemmas.List.{length-replicate, length-take-le, get_or_append_left, get_or-take}
+use Rattle.std.proofs.lemmas.Option.{none-some, same_Some}
+use Rattle.std.proofs.lemmas.List.FromFn.{get_or-range_with_len, length-range_with_len}
+use Rattle.rt_lemmas.proofs.Bools.{or_left}
+use Rattle.rt_lemmas.proofs.Membership.{all_at, contains_none}
+use Rattle.rt_ids.specs.Lists.{greatest}
+use Rattle.rt_ids.specs.Choice.{IsIn}
+use Rattle.rt_ids.specs.Holder.{Holder}
+use Rattle.rt_ids.specs.Entry.{Entry}
+use Rattle.rt_ids.specs.declared.limits.TheConstants.{BODY_COST}
+use Rattle.rt_app.specs.Tree.{Spawn, Body as AppBody, App, Task}
+use Rattle.rt_app.specs.Bodies.{Member, members, member_at}
+use Rattle.rt_app.specs.Variables.{variables}
+use Rattle.rt_app.specs.Cost.{capped}
+use Rattle.rt_app.specs.Steps.{block_steps}
+use Rattle.rt_app.specs.BodyCost.{cost_measure, body_cost, cost_of}
+use Rattle.rt_app.specs.Frame.{block_depth, has_loop, first_expression_slot, first_lock_slot, first_spawn_slot}
+use Rattle.rt_app.specs.Frame.{frame_words, spawn_words}
+use Rattle.rt_app.specs.Spawned.{spawns}
+use Rattle.rt_app.specs.Layout.{memory}
+use Rattle.rt_app.specs.Sending.{Rest, act}
+use Rattle.rt_app.specs.Doings.{nothing, body_doing, declared_doing, task_doing}
+use Rattle.rt_app.specs.Accepted.{IsAccepted}
+use Rattle.rt_app.specs.Acceptance.{IsSound}
+use Rattle.rt_app.proofs.Capping.{cap_steps}
+use Rattle.rt_app.proofs.Members.{has_body}
+use Rattle.rt_gen_queue.specs.Spawning.{HoldsOff}
+use Rattle.rt_gen_queue.specs.Called.{calm, row_for, CalledBodyStands}
+use Rattle.rt_gen_body.specs.Inside.Blocks.{block_code}
+use Rattle.rt_gen_body.specs.Inside.Whole.{context_of, level_of, blocks_of, code_of}
+use Rattle.rt_gen_body.proofs.Blocks.{block_stands}
+use Rattle.rt_gen_body.proofs.Places.{Facts, Body, Scope, State, then_at}
+use Rattle.rt_gen_body.proofs.Owning.{AllSpelled, spelled, known_of, all_agreed}
+use Rattle.rt_ids.specs.declared.ids.BodyId.{BodyId}
+use Rattle.rt_app.specs.Level.{is_software}
+use Rattle.rt_app.specs.Statements.{is_init}
+use Rattle.rt_app.specs.Stack.{thread_frame, thread_words}
+use Rattle.rt_code.specs.declared.image.BodyRow.{BodyRow}
 use Rattle.rt_code.proofs.Standing.{stands_with_more}
-use Rattle.rt_gen_queue.specs.Line.{Line, plain, noted, HasCode}
-use Rattle.rt_gen_queue.specs.Called.{row_for, calm, CalledBodyStands}
 use Rattle.rt_gen_body.specs.Bodies.{BodyStands}
 use Rattle.rt_gen_body.specs.Form.{end_line}
-use Rattle.rt_gen_body.specs.Inside.Whole.{context_of, level_of, blocks_of, code_of}
-use Rattle.rt_gen_queue.proofs.Layer.{Setting, returns_here}
 use Rattle.rt_gen_queue.proofs.Placing.{code_front, code_behind, code_there}
-use Rattle.rt_gen_body.proofs.Facts.{LevelIs, Facts}
-use Rattle.rt_gen_body.proofs.Ends.{ends_init, ends_idle, goes_back}
-use Rattle.rt_gen_body.proofs.Keeping.{spelled, known_of}
-use Rattle.rt_gen_body.proofs.Owning.{spelled_agreed}
 use Rattle.rt_gen_body.proofs.Storing.{facts_for}
-use Rattle.rt_gen_body.proofs.Whole.{IsBody, few_steps, blocks_stand, cost_is, alone, Ending, at_start, starts, Whole}
-use Rattle.rt_gen_body.proofs.Whole.{whole_stands}
+
+-- a cost that is short is the steps and the end
+pub cost_is : (app : App) (b : AppBody) → block_steps (cost_measure app) b.block + 1 ≤ BODY_COST
+    → body_cost (cost_measure app) b ≡ block_steps (cost_measure app) b.block + 1
+cost_is app b few =
+    ap (λ n. capped (n + 1)) (cap_steps.blocks (cost_measure app) b.block)
+    ∙ (let e : capped (capped (block_steps (cost_measure app) b.block) + 1) ≡ block_steps (cost_measure app) b.block
+    + 1 = omega arith in e)
+
+-- a loop has a slot for its test
+loop_fits : (loops : Bool) (deep first : ℕ) → loops ≡ true → first < first + max deep (if loops then 1 else 0)
+loop_fits true deep first is = omega arith
+loop_fits false deep first is = absurd cc
+
+-- a called body's arguments, and a hardware task's none, are in the first slots
+vars_of : (args count : ℕ) (slots : List ℕ) (x : ℕ) → args ≤ length slots → x < args
+    → slice_index (take args slots ++ replicate count 0) x ≡ slice_index slots x
+vars_of args count slots x enough less =
+    get_or_append_left (take args slots) (replicate count 0) 0 x (omega (arith, length-take-le args slots enough))
+    ∙ get_or-take args slots x 0 less
+
+pub contains_range : (args y : ℕ) → Contains (range_with_len 0 args) y → y < args
+contains_range args y (k, within, is) =
+    let less : k < args = omega (arith, length-range_with_len 0 args) in
+    omega (arith, get_or-range_with_len 0 args k y less)
+
+-- the lines of a body's blocks from an address on
+abbrev pub lines_of : App → Member → ℕ → List Line
+lines_of app m at = block_code (context_of app m) (level_of app m) (first_lock_slot m.args m.body) at m.body.block
 
 -- the runner of a body, and the level that it holds off at its start
-abbrev runner_if : Bool → ℕ → Runner
+abbrev pub runner_if : Bool → ℕ → Runner
 runner_if starts level = if starts then Starting else AtLevel level
 
 level_at_start : (app : App) (starts : Bool) (p : ℕ)
-    → LevelIs app.bits (storage app) (runner_if starts p) [] (if starts then 2 ^ app.bits else p)
+    → HoldsOff app (runner_if starts p) (runner_if starts p) [] (if starts then 2 ^ app.bits else p)
 level_at_start app true p = omega arith
 level_at_start app false p = omega arith
 
-is_body : {z : Setting} {words : ℕ} (m : Member) → IsAccepted z.app → IsSound z.app
-    → z.who ≡ runner_if (is_init m.id) m.priority → member_at z.app m.id ≡ Some m → frame_words m.args m.body ≤ words
-    → words < 2 ^ 32 → IsBody z m words
-is_body {z = z} m accepted sound runs is room word = record {
-  accepted = accepted;
-  sound = sound;
-  is = is;
-  facts = subst (λ (who : Runner). Facts (storage z.app) who z.app m (context_of z.app m)) (sym runs)
-      (facts_for z.app accepted sound m (has_body z.app accepted m.id m is).is_one (is_init m.id) refl);
-  level = subst (λ (who : Runner). LevelIs z.app.bits (storage z.app) who [] (level_of z.app m)) (sym runs)
-      (level_at_start z.app (is_init m.id) m.priority);
-  room = room;
-  word = word;
+-- a body of an application, in a frame of so many words
+pub record IsBody (z : Setting) (m : Member) (words : ℕ) : Type 0 where
+  pub accepted : IsAccepted z.app
+  pub sound : IsSound z.app
+  pub is : member_at z.app m.id ≡ Some m
+  pub runs : z.who ≡ runner_if (is_init m.id) m.priority
+  pub room : frame_words m.args m.body ≤ words
+  pub word : words < 2 ^ 32
+
+-- a frame and memory as they are where a body begins
+record Given (z : Setting) (words : ℕ) (s : State) : Type 0 where
+  long : length s.slots ≡ words
+  all : length s.cells ≡ length (memory z.app)
+  known : AllSpelled z s.cells s.queues s.vs
+
+-- a job with no section open and nothing in its hands, with so many steps for all and for what is told of the code
+abbrev pub job : (until left at : ℕ) → State → Doing Values → Here
+job until left at t rest = then_at (begun (calm left [] None 0 [] (λ h. []) rest) until) at t rest
+
+module _ {z : Setting} {m : Member} {words : ℕ} (w : IsBody z m words) where
+  few_steps : block_steps (cost_measure z.app) m.body.block + 1 ≤ BODY_COST
+  few_steps =
+      let one = (has_body z.app w.accepted m.id m w.is).is_one in
+      all_at (λ m. block_steps (cost_measure z.app) m.body.block + 1 ≤ BODY_COST) (members z.app) one.0 m w.sound.steps
+      one.1
+
+  facts : Facts z.app z.who m (context_of z.app m)
+  facts =
+      subst (λ (who : Runner). Facts z.app who m (context_of z.app m)) (sym w.runs)
+      (facts_for z.app w.accepted w.sound m (has_body z.app w.accepted m.id m w.is).is_one (is_init m.id) refl)
+
+  off : HoldsOff z.app z.who z.who [] (level_of z.app m)
+  off =
+      subst (λ (who : Runner). HoldsOff z.app who who [] (level_of z.app m)) (sym w.runs)
+      (level_at_start z.app (is_init m.id) m.priority)
+
+  masks_room : first_spawn_slot m.args m.body ≤ words
+  masks_room = omega (arith, w.room)
+
+  abbrev in_frame : Body
+  in_frame = record {
+    z = z;
+    m = m;
+    c = context_of z.app m;
+    words = words;
+    top = first_lock_slot m.args m.body;
+    facts = facts;
+    floor = omega arith;
+    masks = omega arith;
+    spawns = masks_room;
+    word = w.word;
+  }
+
+  abbrev scope : Scope
+  scope = record {
+    visible = range_with_len 0 m.args;
+    fixed = [];
+    locked = [];
+    count = m.args;
+    level = level_of z.app m;
+    lock = first_lock_slot m.args m.body;
+  }
+
+  -- from its arguments on its blocks stand before what is correct behind them
+  blocks_stand : (until left entry : ℕ) (rest : Rest) (s : State) → HasCode z.code entry (lines_of z.app m entry)
+      → Lasts (block_steps (cost_measure z.app) m.body.block) (until ∷ left ∷ []) → Given z words s
+      → ((t : State) → t.done ≤ block_steps (cost_measure z.app) m.body.block → length t.cells ≡ length (memory z.app)
+      → AllSpelled z t.cells t.queues t.vs
+      → S z (job until left (entry + length (lines_of z.app m entry)) t (rest t.vs)))
+      → Stands (storage z.app) z.code z.bodies z.thread z.who until
+      (calm left s.slots z.caller entry s.cells s.queues (body_doing z.app m.body (take m.args s.slots) rest s.vs))
+  blocks_stand until left entry rest s has time given on =
+      let placed = has_body z.app w.accepted m.id m w.is in
+      let few = few_steps in let room = w.room in let long = given.long in
+      let zeros : List ℕ = replicate (variables m.body.block) 0 in
+      let vars : List ℕ = take m.args s.slots ++ zeros in
+      let there : m.args ≤ length s.slots = omega arith in
+      let start : Spot =
+      calm left s.slots z.caller entry s.cells s.queues (body_doing z.app m.body (take m.args s.slots) rest s.vs) in
+      begins {z = z} start until
+      ((block_stands in_frame m.body.block scope
+      (record {
+        depth = omega arith;
+        loops = loop_fits (has_loop m.body.block) (block_depth m.body.block) (first_expression_slot m.args m.body);
+        masks = omega arith;
+        sends = λ q here.
+            let least : spawn_words q ≤ greatest (map spawn_words (spawns m.body.block)) =
+            most (spawns m.body.block) q here in
+            omega arith;
+        variables = omega arith;
+        steps = omega arith;
+      }) (w.sound.bodies m.id m w.is) placed.placed.block).runs {h = begun start until} {vars = vars} {vs = s.vs}
+      (λ vars. rest)
+      (record {
+        has = has;
+        time = (omega (arith, time.0), (omega (arith, time.1.0), tt));
+        known = record {
+          in_slots = λ y here.
+              sym (vars_of m.args (variables m.body.block) s.slots y there (contains_range m.args y here));
+          in_cells = known_of s.queues given.known;
+          long = given.all;
+          frame = long;
+          variables = omega (
+            arith,
+            length-append (take m.args s.slots) zeros,
+            length-take-le m.args s.slots there,
+            length-replicate {A = ℕ} (variables m.body.block) 0,
+          );
+        };
+        inside = record {
+          below = contains_range m.args;
+          fixed = λ y here. absurd (contains_none y here);
+          room = omega arith;
+          low = omega arith;
+          high = omega arith;
+          saved = tt;
+          are = tt;
+          off = off;
+        };
+      }) refl
+      (record {
+        on = λ t within settled.
+            on t (omega (arith, within)) settled.known.long
+            (spelled s.cells s.queues s.vs given.known settled.known.in_cells t.queues);
+      }))
+    where
+      most : (ps : List Spawn) (p : Spawn) → IsIn ps p → spawn_words p ≤ greatest (map spawn_words ps)
+      most [] p (i, at) = absurd (none-some p at)
+      most (q ∷ ps) p (zero, at) =
+          let same : spawn_words q ≡ spawn_words p = ap spawn_words (same_Some q p at) in omega arith
+      most (q ∷ ps) p (suc i, at) = let less = most ps p (i, at) in omega arith
+
+-- the last line of a body, at an address, ends it by this action
+abbrev pub Ending : Setting → ℕ → Action → Type 0
+Ending z at action =
+    (until left : ℕ) (t : State) → Lasts (suc t.done) (until ∷ left ∷ []) → AllSpelled z t.cells t.queues t.vs
+    → S z (job until left at t (act action nothing t.vs))
+
+-- a body of the thread or of a hardware task has a frame of its own
+abbrev pub alone : Setting → Setting
+alone z = record z { caller = None }
+
+-- with all given back it is over
+finishes : (z : Setting) (until left at : ℕ) (action : Action) (t : State) → AllSpelled z t.cells t.queues t.vs
+    → Finishes (storage z.app) z.code z.bodies z.thread z.who action
+    (passed (spot (alone z) (job until left at t (act action nothing t.vs))))
+finishes z until left at action t known = record {
+  values = t.vs;
+  follows = λ answer. nothing;
+  is = refl;
+  closed = refl;
+  empty = refl;
+  own_frame = refl;
+  spelled = λ h kept. known h (or_left ((storage z.app).is_kept z.who h) ((storage z.app).is_constant z.who h) kept);
 }
 
-abbrev of_thread : BodyId → Body → Member
+-- what such a body promises: it does what it means, and then ends
+abbrev pub Whole : Setting → (words entry cost : ℕ) → (Values → Doing Values) → Type 0
+Whole z words entry cost doing =
+    StandsFrom (storage z.app) z.code z.bodies z.thread z.who (length (memory z.app)) words entry cost doing
+
+-- where memory and queues are so, and nothing is done
+abbrev begun_with : (slots cells : List ℕ) → (Holder → List Entry) → Values → State
+begun_with slots cells queues vs =
+    record { done = 0; slots = slots; cells = cells; vars = []; queues = queues; vs = vs }
+
+pub whole_stands : (z : Setting) {m : Member} {words : ℕ} (entry : ℕ) (action : Action)
+    → IsBody (alone z) m words → m.args ≡ 0 → HasCode z.code entry (lines_of z.app m entry)
+    → Ending (alone z) (entry + length (lines_of z.app m entry)) action
+    → Whole z words entry (body_cost (cost_measure z.app) m.body) (body_doing z.app m.body [] (act action nothing))
+whole_stands z {m = m} entry action w no_args has ending slots cells queues vs long all taken =
+    let cost : ℕ = body_cost (cost_measure z.app) m.body in
+    let cost_eq = cost_is z.app m.body (few_steps w) in
+    subst (λ n. Stands (storage z.app) z.code z.bodies z.thread z.who cost
+    (calm cost slots None entry cells queues (body_doing z.app m.body (take n slots) (act action nothing) vs))) no_args
+    (blocks_stand w cost cost entry (act action nothing) (begun_with slots cells queues vs) has
+    (omega arith, (omega arith, tt)) (record { long = long; all = all; known = taken })
+    (λ t within kept known. ending cost cost t (omega arith, (omega arith, tt)) known))
+
+abbrev of_thread : BodyId → AppBody → Member
 of_thread id b = record { id = id; priority = 0; args = 0; body = b }
 
 abbrev pub of_task : ℕ → Task → Member
 of_task n t = record { id = body.Task n; priority = t.priority; args = t.args; body = t.body }
 
-module _ {z : Setting} where
-  -- a body that is not declared is its end alone
-  end_stands : (words entry : ℕ) (action : Action) → Ending z entry action → Whole z words entry 1 (act action nothing)
-  end_stands words entry action ending slots cells queues vs long all taken =
-      starts {z = alone z}
-      (ending.on (at_start 1 1 slots entry cells queues (act action nothing vs)) (omega arith, (omega arith, tt))
-      (record {
-        closed = refl;
-        empty = refl;
-        own = refl;
-        is = refl;
-        back = λ holder kept. taken holder (or_left ((storage z.app).is_kept z.who holder)
-            ((storage z.app).is_constant z.who holder) kept);
-      }))
-
-  -- a body of the thread, declared or not
-  thread_stands : (id : BodyId) (o : Option Body) {words : ℕ} (entry : ℕ)
-      → ((b : Body) → o ≡ Some b → IsBody (alone z) (of_thread id b) words)
-      → HasCode z.code entry (blocks_of z.app (option_map (of_thread id) o) entry)
-      → Ending z (entry + length (blocks_of z.app (option_map (of_thread id) o) entry)) (Ends id)
-      → Whole z words entry (cost_of (cost_measure z.app) o) (declared_doing z.app o [] (act (Ends id) nothing))
-  thread_stands id None {words = words} entry is has ending =
-      let none : entry + 0 ≡ entry = omega arith in
-      end_stands words entry (Ends id) (subst (λ at. Ending z at (Ends id)) none ending)
-  thread_stands id (Some b) entry is has ending = whole_stands entry (Ends id) (is b refl) refl has ending
+-- a body of the thread, declared or not: of one that is not there is the end alone
+thread_stands : (z : Setting) (id : BodyId) (o : Option AppBody) (entry : ℕ) → IsAccepted z.app → IsSound z.app
+    → z.who ≡ runner_if (is_init id) 0 → member_at z.app id ≡ option_map (of_thread id) o
+    → thread_frame o ≤ thread_words z.app → HasCode z.code entry (blocks_of z.app (option_map (of_thread id) o) entry)
+    → Ending (alone z) (entry + length (blocks_of z.app (option_map (of_thread id) o) entry)) (Ends id)
+    → Whole z (thread_words z.app) entry (cost_of (cost_measure z.app) o)
+    (declared_doing z.app o [] (act (Ends id) nothing))
+thread_stands z id None entry accepted sound runs is fits has ending slots cells queues vs long all taken =
+    let none : entry + 0 ≡ entry = omega arith in
+    let s : State = begun_with slots cells queues vs in
+    begins {z = alone z} (calm 1 slots None entry cells queues (act (Ends id) nothing vs)) 1
+    (subst (λ at. S (alone z) (job 1 1 at s (act (Ends id) nothing vs))) none
+    (ending 1 1 s (omega arith, (omega arith, tt)) taken))
+thread_stands z id (Some b) entry accepted sound runs is fits has ending slots cells queues vs long all taken =
+    let small = sound.stack_small in
+    whole_stands z entry (Ends id)
+    (record { accepted = accepted; sound = sound; is = is; runs = runs; room = fits; word = omega arith }) refl has
+    ending slots cells queues vs long all taken
 
 -- the code of a body, declared or not: its blocks, and its last line behind them
 pub record BodyThere (app : App) (id : BodyId) (o : Option Member) (code : List Line) (entry : ℕ) : Type 0 where
@@ -105,9 +309,9 @@ pub record BodyThere (app : App) (id : BodyId) (o : Option Member) (code : List 
   pub last : slice_get code (entry + length (blocks_of app o entry)) ≡ Some (end_line app id entry)
 
 -- behind other code, and with more behind it
-pub between : (app : App) (id : BodyId) (o : Option Member) (front more : List Line)
+pub body_between : (app : App) (id : BodyId) (o : Option Member) (front more : List Line)
     → BodyThere app id o ((front ++ code_of app id o (length front)) ++ more) (length front)
-between app id o front more =
+body_between app id o front more =
     let entry : ℕ = length front in
     let end : List Line = end_line app id entry ∷ [] in
     let has : HasCode ((front ++ code_of app id o entry) ++ more) entry (code_of app id o entry) =
@@ -127,41 +331,49 @@ module _ {app : App} (accepted : IsAccepted app) (sound : IsSound app) where
       (length front)
   init_stands front more bodies =
       let m : Option Member = member_at app body.Init in
-      let lines : List Line = code_of app body.Init m (length front) in
-      let there = between app body.Init m front more in
-      let small = sound.stack_small in
-      let size : suc (length front + length (blocks_of app m (length front))) ≡ length (front ++ lines) =
+      let entry : ℕ = length front in
+      let lines : List Line = code_of app body.Init m entry in
+      let at : ℕ = entry + length (blocks_of app m entry) in
+      let there = body_between app body.Init m front more in
+      let size : suc at ≡ length (front ++ lines) =
       omega (
         arith,
         length-append front lines,
-        length-append (blocks_of app m (length front)) (end_line app body.Init (length front) ∷ []),
+        length-append (blocks_of app m entry) (end_line app body.Init entry ∷ []),
       ) in
-      thread_stands {z = runs Starting (length (front ++ lines)) ((front ++ lines) ++ more) bodies None} body.Init
-      app.init (length front)
-      (λ b at. is_body (of_thread body.Init b) accepted sound refl (ap (option_map (of_thread body.Init)) at)
-      (omega (arith, ap thread_frame at)) (omega arith)) there.blocks
-      (record { on = λ h time end. ends_init there.last time refl size end })
+      let z : Setting = runs Starting (length (front ++ lines)) ((front ++ lines) ++ more) bodies None in
+      thread_stands z body.Init app.init entry accepted sound refl refl (omega arith) there.blocks
+      (λ until left t time known.
+      by_line instr.Serve (Some (note.End body.Init)) there.last time
+      (refl, refl, size, finishes z until left at (Ends body.Init) t known))
 
   pub idle_stands : (front : List Line)
       → BodyStands app body.Idle (front ++ code_of app body.Idle (member_at app body.Idle) (length front))
       (length front)
   idle_stands front more bodies =
       let m : Option Member = member_at app body.Idle in
-      let there = between app body.Idle m front more in
-      let small = sound.stack_small in
-      thread_stands
-      {z = runs (AtLevel 0) (length front) ((front ++ code_of app body.Idle m (length front)) ++ more) bodies None}
-      body.Idle app.idle (length front)
-      (λ b at. is_body (of_thread body.Idle b) accepted sound refl (ap (option_map (of_thread body.Idle)) at)
-      (omega (arith, ap thread_frame at)) (omega arith)) there.blocks
-      (record { on = λ h time end. ends_idle there.last time refl end })
+      let entry : ℕ = length front in
+      let at : ℕ = entry + length (blocks_of app m entry) in
+      let there = body_between app body.Idle m front more in
+      let z : Setting = runs (AtLevel 0) entry ((front ++ code_of app body.Idle m entry) ++ more) bodies None in
+      thread_stands z body.Idle app.idle entry accepted sound refl refl (omega arith) there.blocks
+      (λ until left t time known.
+      by_line (instr.Jump entry) (Some (note.End body.Idle)) there.last time
+      (refl, refl, finishes z until left at (Ends body.Idle) t known))
 
   module _ {n : ℕ} {t : Task} {code : List Line} {entry : ℕ} (is : slice_get app.tasks n ≡ Some t)
       (short : frame_words t.args t.body < 2 ^ 32)
       (there : BodyThere app (body.Task n) (Some (of_task n t)) code entry) where
     task_body : {thread : ℕ} {bodies : List BodyRow} {caller : Option (List ℕ)}
         → IsBody (runs (AtLevel t.priority) thread code bodies caller) (of_task n t) (frame_words t.args t.body)
-    task_body = is_body (of_task n t) accepted sound refl (ap (option_map (of_task n)) is) (omega arith) short
+    task_body = record {
+      accepted = accepted;
+      sound = sound;
+      is = ap (option_map (of_task n)) is;
+      runs = refl;
+      room = omega arith;
+      word = short;
+    }
 
     last_is : (called : Bool) → is_software t ≡ called
         → slice_get code (entry + length (blocks_of app (Some (of_task n t)) entry))
@@ -175,39 +387,43 @@ module _ {app : App} (accepted : IsAccepted app) (sound : IsSound app) where
         (task_doing app n [] (act Returns nothing))
     task_stands bound bodies thread =
         rw is
-        (whole_stands {z = runs (AtLevel t.priority) thread code bodies None} entry Returns task_body
+        (whole_stands (runs (AtLevel t.priority) thread code bodies None) entry Returns task_body
         (all_at (λ t. is_software t ≡ false → t.args ≡ 0) app.tasks n t sound.hardware is bound) there.blocks
-        (record {
-          on = λ h time end. returns_here (last_is false bound) time end.own end.closed end.empty
-              end.is end.back;
-        }))
+        (λ until left s time known.
+        returns_here (last_is false bound) time refl refl refl refl (λ h kept.
+        known h (or_left ((storage app).is_kept (AtLevel t.priority) h)
+        ((storage app).is_constant (AtLevel t.priority) h) kept))))
 
-    -- one that dispatchers call
+    -- one that dispatchers call: its end goes back into the handler's frame
     pub called_stands : is_software t ≡ true → CalledBodyStands app n code (row_for (λ k. entry) n t)
     called_stands software =
         rw is
         (λ bodies thread steps frame behind goes left slots cells queues vs enough long known.
         let z : Setting = runs (AtLevel t.priority) thread code bodies (Some frame) in
         let cost : ℕ = body_cost (cost_measure app) t.body in
-        let cost_eq = cost_is app t.body (few_steps (task_body {thread = thread} {bodies = bodies} {caller = None})) in
-        let rest : Rest = act (Ends (body.Task n)) behind in
+        let w : IsBody z (of_task n t) (frame_words t.args t.body) = task_body in
+        let cost_eq = cost_is app t.body (few_steps w) in
         rw is
-        (starts {z = z}
-        (blocks_stand (task_body {thread = thread} {bodies = bodies} {caller = Some frame})
-        (at_start (cost + steps) left slots entry cells queues (rest vs)) rest there.blocks
-        (omega arith, (omega arith, tt))
-        (record { long = long; all = known.long; known = known_of queues known.each })
-        (λ s within long2 known2.
-        goes_back n frame (last_is true software) (omega arith, (omega arith, tt)) refl refl refl
-        (λ us agree.
-        record {
-          stands = stands_with_more (storage app) bodies thread (AtLevel t.priority) code steps
-              (cost + steps - suc s.done)
-              (calm (left - suc s.done) frame None (return_address frame) s.cells s.queues (behind us))
-              ((left - suc s.done) ∷ []) (omega arith) (omega arith, tt)
-              (goes (left - suc s.done) s.cells s.queues us (omega arith)
-              (record {
-                long = long2;
-                each = spelled cells queues vs known.each (spelled_agreed agree known2) s.queues;
-              }));
-        })))))
+        (blocks_stand w (cost + steps) left entry (act (Ends (body.Task n)) behind) (begun_with slots cells queues vs)
+        there.blocks (omega arith, (omega arith, tt)) (record { long = long; all = known.long; known = known.each })
+        (λ s within kept spelled.
+        by_line instr.Back (Some (note.End (body.Task n))) (last_is true software) (omega arith, (omega arith, tt)) (
+          refl,
+          record {
+            frame = frame;
+            caller = refl;
+            closed = refl;
+            acts = record {
+              values = s.vs;
+              follows = λ answer. behind;
+              is = refl;
+              on = λ us agree.
+                  stands_with_more (storage app) bodies thread (AtLevel t.priority) code steps
+                  (cost + steps - suc s.done)
+                  (calm (left - s.done - 1) frame None (return_address frame) s.cells s.queues (behind us))
+                  ((left - s.done - 1) ∷ []) (omega arith) (omega arith, tt)
+                  (goes (left - s.done - 1) s.cells s.queues us (omega arith)
+                  (record { long = kept; each = all_agreed z s.cells s.queues agree spelled }));
+            };
+          },
+        ))))

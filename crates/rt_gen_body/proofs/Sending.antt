@@ -1,30 +1,240 @@
--- The code of a spawn with its arguments: their values come into the slots of the spawn, and then the message goes.
-use Rattle.std.proofs.Common.{◌≡◌, ◌⊎◌, ℕ, suc, ◌+◌, ◌<◌, ◌≤◌, List, [], ◌∷◌, length, map, take, drop, slice_index}
-use Rattle.std.proofs.Common.{slice_set, Contains, refl, ap, sym, ◌∙◌, subst, inl, inr, arith, length-append}
+-- The code of a spawn with its arguments: their values come into the slots of the spawn, and then the message goes, to
+-- the ready queue or to the timer queue, or what its handle takes back or puts to another instant.
+use Rattle.std.proofs.Common.{◌≡◌, ℕ, suc, ◌+◌, ◌-◌, ◌*◌, ◌<◌, ◌≤◌, ◌&&◌, true, Some, is_some}
+use Rattle.std.proofs.Common.{List, [], ◌∷◌, length, map, take, drop, slice_get, slice_index, refl, ap, sym, ◌∙◌, subst}
+use Rattle.std.proofs.Common.{inl, inr, arith, if◌then◌else◌, slice_set, length-append}
 use Rattle.std.specs.List.{AllByRecursion}
 use Rattle.std.proofs.lemmas.List.{drop_more, length-map}
-use Rattle.rt_ids.specs.Lists.{greatest}
+use Rattle.rt_lemmas.proofs.Membership.{all_weaker}
+use Rattle.rt_ids.specs.Lists.{is_some_and, greatest}
 use Rattle.rt_ids.specs.Content.{Values}
-use Rattle.rt_app.specs.Tree.{Expression, Spawn, Soon, After, Cancel, Move, Call, Spawns}
-use Rattle.rt_app.specs.BodyCost.{cost_measure}
-use Rattle.rt_app.specs.Steps.{expressions_steps, spawn_steps}
-use Rattle.rt_app.specs.Frame.{depth}
+use Rattle.rt_ids.specs.declared.ids.Section.TheVariants as section
+use Rattle.rt_app.specs.declared.costs.TheConstants.{SPAWN_COST, SPAWN_AFTER_COST, MESSAGE_COST, HANDLE_COST}
+use Rattle.rt_app.specs.declared.costs.TheConstants.{HANDLE_MESSAGE_COST, TIMER_QUEUE_WORDS}
+use Rattle.rt_app.specs.Tree.{Spawn, Soon, After, Cancel, Move, Task, App, Expression, Call, Spawns}
+use Rattle.rt_app.specs.Ceiling.{ceiling}
+use Rattle.rt_app.specs.Level.{is_software, armed_messages}
+use Rattle.rt_app.specs.BodyCost.{timer_section_cost, cost_measure}
+use Rattle.rt_app.specs.Frame.{spawn_depth, spawn_words, depth}
 use Rattle.rt_app.specs.Meaning.{value_in, run}
 use Rattle.rt_app.specs.Sending.{Rest, spawn_actions}
-use Rattle.rt_app.specs.Accepted.{AreMeant}
-use Rattle.rt_app.specs.Sound.{AreReached}
-use Rattle.rt_code.specs.declared.instr.Instr.TheVariants as instr
-use Rattle.rt_gen_queue.specs.Line.{Line, plain, HasCode}
-use Rattle.rt_gen_queue.proofs.Facts.{few_arguments}
-use Rattle.rt_gen_queue.proofs.Layer.{Here, S, goes, copy_gives}
-use Rattle.rt_gen_queue.proofs.Placing.{code_behind}
-use Rattle.rt_gen_body.specs.Inside.Values.{next_slot, expression_code, arguments_code}
+use Rattle.rt_app.specs.Holding.{storage}
+use Rattle.rt_app.specs.Sound.{IsSoundSpawn, SpawnsTask, AreReached}
+use Rattle.rt_app.specs.Accepted.{IsSpawnPlaced, AreMeant}
+use Rattle.rt_code.specs.Owning.{saved_slots}
+use Rattle.rt_code.specs.StandingLaws.{AreAtLeast}
+use Rattle.rt_code.proofs.Standing.{stands_with_more}
+use Rattle.rt_gen_queue.specs.Line.{Line, HasCode, plain}
+use Rattle.rt_gen_queue.specs.SpawnCode.{spawn_code}
+use Rattle.rt_gen_queue.proofs.Layer.{Here, S, spot, left_at, lasts_left, goes, copy_gives}
+use Rattle.rt_gen_queue.proofs.Whole.{spawn_stands}
+use Rattle.rt_gen_timer.specs.TimerCode.{after_code, cancel_code, move_code}
+use Rattle.rt_gen_timer.specs.TimerCalls.{MayUseTimer, MayUsePlaces, StandsBefore}
+use Rattle.rt_gen_timer.proofs.Afters.{afters_stand}
+use Rattle.rt_gen_timer.proofs.Cancelling.{cancels_all_stand}
+use Rattle.rt_gen_timer.proofs.Moving.{moves_all_stand}
 use Rattle.rt_gen_body.specs.Inside.Simple.{values_of, goes_code, send_code, bind_code}
-use Rattle.rt_gen_body.proofs.Expressions.{Sound, evaluates, next_begins}
-use Rattle.rt_gen_body.proofs.Going.{goes_steps, SoundSpawn, Answered, goes_on}
-use Rattle.rt_gen_body.proofs.Places.{Body, Scope, listed_by, Begins, sooner, front_of, free_slot, Performs}
-use Rattle.rt_gen_body.proofs.Places.{goes_behind, named}
-use Rattle.rt_gen_body.proofs.Simple.{MaySet, variable_set, kept_set}
+use Rattle.rt_gen_body.proofs.Owning.{spelled_left, not_open}
+use Rattle.rt_gen_body.proofs.Places.{Body, Scope, listed_by, Begins, State, Settled, then_at, sooner}
+use Rattle.rt_gen_body.proofs.Places.{front_of, free_slot, Performs, goes_behind, named}
+use Rattle.rt_app.specs.Steps.{expressions_steps, spawn_steps}
+use Rattle.rt_code.specs.declared.instr.Instr.TheVariants as instr
+use Rattle.rt_gen_queue.proofs.Facts.{Spawned, few_arguments}
+use Rattle.rt_gen_queue.proofs.Placing.{code_behind}
+use Rattle.rt_gen_body.specs.Inside.Values.{Context, next_slot, expression_code, arguments_code}
+use Rattle.rt_gen_body.proofs.Expressions.{Sound, evaluates, next_begins, Sets, variable_set, kept_set}
+use Rattle.std.proofs.Common.{Bool}
+
+-- the first of the values in the slots from one on, and the others
+first_value : (n slot v : ℕ) (slots vs : List ℕ) → slot < length slots → take (suc n) (drop slot slots) ≡ v ∷ vs
+    → (slice_index slots slot ≡ v) × (take n (drop (slot + 1) slots) ≡ vs)
+first_value n slot v slots vs within are =
+    let split : slice_index slots slot ∷ take n (drop (slot + 1) slots) ≡ v ∷ vs =
+    sym (ap (take (suc n)) (drop_more slots slot 0 within)) ∙ are in
+    (ap (λ (xs : List ℕ). slice_index xs 0) split, ap (drop 1) split)
+
+-- the steps of what goes, without those of its values
+abbrev goes_steps : App → Spawn → ℕ
+goes_steps app (Soon n args place) = SPAWN_COST
+goes_steps app (After word delay n args place) = SPAWN_AFTER_COST + MESSAGE_COST * armed_messages app
+goes_steps app (Cancel word n handle place) = HANDLE_COST + HANDLE_MESSAGE_COST * armed_messages app
+goes_steps app (Move word delay n handle place) = HANDLE_COST + HANDLE_MESSAGE_COST * armed_messages app
+
+-- What follows a spawn, by its answer, which is in the first slot of spawns.
+record Answered (b : Body) (p : Scope) (h : Here) (size cost : ℕ) (vars : List ℕ) (rest : ℕ → Rest) : Type 0 where
+  on : (answer : ℕ) (t : State) → t.done ≤ h.done + cost → slice_index t.slots b.c.spawns ≡ answer
+      → Settled b p.fixed p.visible h (record t { vars = vars })
+      → S b.z (then_at h (h.at + size) t (rest answer t.vs))
+
+-- a spawn that may go from here
+pub record SoundSpawn (b : Body) (p : Scope) (q : Spawn) : Type 0 where
+  pub deep : b.c.expressions + spawn_depth q ≤ b.top
+  pub words : b.c.spawns + spawn_words q ≤ b.words
+  pub sound : IsSoundSpawn b.z.app b.m p.locked q
+  pub placed : IsSpawnPlaced b.z.app (listed_by b.m) p.visible q
+
+-- what is left behind fewer steps is no less
+least_left : (done used steps : ℕ) (deadlines : List ℕ) → used ≤ steps
+    → AreAtLeast (left_at (done + steps) deadlines) (map (λ n. n - used) (left_at done deadlines))
+least_left done used steps [] less = tt
+least_left done used steps (d ∷ deadlines) less = (omega arith, least_left done used steps deadlines less)
+
+-- the code of what goes to a software task, where the application has what it needs
+code_called : (b : Body) (lines : App → List Line) (needs : App → Bool) (n : ℕ) (t : Task) → needs b.z.app ≡ true
+    → slice_get b.z.app.tasks n ≡ Some t → is_software t ≡ true
+    → (if needs b.c.app && is_some_and is_software (slice_get b.c.app.tasks n) then lines b.c.app else [])
+    ≡ lines b.z.app
+code_called b lines needs n t has there software =
+    rw (ap (λ (c : Context). c.app) b.facts.is, has, there, software) refl
+
+module _ {b : Body} {p : Scope} {h : Here} {vars : List ℕ} {vs : Values} (q : Spawn) (rest : ℕ → Rest)
+    (begins : Begins b p h (goes_code b.c p.level h.at q) (goes_steps b.z.app q) vars vs)
+    (on : Answered b p h (length (goes_code b.c p.level h.at q)) (goes_steps b.z.app q) vars rest) where
+  abbrev left : ℕ
+  left = h.until - h.done - goes_steps b.z.app q
+
+  -- it goes by its law, since what is behind its lines is correct in as many steps as are left
+  by_law : {lines : List Line} → goes_code b.c p.level h.at q ≡ lines
+      → (HasCode b.z.code h.at lines → StandsBefore b.z.app b.z.who b.z.code b.z.bodies b.z.thread
+      (goes_steps b.z.app q) b.c.spawns lines rest left (spot b.z h) vs) → S b.z h
+  by_law {lines = lines} lines_are law = record {
+    stands = law (subst (λ (ls : List Line). HasCode b.z.code h.at ls) lines_are begins.has)
+        (λ answer used k slots cells queues ws less gone.
+        let done : ℕ = h.done + goes_steps b.z.app q in
+        let t : State = record { done = done; slots = slots; cells = cells; vars = vars; queues = queues; vs = ws } in
+        let same : (x : ℕ) → x < p.count → slice_index slots x ≡ slice_index h.slots x =
+        λ x low. gone.kept x (inl (omega (arith, begins.inside.room, b.floor, b.masks))) in
+        stands_with_more (storage b.z.app) b.z.bodies b.z.thread b.z.who b.z.code (h.until - done) k
+        (spot b.z (then_at h (h.at + length lines) t (rest answer ws)))
+        (map (λ n. n - used) (left_at h.done h.deadlines)) (omega arith)
+        (least_left h.done used (goes_steps b.z.app q) h.deadlines gone.in_time)
+        (subst (λ (ls : List Line). S b.z (then_at h (h.at + length ls) t (rest answer ws))) lines_are
+        (on.on answer t (omega arith) gone.answered.1
+        (record {
+          known = record {
+            in_slots = λ x here. same x (begins.inside.below x here) ∙ begins.known.in_slots x here;
+            in_cells = spelled_left (spot b.z h) gone.own gone.agree begins.known.in_cells;
+            long = gone.own.long ∙ begins.known.long;
+            frame = gone.frame ∙ begins.known.frame;
+            variables = begins.known.variables;
+          };
+          kept = λ x here. same x (begins.inside.fixed x here);
+        }))).stands) (h.until - h.done) (omega (arith, begins.time.0));
+  }
+
+  -- no slot of a spawn keeps a mask
+  below_spawns : AllByRecursion (λ d. d < b.c.spawns) (saved_slots h.held)
+  below_spawns =
+      all_weaker (λ d. (b.top ≤ d) × (d < p.lock)) (λ d. d < b.c.spawns)
+      (λ d between. omega (arith, between.1, begins.inside.high)) (saved_slots h.held) begins.inside.saved
+
+  -- it may use the timer queue, and the places of a task
+  may_use : b.c.spawns + TIMER_QUEUE_WORDS ≤ b.words → b.m.priority ≤ ceiling b.z.app section.Timer
+      → MayUseTimer b.z.app b.z.who (goes_steps b.z.app q) p.level b.c.spawns (spot b.z h)
+  may_use words within = record {
+    cells = begins.known.long;
+    frame = omega (arith, begins.known.frame);
+    masks = below_spawns;
+    closed = not_open h.held p.locked section.Timer (λ r. refl) begins.inside.are;
+    within = b.facts.enters section.Timer within;
+    off = begins.inside.off;
+    enough = lasts_left h.done (goes_steps b.z.app q) h.deadlines begins.time.1;
+  }
+
+  may_take : (task : ℕ) → b.m.priority ≤ ceiling b.z.app (section.Free task)
+      → MayUsePlaces b.z.app b.z.who task (spot b.z h)
+  may_take task within = record {
+    closed = not_open h.held p.locked (section.Free task) (λ r. refl) begins.inside.are;
+    within = b.facts.enters (section.Free task) within;
+  }
+
+-- the code of what goes does its actions, once the values are in their slots
+goes_on : {b : Body} {p : Scope} {h : Here} {vars : List ℕ} {vs : Values} (q : Spawn) (rest : ℕ → Rest)
+    → SoundSpawn b p q → Begins b p h (goes_code b.c p.level h.at q) (goes_steps b.z.app q) vars vs
+    → take (length (values_of q)) (drop b.c.spawns h.slots) ≡ map (value_in vars vs) (values_of q)
+    → h.rest ≡ spawn_actions b.z.app (value_in vars vs) q rest vs
+    → Answered b p h (length (goes_code b.c p.level h.at q)) (goes_steps b.z.app q) vars rest → S b.z h
+goes_on {b = b} {p = p} {h = h} {vars = vars} {vs = vs} (Soon task args place) rest sound begins come is on =
+    let q : Spawn = Soon task args place in
+    let t : Task = sound.sound.0 in
+    let one = sound.sound.1 in
+    by_law q rest begins on
+    (code_called b (λ a. spawn_code a task p.level b.c.spawns h.at) (λ a. true) task t refl one.is_there one.software)
+    (λ has behind k enough.
+    spawn_stands b.z.app task t b.z.code b.z.bodies b.z.thread b.z.who p.level b.c.spawns (left q rest begins on) k
+    (spot b.z h) (value_in vars vs) args place rest vs b.facts.accepted one.is_there one.software has
+    (record {
+      cells = begins.known.long;
+      frame = omega (arith, sound.words, begins.known.frame);
+      masks = below_spawns q rest begins on;
+      closed = (
+        not_open h.held p.locked (section.Free task) (λ r. refl) begins.inside.are,
+        not_open h.held p.locked (section.Ready t.priority) (λ r. refl) begins.inside.are,
+      );
+      within = (
+        b.facts.enters (section.Free task) one.within,
+        b.facts.enters (section.Ready t.priority) sound.sound.2,
+      );
+      off = begins.inside.off;
+      steps = lasts_left h.done SPAWN_COST h.deadlines begins.time.1;
+    }) enough (ap (λ count. take count (drop b.c.spawns h.slots)) (sym one.arguments) ∙ come) is
+    (λ granted used i slots cells queues ws less gone.
+    behind granted used i slots cells queues ws less
+    (record {
+      answered = (omega (arith, gone.answer.0), gone.answer.1);
+      frame = gone.frame;
+      kept = λ d. elim [ inl below ↦ gone.kept d (inl below) | inr above ↦ gone.kept d (inr (omega arith)) ];
+      in_time = gone.steps;
+      own = gone.own;
+      agree = gone.agree;
+    })))
+goes_on {b = b} {p = p} {h = h} {vars = vars} {vs = vs} (After word delay task args place) rest sound begins come is
+    on =
+    let q : Spawn = After word delay task args place in
+    let s = sound.sound in
+    let one = s.1 in
+    let timed = ap is_some s.4.1 in
+    let values = first_value (length args) b.c.spawns (value_in vars vs delay) h.slots (map (value_in vars vs) args)
+    (omega (arith, sound.words, begins.known.frame)) come in
+    by_law q rest begins on
+    (code_called b (λ a. after_code a task p.level b.c.spawns h.at) (λ a. is_some a.mono) task s.0 timed one.is_there
+    one.software)
+    (λ has.
+    afters_stand b.z.app task s.0 b.z.code b.z.bodies b.z.thread b.z.who p.level b.c.spawns (left q rest begins on)
+    (timer_section_cost b.z.app) (value_in vars vs delay) (spot b.z h) (map (value_in vars vs) args) rest vs
+    b.facts.accepted timed one.is_there one.software s.3 (inl refl) has (may_use q rest begins on sound.words s.5)
+    (may_take q rest begins on task one.within) values.0
+    (ap (λ count. take count (drop (b.c.spawns + 1) h.slots)) (sym one.arguments) ∙ values.1) is)
+goes_on {b = b} {p = p} {h = h} {vars = vars} {vs = vs} (Cancel word task handle place) rest sound begins come is on =
+    let q : Spawn = Cancel word task handle place in
+    let s = sound.sound in
+    let one = s.1 in
+    let timed = ap is_some one.timed.1 in
+    let values = first_value 0 b.c.spawns (value_in vars vs handle) h.slots []
+    (omega (arith, sound.words, begins.known.frame)) come in
+    by_law q rest begins on
+    (code_called b (λ a. cancel_code a task p.level b.c.spawns h.at) (λ a. is_some a.mono) task s.0 timed one.is_there
+    one.software)
+    (λ has.
+    cancels_all_stand b.z.app task s.0 b.z.code b.z.bodies b.z.thread b.z.who p.level b.c.spawns
+    (left q rest begins on) (value_in vars vs handle) (spot b.z h) rest vs b.facts.accepted timed one.is_there
+    one.software has (may_use q rest begins on sound.words one.within) (may_take q rest begins on task s.2) values.0 is)
+goes_on {b = b} {p = p} {h = h} {vars = vars} {vs = vs} (Move word delay task handle place) rest sound begins come is
+    on =
+    let q : Spawn = Move word delay task handle place in
+    let one = sound.sound.1 in
+    let timed = ap is_some one.timed.1 in
+    let values = first_value 1 b.c.spawns (value_in vars vs delay) h.slots (value_in vars vs handle ∷ [])
+    (omega (arith, sound.words, begins.known.frame)) come in
+    let second = first_value 0 (b.c.spawns + 1) (value_in vars vs handle) h.slots []
+    (omega (arith, sound.words, begins.known.frame)) values.1 in
+    by_law q rest begins on
+    (code_called b (λ a. move_code a task p.level b.c.spawns h.at) (λ a. is_some a.mono) task sound.sound.0 timed
+    one.is_there one.software)
+    (λ has.
+    moves_all_stand b.z.app task sound.sound.0 b.z.code b.z.bodies b.z.thread b.z.who p.level b.c.spawns
+    (left q rest begins on) (value_in vars vs delay) (value_in vars vs handle) (spot b.z h) rest vs b.facts.accepted
+    timed one.is_there one.software has (may_use q rest begins on sound.words one.within) values.0 second.0 is)
 
 module _ (b : Body) (p : Scope) where
   all_sound : (es : List Expression) → b.c.expressions + greatest (map depth es) ≤ b.top
@@ -33,6 +243,14 @@ module _ (b : Body) (p : Scope) where
   all_sound [] deep reached meant = tt
   all_sound (e ∷ es) deep (reached, others) (meant, more) =
       (record { deep = omega arith; reached = reached; meant = meant }, all_sound es (omega arith) others more)
+
+-- a task has few arguments, so a spawn of it has few
+few_given : (b : Body) (locked : List ℕ) {n : ℕ} {args : List Expression} {t : Task}
+    → SpawnsTask b.z.app b.m locked n args t → length args ≤ 4
+few_given b locked {n = n} {t = t} one =
+    let facts : Spawned b.z.app n t =
+    record { accepted = b.facts.accepted; at = one.is_there; software = one.software } in
+    omega (arith, one.arguments, few_arguments b.z.app n t facts)
 
 module _ {b : Body} {p : Scope} where
   -- the values of a spawn may be evaluated
@@ -46,34 +264,12 @@ module _ {b : Body} {p : Scope} where
       all_sound b p (delay ∷ handle ∷ []) (omega (arith, s.deep)) (s.sound.2, (s.sound.1.reached, tt))
       (s.placed.0, (s.placed.2, tt))
 
-  -- and there is a slot for each
-  values_few : (q : Spawn) → SoundSpawn b p q → b.c.spawns + length (values_of q) ≤ b.words
-  values_few (Soon n args place) s =
-      let one = s.sound.1 in
-      omega (
-        arith,
-        s.words,
-        one.arguments,
-        few_arguments b.z.app n s.sound.0
-            (record { accepted = b.facts.accepted; at = one.is_there; software = one.software }),
-      )
-  values_few (After word delay n args place) s =
-      let one = s.sound.1 in
-      omega (
-        arith,
-        s.words,
-        one.arguments,
-        few_arguments b.z.app n s.sound.0
-            (record { accepted = b.facts.accepted; at = one.is_there; software = one.software }),
-      )
+  -- and there is a slot for each, and one more
+  values_few : (q : Spawn) → SoundSpawn b p q → b.c.spawns + length (values_of q) + 1 ≤ b.words
+  values_few (Soon n args place) s = omega (arith, s.words, few_given b p.locked s.sound.1)
+  values_few (After word delay n args place) s = omega (arith, s.words, few_given b p.locked s.sound.1)
   values_few (Cancel word n handle place) s = omega (arith, s.words)
   values_few (Move word delay n handle place) s = omega (arith, s.words)
-
-  word_there : (q : Spawn) → SoundSpawn b p q → b.c.spawns + 1 ≤ b.words
-  word_there (Soon n args place) s = omega (arith, s.words)
-  word_there (After word delay n args place) s = omega (arith, s.words)
-  word_there (Cancel word n handle place) s = omega (arith, s.words)
-  word_there (Move word delay n handle place) s = omega (arith, s.words)
 
 steps_split : (b : Body) (q : Spawn)
     → spawn_steps (cost_measure b.z.app) q ≡ goes_steps b.z.app q + expressions_steps (values_of q)
@@ -107,7 +303,7 @@ arguments_come {b = b} {p = p} (e ∷ es) {h = h} {vars = vars} {vs = vs} {slot 
     let next : next_slot slot ≡ slot + 1 = omega (arith, b.word) in
     let size = length-append first more in
     evaluates e (record { target = inr (omega arith); there = omega arith; low = omega arith; floor = omega arith })
-    (omega arith) sound.reached sound.meant (front_of {front = first} more (omega arith) refl begins)
+    (omega arith) sound.reached sound.meant (front_of first more (omega arith) begins)
     (λ done at slots done_is at_is value.
     let same : (x : ℕ) → x < b.c.expressions → slice_index slots x ≡ slice_index h.slots x =
     λ x less. value.below x less (λ (is : x ≡ slot). omega arith) in
@@ -144,8 +340,8 @@ sends_on {b = b} {p = p} {h = h} {vars = vars} {vs = vs} q rest sound begins is 
     let last : List Line = code (h.at + length front) in
     let size = length-append front last in
     let masks = b.masks in let floor = b.floor in
-    arguments_come values (values_sound q sound) (omega arith, values_few q sound)
-    (front_of {front = front} last (omega arith) refl begins)
+    arguments_come values (values_sound q sound) (omega arith, omega (arith, values_few q sound))
+    (front_of front last (omega arith) begins)
     (λ done at slots done_is at_is come.
     let lines = ap code at_is in
     let same_size : length (code at) ≡ length last = ap (λ (ls : List Line). length ls) lines in
@@ -174,27 +370,25 @@ module _ {b : Body} {p : Scope} where
   }
 
   -- the answer of a spawn comes into a variable
-  pub binds_sent : (x : ℕ) (q : Spawn) (more : List ℕ) → SoundSpawn b p q → MaySet b p x
-      → ((y : ℕ) → Contains more y → (x ≡ y) ⊎ Contains p.visible y)
+  pub binds_sent : {x : ℕ} {more : List ℕ} (q : Spawn) → SoundSpawn b p q → Sets b p x more
       → Performs b p more (λ at. bind_code b.c p.level at x (Call q)) (spawn_steps (cost_measure b.z.app) q + 1)
       (λ later vars vs.
       spawn_actions b.z.app (value_in vars vs) q (λ answer. later (slice_set vars x answer)) vs)
-  binds_sent x q more sound may cases = record {
+  binds_sent {x = x} {more = more} q sound sets = record {
     runs = λ {h} {vars} {vs} later begins is behind.
         let front : List Line = send_code b.c p.level h.at q in
         let last : List Line = plain (instr.Copy x b.c.spawns) ∷ [] in
-        let set = may h.held begins.inside in
-        sends_on q (λ answer. later (slice_set vars x answer)) sound
-        (front_of {front = front} last (omega arith) refl begins) is
+        let small = sets.small begins.inside in
+        sends_on q (λ answer. later (slice_set vars x answer)) sound (front_of front last (omega arith) begins) is
         (record {
           on = λ answer t within shown settled.
               goes (code_behind b.z.code h.at (h.at + length front) front last refl begins.has).0
               (sooner (omega arith) begins)
-              (copy_gives answer (omega (arith, set.0, b.floor, b.masks, b.spawns, settled.known.frame))
-              (omega (arith, word_there q sound, settled.known.frame))
-              (free_slot x (inl (omega (arith, set.0, b.floor))) begins.inside) shown)
+              (copy_gives answer (omega (arith, b.floor, b.masks, b.spawns, settled.known.frame))
+              (omega (arith, values_few q sound, settled.known.frame))
+              (free_slot x (inl (omega (arith, b.floor))) begins.inside) shown)
               (goes_behind behind (omega (arith, length-append front last)) (omega arith)
-              (variable_set x answer more set.0 cases settled.known)
-              (λ y here. kept_set b p t.slots x answer y set.1 here ∙ settled.kept y here));
+              (variable_set x answer more small sets.cases settled.known)
+              (λ y here. kept_set b p t.slots x answer y (sets.free begins.inside) here ∙ settled.kept y here));
         });
   }

@@ -1,5 +1,5 @@
 -- What a body of an application may do.
-use Rattle.std.proofs.Common.{◌≡◌, ◌⊎◌, ℕ, zero, suc, ◌<◌, ◌≤◌, ◌==◌, ◌&&◌, ◌||◌, not, Bool, true, false, Option, None}
+use Rattle.std.proofs.Common.{◌≡◌, ◌⊎◌, ℕ, zero, suc, ◌<◌, ◌==◌, ◌&&◌, ◌||◌, not, Bool, true, false, Option, None}
 use Rattle.std.proofs.Common.{Some, option_map, List, [], ◌∷◌, length, map, find, flat_map, if◌then◌else◌, slice_get}
 use Rattle.std.proofs.Common.{slice_index, Contains, refl, ap, sym, ◌∙◌, inl, inr, arith, eq-eqb}
 use Rattle.std.specs.List.{list_any}
@@ -13,30 +13,29 @@ use Rattle.rt_ids.specs.Lists.{or_zero, is_some_and}
 use Rattle.rt_ids.specs.Choice.{IsIn}
 use Rattle.rt_ids.specs.Holder.{Guarded, Own}
 use Rattle.rt_ids.specs.Storage.{Runner, Starting, AtLevel}
-use Rattle.rt_ids.specs.declared.ids.Section.{Section}
 use Rattle.rt_ids.specs.declared.ids.Section.TheVariants as section
 use Rattle.rt_app.specs.declared.app.IrqDecl.{IrqDecl}
 use Rattle.rt_app.specs.declared.body.Listed.{Listed}
 use Rattle.rt_app.specs.declared.expr.Atom.TheVariants as atom
 use Rattle.rt_app.specs.Tree.{App}
 use Rattle.rt_app.specs.Bodies.{Member, members}
-use Rattle.rt_app.specs.Ceiling.{ceiling, lists}
+use Rattle.rt_app.specs.Ceiling.{lists}
 use Rattle.rt_app.specs.Declarations.{owns as owns_local}
 use Rattle.rt_app.specs.Statements.{is_init, listing_in, is_lockable, is_free}
 use Rattle.rt_app.specs.Listing.{Listing, listings_of, listings, is_lock_free}
 use Rattle.rt_app.specs.Accepted.{IsAccepted}
 use Rattle.rt_app.specs.Holding.{is_some_at, is_kept, is_constant, storage}
-use Rattle.rt_app.specs.Sound.{IsChangeable, IsSoundLock}
+use Rattle.rt_app.specs.Sound.{IsReached, IsChangeable}
 use Rattle.rt_app.specs.Acceptance.{IsSound}
-use Rattle.rt_code.specs.Masking.{IsWithin, NobodyKeeps}
-use Rattle.rt_code.specs.Owning.{Held, is_open}
+use Rattle.rt_code.specs.Owning.{Held, is_open, owns, reads}
 use Rattle.rt_gen_queue.specs.Guards.{guard_of}
 use Rattle.rt_gen_body.specs.Inside.Blocks.{guard_at}
 use Rattle.rt_gen_body.specs.Inside.Whole.{context_of}
-use Rattle.rt_gen_body.proofs.Values.{OpenAre, open_as_locked}
-use Rattle.rt_gen_body.proofs.Facts.{IsNoStart, Facts}
+use Rattle.rt_gen_body.proofs.Owning.{OpenAre, open_as}
+use Rattle.rt_gen_body.proofs.Places.{Facts}
+use Rattle.rt_gen_body.specs.Inside.Values.{Context}
 
-guard_is : (app : App) (m : Member) (r : ℕ) → r < length app.shared → guard_at (context_of app m) r
+pub guard_is : (app : App) (m : Member) (r : ℕ) → r < length app.shared → guard_at (context_of app m) r
     ≡ guard_of app (section.Res r)
 guard_is app m r within =
     get_or-map-range_with_len (λ k. guard_of app (section.Res k)) 0 (length app.shared) r r
@@ -85,45 +84,35 @@ module _ (app : App) (m : Member) where
   open_or held locked r are (inl starts) = inr (inl starts)
   open_or held locked r are (inr (inl free)) = inr (inr free)
   open_or held locked r are (inr (inr lock)) =
-      inl (open_as_locked held locked r are ∙ any_contained r locked lock.1)
+      inl (open_as held locked (section.Res r) are ∙ any_contained r locked lock.1)
 
-  -- from what its runner keeps, and may read and enter, what it may do
-  facts_of : {who : Runner} → IsAccepted app
-      → ((n : ℕ) → owns_local n m ≡ true → is_kept app who (Own n) ≡ true)
-      → ((r : ℕ) → r < length app.shared → (is_init m.id ≡ true) ⊎ (is_free app m r ≡ true)
-      → (is_kept app who (Guarded (section.Res r)) || is_constant app who (Guarded (section.Res r))) ≡ true)
-      → ((r : ℕ) → r < length app.shared → (is_init m.id ≡ true) ⊎ (is_free app m r ≡ true)
-      → IsChangeable app m [] (atom.Shared r) → is_kept app who (Guarded (section.Res r)) ≡ true)
-      → ((locked : List ℕ) (r : ℕ) → IsSoundLock app m locked r
-      → IsNoStart who × NobodyKeeps (storage app) who who (section.Res r))
-      → ((x : Section) → m.priority ≤ ceiling app x → IsWithin (storage app) who who x)
-      → Facts (storage app) who app m (context_of app m)
+-- what it may read and change
+module _ {app : App} {who : Runner} {m : Member} {c : Context} (facts : Facts app who m c) where
+  pub resource_read : (held : List Held) (locked : List ℕ) (r : ℕ) → OpenAre held locked
+      → IsReached app m locked (atom.Shared r) → reads (storage app) who held (Guarded (section.Res r)) ≡ true
   unfolding storage
-  facts_of {who = who} accepted own free change lock enters =
-      let owned : (n : ℕ) → Contains (map (λ o. o.local) m.body.local) n → is_kept app who (Own n) ≡ true =
-      λ n listed. own n (sym (list_any-map (λ o. o.local) (λ y. y == n) m.body.local)
-      ∙ any_contained n (map (λ o. o.local) m.body.local) listed) in
-      record {
-        locals = refl;
-        guards = λ r within. guard_is app m r within;
-        numbers = λ i within. number_is app i app.irqs;
-        resource_read = λ held locked r are reached.
-            elim (open_or held locked r are reached.1) [
-              | inl inside ↦ or_left _ _ (or_left _ _ inside)
-              | inr other ↦ or_assoc (is_open held (section.Res r)) _ _ ∙ or_right _ _ (free r reached.0 other)
-            ];
-        resource_owned = λ held locked fixed r are reached changes.
-            elim (open_or held locked r are reached.1) [
-              | inl inside ↦ or_left _ _ inside
-              | inr other ↦ or_right (is_open held (section.Res r)) _ (change r reached.0 other changes)
-            ];
-        local_owned = λ held locked n reached. owned n reached.1;
-        starts_not = λ locked r sound. (lock locked r sound).0;
-        shared = λ locked r sound. (lock locked r sound).1;
-        enters = enters;
-        accepted = accepted;
-        of_app = refl;
-      }
+  resource_read held locked r are reached =
+      elim (open_or app m held locked r are reached.1) [
+        | inl inside ↦ or_left _ _ (or_left _ _ inside)
+        | inr other ↦ or_assoc (is_open held (section.Res r)) _ _ ∙ or_right _ _ (facts.free r reached.0 other)
+      ]
+
+  pub resource_owned : (held : List Held) (locked fixed : List ℕ) (r : ℕ) → OpenAre held locked
+      → IsReached app m locked (atom.Shared r) → IsChangeable app m fixed (atom.Shared r)
+      → owns (storage app) who held (Guarded (section.Res r)) ≡ true
+  unfolding storage
+  resource_owned held locked fixed r are reached changes =
+      elim (open_or app m held locked r are reached.1) [
+        | inl inside ↦ or_left _ _ inside
+        | inr other ↦ or_right (is_open held (section.Res r)) _ (facts.change r reached.0 other changes)
+      ]
+
+  pub local_owned : (held : List Held) (locked : List ℕ) (n : ℕ) → IsReached app m locked (atom.Local n)
+      → owns (storage app) who held (Own n) ≡ true
+  unfolding storage
+  local_owned held locked n reached =
+      facts.own n (sym (list_any-map (λ o. o.local) (λ y. y == n) m.body.local)
+      ∙ any_contained n (map (λ o. o.local) m.body.local) reached.1)
 
 module _ (app : App) (m : Member) (member : IsIn (members app) m) where
   -- a body of its level that passes
@@ -182,26 +171,32 @@ module _ (app : App) (accepted : IsAccepted app) (sound : IsSound app) (m : Memb
 
   -- what it may do: `init`, and what runs at a level
   pub facts_for : (starts : Bool) → is_init m.id ≡ starts
-      → Facts (storage app) (if starts then Starting else AtLevel m.priority) app m (context_of app m)
+      → Facts app (if starts then Starting else AtLevel m.priority) m (context_of app m)
   unfolding storage
-  facts_for true starts =
-      facts_of app m accepted
-      (λ n owns. any_passes (λ o. is_init o.id && owns_local n o) (members app) member.0 m member.1
-      (and_both (is_init m.id) _ starts owns))
-      (λ r within other. or_left _ _ (lt-ltb r (length app.shared) within))
-      (λ r within other changes. lt-ltb r (length app.shared) within)
-      (λ locked r lock. absurd (let never = lock.no_init in cc))
-      (λ x less. tt)
-  facts_for false no_start =
-      facts_of app m accepted (λ n owns. some_at app m member (owns_local n) no_start owns)
-      (λ r within other. elim (reached_free app m member r no_start other) [
-        | inl ref ↦ or_right (is_kept app (AtLevel m.priority) (Guarded (section.Res r))) _
-            (listed_any app m member r (λ l. l.by_ref) ref)
-        | inr kept ↦ or_left _ _ kept
-      ])
-      (λ r within other changes. elim (reached_free app m member r no_start other) [
-        | inl ref ↦ elim changes [ inl starts ↦ cc (starts, no_start) | inr writable ↦ cc (ref, writable) ]
-        | inr kept ↦ kept
-      ])
-      (λ locked r lock. (tt, nobody r lock.lockable))
-      (λ x less. less)
+  facts_for true starts = record {
+    accepted = accepted;
+    is = refl;
+    own = λ n owns.
+        any_passes (λ o. is_init o.id && owns_local n o) (members app) member.0 m member.1
+        (and_both (is_init m.id) _ starts owns);
+    free = λ r within other. or_left _ _ (lt-ltb r (length app.shared) within);
+    change = λ r within other changes. lt-ltb r (length app.shared) within;
+    shared = λ locked r lock. absurd (let never = lock.no_init in cc);
+    enters = λ x less. tt;
+  }
+  facts_for false no_start = record {
+    accepted = accepted;
+    is = refl;
+    own = λ n owns. some_at app m member (owns_local n) no_start owns;
+    free = λ r within other. elim (reached_free app m member r no_start other) [
+      | inl ref ↦ or_right (is_kept app (AtLevel m.priority) (Guarded (section.Res r))) _
+          (listed_any app m member r (λ l. l.by_ref) ref)
+      | inr kept ↦ or_left _ _ kept
+    ];
+    change = λ r within other changes. elim (reached_free app m member r no_start other) [
+      | inl ref ↦ elim changes [ inl starts ↦ cc (starts, no_start) | inr writable ↦ cc (ref, writable) ]
+      | inr kept ↦ kept
+    ];
+    shared = λ locked r lock. nobody r lock.lockable;
+    enters = λ x less. less;
+  }

@@ -1,11 +1,10 @@
-ghost use Rattle.std.specs.Prelude.{◌≡◌, ◌<◌, true, [], ◌∷◌, length, slice_get, slice_set, Option, IfOk, OnOk};
+ghost use Rattle.std.specs.Prelude.{◌≡◌, ◌<◌, true, [], ◌∷◌, length, slice_get, slice_set, Option, IsSome, IfOk, OnOk};
 ghost use Rattle.rt_ids.specs.Lists.{is_some_and};
 ghost use Rattle.rt_app.specs.Level.{is_software};
 ghost use Rattle.rt_gen_queue.specs.Line.{plain, noted};
 ghost use Rattle.rt_gen_queue.specs.SpawnCode.{spawn_code};
-ghost use Rattle.rt_gen_timer.specs.TimerCode.{after_code, cancel_code, move_code};
 ghost use Rattle.rt_gen_body.specs.Inside.Generating.{context, IsReady};
-ghost use Rattle.rt_gen_body.specs.Inside.Simple.{is_timed};
+ghost use Rattle.rt_gen_body.specs.Inside.Simple.{timed_lines};
 ghost use Rattle.rt_gen_body.specs.Inside.Lines.{next_address, Appends};
 
 use crate::generator::Generator;
@@ -15,6 +14,14 @@ use rt_gen_timer::{gen_after, gen_cancel, gen_move};
 use rt_ids::{NoMemory, TaskId};
 use std::alloc::Global;
 use std::marker::Model;
+
+/// What goes to the timer queue: a `spawn_after`, a `cancel` or a `reschedule_after`.
+#[derive(Clone, Copy)]
+pub(crate) enum Timed {
+    After,
+    Cancel,
+    Move,
+}
 
 /// The lines of a body as they are generated, from the address of the first one on.
 #[derive(Drop)]
@@ -73,6 +80,14 @@ impl Lines {
         Ok(())
     }
 
+    /// Some more, in their order.
+    pub(crate) fn append(&mut self, lines: &[Line]) -> Result<(), NoMemory>
+        ensures { OnOk result (Appends self.old self.new lines.now) }
+    {
+        self.lines.extend_from_slice(lines)?;
+        Ok(())
+    }
+
     /// Another instruction in place of one that stands there without a note.
     pub(crate) fn replace(&mut self, place: usize, instr: Instr)
         requires { place < length self.old.lines }
@@ -113,83 +128,37 @@ impl Lines {
         Ok(())
     }
 
-    /// The lines of the `spawn_after` of a software task, whose delay and arguments stand in the slots from one on, at a
-    /// static level.
-    pub(crate) fn push_after(
+    /// The lines of a call that goes to the timer queue for a software task, whose delay, arguments and handle stand in
+    /// the slots from one on, at a static level.
+    pub(crate) fn push_timed(
         &mut self,
+        kind: Timed,
         generator: &Generator<'_>,
         level: u8,
         task: TaskId,
     ) -> Result<(), NoMemory>
         requires ready { IsReady generator.now }
-        requires timed { is_timed (context generator.now) task ≡ true }
+        requires timed { IsSome (context generator.now).app.mono }
+        requires software { is_some_and is_software (slice_get (context generator.now).app.tasks task) ≡ true }
         ensures { OnOk result (Appends self.old self.new
-            (after_code (context generator.now).app task level generator.now.spawns (next_address self.old))) }
+            (timed_lines kind (context generator.now).app task level generator.now.spawns (next_address self.old))) }
     {
         let entry = self.next_address()?;
-        gen_after(
-            generator.alloc,
-            generator.plan,
-            generator.rows,
-            task,
-            level,
-            generator.spawns,
-            entry,
-            &mut self.lines,
-        )?;
-        Ok(())
-    }
-
-    /// The lines of the `cancel` of a message of a software task, whose handle stands in a slot, at a static level.
-    pub(crate) fn push_cancel(
-        &mut self,
-        generator: &Generator<'_>,
-        level: u8,
-        task: TaskId,
-    ) -> Result<(), NoMemory>
-        requires ready { IsReady generator.now }
-        requires timed { is_timed (context generator.now) task ≡ true }
-        ensures { OnOk result (Appends self.old self.new
-            (cancel_code (context generator.now).app task level generator.now.spawns (next_address self.old))) }
-    {
-        let entry = self.next_address()?;
-        gen_cancel(
-            generator.alloc,
-            generator.plan,
-            generator.rows,
-            task,
-            level,
-            generator.spawns,
-            entry,
-            &mut self.lines,
-        )?;
-        Ok(())
-    }
-
-    /// The lines of the `reschedule_after` of a message of a software task, whose delay and handle stand in the slots
-    /// from one on, at a static level.
-    pub(crate) fn push_move(
-        &mut self,
-        generator: &Generator<'_>,
-        level: u8,
-        task: TaskId,
-    ) -> Result<(), NoMemory>
-        requires ready { IsReady generator.now }
-        requires timed { is_timed (context generator.now) task ≡ true }
-        ensures { OnOk result (Appends self.old self.new
-            (move_code (context generator.now).app task level generator.now.spawns (next_address self.old))) }
-    {
-        let entry = self.next_address()?;
-        gen_move(
-            generator.alloc,
-            generator.plan,
-            generator.rows,
-            task,
-            level,
-            generator.spawns,
-            entry,
-            &mut self.lines,
-        )?;
-        Ok(())
+        let (alloc, slot) = (generator.alloc, generator.spawns);
+        let (plan, rows) = (generator.plan, generator.rows);
+        match kind {
+            Timed::After => gen_after(alloc, plan, rows, task, level, slot, entry, &mut self.lines),
+            Timed::Cancel => gen_cancel(
+                alloc,
+                plan,
+                rows,
+                task,
+                level,
+                slot,
+                entry,
+                &mut self.lines,
+            ),
+            Timed::Move => gen_move(alloc, plan, rows, task, level, slot, entry, &mut self.lines),
+        }
     }
 }

@@ -1,5 +1,5 @@
-ghost use Rattle.std.specs.Prelude.{◌≡◌, map, slice_get, Some, OnOk};
-ghost use Rattle.rt_app.specs.View.{expression_of, spawn_of, task_of};
+ghost use Rattle.std.specs.Prelude.{◌≡◌, map, OnOk};
+ghost use Rattle.rt_app.specs.View.{expression_of, spawn_of};
 ghost use Rattle.rt_gen_body.specs.Inside.Values as values;
 ghost use Rattle.rt_gen_body.specs.Inside.Simple as simple;
 ghost use Rattle.rt_gen_body.specs.Inside.Lines.{next_address, Appends};
@@ -7,8 +7,8 @@ ghost use Rattle.rt_gen_body.specs.Inside.Generating.{context, IsReady};
 
 use crate::body::is_called;
 use crate::generator::{Generator, next_slot};
-use crate::lines::Lines;
-use rt_app::{Expr, Spawn, Task};
+use crate::lines::{Lines, Timed};
+use rt_app::{Expr, Spawn};
 use rt_ids::{NoMemory, TaskId};
 
 impl<'a> Generator<'a> {
@@ -25,35 +25,16 @@ impl<'a> Generator<'a> {
         Ok(())
     }
 
-    /// The spawn of a declared task whose arguments are there; nothing where it is bound to an interrupt.
-    fn message_of(
-        &self,
-        level: u8,
-        number: TaskId,
-        task: &Task,
-        code: &mut Lines,
-    ) -> Result<(), NoMemory>
-        requires ready { IsReady self.now }
-        requires task { slice_get (context self.now).app.tasks number ≡ Some (task_of task.now) }
-        ensures { OnOk result (Appends code.old code.new
-            (simple.message_code (context self.now) level (next_address code.old) number)) }
-    {
-        if task.is_software() {
-            code.push_spawn(self, level, number)
-        } else {
-            Ok(())
-        }
-    }
-
     /// The spawn of a task whose arguments are there, at a static level; nothing where it is no software task.
     fn message(&self, level: u8, number: TaskId, code: &mut Lines) -> Result<(), NoMemory>
         requires { IsReady self.now }
         ensures { OnOk result (Appends code.old code.new
             (simple.message_code (context self.now) level (next_address code.old) number)) }
     {
-        match self.plan.app.task(number) {
-            Some(task) => self.message_of(level, number, task, code),
-            None => Ok(()),
+        if is_called(self.plan.app, number) {
+            code.push_spawn(self, level, number)
+        } else {
+            Ok(())
         }
     }
 
@@ -64,40 +45,21 @@ impl<'a> Generator<'a> {
         self.plan.app.mono.is_some() && is_called(self.plan.app, number)
     }
 
-    /// What goes of a `spawn_after` whose delay and arguments are there, at a static level.
-    fn delayed(&self, level: u8, number: TaskId, code: &mut Lines) -> Result<(), NoMemory>
+    /// What goes to the timer queue, whose values are there, at a static level; nothing where there is none for the
+    /// task.
+    fn append_timed(
+        &self,
+        kind: Timed,
+        level: u8,
+        number: TaskId,
+        code: &mut Lines,
+    ) -> Result<(), NoMemory>
         requires { IsReady self.now }
         ensures { OnOk result (Appends code.old code.new
-            (simple.delayed_code (context self.now) level (next_address code.old) number)) }
+            (simple.timed_code (context self.now) kind level (next_address code.old) number)) }
     {
         if self.is_timed(number) {
-            code.push_after(self, level, number)
-        } else {
-            Ok(())
-        }
-    }
-
-    /// Of a `cancel` whose handle is there.
-    fn cancelled(&self, level: u8, number: TaskId, code: &mut Lines) -> Result<(), NoMemory>
-        requires { IsReady self.now }
-        ensures { OnOk result (Appends code.old code.new
-            (simple.cancelled_code (context self.now) level (next_address code.old) number)) }
-    {
-        if self.is_timed(number) {
-            code.push_cancel(self, level, number)
-        } else {
-            Ok(())
-        }
-    }
-
-    /// Of a `reschedule_after` whose delay and handle are there.
-    fn moved(&self, level: u8, number: TaskId, code: &mut Lines) -> Result<(), NoMemory>
-        requires { IsReady self.now }
-        ensures { OnOk result (Appends code.old code.new
-            (simple.moved_code (context self.now) level (next_address code.old) number)) }
-    {
-        if self.is_timed(number) {
-            code.push_move(self, level, number)
+            code.push_timed(kind, self, level, number)
         } else {
             Ok(())
         }
@@ -131,9 +93,24 @@ impl<'a> Generator<'a> {
     {
         match spawn {
             Spawn::Soon(task, _args, _at) => self.message(level, *task, code),
-            Spawn::After(_word, _delay, task, _args, _at) => self.delayed(level, *task, code),
-            Spawn::Cancel(_word, task, _handle, _at) => self.cancelled(level, *task, code),
-            Spawn::Move(_word, _delay, task, _handle, _at) => self.moved(level, *task, code),
+            Spawn::After(_word, _delay, task, _args, _at) => self.append_timed(
+                Timed::After,
+                level,
+                *task,
+                code,
+            ),
+            Spawn::Cancel(_word, task, _handle, _at) => self.append_timed(
+                Timed::Cancel,
+                level,
+                *task,
+                code,
+            ),
+            Spawn::Move(_word, _delay, task, _handle, _at) => self.append_timed(
+                Timed::Move,
+                level,
+                *task,
+                code,
+            ),
         }
     }
 

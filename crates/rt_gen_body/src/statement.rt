@@ -148,9 +148,12 @@ impl<'a> Generator<'a> {
         ensures { OnOk result (Appends code.old code.new
             (blocks.loop_front (context self.now) bounds.now.variable bounds.now.first bounds.now.last)) }
     {
-        code.push(Instr::Set(bounds.variable, bounds.first))?;
-        code.push(Instr::Set(self.expressions, bounds.last))?;
-        code.push(Instr::Calc(Op::Lt, self.expressions, bounds.variable, self.expressions))
+        let test = self.expressions;
+        code.append(&[
+            (Instr::Set(bounds.variable, bounds.first), None),
+            (Instr::Set(test, bounds.last), None),
+            (Instr::Calc(Op::Lt, test, bounds.variable, test), None),
+        ])
     }
 
     /// The lines behind a turn, which lead to the loop's test, behind its first line at an address.
@@ -158,9 +161,14 @@ impl<'a> Generator<'a> {
         ensures { OnOk result (Appends code.old code.new (blocks.loop_back (context self.now) variable (entry + 1))) }
     {
         let head = entry.checked_add(1).ok_or(NoMemory)?;
-        code.push(Instr::Set(self.expressions, 1))?;
-        code.push(Instr::Calc(Op::Add, variable, variable, self.expressions))?;
-        code.push(Instr::Jump(head))
+        code.append(&[
+            (Instr::Set(self.expressions, 1), None),
+            (
+                Instr::Calc(Op::Add, variable, variable, self.expressions),
+                None,
+            ),
+            (Instr::Jump(head), None),
+        ])
     }
 
     /// A loop of a variable, from a number up to another.

@@ -1,20 +1,9 @@
 -- A dispatcher of an accepted application, and where it is while its code runs.
-use Rattle.std.proofs.Common.{◌≡◌, ℕ, true, Some, None, List, [], ◌∷◌, slice_get, Contains}
-use Rattle.rt_ids.specs.Holder.{Holder}
-use Rattle.rt_gen_queue.proofs.Entering.{opened}
-use Rattle.rt_ids.specs.Entry.{Entry}
-use Rattle.rt_ids.specs.Doing.{Doing}
-use Rattle.rt_ids.specs.Content.{Values}
-use Rattle.rt_ids.specs.Storage.{AtLevel}
-use Rattle.rt_ids.specs.declared.ids.Section.{Section}
-use Rattle.rt_app.specs.Accepted.{IsAccepted}
-use Rattle.rt_app.specs.Level.{is_of_level, levels}
-use Rattle.rt_app.specs.Tree.{Task, App}
-use Rattle.rt_code.specs.Owning.{Held}
-use Rattle.rt_code.specs.declared.image.BodyRow.{BodyRow}
-use Rattle.rt_gen_queue.specs.Called.{CalledBodyStands, row_for, rows_for}
-use Rattle.rt_gen_queue.specs.Line.{Line}
-use Rattle.rt_gen_queue.proofs.Layer.{Setting, Here}
+use Rattle.rt_gen_queue.proofs.Vocabulary.{App, AtLevel, BodyRow, Contains, Doing, Entry, Guarded, Held, Holder}
+use Rattle.rt_gen_queue.proofs.Vocabulary.{IsAccepted, Line, List, None, Section, Some, Task, Values, [], is_of_level}
+use Rattle.rt_gen_queue.proofs.Vocabulary.{levels, row_for, rows_for, slice_get, slice_index, storage, true, ℕ, ◌∷◌}
+use Rattle.rt_gen_queue.proofs.Vocabulary.{◌≡◌}
+use Rattle.rt_gen_queue.{proofs.Entering.opened, proofs.Layer.Here, proofs.Layer.Setting, specs.Called.CalledBodyStands}
 use Rattle.rt_gen_disp.proofs.Words.{own}
 
 -- the dispatcher of a level, as code beside the bodies of the level's tasks
@@ -34,20 +23,13 @@ rows d = rows_for d.entry 0 d.app.tasks
 
 -- its code runs in a frame of its own
 abbrev pub job : Dispatcher → Setting
-job d = record {
-  app = d.app;
-  code = d.code;
-  bodies = rows d;
-  thread = d.thread;
-  who = AtLevel d.level;
-  caller = None;
-}
+job d = record { app = d.app; code = d.code; bodies = rows d; thread = d.thread; who = AtLevel d.level; caller = None }
 
 -- a section, open alone
 abbrev pub alone : Dispatcher → Section → List Held
 alone d x = opened (job d) own x d.level ∷ []
 
--- what changes while it runs, beside its frame and what it has left to do
+-- what changes while it runs, beside its frame, whose words are told apart, and what it has left to do
 pub record Moment : Type 0 where
   pub done : ℕ
   pub until : ℕ
@@ -56,14 +38,14 @@ pub record Moment : Type 0 where
   pub queues : Holder → List Entry
 
 -- where it is with no section open, and with these places in its hands
-abbrev pub outside : Moment → List Entry → List ℕ → Doing Values → Here
-outside m hands slots rest = record {
+abbrev pub outside : Moment → List Entry → Doing Values → Here
+outside m hands rest = record {
   held = [];
   done = m.done;
   until = m.until;
   deadlines = m.until ∷ [];
   places = hands;
-  slots = slots;
+  slots = [];
   at = m.at;
   cells = m.cells;
   queues = m.queues;
@@ -71,6 +53,11 @@ outside m hands slots rest = record {
 }
 
 -- and with one section open, which it is to leave by a deadline
-abbrev pub within : Dispatcher → Section → ℕ → Moment → List Entry → List ℕ → Doing Values → Here
-within d x deadline m hands slots rest =
-    record (outside m hands slots rest) { held = alone d x; deadlines = deadline ∷ m.until ∷ [] }
+abbrev pub within : Dispatcher → Section → ℕ → Moment → List Entry → Doing Values → Here
+within d x deadline m hands rest =
+    record (outside m hands rest) { held = alone d x; deadlines = deadline ∷ m.until ∷ [] }
+
+-- what a section guards is spelled by these cells
+abbrev pub Spelled : Dispatcher → Section → List ℕ → (Holder → List Entry) → Values → Type 0
+Spelled d x cells queues vs =
+    (storage d.app).Spells (Guarded x) (slice_index cells) (queues (Guarded x)) (vs (Guarded x))

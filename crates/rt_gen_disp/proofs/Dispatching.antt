@@ -1,65 +1,39 @@
 -- The code of a dispatcher stands.
-use Rattle.std.proofs.Common.{None, ◌≡◌, ℕ, suc, ◌+◌, ◌<◌, ◌≤◌, true, List, [], ◌∷◌, length, map, drop, slice_index}
-use Rattle.std.proofs.Common.{refl, ap, sym, ◌∙◌, subst, arith}
-use Rattle.rt_lemmas.proofs.Bools.{or_left}
-use Rattle.rt_lemmas.proofs.Lists.{all_from}
-use Rattle.rt_lemmas.proofs.Membership.{all_at}
-use Rattle.rt_ids.specs.Holder.{Holder, Guarded}
-use Rattle.rt_ids.specs.Content.{Messages, Values, messages}
-use Rattle.rt_ids.specs.Doing.{Doing}
-use Rattle.rt_ids.specs.Entry.{Entry}
-use Rattle.rt_ids.specs.Storage.{At, AtLevel}
-use Rattle.rt_ids.specs.declared.ids.Section.{Section}
+use Rattle.rt_gen_queue.proofs.Vocabulary.{AreSpelled, At, AtLevel, BodyRow, Doing, Entry, Guarded, HasCode, Holder}
+use Rattle.rt_gen_queue.proofs.Vocabulary.{KeepsTaskLimits, Line, List, Messages, None, Rest, Section, SpellsReady}
+use Rattle.rt_gen_queue.proofs.Vocabulary.{StandsFrom, Values, [], accepted_are_sound, all_at, ap, arith, calm}
+use Rattle.rt_gen_queue.proofs.Vocabulary.{capacity_is, drop, home_of, is_of_level, length, map, memory, message_at}
+use Rattle.rt_gen_queue.proofs.Vocabulary.{message_word, messages, or_left, queue_at, ready_is_home, refl, slice_index}
+use Rattle.rt_gen_queue.proofs.Vocabulary.{start_doing, storage, subst, suc, sym, the_task, true, ℕ, ◌+◌, ◌<◌, ◌∙◌, ◌∷◌}
+use Rattle.rt_gen_queue.proofs.Vocabulary.{◌≡◌, ◌≤◌}
 use Rattle.rt_ids.specs.declared.ids.Section.TheVariants as section
-use Rattle.rt_app.specs.declared.costs.TheConstants.{DISPATCHER_WORDS}
-use Rattle.rt_app.specs.Level.{is_of_level}
-use Rattle.rt_app.specs.BodyCost.{dispatcher_cost}
-use Rattle.rt_app.specs.Layout.{memory, home_of}
-use Rattle.rt_app.specs.Limits.{KeepsTaskLimits}
-use Rattle.rt_app.specs.Holding.{SpellsReady, message_at, message_word, storage}
-use Rattle.rt_app.specs.Sending.{Rest}
-use Rattle.rt_app.specs.Doings.{start_doing, dispatcher_doing}
-use Rattle.rt_app.proofs.LaidQueues.{capacity_is, ready_is_home}
-use Rattle.rt_app.proofs.Sound.{accepted_are_sound}
-use Rattle.rt_app.proofs.Spelling.{the_task}
-use Rattle.rt_code.specs.Standing.{StandsFrom}
-use Rattle.rt_code.specs.declared.image.BodyRow.{BodyRow}
-use Rattle.rt_gen_queue.specs.Line.{Line, HasCode}
-use Rattle.rt_gen_queue.specs.Queue.{queue_at}
-use Rattle.rt_gen_queue.specs.Called.{AreSpelled}
-use Rattle.rt_gen_queue.specs.declared.queue.ReadyQueue.{ReadyQueue}
-use Rattle.rt_gen_queue.proofs.Entering.{enters, leaves, enter_placed, leave_placed, enter_fits, leave_fits}
-use Rattle.rt_gen_queue.proofs.Layer.{Here, S, Straight, placed, all_fit, ends, sets, calculates, loads, loads_at}
-use Rattle.rt_gen_queue.proofs.Layer.{stores, stays, reads_open, writes_open, returns_here, next_in_time, skips}
-use Rattle.rt_gen_queue.proofs.Layer.{skips_off, begins}
+use Rattle.rt_app.specs.{BodyCost.dispatcher_cost, Doings.dispatcher_doing}
+use Rattle.rt_app.specs.{declared.costs.TheConstants.DISPATCHER_WORDS}
+use Rattle.rt_gen_queue.proofs.{Owning.ready_spelled, Places.few_places, Placing.code_behind, Placing.code_front}
+use Rattle.rt_gen_queue.proofs.Entering.{enter_fits, enter_placed, enters, leave_fits, leave_placed, leaves}
+use Rattle.rt_gen_queue.proofs.Layer.{Here, Now, S, Straight, all_fit, begins, calculates, ends, loads, loads_at}
+use Rattle.rt_gen_queue.proofs.Layer.{next_in_time, placed, reads_open, returns_here, sets, skips, skips_off, stays}
+use Rattle.rt_gen_queue.proofs.Layer.{stores, writes_open}
 use Rattle.rt_gen_queue.proofs.Numbers.{added, one_less, rest_of, steps_and}
-use Rattle.rt_gen_queue.proofs.Owning.{ready_spelled}
-use Rattle.rt_gen_queue.proofs.Places.{few_places}
-use Rattle.rt_gen_queue.proofs.Placing.{code_front, code_behind}
-use Rattle.rt_gen_disp.specs.Code.{front_lines, choices_code, exit_of}
-use Rattle.rt_gen_disp.specs.Dispatching.{DispatchersStand}
-use Rattle.rt_gen_disp.proofs.Choosing.{HasTime, choices_run}
-use Rattle.rt_gen_disp.proofs.Running.{IsOldest}
-use Rattle.rt_gen_disp.proofs.Dispatchers.{Dispatcher, rows, job, Moment, outside, within}
-use Rattle.rt_gen_disp.proofs.Kept.{open_here, may_enter, spelled_agreed, spelled_written, spelled_taken}
-use Rattle.rt_gen_disp.proofs.Rings.{HasOldest, IsTaken, at_of, room_of, head_of, next_of, head_less, ring_home, oldest}
+use Rattle.rt_gen_queue.specs.declared.queue.ReadyQueue.{ReadyQueue}
+use Rattle.rt_gen_disp.proofs.{Choosing.HasTime, Choosing.choices_run, Choosing.tasks_of, Running.IsOldest}
+use Rattle.rt_gen_disp.proofs.Dispatchers.{Dispatcher, Moment, Spelled, job, outside, rows, within}
+use Rattle.rt_gen_disp.proofs.Kept.{may_enter, open_here, spelled_agreed, spelled_taken, spelled_written}
+use Rattle.rt_gen_disp.proofs.Rings.{HasOldest, IsTaken, at_of, head_less, head_of, next_of, oldest, ring_home, room_of}
 use Rattle.rt_gen_disp.proofs.Rings.{taken}
-use Rattle.rt_gen_disp.proofs.Words.{Words, words, words_of, words_are, own, task_in, place_in}
+use Rattle.rt_gen_disp.proofs.Words.{Words, own, place_in, task_in, words, words_are, words_of}
+use Rattle.rt_gen_disp.specs.{Code.choices_code, Code.exit_of, Code.front_lines, Dispatching.DispatchersStand}
 
 -- the lines before the tasks, as a run on the frame
 front_placed : (q : ReadyQueue) (at : ℕ) → front_lines q at ≡ map (placed 0) (front_lines q at)
 front_placed q at =
-    rw (
-      enter_placed (section.Ready q.level) q.guard q.level 14 0,
-      leave_placed (section.Ready q.level) q.guard q.level 14 0,
-    ) refl
+    let x : Section = section.Ready q.level in
+    rw (enter_placed x q.guard q.level 14 0, leave_placed x q.guard q.level 14 0) refl
 
 front_fits : (q : ReadyQueue) (at : ℕ) → all_fit 16 14 (front_lines q at) ≡ true
 front_fits q at =
-    rw (
-      enter_fits (section.Ready q.level) q.guard q.level 14 16 14,
-      leave_fits (section.Ready q.level) q.guard q.level 14 16 14,
-    ) refl
+    let x : Section = section.Ready q.level in
+    rw (enter_fits x q.guard q.level 14 16 14, leave_fits x q.guard q.level 14 16 14) refl
 
 -- the lines of a dispatcher's tasks, where its own begin at an address
 abbrev choices_from : Dispatcher → ℕ → ℕ → List Line
@@ -77,17 +51,19 @@ module _ (d : Dispatcher) (at : ℕ) (choices : HasCode d.code (at + 18) (choice
   ready_doing cells es = start_doing d.app d.level (map (message_at d.app (slice_index cells)) es)
 
   -- nothing is ready
-  none_run : {m : Moment} {w : Words} {vs : Values} {slots : List ℕ} {deadline : ℕ}
-      → AreSpelled d.app d.level m.cells m.queues vs
-      → (storage d.app).Spells (Guarded x) (slice_index m.cells) (m.queues (Guarded x)) (vs (Guarded x))
-      → Straight (job d) own (drop 4 lines) (within d x deadline m [] slots (start_doing d.app d.level [] vs)) (words w)
+  none_run : {m : Moment} {w : Words} {vs : Values} {deadline : ℕ} → AreSpelled d.app d.level m.cells m.queues vs
+      → Spelled d x m.cells m.queues vs
+      → Straight (job d) own (drop 4 lines) (within d x deadline m [] (start_doing d.app d.level [] vs)) (words w)
   none_run spelled spells =
       leaves d.level refl refl refl spells
       (λ ws agree. record {
         runs = λ run has. returns_here has.0 (next_in_time run) refl refl refl refl
             (λ holder kept. (spelled_agreed [] spelled agree).each holder (or_left _ _ kept));
       })
-      -- the words behind its taking
+
+  -- the moment and the words behind its taking
+  abbrev behind_taking : Moment → List ℕ → Moment
+  behind_taking m stored = record m { done = steps_and 12 m.done; at = steps_and 12 m.at; cells = stored }
 
   abbrev taken_words : Words → List ℕ → Entry → List Entry → Words
   taken_words w cells o es = record w {
@@ -110,12 +86,11 @@ module _ (d : Dispatcher) (at : ℕ) (choices : HasCode d.code (at + 18) (choice
       omega (arith, ring.spells.places.0.1, limits.most_capacity, capacity_is d.app o.task task.0 task.1)
 
   -- the oldest message is taken off
-  take_run : {m : Moment} {vs : Values} {slots : List ℕ} {deadline : ℕ} {rest : Doing Values} {o : Entry}
+  take_run : {m : Moment} {vs : Values} {deadline : ℕ} {rest : Doing Values} {o : Entry}
       {es : List Entry} (w : Words) → HasOldest d m.cells m.queues vs o es
-      → ((stored : List ℕ) → IsTaken d m.cells stored o es → S (job d) (within d x deadline
-      (record m { done = steps_and 12 m.done; at = steps_and 12 m.at; cells = stored }) []
-      (words (taken_words w m.cells o es)) rest))
-      → Straight (job d) own (drop 6 lines) (within d x deadline m [] slots rest)
+      → ((stored : List ℕ) → IsTaken d m.cells stored o es
+      → S (job d) (Now own (within d x deadline (behind_taking m stored) [] rest) (words (taken_words w m.cells o es))))
+      → Straight (job d) own (drop 6 lines) (within d x deadline m [] rest)
       (words (record w { left = suc (length es) }))
   take_run {m = m} {o = o} {es = es} w ring on =
       let long = ring.spelled.long in
@@ -144,40 +119,34 @@ module _ (d : Dispatcher) (at : ℕ) (choices : HasCode d.code (at + 18) (choice
       (ends (on stored (taken ring counted stored first second))))))))))))))
 
   -- and its task is looked for
-  some_run : {m : Moment} {vs : Values} {slots : List ℕ} {deadline : ℕ} {o : Entry} {es : List Entry} (w : Words)
-      → m.at ≡ at + 6 → HasTime d d.app.tasks (12 + m.done) m.until deadline → HasOldest d m.cells m.queues vs o es
-      → Straight (job d) own (drop 6 lines) (within d x deadline m [] slots (ready_doing m.cells (o ∷ es) vs))
+  some_run : {m : Moment} {vs : Values} {deadline : ℕ} {o : Entry} {es : List Entry} (w : Words)
+      → m.at ≡ at + 6 → HasTime d (tasks_of d) (12 + m.done) m.until deadline → HasOldest d m.cells m.queues vs o es
+      → Straight (job d) own (drop 6 lines) (within d x deadline m [] (ready_doing m.cells (o ∷ es) vs))
       (words (record w { left = suc (length es) }))
   some_run {m = m} {vs = vs} {deadline = deadline} {o = o} {es = es} w at_is time ring =
       take_run w ring (λ stored is.
-      let oldest : IsOldest d stored m.queues vs o es = record {
-        spelled = spelled_written x tt ring.spelled is.long is.elsewhere;
-        queue = ring.queue;
-        content = ring.spells.messages ∙ ap Messages is.messages;
-        rest = is.spells;
-        placed = ring.spells.places.0;
-      } in
+      let kept = spelled_written x tt ring.spelled is.long is.elsewhere in
+      let now = ring.spells.messages ∙ ap Messages is.messages in
+      let oldest : IsOldest d stored m.queues vs o es =
+      record { spelled = kept; queue = ring.queue; content = now; rest = is.spells; placed = ring.spells.places.0 } in
       let to : at + 18 ≡ steps_and 12 m.at = omega (arith, at_is) in
-      subst (λ ms. S (job d) (within d x deadline
-      (record m { done = steps_and 12 m.done; at = steps_and 12 m.at; cells = stored }) []
-      (words (taken_words w m.cells o es)) (start_doing d.app d.level ms vs))) (sym is.messages)
-      ((choices_run oldest at d.app.tasks).runs
-      (record { tasks = all_from d.app.tasks; rows = all_from (rows d); before = omega arith })
+      subst (λ ms. S (job d) (Now own (within d x deadline (behind_taking m stored) []
+      (start_doing d.app d.level ms vs)) (words (taken_words w m.cells o es)))) (sym is.messages)
+      ((choices_run oldest at (steps_and 12 m.at)).runs (omega arith)
       (record { job = omega (arith, time.job); section = omega (arith, time.section) })
       (subst (λ a. HasCode d.code a (choices_from d at a)) to choices)
       (record { left_is = refl; unit_is = refl; place_is = refl; task_is = refl })))
 
   -- whatever is ready
-  entered_run : {m : Moment} {w : Words} {vs : Values} {slots : List ℕ} {deadline : ℕ} → m.at ≡ suc at
-      → HasTime d d.app.tasks (15 + m.done) m.until deadline → AreSpelled d.app d.level m.cells m.queues vs
-      → (storage d.app).Spells (Guarded x) (slice_index m.cells) (m.queues (Guarded x)) (vs (Guarded x))
-      → Straight (job d) own (drop 1 lines)
-      (within d x deadline m [] slots (start_doing d.app d.level (messages (vs (Guarded x))) vs)) (words w)
-  entered_run {m = m} {w = w} {vs = vs} {slots = slots} {deadline = deadline} at_is time spelled spells =
+  entered_run : {m : Moment} {w : Words} {vs : Values} {deadline : ℕ} → m.at ≡ suc at
+      → HasTime d (tasks_of d) (15 + m.done) m.until deadline → AreSpelled d.app d.level m.cells m.queues vs
+      → Spelled d x m.cells m.queues vs → Straight (job d) own (drop 1 lines)
+      (within d x deadline m [] (start_doing d.app d.level (messages (vs (Guarded x))) vs)) (words w)
+  entered_run {m = m} {w = w} {vs = vs} {deadline = deadline} at_is time spelled spells =
       let ready =
       ready_spelled d.app d.level (slice_index m.cells) (m.queues (Guarded x)) (vs (Guarded x)) spells in
       subst (λ ms. Straight (job d) own (drop 1 lines)
-      (within d x deadline m [] slots (start_doing d.app d.level ms vs)) (words w)) (sym (ap messages ready.messages))
+      (within d x deadline m [] (start_doing d.app d.level ms vs)) (words w)) (sym (ap messages ready.messages))
       (by_queue (m.queues (Guarded x)) refl ready)
     where
       count_home : home_of d.app (at_of d + 1) ≡ At (Guarded x)
@@ -185,7 +154,7 @@ module _ (d : Dispatcher) (at : ℕ) (choices : HasCode d.code (at + 18) (choice
 
       by_queue : (es : List Entry) → m.queues (Guarded x) ≡ es
           → SpellsReady d.app (slice_index m.cells) d.level es (vs (Guarded x))
-          → Straight (job d) own (drop 1 lines) (within d x deadline m [] slots (ready_doing m.cells es vs)) (words w)
+          → Straight (job d) own (drop 1 lines) (within d x deadline m [] (ready_doing m.cells es vs)) (words w)
       by_queue [] queue ready =
           loads 0
           (reads_open (record { opens = open_here d x; long = spelled.long; home = count_home }) ready.count)
@@ -198,9 +167,9 @@ module _ (d : Dispatcher) (at : ℕ) (choices : HasCode d.code (at + 18) (choice
           (some_run w refl (record { job = omega (arith, time.job); section = omega (arith, time.section) })
           (record { spelled = spelled; queue = queue; spells = ready }))))
 
-  front_run : {m : Moment} {w : Words} {vs : Values} {slots : List ℕ} → m.at ≡ at → m.done ≡ 0
+  front_run : {m : Moment} {w : Words} {vs : Values} → m.at ≡ at → m.done ≡ 0
       → m.until ≡ dispatcher_cost d.app d.level → AreSpelled d.app d.level m.cells m.queues vs
-      → Straight (job d) own lines (outside m [] slots (dispatcher_doing d.app d.level vs)) (words w)
+      → Straight (job d) own lines (outside m [] (dispatcher_doing d.app d.level vs)) (words w)
   front_run at_is none until_is spelled =
       enters (may_enter d x refl tt ((accepted_are_sound d.app d.accepted).ceilings x d.is) (omega arith))
       (omega arith) refl
@@ -214,30 +183,17 @@ module _ (d : Dispatcher) (at : ℕ) (choices : HasCode d.code (at + 18) (choice
   dispatches front bodies rows_are slots cells queues vs words_long long kept =
       let m : Moment =
       record { done = 0; until = dispatcher_cost d.app d.level; at = at; cells = cells; queues = queues } in
-      let begin : List ℕ → Here = λ slots. outside m [] slots (dispatcher_doing d.app d.level vs) in
+      let start : Here = outside m [] (dispatcher_doing d.app d.level vs) in
+      let begin : List ℕ → Here = λ slots. record start { slots = slots } in
       let run : Straight (job d) own lines (begin []) (words (words_of slots)) =
       front_run refl refl refl (record { long = long; each = kept }) in
+      let fits = front_fits (queue_at d.app d.level) at in
       rw rows_are
-      (begins
-      (record {
-        held = [];
-        lefts = m.until ∷ [];
-        places = [];
-        slots = slots;
-        caller = None;
-        address = at;
-        cells = cells;
-        queues = queues;
-        rest = dispatcher_doing d.app d.level vs;
-      }) m.until
+      (begins (calm m.until slots None at cells queues (dispatcher_doing d.app d.level vs)) m.until
       (subst (λ slots. S (job d) (begin slots)) (words_are slots words_long)
       (run.runs
-      (record {
-        time = (omega arith, (omega arith, tt));
-        saves = tt;
-        long = refl;
-        fit = front_fits (queue_at d.app d.level) at;
-      }) (subst (HasCode d.code at) (front_placed (queue_at d.app d.level) at) front))))
+      (record { time = (omega arith, (omega arith, tt)); saves = tt; long = refl; fit = fits })
+      (subst (HasCode d.code at) (front_placed (queue_at d.app d.level) at) front))))
 
 pub dispatchers_stand : DispatchersStand
 dispatchers_stand app accepted level is code at has entry bodies rows_are stand thread =

@@ -1,31 +1,19 @@
 -- How the code of a dispatcher comes about.
-use Rattle.std.proofs.Common.{◌≡◌, ℕ, zero, suc, ◌+◌, ◌<◌, ◌≤◌, ◌==◌, Bool, true, false, Some, None, List, [], ◌∷◌}
-use Rattle.std.proofs.Common.{◌++◌, length, map, slice_get, get_or, refl, ap, sym, ◌∙◌, subst, arith, append_assoc}
-use Rattle.std.proofs.Common.{length-append, if◌then◌else◌, drop}
-use Rattle.std.proofs.lemmas.Option.{slice_get_read, slice_get_past, same_Some, none-some}
-use Rattle.std.proofs.lemmas.List.{append-nil, length-map}
-use Rattle.std.proofs.lemmas.List.FromFn.{map-range_with_len_more}
-use Rattle.rt_lemmas.proofs.Bools.{and_left}
-use Rattle.rt_lemmas.proofs.Lists.{mapped_at, drop_as_cons}
+use Rattle.rt_gen_queue.proofs.Vocabulary.{App, Bool, IsAccepted, IsPlan, Line, List, None, Plan, Some, Task, []}
+use Rattle.rt_gen_queue.proofs.Vocabulary.{and_left, ap, app_of, append-nil, append_assoc, arith, drop, drop_as_cons}
+use Rattle.rt_gen_queue.proofs.Vocabulary.{false, get_or, if◌then◌else◌, inl, inr, is_of_level, is_software, length}
+use Rattle.rt_gen_queue.proofs.Vocabulary.{length-append, length-map, map, mapped_at, none-some, plain, queue_at, refl}
+use Rattle.rt_gen_queue.proofs.Vocabulary.{same_Some, slice_get, slice_get_read, subst, suc, sym, task_of, true, zero}
+use Rattle.rt_gen_queue.proofs.Vocabulary.{ℕ, ◌++◌, ◌+◌, ◌<◌, ◌==◌, ◌∙◌, ◌∷◌, ◌≡◌, ◌≤◌}
+use Rattle.std.proofs.lemmas.{Bool.cases_Bool, List.FromFn.map-range_with_len_more, Option.slice_get_past}
 use Rattle.std.specs.Int.{from_bool}
 use Rattle.rt_app.specs.declared.app.App as code
 use Rattle.rt_app.specs.declared.app.Task as row
-use Rattle.rt_app.specs.declared.plan.Plan.{Plan}
-use Rattle.rt_app.specs.Tree.{Task, App}
-use Rattle.rt_app.specs.Level.{is_software, is_of_level}
-use Rattle.rt_app.specs.Plan.{IsPlan}
-use Rattle.rt_app.specs.Accepted.{IsAccepted}
-use Rattle.rt_app.specs.View.{task_of, app_of}
 use Rattle.rt_code.specs.declared.instr.Instr.TheVariants as instr
-use Rattle.rt_gen_queue.specs.Line.{Line, plain}
-use Rattle.rt_gen_queue.specs.Queue.{queue_at}
-use Rattle.rt_gen_queue.specs.declared.target.Target.{Target}
-use Rattle.rt_gen_queue.proofs.Planned.{target_read, target_made}
-use Rattle.rt_gen_disp.specs.declared.called.Called.{Called}
-use Rattle.rt_gen_disp.specs.Code.{argument_lines, choice_code, choices_code, called_at, next_for, last_from}
-use Rattle.rt_gen_disp.specs.declared.lines.Exit.{Exit}
-use Rattle.rt_gen_disp.specs.Inside.Generating.{task_code}
+use Rattle.rt_gen_queue.{proofs.Planned.target_made, proofs.Planned.target_read, specs.declared.target.Target.Target}
 use Rattle.rt_gen_disp.proofs.Sizes.{choice_long}
+use Rattle.rt_gen_disp.specs.{Inside.Generating.task_code, declared.called.Called.Called, declared.lines.Exit.Exit}
+use Rattle.rt_gen_disp.specs.Code.{argument_lines, called_at, choice_code, choices_code, last_from, next_for}
 
 -- one argument more
 pub arguments_more : (old lines new : List Line) (inputs k : ℕ)
@@ -33,8 +21,8 @@ pub arguments_more : (old lines new : List Line) (inputs k : ℕ)
     → new ≡ old ++ argument_lines inputs (k + 1)
 arguments_more old lines new inputs k before pushed =
     let load : ℕ → Line = λ j. plain (instr.LoadAt j (inputs + j) 7) in
-    pushed ∙ ap (λ ls. ls ++ load k ∷ []) before ∙ append_assoc old (argument_lines inputs k) (load k ∷ [])
-    ∙ ap (λ ls. old ++ ls) (sym (map-range_with_len_more load 0 k k (omega arith)))
+    let more = map-range_with_len_more load 0 k k (omega arith) in
+    rw (pushed, before, more, append_assoc)
 
 -- the tasks from one on, where there is one
 pub tasks_left : (items : List row.Task) (n : ℕ) (t : row.Task) → n < length items → t ≡ get_or items n t
@@ -53,36 +41,30 @@ abbrev pub with_rest : Site → List Line → ℕ → ℕ → List Task → List
 with_rest s lines n r ts = lines ++ choices_code s.app s.level s.exit (s.entry + length lines) n r ts
 
 -- what is left behind the lines of a task
-rest_next : (s : Site) (lines : List Line) (n r : ℕ) (t : Task) (ts : List Task)
-    → with_rest s lines n r (t ∷ ts)
+rest_next : (s : Site) (lines : List Line) (n r : ℕ) (t : Task) (ts : List Task) → with_rest s lines n r (t ∷ ts)
     ≡ with_rest s (lines ++ task_code s.app s.level s.exit (s.entry + length lines) n r (Some t)) (n + 1)
     (r + from_bool (is_software t)) ts
 rest_next s lines n r t ts =
-    go (is_of_level s.level t) (is_software t) (and_left (is_software t) (t.priority == s.level))
-  where
-    at : ℕ
-    at = s.entry + length lines
-
-    own : List Line
-    own = choice_code s.app s.level s.exit at n r t
-
-    more : ℕ → ℕ → List Line
-    more a k = choices_code s.app s.level s.exit a (n + 1) k ts
-
-    go : (b z : Bool) → (b ≡ true → z ≡ true)
-        → lines ++ (if b then own ++ more (at + (17 + t.args)) (r + 1) else more at (if z then r + 1 else r))
-        ≡ with_rest s (lines ++ (if b then own else [])) (n + 1) (r + from_bool z) ts
-    go true true both =
-        let long =
-        choice_long (queue_at s.app s.level) (called_at s.app n r t) (next_for s.exit n (at + (17 + t.args))) at in
-        let behind : at + (17 + t.args) ≡ s.entry + length (lines ++ own) =
-        omega (arith, length-append lines own, long) in
-        ap (λ a. lines ++ (own ++ more a (r + 1))) behind
-        ∙ sym (append_assoc lines own (more (s.entry + length (lines ++ own)) (r + 1)))
-    go true false both = absurd (cc (both refl))
-    go false true both = rw append-nil refl
-    go false false both =
-        let same : r ≡ r + 0 = omega arith in ap (λ k. lines ++ more at k) same ∙ rw append-nil refl
+    let at : ℕ = s.entry + length lines in
+    let own : List Line = choice_code s.app s.level s.exit at n r t in
+    let more : ℕ → ℕ → List Line = λ a k. choices_code s.app s.level s.exit a (n + 1) k ts in
+    elim (cases_Bool (is_of_level s.level t)) [
+      | inl of ↦
+          (let long =
+          choice_long (queue_at s.app s.level) (called_at s.app n r t) (next_for s.exit n (at + (17 + t.args))) at in
+          let behind : at + (17 + t.args) ≡ s.entry + length (lines ++ own) =
+          omega (arith, length-append lines own, long) in
+          rw (of, and_left (is_software t) (t.priority == s.level) of)
+          (ap (λ a. lines ++ (own ++ more a (r + 1))) behind
+          ∙ sym (append_assoc lines own (more (s.entry + length (lines ++ own)) (r + 1)))))
+      | inr other ↦
+          elim (cases_Bool (is_software t)) [
+            | inl is ↦ rw (other, is, append-nil) refl
+            | inr fails ↦
+                (let same : r ≡ r + 0 = omega arith in
+                rw (other, fails, append-nil) (ap (λ k. lines ++ more at k) same))
+          ]
+    ]
 
 -- a task of the code, as it stands among the tasks of the definitions
 pub task_there : (app : code.App) (items : List row.Task) (n : ℕ) (t : row.Task) → items ≡ app.tasks.items
@@ -99,8 +81,7 @@ no_task app items n is beyond =
 
 -- what is left behind the lines of a task of the code
 pub choices_next : (s : Site) (items : List row.Task) (lines : List Line) (r : ℕ) {n : ℕ} {t : row.Task}
-    → n < length items → t ≡ get_or items n t
-    → with_rest s lines n r (map task_of (drop n items))
+    → n < length items → t ≡ get_or items n t → with_rest s lines n r (map task_of (drop n items))
     ≡ with_rest s (lines
     ++ task_code s.app s.level s.exit (s.entry + length lines) n r (slice_get (map task_of items) n)) (n + 1)
     (r + from_bool (is_software (task_of t))) (map task_of (drop (n + 1) items))
@@ -138,19 +119,11 @@ none_behind level found n (u ∷ ts) (suc j) less there of =
 
 -- what a spawn is made of, as the dispatcher has it
 abbrev pub with_row : ℕ → ℕ → Target → Called
-with_row r args c = record {
-  task = c.task;
-  row = r;
-  args = args;
-  free = c.free;
-  inputs = c.inputs;
-  guard = c.guard;
-}
+with_row r args c = record { task = c.task; row = r; args = args; free = c.free; inputs = c.inputs; guard = c.guard }
 
 -- what is read of the plan's tables makes what the dispatcher has of a task
-pub called_made : (plan : Plan) (n r : ℕ) (t : Task) (accepted : IsAccepted (app_of plan.app.now))
+pub called_made : {plan : Plan} (n r : ℕ) {t : Task} (accepted : IsAccepted (app_of plan.app.now))
     (planned : IsPlan plan) (there : slice_get (app_of plan.app.now).tasks n ≡ Some t) (software : is_software t ≡ true)
-    → with_row r t.args (target_read plan n t accepted planned there software)
-    ≡ called_at (app_of plan.app.now) n r t
-called_made plan n r t accepted planned there software =
-    ap (with_row r t.args) (target_made plan n t accepted planned there software)
+    → with_row r t.args (target_read n accepted planned there software) ≡ called_at (app_of plan.app.now) n r t
+called_made n r {t = t} accepted planned there software =
+    ap (with_row r t.args) (target_made n accepted planned there software)

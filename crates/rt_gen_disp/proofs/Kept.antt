@@ -1,28 +1,16 @@
 -- What a level keeps, or may read at any time, while its dispatcher runs, which no action of a dispatcher changes; and
 -- how a dispatcher opens the section of a queue.
-use Rattle.std.proofs.Common.{◌≡◌, ℕ, ◌+◌, ◌^◌, ◌≤◌, ◌||◌, Bool, true, false, if◌then◌else◌, List, [], length}
-use Rattle.std.proofs.Common.{slice_index, refl, ap, sym, ◌∙◌, subst, arith}
-use Rattle.rt_ids.specs.Holder.{Holder, Guarded, Own, is_same_holder}
-use Rattle.rt_ids.specs.Content.{Content, Number, Values, put_at}
-use Rattle.rt_ids.specs.Entry.{Entry}
-use Rattle.rt_ids.specs.Storage.{Home, At, AtLevel}
-use Rattle.rt_ids.specs.declared.ids.Section.{Section}
+use Rattle.rt_gen_queue.proofs.Vocabulary.{Agree, App, AreSpelled, At, AtLevel, Bool, Content, Entry, Guarded, Held}
+use Rattle.rt_gen_queue.proofs.Vocabulary.{Holder, Home, List, MayLoad, Number, Own, Section, SpellsReady, Spot}
+use Rattle.rt_gen_queue.proofs.Vocabulary.{TakesOver, Values, [], ap, arith, ceiling, false, home_of, if◌then◌else◌}
+use Rattle.rt_gen_queue.proofs.Vocabulary.{is_open, is_same_holder, kind_at, length, local_is_home, or_right, owns_open}
+use Rattle.rt_gen_queue.proofs.Vocabulary.{owns_reads, put_at, reads, refl, resource_is_home, same_section, slice_index}
+use Rattle.rt_gen_queue.proofs.Vocabulary.{storage, subst, sym, true, ℕ, ◌+◌, ◌^◌, ◌||◌, ◌∙◌, ◌≡◌, ◌≤◌}
+use Rattle.rt_lemmas.proofs.Bools.{or_assoc}
 use Rattle.rt_ids.specs.declared.ids.Section.TheVariants as section
-use Rattle.rt_app.specs.Tree.{App}
-use Rattle.rt_app.specs.Ceiling.{ceiling}
-use Rattle.rt_app.specs.Holding.{SpellsReady, storage}
-use Rattle.rt_app.specs.Layout.{home_of}
-use Rattle.rt_app.proofs.Laid.{resource_is_home, local_is_home}
-use Rattle.rt_code.specs.Masking.{TakesOver}
-use Rattle.rt_code.specs.Owning.{Held, Spot, is_open, reads, MayLoad, Agree}
-use Rattle.rt_code.proofs.Mine.{owns_open, owns_reads, same_section}
-use Rattle.rt_gen_queue.specs.Called.{AreSpelled}
-use Rattle.rt_gen_queue.specs.Guards.{kind_at}
-use Rattle.rt_gen_queue.proofs.Layer.{Here}
-use Rattle.rt_gen_queue.proofs.Entering.{MayEnter}
-use Rattle.rt_gen_disp.proofs.Words.{own}
-use Rattle.rt_gen_queue.proofs.Owning.{IsQueue, home_as, unread, is_inside, other_holder, nobody_keeps}
-use Rattle.rt_gen_disp.proofs.Dispatchers.{Dispatcher, job, alone}
+use Rattle.rt_gen_queue.proofs.{Entering.MayEnter, Layer.Here}
+use Rattle.rt_gen_queue.proofs.Owning.{IsQueue, home_as, is_inside, nobody_keeps, other_holder, unread}
+use Rattle.rt_gen_disp.proofs.{Dispatchers.Dispatcher, Dispatchers.alone, Dispatchers.job, Words.own}
 
 module _ (d : Dispatcher) where
   -- a section that is open alone is open, and what it guards may be read
@@ -61,13 +49,7 @@ MayRead app level h = ((storage app).is_kept (AtLevel level) h || (storage app).
 -- with any sections open it may read the same and more
 reads_kept : (app : App) (level : ℕ) (held : List Held) (h : Holder) → MayRead app level h
     → reads (storage app) (AtLevel level) held h ≡ true
-reads_kept app level held (Guarded x) may =
-    merged (is_open held x) ((storage app).is_kept (AtLevel level) (Guarded x))
-    ((storage app).is_constant (AtLevel level) (Guarded x)) may
-  where
-    merged : (a b c : Bool) → (b || c) ≡ true → ((a || b) || c) ≡ true
-    merged true b c e = refl
-    merged false b c e = e
+reads_kept app level held (Guarded x) may = or_assoc (is_open held x) _ _ ∙ or_right (is_open held x) _ may
 reads_kept app level held (Own n) may = may
 
 -- no queue is among it
@@ -89,20 +71,16 @@ module _ {app : App} {level : ℕ} {cells : List ℕ} {queues : Holder → List 
     where
       each : (h : Holder) → MayRead app level h → (storage app).Spells h (slice_index after) (later h) (ws h)
       each (Guarded (section.Res r)) may =
-          let one = spelled.each (Guarded (section.Res r)) may in (
-            one.0,
-            same (Guarded (section.Res r)) may ∙ one.1
-                ∙ ap Number (sym (left r (Guarded (section.Res r)) may (resource_is_home app r one.0))),
-          )
+          let one = spelled.each (Guarded (section.Res r)) may in
+          let cell = left r (Guarded (section.Res r)) may (resource_is_home app r one.0) in
+          (one.0, same (Guarded (section.Res r)) may ∙ one.1 ∙ ap Number (sym cell))
       each (Guarded (section.Free n)) may = absurd cc
       each (Guarded (section.Ready p)) may = absurd cc
       each (Guarded section.Timer) may = absurd cc
       each (Own n) may =
-          let one = spelled.each (Own n) may in (
-            one.0,
-            same (Own n) may ∙ one.1
-                ∙ ap Number (sym (left (length app.shared + n) (Own n) may (local_is_home app n one.0))),
-          )
+          let one = spelled.each (Own n) may in
+          let cell = left (length app.shared + n) (Own n) may (local_is_home app n one.0) in
+          (one.0, same (Own n) may ∙ one.1 ∙ ap Number (sym cell))
 
   -- values that agree are spelled too
   pub spelled_agreed : {ws : Values} (held : List Held) → AreSpelled app level cells queues vs
@@ -134,8 +112,7 @@ module _ {app : App} {level : ℕ} {cells : List ℕ} {queues : Holder → List 
 
 -- others leave it as it is
 pub spelled_taken : {app : App} {level : ℕ} {s : Spot} {values vs : Values} {cells : List ℕ}
-    {queues : Holder → List Entry} (x : Section)
-    → TakesOver (storage app) (AtLevel level) x s values vs cells queues
+    {queues : Holder → List Entry} (x : Section) → TakesOver (storage app) (AtLevel level) x s values vs cells queues
     → AreSpelled app level s.cells s.queues values → AreSpelled app level cells queues vs
 spelled_taken {app = app} {level = level} {s = s} x taken spelled =
     spelled_on spelled taken.same.long (λ h may. taken.agree h (reads_kept app level s.held h may))

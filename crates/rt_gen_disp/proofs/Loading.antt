@@ -1,17 +1,12 @@
 -- The arguments of a message come into the first slots, up to four of them.
-use Rattle.std.proofs.Common.{◌≡◌, ℕ, zero, suc, ◌+◌, ◌<◌, ◌≤◌, List, [], ◌∷◌, ◌++◌, length, map, take, slice_index}
-use Rattle.std.proofs.Common.{slice_set, refl, ap, sym, ◌∙◌, subst, arith, get_or-set_other, length-set, append_assoc}
-use Rattle.std.specs.List.{range_with_len}
-use Rattle.std.proofs.lemmas.List.{append-nil}
+use Rattle.rt_gen_queue.proofs.Vocabulary.{Entry, HasCode, Home, In, Line, List, MayLoad, [], ap, append-nil}
+use Rattle.rt_gen_queue.proofs.Vocabulary.{append_assoc, arith, get_or-set_other, home_of, inputs_at, length}
+use Rattle.rt_gen_queue.proofs.Vocabulary.{length-set, map, memory, mine, plain, range_with_len, refl, slice_index}
+use Rattle.rt_gen_queue.proofs.Vocabulary.{slice_set, storage, subst, suc, sym, take, zero, ℕ, ◌++◌, ◌+◌, ◌<◌, ◌∙◌, ◌∷◌}
+use Rattle.rt_gen_queue.proofs.Vocabulary.{◌≡◌, ◌≤◌}
 use Rattle.std.proofs.Math.Seq.{take-suc-set}
-use Rattle.rt_ids.specs.Entry.{Entry}
-use Rattle.rt_ids.specs.Storage.{Home, In}
-use Rattle.rt_app.specs.Layout.{memory, inputs_at, home_of}
-use Rattle.rt_app.specs.Holding.{storage}
-use Rattle.rt_code.specs.Owning.{mine, MayLoad}
 use Rattle.rt_code.specs.declared.instr.Instr.TheVariants as instr
-use Rattle.rt_gen_queue.specs.Line.{Line, plain, HasCode}
-use Rattle.rt_gen_queue.proofs.Layer.{Here, InTime, S, spot, Reads, IsFree, goes, load_at_gives, lasts_less}
+use Rattle.rt_gen_queue.proofs.Layer.{Here, InTime, IsFree, Reads, S, goes, lasts_less, load_at_gives, spot}
 use Rattle.rt_gen_queue.proofs.Owning.{home_as, place_in_memory}
 use Rattle.rt_gen_disp.proofs.Dispatchers.{Dispatcher, job}
 
@@ -72,11 +67,9 @@ module _ (d : Dispatcher) (s : Spread) where
       → HasCode d.code h.at (load_lines d s from more ++ lines) → GoesOn d s h lines from more → S (job d) h
   all_load lines zero from {h = h} may has on =
       let is : s.count ≡ from = omega (arith, may.all) in
-      on h.done h.at h.slots (omega arith) (omega arith) has (record {
-        begins = ap (λ k. take k h.slots) is ∙ sym (append-nil (take from h.slots));
-        late = λ k late. refl;
-        long = refl;
-      })
+      let begins = ap (λ k. take k h.slots) is ∙ sym (append-nil (take from h.slots)) in
+      on h.done h.at h.slots (omega arith) (omega arith) has
+      (record { begins = begins; late = λ k late. refl; long = refl })
   all_load lines (suc more) from {h = h} may has on =
       let v : ℕ = slice_index h.cells (first_of d s + from) in
       let less : from < s.count = omega (arith, may.all) in

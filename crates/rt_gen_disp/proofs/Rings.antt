@@ -1,33 +1,12 @@
 -- The ready queue of a level with an oldest message, and without it once its count and its head have been stored.
-use Rattle.std.proofs.Common.{◌≡◌, ◌≢◌, ℕ, suc, ◌+◌, ◌%◌, ◌<◌, List, [], ◌∷◌, length, map, slice_get, slice_index, Some}
-use Rattle.std.proofs.Common.{refl, ap, sym, ◌∙◌, arith}
-use Rattle.std.specs.List.{AllByRecursion}
-use Rattle.std.proofs.lemmas.Nat.{mod_below}
-use Rattle.std.proofs.Math.Nat.{mod-add-mod}
-use Rattle.rt_ids.specs.Holder.{Holder, Guarded}
-use Rattle.rt_ids.specs.Content.{Messages, Values}
-use Rattle.rt_ids.specs.Entry.{Entry}
-use Rattle.rt_ids.specs.Storage.{At, In}
+use Rattle.rt_gen_queue.proofs.Vocabulary.{AreSpelled, At, Entry, Guarded, Holder, In, List, Messages, Some}
+use Rattle.rt_gen_queue.proofs.Vocabulary.{SpellsReady, Values, ap, arith, home_of, length, map, message_at}
+use Rattle.rt_gen_queue.proofs.Vocabulary.{message_word, ready_at, ready_is_home, ready_room, refl, slice_get}
+use Rattle.rt_gen_queue.proofs.Vocabulary.{slice_index, suc, sym, ℕ, ◌%◌, ◌+◌, ◌<◌, ◌∙◌, ◌∷◌, ◌≡◌, ◌≢◌}
+use Rattle.std.proofs.{Math.Nat.mod-add-mod, lemmas.Nat.mod_below}
 use Rattle.rt_ids.specs.declared.ids.Section.TheVariants as section
-use Rattle.rt_app.specs.Tree.{App}
-use Rattle.rt_app.specs.Layout.{home_of, ready_at, ready_room}
-use Rattle.rt_app.specs.Holding.{message_at, message_word, SpellsReady}
-use Rattle.rt_app.proofs.LaidQueues.{ready_is_home}
-use Rattle.rt_gen_queue.specs.Called.{AreSpelled}
-use Rattle.rt_gen_queue.proofs.Layer.{Wrote}
-use Rattle.rt_gen_queue.proofs.Numbers.{small_rest}
-use Rattle.rt_gen_queue.proofs.Places.{IsPlaceOf}
-use Rattle.rt_gen_queue.proofs.Queues.{message_alike}
+use Rattle.rt_gen_queue.proofs.{Layer.Wrote, Numbers.small_rest, Queues.messages_alike}
 use Rattle.rt_gen_disp.proofs.Dispatchers.{Dispatcher}
-
--- messages are what the cells of their places hold
-messages_alike : (app : App) (p : ℕ) (before after : ℕ → ℕ) (es : List Entry) → AllByRecursion (IsPlaceOf app p) es
-    → ((e : Entry) (c : ℕ) → home_of app c ≡ In e → before c ≡ after c)
-    → map (message_at app before) es ≡ map (message_at app after) es
-messages_alike app p before after [] placed left = refl
-messages_alike app p before after (e ∷ es) placed left =
-    ap (λ m. m ∷ map (message_at app before) es) (message_alike app p before after e placed.0 (left e))
-    ∙ ap (λ ms. message_at app after e ∷ ms) (messages_alike app p before after es placed.1 left)
 
 -- where the queue's cells begin, where its oldest message is, and where the next one is
 abbrev pub at_of : Dispatcher → ℕ

@@ -1,60 +1,39 @@
 -- What a dispatcher does once the oldest message is that of one of its tasks: it starts the message, gives its place
 -- back, calls the body and returns.
-use Rattle.std.proofs.Common.{zero, Bool, false, ◌++◌, if◌then◌else◌, ◌≡◌, ℕ, suc, ◌+◌, ◌-◌, ◌<◌, ◌≤◌, ◌==◌, true, Some}
-use Rattle.std.proofs.Common.{Option, List, [], ◌∷◌, length, map, take, drop, slice_get, slice_index, refl, ap, sym}
-use Rattle.std.proofs.Common.{◌∙◌, subst, arith, zero-add, None}
-use Rattle.std.proofs.lemmas.Bool.{eq-eqb, eqb-true}
-use Rattle.std.proofs.lemmas.Bool.Decides.{nat_tests}
-use Rattle.std.proofs.lemmas.Option.{same_Some, none-some}
-use Rattle.rt_gen_queue.specs.Called.{rows_for, AreSpelled, CalledAtLevel, CalledTaskStands, calm, row_for}
-use Rattle.std.proofs.lemmas.List.{take-append-le}
-use Rattle.rt_lemmas.proofs.Bools.{and_left, and_right, or_left}
-use Rattle.rt_ids.specs.Operation.{operate}
-use Rattle.rt_ids.specs.Holder.{Holder, Guarded}
-use Rattle.rt_ids.specs.Content.{Message, Messages, Number, Values, messages, number}
-use Rattle.rt_ids.specs.Entry.{Entry, count}
-use Rattle.rt_ids.specs.Action.{Enters, Leaves, Posts, Starts, Frees, Ends, Returns}
-use Rattle.rt_ids.specs.Action.{effect as action_effect}
-use Rattle.rt_ids.specs.Storage.{AtLevel}
+use Rattle.rt_gen_queue.proofs.Vocabulary.{AreSpelled, AtLevel, BodyRow, Content, Ends, Enters, Entry, FREE_COST, Frees}
+use Rattle.rt_gen_queue.proofs.Vocabulary.{Guarded, Holder, Leaves, Line, List, Marked, Message, Messages, None, Number}
+use Rattle.rt_gen_queue.proofs.Vocabulary.{Option, Posts, Rest, Returns, Section, Some, SpellsFree, SpellsReady, Stands}
+use Rattle.rt_gen_queue.proofs.Vocabulary.{Task, Values, [], act, act_all, and_left, and_right, ap, arith, body_cost}
+use Rattle.rt_gen_queue.proofs.Vocabulary.{body_frame, caller_frame, calm, cost_measure, count, dispatcher_number, drop}
+use Rattle.rt_gen_queue.proofs.Vocabulary.{effect as action_effect, eq-eqb, eqb-true, false, free_at, inl, inr}
+use Rattle.rt_gen_queue.proofs.Vocabulary.{is_software, length, map, message_at, messages, nat_tests, none-some, noted}
+use Rattle.rt_gen_queue.proofs.Vocabulary.{nothing, number, operate, or_left, queue_at, queued_more, refl, row_for}
+use Rattle.rt_gen_queue.proofs.Vocabulary.{rows_for, same_Some, slice_get, slice_index, start_doing, storage, subst}
+use Rattle.rt_gen_queue.proofs.Vocabulary.{suc, sym, take, take-append-le, true, with_queue, zero, zero-add, ℕ, ◌+◌}
+use Rattle.rt_gen_queue.proofs.Vocabulary.{◌-◌, ◌<◌, ◌==◌, ◌∙◌, ◌∷◌, ◌≡◌, ◌≤◌}
+use Rattle.std.proofs.lemmas.Bool.{cases_Bool}
+use Rattle.rt_ids.specs.Action.{Starts}
 use Rattle.rt_ids.specs.declared.ids.BodyId.TheVariants as body
-use Rattle.rt_ids.specs.declared.ids.Section.{Section}
 use Rattle.rt_ids.specs.declared.ids.Section.TheVariants as section
 use Rattle.rt_ids.specs.declared.op.Op.TheVariants as op
-use Rattle.rt_app.specs.declared.costs.TheConstants.{FREE_COST}
-use Rattle.rt_app.specs.Tree.{Task}
-use Rattle.rt_app.specs.Level.{is_software, is_of_level}
-use Rattle.rt_app.specs.BodyCost.{cost_measure, body_cost}
-use Rattle.rt_app.specs.Holding.{SpellsFree, SpellsReady, message_at, storage}
-use Rattle.rt_app.specs.Layout.{free_at}
-use Rattle.rt_app.specs.Sending.{Rest, act, act_all, dispatcher_number}
-use Rattle.rt_app.specs.Doings.{nothing, task_doing, start_doing}
-use Rattle.rt_code.specs.Acting.{with_queue}
-use Rattle.rt_code.specs.Owning.{Marked}
-use Rattle.rt_code.specs.Stack.{caller_frame, body_frame}
-use Rattle.rt_code.specs.Standing.{Stands}
+use Rattle.rt_app.specs.Doings.{task_doing}
 use Rattle.rt_code.specs.Tables.{arguments_in}
-use Rattle.rt_code.specs.declared.image.BodyRow.{BodyRow}
 use Rattle.rt_code.specs.declared.instr.Instr.TheVariants as instr
 use Rattle.rt_code.specs.declared.instr.Note.TheVariants as note
-use Rattle.rt_code.proofs.Mine.{queued_more}
-use Rattle.rt_gen_queue.specs.Line.{Line, noted}
-use Rattle.rt_gen_queue.specs.Queue.{queue_at}
-use Rattle.rt_gen_queue.proofs.Entering.{enters, leaves}
-use Rattle.rt_gen_queue.proofs.Facts.{Spawned, capacity, free_top, few_free, few_arguments}
-use Rattle.rt_gen_queue.proofs.Facts.{priority as own_priority}
-use Rattle.rt_gen_queue.proofs.Places.{entry_at, IsPlaceOf}
-use Rattle.rt_gen_queue.proofs.Layer.{Here, Straight, loads, stores_at, calculates, stays, posts, reads_open}
-use Rattle.rt_gen_queue.proofs.Layer.{writes_open, by_noted, goes_later, mark_gives, calls_here, returns_here}
-use Rattle.rt_gen_queue.proofs.Layer.{next_in_time, skips_off, begins}
-use Rattle.rt_gen_queue.proofs.Layer.Correct.{does as asks}
-use Rattle.rt_gen_queue.proofs.Numbers.{added}
-use Rattle.rt_gen_queue.proofs.Owning.{free_spelled, free_back, put_here, queue_here}
-use Rattle.rt_gen_queue.proofs.Returning.{frees, Returned, room_left, free_home, given_back}
-use Rattle.rt_gen_disp.specs.Code.{start_lines, called_at}
-use Rattle.rt_gen_disp.proofs.Dispatchers.{Dispatcher, rows, job, alone, Moment, outside, within}
-use Rattle.rt_gen_disp.proofs.Kept.{open_here, reads_here, may_enter, spelled_agreed, spelled_put, spelled_written}
-use Rattle.rt_gen_disp.proofs.Kept.{spelled_taken, for_ready}
-use Rattle.rt_gen_disp.proofs.Words.{Words, firsts, words, own, frame_fits, frame_long, frame_begins}
+use Rattle.rt_gen_queue.proofs.{Entering.enters, Entering.leaves, Layer.Correct.does as asks, Numbers.added}
+use Rattle.rt_gen_queue.proofs.{Places.IsPlaceOf, Places.entry_at}
+use Rattle.rt_gen_queue.proofs.Facts.{Spawned, capacity, few_arguments, few_free, free_top, priority as own_priority}
+use Rattle.rt_gen_queue.proofs.Layer.{Here, Now, Straight, acts_later, begins, by_noted, calculates, calls_here, loads}
+use Rattle.rt_gen_queue.proofs.Layer.{mark_gives, next_in_time, posts, reads_open, returns_here, skips_off, stays}
+use Rattle.rt_gen_queue.proofs.Layer.{stores_at, writes_open}
+use Rattle.rt_gen_queue.proofs.Owning.{free_back, free_spelled, put_here, queue_here}
+use Rattle.rt_gen_queue.proofs.Returning.{Returned, free_home, frees, given_back, room_left}
+use Rattle.rt_gen_queue.specs.Called.{CalledAtLevel, CalledTaskStands}
+use Rattle.rt_gen_disp.{proofs.Sizes.IsTask, specs.Code.called_at, specs.Code.start_lines}
+use Rattle.rt_gen_disp.proofs.Dispatchers.{Dispatcher, Moment, Spelled, alone, job, outside, rows, within}
+use Rattle.rt_gen_disp.proofs.Kept.{for_ready, may_enter, open_here, reads_here, spelled_agreed, spelled_put}
+use Rattle.rt_gen_disp.proofs.Kept.{spelled_taken, spelled_written}
+use Rattle.rt_gen_disp.proofs.Words.{Words, firsts, frame_begins, frame_fits, frame_long, own, words}
 
 -- how many arguments a software task takes, as the rows of bodies tell it
 arguments_from : (entry : ℕ → ℕ) (n k : ℕ) (ts : List Task) (t : Task) → slice_get ts k ≡ Some t → is_software t ≡ true
@@ -63,17 +42,13 @@ arguments_from entry n k [] t at software = absurd (none-some t at)
 arguments_from entry n zero (u ∷ ts) t at software =
     let here : (n == n + 0) ≡ true = eq-eqb n (n + 0) (omega arith) in rw (same_Some u t at, software, here) refl
 arguments_from entry n (suc k) (u ∷ ts) t at software =
-    go (is_software u)
-    (subst (λ i. arguments_in (rows_for entry (n + 1) ts) i ≡ t.args) next
-    (arguments_from entry (n + 1) k ts t at software))
-  where
-    next : n + 1 + k ≡ n + suc k
-    next = omega arith
-
-    go : (b : Bool) → arguments_in (rows_for entry (n + 1) ts) (n + suc k) ≡ t.args
-        → arguments_in ((if b then row_for entry n u ∷ [] else []) ++ rows_for entry (n + 1) ts) (n + suc k) ≡ t.args
-    go true rest = let other : (n == n + suc k) ≡ false = grind (arith, nat_tests) in rw other rest
-    go false rest = rest
+    let next : n + 1 + k ≡ n + suc k = omega arith in
+    let rest = rw next at (arguments_from entry (n + 1) k ts t at software) in
+    let other : (n == n + suc k) ≡ false = grind (arith, nat_tests) in
+    elim (cases_Bool (is_software u)) [
+      | inl passes ↦ rw (passes, other) rest
+      | inr fails ↦ rw fails rest
+    ]
 
 -- the oldest message of a level as memory has it
 pub record IsOldest (d : Dispatcher) (cells : List ℕ) (queues : Holder → List Entry) (vs : Values) (o : Entry)
@@ -88,10 +63,8 @@ pub record IsOldest (d : Dispatcher) (cells : List ℕ) (queues : Holder → Lis
 pub record Chosen (d : Dispatcher) : Type 0 where
   pub number : ℕ
   pub task : Task
-  pub at : slice_get d.app.tasks number ≡ Some task
-  pub of : is_of_level d.level task ≡ true
   pub row : ℕ
-  pub there : slice_get (rows d) row ≡ Some (row_for d.entry number task)
+  pub is : IsTask d.app d.level d.entry number row task
   pub place : ℕ
   pub less : place < task.capacity
   pub args : List ℕ
@@ -119,6 +92,13 @@ module _ {d : Dispatcher} (c : Chosen d) where
   abbrev pub own_lines : ℕ → List Line
   own_lines at = start_lines (queue_at d.app d.level) (called_at d.app c.number c.row c.task) at
 
+  -- the sections of its free places and of the ready queue
+  abbrev free : Section
+  free = section.Free c.number
+
+  abbrev ready : Section
+  ready = section.Ready d.level
+
   abbrev Kept : Moment → Values → Type 0
   Kept m vs = AreSpelled d.app d.level m.cells m.queues vs
 
@@ -130,31 +110,28 @@ module _ {d : Dispatcher} (c : Chosen d) where
   body_rest = task_doing d.app c.number c.args (act (Ends (body.Task c.number)) behind)
 
   abbrev give_rest : Rest
-  give_rest = act_all (Frees c.number ∷ Leaves (section.Free c.number) ∷ []) body_rest
+  give_rest = act_all (Frees c.number ∷ Leaves free ∷ []) body_rest
 
   abbrev leave_rest : Rest
-  leave_rest = act (Leaves (section.Ready d.level)) (act (Enters (section.Free c.number) FREE_COST) give_rest)
+  leave_rest = act (Leaves ready) (act (Enters free FREE_COST) give_rest)
 
   facts : Spawned d.app c.number c.task
-  facts = record {
-    accepted = d.accepted;
-    at = c.at;
-    software = and_left (is_software c.task) (c.task.priority == d.level) c.of;
-  }
+  facts =
+      let software = and_left (is_software c.task) (c.task.priority == d.level) c.is.of in
+      record { accepted = d.accepted; at = c.is.at; software = software }
 
   level_is : c.task.priority ≡ d.level
-  level_is = eqb-true c.task.priority d.level (and_right (is_software c.task) (c.task.priority == d.level) c.of)
+  level_is = eqb-true c.task.priority d.level (and_right (is_software c.task) (c.task.priority == d.level) c.is.of)
 
   body_stands : CalledAtLevel d.app c.number d.level c.task d.code (row_for d.entry c.number c.task)
   body_stands =
       subst (λ (q : ℕ). CalledAtLevel d.app c.number q c.task d.code (row_for d.entry c.number c.task)) level_is
-      (subst (λ (o : Option Task). CalledTaskStands d.app c.number o d.code (row_for d.entry c.number c.task)) c.at
-      (d.bodies c.number c.task c.at c.of))
+      (subst (λ (o : Option Task). CalledTaskStands d.app c.number o d.code (row_for d.entry c.number c.task)) c.is.at
+      (d.bodies c.number c.task c.is.at c.is.of))
 
   -- the body runs, and the dispatcher returns
-  call_run : {m : Moment} {w : Words} {vs : Values} {slots : List ℕ} → 2 + cost_of_body + m.done ≤ m.until
-      → HoldsIn w → Kept m vs
-      → Straight (job d) own (drop 10 (own_lines 0)) (outside m [] slots (body_rest vs)) (words w)
+  call_run : {m : Moment} {w : Words} {vs : Values} → 2 + cost_of_body + m.done ≤ m.until → HoldsIn w → Kept m vs
+      → Straight (job d) own (drop 10 (own_lines 0)) (outside m [] (body_rest vs)) (words w)
   call_run {m = m} {w = w} {vs = vs} enough holds spelled = record {
     runs = λ run has.
         let called : BodyRow = row_for d.entry c.number c.task in
@@ -167,14 +144,9 @@ module _ {d : Dispatcher} (c : Chosen d) where
         let inner : List ℕ = body_frame back called 0 in
         let args_are : take c.task.args inner ≡ c.args =
         frame_begins w called few fits (suc m.at) ∙ sym holds.arguments in
+        let all_fit = frame_fits w called few fits in
         calls_here called has.0 (next_in_time run)
-        (record {
-          own = refl;
-          is_there = c.there;
-          closed = refl;
-          some = omega arith;
-          fits = frame_fits w called few fits;
-        })
+        (record { own = refl; is_there = c.is.there; closed = refl; some = omega arith; fits = all_fit })
         (subst (λ k. Stands (storage d.app) d.code (rows d) d.thread (AtLevel d.level) k
         (calm left inner (Some back) called.entry m.cells m.queues (body_rest vs))) steps_are
         (subst (λ given. Stands (storage d.app) d.code (rows d) d.thread (AtLevel d.level) (cost_of_body + steps)
@@ -189,24 +161,16 @@ module _ {d : Dispatcher} (c : Chosen d) where
   }
 
   -- in the section of the free places the place is given back
-  give_run : {m : Moment} {w : Words} {vs : Values} {slots : List ℕ} {deadline : ℕ}
-      → 7 + cost_of_body + m.done ≤ m.until → HoldsIn w → Kept m vs
-      → (storage d.app).Spells (Guarded (section.Free c.number)) (slice_index m.cells)
-      (m.queues (Guarded (section.Free c.number))) (vs (Guarded (section.Free c.number)))
-      → ((y : Entry) → count y (entry_of ∷ []) + count y (m.queues (Guarded (section.Free c.number))) ≤ 1)
-      → Straight (job d) own (drop 5 (own_lines 0))
-      (within d (section.Free c.number) deadline m (entry_of ∷ []) slots (give_rest vs)) (words w)
+  give_run : {m : Moment} {w : Words} {vs : Values} {deadline : ℕ} → 7 + cost_of_body + m.done ≤ m.until → HoldsIn w
+      → Kept m vs → Spelled d free m.cells m.queues vs
+      → ((y : Entry) → count y (entry_of ∷ []) + count y (m.queues (Guarded free)) ≤ 1)
+      → Straight (job d) own (drop 5 (own_lines 0)) (within d free deadline m (entry_of ∷ []) (give_rest vs)) (words w)
   give_run {m = m} {w = w} {vs = vs} enough holds spelled spells once =
-      let x : Section = section.Free c.number in
-      let entries : List Entry = m.queues (Guarded x) in
-      let known : Returned d.app c.number c.task m.cells entries c.place = record {
-        task = facts;
-        long = spelled.long;
-        content = vs (Guarded x);
-        spells = free_spelled d.app c.number (slice_index m.cells) entries (vs (Guarded x)) spells;
-        less = c.less;
-        once = once;
-      } in
+      let entries : List Entry = m.queues (Guarded free) in
+      let was : Content = vs (Guarded free) in
+      let its = free_spelled d.app c.number (slice_index m.cells) entries was spells in
+      let known : Returned d.app c.number c.task m.cells entries c.place =
+      record { task = facts; long = spelled.long; content = was; spells = its; less = c.less; once = once } in
       let room = room_left known in
       let few = few_free d.app c.number c.task facts in
       let count_home = free_home known (free_at d.app c.number) 0 (omega arith) (omega arith) in
@@ -214,125 +178,110 @@ module _ {d : Dispatcher} (c : Chosen d) where
       free_home known (free_at d.app c.number + 1 + length entries) (suc (length entries)) (omega arith) room in
       let few_entries : suc (length entries) ≤ 16 = omega (arith, capacity d.app c.number c.task facts) in
       loads (length entries)
-      (reads_open (record { opens = open_here d x; long = spelled.long; home = count_home }) known.spells.count)
+      (reads_open (record { opens = open_here d free; long = spelled.long; home = count_home }) known.spells.count)
       (stores_at (length entries) c.place refl holds.place
-      (writes_open (record { opens = open_here d x; long = spelled.long; home = place_home }))
+      (writes_open (record { opens = open_here d free; long = spelled.long; home = place_home }))
       (λ placed first.
       calculates (suc (length entries))
       (ap (operate op.Add (length entries)) holds.one ∙ added (length entries) 1 (suc (length entries)) (omega arith)
       (omega arith))
       (frees (suc (length entries)) refl
-      (writes_open (record { opens = open_here d x; long = first.long ∙ spelled.long; home = count_home }))
-      (record { opens = open_here d x; hands = refl; of_task = refl; doing = refl })
+      (writes_open (record { opens = open_here d free; long = first.long ∙ spelled.long; home = count_home }))
+      (record { opens = open_here d free; hands = refl; of_task = refl; doing = refl })
       (λ given ws second agree.
       let is = given_back known placed given first second in
-      let later : Holder → List Entry = with_queue m.queues x (entry_of ∷ entries) in
+      let later : Holder → List Entry = with_queue m.queues free (entry_of ∷ entries) in
       let us : Values = action_effect (Frees c.number) ws in
-      let content : us (Guarded x) ≡ Number (number (vs (Guarded x)) - 1) =
-      put_here d.app (AtLevel d.level) ws x (Number (number (ws (Guarded x)) - 1))
-      ∙ ap (λ c. Number (number c - 1)) (agree (Guarded x) (reads_here d x)) in
+      let content : us (Guarded free) ≡ Number (number (vs (Guarded free)) - 1) =
+      put_here d.app (AtLevel d.level) ws free (Number (number (ws (Guarded free)) - 1))
+      ∙ ap (λ c. Number (number c - 1)) (agree (Guarded free) (reads_here d free)) in
       let kept : AreSpelled d.app d.level given later us =
-      spelled_put x (Number (number (ws (Guarded x)) - 1)) tt
-      (spelled_agreed (alone d x) (spelled_written x tt spelled is.long is.elsewhere) agree) in
+      spelled_put free (Number (number (ws (Guarded free)) - 1)) tt
+      (spelled_agreed (alone d free) (spelled_written free tt spelled is.long is.elsewhere) agree) in
       leaves d.level refl refl refl
-      (subst (λ es. (storage d.app).Spells (Guarded x) (slice_index given) es (us (Guarded x)))
-      (sym (queue_here d.app (AtLevel d.level) m.queues x (entry_of ∷ entries)))
-      (free_back (slice_index m.cells) entries (vs (Guarded x)) spells
+      (subst (λ es. (storage d.app).Spells (Guarded free) (slice_index given) es (us (Guarded free)))
+      (sym (queue_here d.app (AtLevel d.level) m.queues free (entry_of ∷ entries)))
+      (free_back (slice_index m.cells) entries (vs (Guarded free)) spells
       (subst (λ c'. SpellsFree d.app (slice_index given) c.number (entry_of ∷ entries) c') (sym content) is.spells)))
       (λ zs agree_too. call_run (omega arith) holds (spelled_agreed [] kept agree_too))))))
 
-  free_run : {m : Moment} {w : Words} {vs : Values} {slots : List ℕ} → 8 + cost_of_body + m.done ≤ m.until → HoldsIn w
-      → Kept m vs
+  free_run : {m : Moment} {w : Words} {vs : Values} → 8 + cost_of_body + m.done ≤ m.until → HoldsIn w → Kept m vs
       → Straight (job d) own (drop 4 (own_lines 0))
-      (outside m (entry_of ∷ []) slots (act (Enters (section.Free c.number) FREE_COST) give_rest vs)) (words w)
+      (outside m (entry_of ∷ []) (act (Enters free FREE_COST) give_rest vs)) (words w)
   free_run enough holds spelled =
-      let x : Section = section.Free c.number in
       enters
-      (may_enter d x refl tt (free_top d.app c.number c.task facts)
+      (may_enter d free refl tt (free_top d.app c.number c.task facts)
       (omega (arith, own_priority d.app c.number c.task facts, level_is)))
       (omega arith) refl
       (λ v ws others queues taken.
-      give_run (omega arith) holds (spelled_taken x taken spelled) taken.spelled
-      (λ y. omega (arith, taken.once y, queued_more queues y (record { section = x; kind = Marked }) [])))
+      give_run (omega arith) holds (spelled_taken free taken spelled) taken.spelled
+      (λ y. omega (arith, taken.once y, queued_more queues y (record { section = free; kind = Marked }) [])))
 
   -- out of the section of the ready queue
-  leave_run : {m : Moment} {w : Words} {vs : Values} {slots : List ℕ} {deadline : ℕ}
-      → 9 + cost_of_body + m.done ≤ m.until → HoldsIn w → Kept m vs
-      → (storage d.app).Spells (Guarded (section.Ready d.level)) (slice_index m.cells)
-      (m.queues (Guarded (section.Ready d.level))) (vs (Guarded (section.Ready d.level)))
-      → Straight (job d) own (drop 3 (own_lines 0))
-      (within d (section.Ready d.level) deadline m (entry_of ∷ []) slots (leave_rest vs)) (words w)
+  leave_run : {m : Moment} {w : Words} {vs : Values} {deadline : ℕ} → 9 + cost_of_body + m.done ≤ m.until → HoldsIn w
+      → Kept m vs → Spelled d ready m.cells m.queues vs → Straight (job d) own (drop 3 (own_lines 0))
+      (within d ready deadline m (entry_of ∷ []) (leave_rest vs)) (words w)
   leave_run enough holds spelled spells =
       leaves d.level refl refl refl spells
       (λ ws agree. free_run (omega arith) holds (spelled_agreed [] spelled agree))
 
   -- it starts, and the lines behind go on with its place in the hands
-  started : {m : Moment} {w : Words} {vs : Values} {slots : List ℕ} {deadline : ℕ} {es : List Entry} {lines : List Line}
+  started : {m : Moment} {w : Words} {vs : Values} {deadline : ℕ} {es : List Entry} {lines : List Line}
       (rest : Rest) → IsOldest d m.cells m.queues vs entry_of es → HoldsIn w
       → ((ws : Values) (queues : Holder → List Entry) → AreSpelled d.app d.level m.cells queues ws
-      → (storage d.app).Spells (Guarded (section.Ready d.level)) (slice_index m.cells)
-      (queues (Guarded (section.Ready d.level))) (ws (Guarded (section.Ready d.level)))
-      → Straight (job d) own lines
-      (within d (section.Ready d.level) deadline (record m { done = suc m.done; at = suc m.at; queues = queues })
-      (entry_of ∷ []) slots (rest ws)) (words w))
+      → Spelled d ready m.cells queues ws → Straight (job d) own lines
+      (within d ready deadline (record m { done = suc m.done; at = suc m.at; queues = queues })
+      (entry_of ∷ []) (rest ws)) (words w))
       → Straight (job d) own (noted instr.Mark (note.Start c.number 0) ∷ lines)
-      (within d (section.Ready d.level) deadline m [] slots (act (Starts d.level message_of) rest vs)) (words w)
-  started {m = m} {w = w} {vs = vs} {deadline = deadline} {es = es} rest ready holds on =
-      let x : Section = section.Ready d.level in
-      let h : Here = within d x deadline m [] (words w) (act (Starts d.level message_of) rest vs) in
+      (within d ready deadline m [] (act (Starts d.level message_of) rest vs)) (words w)
+  started {m = m} {w = w} {vs = vs} {deadline = deadline} {es = es} rest oldest holds on =
+      let h : Here = Now own (within d ready deadline m [] (act (Starts d.level message_of) rest vs)) (words w) in
       let few : c.task.args ≤ 4 = few_arguments d.app c.number c.task facts in
       let known : arguments_in (rows d) c.number ≡ c.task.args =
-      rw zero-add at (arguments_from d.entry 0 c.number d.app.tasks c.task c.at facts.software) in
-      let later : Holder → List Entry = with_queue m.queues x es in
+      rw zero-add at (arguments_from d.entry 0 c.number d.app.tasks c.task c.is.at facts.software) in
+      let later : Holder → List Entry = with_queue m.queues ready es in
       by_noted (λ run has. asks {h = h} (Some (note.Start c.number 0)) mark_gives (record {
         level = d.level;
         message = message_of;
         entry = entry_of;
         others = es;
-        inside = open_here d x;
-        first = ready.queue;
+        inside = open_here d ready;
+        first = oldest.queue;
         of_task = (refl, refl);
         fits = omega (arith, known, few);
         shown =
             subst (λ k. c.args ≡ take k (words w)) (sym known)
             (holds.arguments ∙ sym (take-append-le c.task.args (firsts w) (drop 4 (words w)) few));
-        acts = record {
-          values = vs;
-          follows = λ answer. rest;
-          is = refl;
-          on = λ ws agree.
-              let us : Values = action_effect (Starts d.level message_of) ws in
-              let content : us (Guarded x) ≡ Messages (map (message_at d.app (slice_index m.cells)) es) =
-              put_here d.app (AtLevel d.level) ws x (Messages (drop 1 (messages (ws (Guarded x)))))
-              ∙ ap (λ c. Messages (drop 1 (messages c))) (agree (Guarded x) (reads_here d x) ∙ ready.content) in
-              goes_later refl run has
-              (on us later
-              (spelled_put x (Messages (drop 1 (messages (ws (Guarded x))))) tt
-              (spelled_agreed (alone d x) ready.spelled agree))
-              (subst (λ entries. (storage d.app).Spells (Guarded x) (slice_index m.cells) entries (us (Guarded x)))
-              (sym (queue_here d.app (AtLevel d.level) m.queues x es))
-              (for_ready d (slice_index m.cells) es (us (Guarded x))
-              (subst (λ c'. SpellsReady d.app (slice_index m.cells) d.level es c') (sym content) ready.rest))));
-        };
+        acts = acts_later (Starts d.level message_of) (words w) refl run has refl (λ ws agree.
+            let us : Values = action_effect (Starts d.level message_of) ws in
+            let first_off : Values → Content = λ vs. Messages (drop 1 (messages (vs (Guarded ready)))) in
+            let was = agree (Guarded ready) (reads_here d ready) ∙ oldest.content in
+            let content : us (Guarded ready) ≡ Messages (map (message_at d.app (slice_index m.cells)) es) =
+            put_here d.app (AtLevel d.level) ws ready (first_off ws) ∙ ap (λ c. Messages (drop 1 (messages c))) was in
+            on us later
+            (spelled_put ready (first_off ws) tt (spelled_agreed (alone d ready) oldest.spelled agree))
+            (subst (λ xs. (storage d.app).Spells (Guarded ready) (slice_index m.cells) xs (us (Guarded ready)))
+            (sym (queue_here d.app (AtLevel d.level) m.queues ready es))
+            (for_ready d (slice_index m.cells) es (us (Guarded ready))
+            (subst (λ c'. SpellsReady d.app (slice_index m.cells) d.level es c') (sym content) oldest.rest))));
       }))
 
   -- and where more are ready the dispatcher is pended again
-  pub start_run : {m : Moment} {w : Words} {vs : Values} {slots : List ℕ} {deadline : ℕ} (es : List Entry)
+  pub start_run : {m : Moment} {w : Words} {vs : Values} {deadline : ℕ} (es : List Entry)
       → 12 + cost_of_body + m.done ≤ m.until → IsOldest d m.cells m.queues vs entry_of es → HoldsIn w
       → w.left ≡ length es
-      → Straight (job d) own (own_lines m.at)
-      (within d (section.Ready d.level) deadline m [] slots
+      → Straight (job d) own (own_lines m.at) (within d ready deadline m []
       (start_doing d.app d.level (message_of ∷ map (message_at d.app (slice_index m.cells)) es) vs)) (words w)
-  start_run [] enough ready holds left =
-      started leave_rest ready holds
+  start_run [] enough oldest holds left =
+      started leave_rest oldest holds
       (λ ws queues spelled spells. skips_off 1 (omega arith) left (leave_run (omega arith) holds spelled spells))
-  start_run {m = m} (o ∷ es) enough ready holds left =
-      started (act (Posts (dispatcher_number d.app d.level)) leave_rest) ready holds
+  start_run {m = m} (o ∷ es) enough oldest holds left =
+      started (act (Posts (dispatcher_number d.app d.level)) leave_rest) oldest holds
       (λ ws queues spelled spells.
       stays (omega (arith, left))
       (posts refl
       (λ zs agree.
-      leave_run (omega arith) holds (spelled_agreed (alone d (section.Ready d.level)) spelled agree)
-      (subst (λ content. (storage d.app).Spells (Guarded (section.Ready d.level)) (slice_index m.cells)
-      (queues (Guarded (section.Ready d.level))) content)
-      (sym (agree (Guarded (section.Ready d.level)) (reads_here d (section.Ready d.level)))) spells))))
+      leave_run (omega arith) holds (spelled_agreed (alone d ready) spelled agree)
+      (subst (λ content. (storage d.app).Spells (Guarded ready) (slice_index m.cells)
+      (queues (Guarded ready)) content)
+      (sym (agree (Guarded ready) (reads_here d ready))) spells))))

@@ -1,24 +1,14 @@
 -- The sixteen slots of a dispatcher's frame, each by the name of what it is for: a write into one of them computes.
-use Rattle.std.proofs.Common.{◌≡◌, ℕ, ◌+◌, ◌-◌, ◌*◌, ◌/◌, ◌%◌, ◌<◌, ◌≤◌, ◌==◌, ◌||◌, nat_le, true, List, [], ◌∷◌, ◌++◌}
-use Rattle.std.proofs.Common.{length, take, drop, replicate, slice_index, refl, ap, sym, ◌∙◌, arith, subst}
-use Rattle.std.specs.List.{AllByRecursion}
-use Rattle.std.proofs.lemmas.Bool.{le-leb}
-use Rattle.std.proofs.lemmas.List.{length-append, length-replicate, length-take-le, take-append-le, take_at}
-use Rattle.std.proofs.lemmas.List.FromFn.{fill_by_all}
-use Rattle.std.proofs.lemmas.Nat.{div-mul-add, mod-mul-add}
-use Rattle.std.proofs.Math.Nat.{mul-le-mul_left}
-use Rattle.rt_lemmas.proofs.Bools.{and_both, or_right}
-use Rattle.rt_lemmas.proofs.Membership.{all_append, all_weaker}
-use Rattle.rt_ids.specs.Operation.{operate}
+use Rattle.rt_gen_queue.proofs.Vocabulary.{AllByRecursion, BodyRow, List, [], all_append, all_weaker, and_both, arith}
+use Rattle.rt_gen_queue.proofs.Vocabulary.{body_frame, caller_frame, drop, kind_of, le-leb, length, length-append}
+use Rattle.rt_gen_queue.proofs.Vocabulary.{length-replicate, length-take-le, nat_le, operate, or_right, refl, replicate}
+use Rattle.rt_gen_queue.proofs.Vocabulary.{saved_slot, slice_index, subst, sym, take, take-append-le, take_at, true, ℕ}
+use Rattle.rt_gen_queue.proofs.Vocabulary.{◌*◌, ◌++◌, ◌+◌, ◌-◌, ◌<◌, ◌==◌, ◌||◌, ◌∙◌, ◌∷◌, ◌≡◌, ◌≤◌}
+use Rattle.std.proofs.{Math.Nat.mul-le-mul_left, lemmas.List.FromFn.fill_by_all}
 use Rattle.rt_ids.specs.declared.op.Op.TheVariants as op
-use Rattle.rt_code.specs.Owning.{saved_slot}
-use Rattle.rt_code.specs.Stack.{arguments_fit, body_frame, caller_frame}
-use Rattle.rt_code.specs.declared.image.BodyRow.{BodyRow}
-use Rattle.rt_gen_queue.specs.Guards.{kind_of}
+use Rattle.rt_code.specs.Stack.{arguments_fit}
+use Rattle.rt_gen_queue.proofs.{Layer.Frame, Masks.saves_in, Numbers.multiplied}
 use Rattle.rt_gen_queue.specs.declared.guard.Guard.{Guard}
-use Rattle.rt_gen_queue.proofs.Layer.{Frame}
-use Rattle.rt_gen_queue.proofs.Masks.{saves_in}
-use Rattle.rt_gen_queue.proofs.Numbers.{multiplied}
 
 pub record Words : Type 0 where
   -- the arguments of the message
@@ -104,32 +94,20 @@ module _ (w : Words) (row : BodyRow) (few : row.args ≤ 4) (fits : row.args ≤
   own_arguments back = length-take-le row.args (caller_frame (words w) back) (omega arith)
 
   pub frame_long : (back : ℕ) → length (body_frame (caller_frame (words w) back) row 0) ≡ row.frame
-  frame_long back =
-      omega (
-        arith,
-        length-append (take row.args (caller_frame (words w) back)) (replicate (row.frame - row.args) 0),
-        length-replicate {A = ℕ} (row.frame - row.args) 0,
-        own_arguments back,
-      )
+  frame_long back = simp (length-append, length-replicate) (omega (arith, own_arguments back))
 
   pub frame_begins : (back : ℕ) → take row.args (body_frame (caller_frame (words w) back) row 0)
       ≡ take row.args (firsts w)
   frame_begins back =
       take_at (take row.args (caller_frame (words w) back)) (replicate (row.frame - row.args) 0) row.args
-      (own_arguments back)
-      ∙ take-append-le row.args (firsts w) (drop 4 (caller_frame (words w) back)) few
+      (own_arguments back) ∙ take-append-le row.args (firsts w) (drop 4 (caller_frame (words w) back)) few
 
 -- what operations give on small numbers
 pub task_in : (task place : ℕ) → place < 16 → operate op.Div (16 * task + place) 16 ≡ task
-task_in task place less =
-    let e : 16 * task + place ≡ task * 16 + place = omega arith in
-    ap (λ w. w / 16) e ∙ div-mul-add task 16 place less
+task_in task place less = omega arith
 
 pub place_in : (task place : ℕ) → place < 16 → operate op.Rem (16 * task + place) 16 ≡ place
-place_in task place less =
-    let e : 16 * task + place ≡ task * 16 + place = omega arith in
-    ap (λ w. w % 16) e ∙ mod-mul-add task 16 place less
+place_in task place less = omega arith
 
 pub times : (place args : ℕ) → place < 16 → args ≤ 4 → operate op.Mul place args ≡ place * args
-times place args less few =
-    multiplied place args (place * args) refl (omega (arith, mul-le-mul_left place few))
+times place args less few = multiplied place args (place * args) refl (omega (arith, mul-le-mul_left place few))

@@ -1,40 +1,23 @@
 -- Sections of queues: how they open and close, by their ceilings, at any level, on any window.
-use Rattle.std.proofs.Common.{◌≡◌, ◌⊎◌, ℕ, suc, ◌+◌, ◌^◌, ◌<◌, ◌≤◌, ◌==◌, nat_le, Bool, true, false}
-use Rattle.std.proofs.Common.{if◌then◌else◌, List, [], ◌∷◌, ◌++◌, Some, length, map, Contains}
-use Rattle.std.proofs.Common.{slice_index, slice_set, refl, sym, ap, subst, ◌∙◌, arith, inl, inr, length-set}
-use Rattle.std.specs.List.{AllByRecursion}
-use Rattle.std.proofs.lemmas.Bool.{le-leb}
-use Rattle.std.proofs.lemmas.List.{set-get_or, map-append}
-use Rattle.rt_lemmas.proofs.Bools.{and_left, and_right, and_both}
-use Rattle.rt_lemmas.proofs.Lists.{all_behind}
-use Rattle.rt_lemmas.proofs.Membership.{all_has, all_append, all_weaker}
-use Rattle.rt_ids.specs.Holder.{Holder, Guarded}
-use Rattle.rt_ids.specs.Content.{Content, Values, put_at}
-use Rattle.rt_ids.specs.Entry.{Entry}
-use Rattle.rt_ids.specs.Action.{Enters, Leaves}
-use Rattle.rt_ids.specs.Doing.{Doing, does}
-use Rattle.rt_ids.specs.Storage.{Runner, Starting, AtLevel, At}
-use Rattle.rt_ids.specs.declared.ids.Section.{Section}
-use Rattle.rt_app.specs.Tree.{App}
-use Rattle.rt_app.specs.Ceiling.{ceiling}
-use Rattle.rt_app.specs.Holding.{storage}
-use Rattle.rt_app.specs.Layout.{home_of}
-use Rattle.rt_code.specs.Acting.{with_queue}
-use Rattle.rt_code.specs.Masking.{TakesOver, IsMask, IsKindFor, IsWithin, NobodyKeeps, opening, closing, saving}
-use Rattle.rt_code.specs.Owning.{Marked, Raised, Masked, Held, is_open, saved_slot, saved_slots, reads}
-use Rattle.rt_code.specs.Owning.{Agree, LeavesMine}
-use Rattle.rt_code.specs.Standing.{passed}
+use Rattle.rt_gen_queue.proofs.Vocabulary.{Agree, AllByRecursion, App, At, AtLevel, Bool, Contains, Content, Doing}
+use Rattle.rt_gen_queue.proofs.Vocabulary.{Enters, Entry, Guarded, HasCode, Held, Holder, HoldsOff, IsKindFor, IsMask}
+use Rattle.rt_gen_queue.proofs.Vocabulary.{IsWithin, Leaves, LeavesMine, Line, List, Marked, Masked, NobodyKeeps}
+use Rattle.rt_gen_queue.proofs.Vocabulary.{Raised, Runner, Section, Some, Starting, TakesOver, Values, [], all_append}
+use Rattle.rt_gen_queue.proofs.Vocabulary.{all_behind, all_has, all_weaker, and_both, and_left, and_right, ap, arith}
+use Rattle.rt_gen_queue.proofs.Vocabulary.{ceiling, closing, does, enter, enter_line, false, guard_of, home_of}
+use Rattle.rt_gen_queue.proofs.Vocabulary.{if◌then◌else◌, inl, inr, is_open, kind_at, kind_of, le-leb, leave}
+use Rattle.rt_gen_queue.proofs.Vocabulary.{leave_line, length, length-set, map, map-append, nat_le, noted, opening}
+use Rattle.rt_gen_queue.proofs.Vocabulary.{passed, put_at, reads, refl, saved_slot, saved_slots, saving, slice_index}
+use Rattle.rt_gen_queue.proofs.Vocabulary.{slice_set, storage, subst, suc, sym, true, with_queue, ℕ, ◌++◌, ◌+◌, ◌<◌}
+use Rattle.rt_gen_queue.proofs.Vocabulary.{◌==◌, ◌^◌, ◌∙◌, ◌∷◌, ◌≡◌, ◌≤◌, ◌⊎◌}
+use Rattle.std.proofs.lemmas.List.{set-get_or}
 use Rattle.rt_code.specs.declared.instr.Note.TheVariants as note
-use Rattle.rt_gen_queue.specs.Line.{Line, noted, HasCode}
-use Rattle.rt_gen_queue.specs.Guards.{value_of, guard_of, kind_of, kind_at, enter_line, leave_line, enter, leave}
-use Rattle.rt_gen_queue.specs.Spawning.{HoldsOff}
-use Rattle.rt_gen_queue.specs.declared.guard.Guard.{Guard}
-use Rattle.rt_gen_queue.proofs.Masks.{of_kinds, mask_of, saves_in}
-use Rattle.rt_gen_queue.proofs.Owning.{IsQueue, unread, reads_inside, agree_out, leaves_out}
-use Rattle.rt_gen_queue.proofs.Layer.{Now, InTime, Lasts, lasts_less, Setting, Here, spot, S, Frame, window}
-use Rattle.rt_gen_queue.proofs.Layer.{Saves, window_set}
-use Rattle.rt_gen_queue.proofs.Layer.{window_there, fits, all_fit, placed, MayRun, Straight, next_in_time}
-use Rattle.rt_gen_queue.proofs.Layer.{enters_here, leaves_here}
+use Rattle.rt_gen_queue.proofs.Layer.{Frame, Here, InTime, Now, S, Saves, Setting, Straight, all_fit, enters_here, fits}
+use Rattle.rt_gen_queue.proofs.Layer.{lasts_less, leaves_here, next_in_time, placed, spot, window, window_set}
+use Rattle.rt_gen_queue.proofs.Layer.{window_there}
+use Rattle.rt_gen_queue.proofs.Masks.{mask_of, of_kinds, saves_in}
+use Rattle.rt_gen_queue.proofs.Owning.{IsQueue, agree_out, leaves_out, reads_inside, unread}
+use Rattle.rt_gen_queue.specs.{Guards.value_of, declared.guard.Guard.Guard}
 
 pub kind_fits : (app : App) (who : Runner) (held : List Held) (x : Section) (level slot : ℕ)
     → HoldsOff app who who held level → ceiling app x ≤ 2 ^ app.bits
@@ -60,8 +43,7 @@ module _ (x : Section) (g : Guard) (level mask : ℕ) where
       ≡ noted (closing (kind (s + mask))) (note.Leave x)) refl refl refl
 
   pub enter_fits : (size free : ℕ) → fits size free (enter_line x g level mask).0 ≡ true
-  enter_fits size free =
-      of_kinds g level (λ kind. fits size free (opening g.value (kind mask)) ≡ true) refl refl refl
+  enter_fits size free = of_kinds g level (λ kind. fits size free (opening g.value (kind mask)) ≡ true) refl refl refl
 
   pub leave_fits : (size free : ℕ) → fits size free (leave_line x g level mask).0 ≡ true
   leave_fits size free = of_kinds g level (λ kind. fits size free (closing (kind mask)) ≡ true) refl refl refl
@@ -148,6 +130,8 @@ module _ {size mask : ℕ} where
           }) is
           (λ saved vs cells queues taken.
           let kept = saves_mask f (guard_of z.app x) level saved ws there in
+          let around =
+          lasts_less (suc h.done + length lines) (h.done + suc (length lines)) h.deadlines (omega arith) run.time.1 in
           subst (λ slots. S z (record (within h (opened z f x level) cost cells queues (rest vs)) { slots = slots }))
           (sym kept.1)
           ((on kept.0 vs cells queues
@@ -159,14 +143,7 @@ module _ {size mask : ℕ} where
             few = taken.few;
           })).runs
           (record {
-            time = (
-              omega (arith, run.time.0),
-              (
-                omega arith,
-                lasts_less (suc h.done + length lines) (h.done + suc (length lines)) h.deadlines (omega arith)
-                    run.time.1,
-              ),
-            );
+            time = (omega (arith, run.time.0), (omega arith, around));
             saves = saves_inside may;
             long = length-set ws mask kept.0 ∙ run.long;
             fit = and_right (fits size mask (enter z.app x level mask).0) (all_fit size mask lines) run.fit;
@@ -187,33 +164,26 @@ module _ {size mask : ℕ} where
           leaves_here (kind_at z.app x level (f.slot + mask))
           (record { outer = outer; deadline = deadline; around = around; innermost = innermost; last = last })
           (has.0 ∙ ap Some (leave_placed x (guard_of z.app x) level mask f.slot)) refl (next_in_time run) is spelled
-          (λ vs agree. (on vs agree).runs
+          (λ vs agree.
+          let inside = rw last at run.time.1 in
+          let masks = rw innermost at run.saves in
+          let behind =
+          lasts_less (suc h.done + length lines) (h.done + suc (length lines)) around (omega arith) inside.1 in
+          (on vs agree).runs
           (record {
-            time = (omega (arith, run.time.0), times run);
-            saves = kept run;
+            time = (omega (arith, run.time.0), behind);
+            saves = all_behind (λ e. (e < f.slot) ⊎ (e ≡ f.slot + mask))
+                (saved_slot (kind_at z.app x level (f.slot + mask))) (saved_slots outer) masks;
             long = run.long;
             fit = and_right (fits size mask (leave z.app x level mask).0) (all_fit size mask lines) run.fit;
           }) has.1);
     }
-      where
-        times : MayRun f (leave z.app x level mask ∷ lines) h ws → Lasts (suc h.done + length lines) around
-        times run =
-            let all : Lasts (h.done + suc (length lines)) (deadline ∷ around) =
-            subst (Lasts (h.done + suc (length lines))) last run.time.1 in
-            lasts_less (suc h.done + length lines) (h.done + suc (length lines)) around (omega arith) all.1
-
-        kept : MayRun f (leave z.app x level mask ∷ lines) h ws → Saves f outer
-        kept run =
-            all_behind (λ e. (e < f.slot) ⊎ (e ≡ f.slot + mask)) (saved_slot (kind_at z.app x level (f.slot + mask)))
-            (saved_slots outer) (subst (λ (hs : List Held). Saves f hs) innermost run.saves)
 
 pub fits_append : (size free : ℕ) (lines more : List Line) → all_fit size free lines ≡ true
     → all_fit size free more ≡ true → all_fit size free (lines ++ more) ≡ true
 fits_append size free [] more fit others = others
 fits_append size free (line ∷ lines) more fit others =
-    and_both (fits size free line.0) (all_fit size free (lines ++ more))
-    (and_left (fits size free line.0) (all_fit size free lines) fit)
-    (fits_append size free lines more (and_right (fits size free line.0) (all_fit size free lines) fit) others)
+    and_both _ _ (and_left _ _ fit) (fits_append size free lines more (and_right _ _ fit) others)
 
 -- the lines of a whole section, likewise
 module _ (x : Section) (g : Guard) (level mask : ℕ) where
@@ -224,39 +194,27 @@ module _ (x : Section) (g : Guard) (level mask : ℕ) where
       → enter_line x g level (s + mask) ∷ (map (placed s) lines ++ leave_line x g level (s + mask) ∷ [])
       ≡ map (placed s) (section_lines lines)
   section_placed s lines =
-      ap (λ line. line ∷ (map (placed s) lines ++ leave_line x g level (s + mask) ∷ []))
-      (sym (enter_placed x g level mask s))
-      ∙ ap (λ line. placed s (enter_line x g level mask) ∷ (map (placed s) lines ++ line ∷ []))
-      (sym (leave_placed x g level mask s))
-      ∙ ap (λ ls. placed s (enter_line x g level mask) ∷ ls)
-      (sym (map-append (placed s) lines (leave_line x g level mask ∷ [])))
+      let both = map-append (placed s) lines (leave_line x g level mask ∷ []) in
+      rw (enter_placed x g level mask s, both, leave_placed x g level mask s) refl
 
   pub section_fits : (size free : ℕ) (lines : List Line) → all_fit size free lines ≡ true
       → all_fit size free (section_lines lines) ≡ true
   section_fits size free lines fit =
-      and_both (fits size free (enter_line x g level mask).0)
-      (all_fit size free (lines ++ leave_line x g level mask ∷ []))
-      (enter_fits x g level mask size free)
-      (fits_append size free lines (leave_line x g level mask ∷ []) fit
-      (and_both (fits size free (leave_line x g level mask).0) true (leave_fits x g level mask size free) refl))
+      rw (enter_fits x g level mask size free)
+      (fits_append size free lines (leave_line x g level mask ∷ []) fit (rw (leave_fits x g level mask size free) refl))
 
 -- the code of a whole section
 pub section_stands : {size mask : ℕ} {z : Setting} {f : Frame size mask} {h : Here} {x : Section}
     {level : ℕ} (ws : List ℕ) (lines : List Line) → MayEnter z f h x level → length ws ≡ size
-    → all_fit size mask lines ≡ true
-    → InTime (h.done + length (section_lines x (guard_of z.app x) level mask lines)) h
+    → all_fit size mask lines ≡ true → InTime (h.done + length (section_lines x (guard_of z.app x) level mask lines)) h
     → HasCode z.code h.at (enter z.app x level (f.slot + mask)
     ∷ (map (placed f.slot) lines ++ leave z.app x level (f.slot + mask) ∷ []))
     → Straight z f (section_lines x (guard_of z.app x) level mask lines) h ws → S z (Now f h ws)
 section_stands {size = size} {mask = mask} {z = z} {f = f} {h = h} {x = x} {level = level} ws lines may long fit time
     has run =
+    let fits = section_fits x (guard_of z.app x) level mask size mask lines fit in
     run.runs
-    (record {
-      time = time;
-      saves = saves_below f h.held may.masks;
-      long = long;
-      fit = section_fits x (guard_of z.app x) level mask size mask lines fit;
-    })
+    (record { time = time; saves = saves_below f h.held may.masks; long = long; fit = fits })
     (subst (HasCode z.code h.at) (section_placed x (guard_of z.app x) level mask f.slot lines) has)
 
 -- what is so behind the section of a queue, from what was taken over in it
@@ -278,5 +236,4 @@ module _ {size mask : ℕ} {z : Setting} {f : Frame size mask} {h : Here} {x : S
       → Agree (storage z.app) z.who (opened z f x level ∷ h.held) us ws → Agree (storage z.app) z.who h.held after vs
   agree_left content last inner holder may_read =
       agree_out z h.held (opened z f x level) x content (unread z.app z.who h.held x queue may.closed) last inner holder
-      may_read
-      ∙ taken.agree holder may_read
+      may_read ∙ taken.agree holder may_read

@@ -1,45 +1,25 @@
 -- The code by which a spawn takes a place of its task, or finds none.
-use Rattle.std.proofs.Common.{◌≡◌, ◌≢◌, ℕ, suc, ◌+◌, ◌-◌, ◌<◌, ◌≤◌, Bool, true, false, if◌then◌else◌, nat_lt}
-use Rattle.std.proofs.Common.{Some, List, [], ◌∷◌, length, drop, take, slice_index, refl, sym, ap, subst, ◌∙◌, arith}
-use Rattle.std.proofs.lemmas.Bool.{lt-ltb, le-ltb}
-use Rattle.rt_lemmas.proofs.Bools.{and_both}
-use Rattle.rt_ids.specs.Holder.{Holder, Guarded}
-use Rattle.rt_ids.specs.Content.{Content, Number, Values, number}
-use Rattle.rt_ids.specs.Entry.{Entry, count}
-use Rattle.rt_ids.specs.Action.{Takes, Refuses, Leaves}
-use Rattle.rt_ids.specs.Doing.{Doing}
-use Rattle.rt_ids.specs.Storage.{At}
-use Rattle.rt_ids.specs.declared.ids.Section.{Section}
+use Rattle.rt_gen_queue.proofs.Vocabulary.{Agree, App, At, Bool, Content, Doing, Entry, FREE_COST, Guarded, HasCode}
+use Rattle.rt_gen_queue.proofs.Vocabulary.{Held, Holder, Leaves, LeavesMine, Line, List, Marked, Number, Refuses, Rest}
+use Rattle.rt_gen_queue.proofs.Vocabulary.{Section, Some, SpellsFree, Takes, TakesOver, Task, Values, [], act_all, ap}
+use Rattle.rt_gen_queue.proofs.Vocabulary.{arith, capacity_of, count, count_more, drop, end_code, false, free_at}
+use Rattle.rt_gen_queue.proofs.Vocabulary.{free_is_home, home_of, if◌then◌else◌, is_open, le-ltb, length, lt-ltb}
+use Rattle.rt_gen_queue.proofs.Vocabulary.{memory, mine, nat_lt, noted, number, one_itself, owns_open, passed, queued}
+use Rattle.rt_gen_queue.proofs.Vocabulary.{queued_more, queues_same, reads_more, refl, slice_index, storage, subst, suc}
+use Rattle.rt_gen_queue.proofs.Vocabulary.{sym, take, take_code, take_place, target_of, true, with_queue, ℕ, ◌+◌, ◌-◌}
+use Rattle.rt_gen_queue.proofs.Vocabulary.{◌<◌, ◌∙◌, ◌∷◌, ◌≡◌, ◌≢◌, ◌≤◌}
 use Rattle.rt_ids.specs.declared.ids.Section.TheVariants as section
-use Rattle.rt_app.specs.declared.costs.TheConstants.{FREE_COST}
-use Rattle.rt_app.specs.Tree.{Task, App}
-use Rattle.rt_app.specs.Sending.{Rest, act_all, capacity_of, has_place, take_place}
-use Rattle.rt_app.specs.Layout.{memory, free_at, home_of}
-use Rattle.rt_app.specs.Holding.{storage, SpellsFree}
-use Rattle.rt_app.proofs.Counting.{count_more, one_itself}
-use Rattle.rt_app.proofs.LaidQueues.{free_is_home}
-use Rattle.rt_code.specs.Acting.{with_queue}
-use Rattle.rt_code.specs.Masking.{TakesOver}
-use Rattle.rt_code.specs.Owning.{Marked, Held, is_open, mine, Agree, LeavesMine}
-use Rattle.rt_code.specs.Standing.{passed}
+use Rattle.rt_app.specs.Sending.{has_place}
 use Rattle.rt_code.specs.declared.instr.Instr.TheVariants as instr
 use Rattle.rt_code.specs.declared.instr.Note.TheVariants as note
-use Rattle.rt_code.proofs.Mine.{queued, queued_more, queues_same, owns_open, reads_more}
-use Rattle.rt_gen_queue.specs.Guards.{leave_line}
-use Rattle.rt_gen_queue.specs.Line.{Line, noted, HasCode}
-use Rattle.rt_gen_queue.specs.SpawnCode.{target_of, take_code, end_code}
-use Rattle.rt_gen_queue.proofs.Numbers.{one_less, steps_and}
-use Rattle.rt_gen_queue.proofs.Queues.{free_taken}
-use Rattle.rt_gen_queue.proofs.Owning.{free_spelled, free_back}
-use Rattle.rt_gen_queue.proofs.Owning.{is_inside, spelled_put}
+use Rattle.rt_gen_queue.proofs.{Handing.refuses, Handing.takes, Numbers.one_less, Numbers.steps_and, Queues.free_taken}
+use Rattle.rt_gen_queue.proofs.Entering.{MayEnter, agree_left, enters, leave_fits, leave_placed, leaves, opened}
+use Rattle.rt_gen_queue.proofs.Entering.{own_left, reads_it, saves_inside, section_stands, within}
 use Rattle.rt_gen_queue.proofs.Facts.{Spawned, capacity, few_free}
-use Rattle.rt_gen_queue.proofs.Layer.{Setting, Here, ahead, InTime, spot, S, Wrote, Frame, Now, Straight, ends, sets}
-use Rattle.rt_gen_queue.proofs.Layer.{lasts_less, fits, calculates, loads, stores, jumps_off, stays, Opens}
-use Rattle.rt_gen_queue.proofs.Layer.{reads_open, writes_open}
-use Rattle.rt_gen_queue.proofs.Entering.{opened, MayEnter, within, enters, leaves, section_stands, reads_it}
-use Rattle.rt_gen_queue.proofs.Entering.{own_left, agree_left}
-use Rattle.rt_gen_queue.proofs.Entering.{saves_inside, leave_fits, leave_placed}
-use Rattle.rt_gen_queue.proofs.Handing.{takes, refuses}
+use Rattle.rt_gen_queue.proofs.Layer.{Frame, Here, InTime, Now, Opens, S, Setting, Straight, Wrote, ahead, calculates}
+use Rattle.rt_gen_queue.proofs.Layer.{ends, jumps_off, lasts_less, loads, reads_open, sets, spot, stays, stores}
+use Rattle.rt_gen_queue.proofs.Layer.{writes_open}
+use Rattle.rt_gen_queue.proofs.Owning.{free_back, free_spelled, is_inside, spelled_put}
 use Rattle.rt_gen_queue.proofs.Words.{Arguments, Scratch, words}
 
 pub record MayTake (z : Setting) (f : Frame 9 8) (h : Here) (task level full : ℕ) (t : Task) : Type 0 where
@@ -57,6 +37,11 @@ pub record HasTaken (z : Setting) (h : Here) (task : ℕ) (vs : Values) (e : Ent
   pub none : mine (spot z h) e ≡ 0
   pub own : LeavesMine (storage z.app) z.who (spot z h) cells queues
   pub agree : Agree (storage z.app) z.who h.held us vs
+
+-- behind the lines, with the place in the hands
+abbrev pub with_place : Here → Entry → List ℕ → (Holder → List Entry) → Doing Values → Here
+with_place h e cells queues rest =
+    record (ahead 8 h) { places = e ∷ h.places; cells = cells; queues = queues; rest = rest }
 
 -- none is left: the code at another address goes on, inside the section
 abbrev pub at_full : Here → Held → (full : ℕ) → List ℕ → (Holder → List Entry) → Doing Values → Here
@@ -97,15 +82,8 @@ module _ {z : Setting} {f : Frame 9 8} {h : Here} {task level full : ℕ} {t : T
         let same : queued queues e h.held ≡ queued h.queues e h.held =
         queues_same h.queues queues e h.held
         (λ x opens. taken.same.queued (Guarded x) (owns_open (storage z.app) z.who h.held x opens)) in
-        omega (
-          arith,
-          taken.once e,
-          queued_more queues e (record { section = places; kind = Marked }) h.held,
-          count_more e e others,
-          one_itself e,
-          same,
-          ap (count e) are,
-        )
+        let more = queued_more queues e (record { section = places; kind = Marked }) h.held in
+        omega (arith, taken.once e, count_more e e others, one_itself e, ap (count e) are)
 
     own_behind : (entries : List Entry) {v : ℕ} {left : List ℕ} → Wrote (free_at z.app task) v cells left
         → LeavesMine (storage z.app) z.who (spot z h) left (with_queue queues places entries)
@@ -122,16 +100,14 @@ module _ {z : Setting} {f : Frame 9 8} {h : Here} {task level full : ℕ} {t : T
     long : length cells ≡ length (memory z.app)
     long = taken.same.long ∙ may.long
 
-    granted_stands : {doing : Doing Values} {rest : Rest} {e : Entry}
-        {others : List Entry} (a : Arguments) (s : Scratch) → queues (Guarded places) ≡ e ∷ others
-        → doing ≡ act_all (Takes task ∷ Leaves places ∷ []) rest ws
+    granted_stands : {doing : Doing Values} {rest : Rest} {e : Entry} {es : List Entry} (a : Arguments) (s : Scratch)
+        → queues (Guarded places) ≡ e ∷ es → doing ≡ act_all (Takes task ∷ Leaves places ∷ []) rest ws
         → ((r : Scratch) (left : List ℕ) (more : Holder → List Entry) (us : Values)
         → HasTaken z h task vs e left more us
-        → S z (Now f (record (ahead 8 h) { places = e ∷ h.places; cells = left; queues = more; rest = rest us })
-        (words a (record r { word = e.place }))))
+        → S z (Now f (with_place h e left more (rest us)) (words a (record r { word = e.place }))))
         → Straight z f (drop 1 (take_code z.app task level 0 full))
         (within h (opened z f places level) FREE_COST cells queues doing) (words a s)
-    granted_stands {e = e} {others = others} a s are is on =
+    granted_stands {e = e} {es = others} a s are is on =
         let spells = spelled (e ∷ others) are in
         let room = spells.room in
         let few = few_free z.app task t may.facts in
@@ -139,6 +115,7 @@ module _ {z : Setting} {f : Frame 9 8} {h : Here} {task level full : ℕ} {t : T
         let last : free_at z.app task + 1 + length others ≡ free_at z.app task + (suc (length others) - 0) =
         omega arith in
         let differ : free_at z.app task + 1 + length others ≢ free_at z.app task = omega arith in
+        let place_home = ap (home_of z.app) next ∙ free_home (suc (length others)) room in
         loads (suc (length others)) (reads_open (counts opens long) spells.count)
         (stays (omega arith)
         (sets
@@ -147,11 +124,7 @@ module _ {z : Setting} {f : Frame 9 8} {h : Here} {task level full : ℕ} {t : T
         (λ left wrote.
         takes (length others) e.place refl
         (reads_open
-        (record {
-          opens = opens;
-          long = wrote.long ∙ long;
-          home = ap (home_of z.app) next ∙ free_home (suc (length others)) room;
-        })
+        (record { opens = opens; long = wrote.long ∙ long; home = place_home })
         (wrote.others _ differ ∙ ap (slice_index cells) last ∙ spells.stack 0 e refl))
         (record { opens = opens; first = are; of_task = spells.places.0.0; doing = is })
         (λ us agree.
@@ -195,6 +168,11 @@ module _ {z : Setting} {f : Frame 9 8} {h : Here} {task level full : ℕ} {t : T
         let g : Here =
         at_full h (opened z f places level) full cells queues (act_all (Refuses task ∷ Leaves places ∷ []) rest ws) in
         let zeroth : f.slot ≡ f.slot + 0 = omega arith in
+        let full_there = has.0 ∙ ap (λ d. Some (noted (instr.Set d 0) (note.Full task))) zeroth in
+        let leave_there = has.1.0 ∙ ap Some (sym (leave_placed places free level 8 f.slot)) in
+        let around = lasts_less (steps_and 3 h.done + 2) (h.done + 8) h.deadlines (omega arith) may.time.1 in
+        let times : InTime (steps_and 3 h.done + 2) g = (omega (arith, may.time.0), (omega arith, around)) in
+        let fits = leave_fits places free level 8 9 8 in
         let run : Straight z f (drop 2 (end_code z.app task level 0 (full + 2))) g (words a s) =
         refuses opens refl
         (λ us agree.
@@ -211,18 +189,8 @@ module _ {z : Setting} {f : Frame 9 8} {h : Here} {task level full : ℕ} {t : T
         ∙ agree holder (reads_more (storage z.app) z.who (opened z f places level) h.held holder read)
         ∙ taken.agree holder read)))) in
         run.runs
-        (record {
-          time = (
-            omega (arith, may.time.0),
-            (omega arith, lasts_less (steps_and 3 h.done + 2) (h.done + 8) h.deadlines (omega arith) may.time.1),
-          );
-          saves = saves_inside may.enter;
-          long = refl;
-          fit = and_both (fits 9 8 (leave_line places free level 8).0) true (leave_fits places free level 8 9 8) refl;
-        }) (
-          has.0 ∙ ap (λ d. Some (noted (instr.Set d 0) (note.Full task))) zeroth,
-          (has.1.0 ∙ ap Some (sym (leave_placed places free level 8 f.slot)), tt),
-        )
+        (record { time = times; saves = saves_inside may.enter; long = refl; fit = rw fits refl })
+        (full_there, (leave_there, tt))
 
     -- fewer are out than there are places where one is free
     place_left : (e : Entry) (others : List Entry) → queues (Guarded places) ≡ e ∷ others
@@ -243,8 +211,7 @@ module _ {z : Setting} {f : Frame 9 8} {h : Here} {task level full : ℕ} {t : T
       → h.rest ≡ take_place z.app task granted refused vs
       → ((e : Entry) (r : Scratch) (cells : List ℕ) (queues : Holder → List Entry) (us : Values)
       → HasTaken z h task vs e cells queues us
-      → S z (Now f (record (ahead 8 h) { places = e ∷ h.places; cells = cells; queues = queues; rest = granted us })
-      (words a (record r { word = e.place }))))
+      → S z (Now f (with_place h e cells queues (granted us)) (words a (record r { word = e.place }))))
       → ((r : Scratch) (cells : List ℕ) (queues : Holder → List Entry) (us : Values)
       → TakesOver (storage z.app) z.who places (passed (spot z h)) vs us cells queues
       → S z (Now f (at_full h (opened z f places level) full cells queues

@@ -1,23 +1,15 @@
 -- The lines of a spawn that carry a note of a place: one that is taken, none left, one that is handed on.
-use Rattle.std.proofs.Common.{◌≡◌, ℕ, ◌+◌, List, [], ◌∷◌, ◌++◌, Some, length-set}
-use Rattle.std.proofs.Common.{true, slice_index, slice_set, refl}
-use Rattle.rt_lemmas.proofs.Bools.{and_left, and_right}
-use Rattle.rt_ids.specs.Holder.{Guarded}
-use Rattle.rt_ids.specs.Content.{Message, Values}
-use Rattle.rt_ids.specs.Entry.{Entry}
-use Rattle.rt_ids.specs.Action.{Takes, Refuses, Readies, effect}
-use Rattle.rt_ids.specs.Doing.{Doing, does}
+use Rattle.rt_gen_queue.proofs.Vocabulary.{Agree, Doing, Entry, Guarded, Line, List, Message, Readies, Refuses, Some}
+use Rattle.rt_gen_queue.proofs.Vocabulary.{Takes, Values, [], and_left, and_right, does, effect, is_open, length-set}
+use Rattle.rt_gen_queue.proofs.Vocabulary.{noted, refl, slice_index, slice_set, storage, true, with_queue, ℕ, ◌++◌, ◌+◌}
+use Rattle.rt_gen_queue.proofs.Vocabulary.{◌∷◌, ◌≡◌}
 use Rattle.rt_ids.specs.declared.ids.Section.TheVariants as section
-use Rattle.rt_app.specs.Holding.{storage}
-use Rattle.rt_code.specs.Acting.{with_queue}
-use Rattle.rt_code.specs.Owning.{is_open, Agree}
 use Rattle.rt_code.specs.declared.instr.Instr.TheVariants as instr
 use Rattle.rt_code.specs.declared.instr.Note.TheVariants as note
-use Rattle.rt_gen_queue.specs.Line.{Line, noted}
-use Rattle.rt_gen_queue.proofs.Layer.{Setting, Here, does as asks, Wrote, wrote, Reads, Writes}
-use Rattle.rt_gen_queue.proofs.Layer.{set_gives, load_at_gives}
-use Rattle.rt_gen_queue.proofs.Layer.{store_gives, Frame, Now, is_there, is_free, Straight, first_fits, slot_of}
-use Rattle.rt_gen_queue.proofs.Layer.{slot_free, word_of, window_free, by_noted, in_window, acts_later, behind_line}
+use Rattle.rt_gen_queue.proofs.Layer.{Frame, Here, Now, Reads, Setting, Straight, Writes, Wrote, acts_later}
+use Rattle.rt_gen_queue.proofs.Layer.{behind_line, by_noted, does as asks, first_fits, in_window, is_free, is_there}
+use Rattle.rt_gen_queue.proofs.Layer.{load_at_gives, set_gives, slot_free, slot_of, store_gives, window_free, word_of}
+use Rattle.rt_gen_queue.proofs.Layer.{wrote}
 
 -- the first free place of a task is to be taken, inside its section
 pub record TakesPlace (h : Here) (t : ℕ) (e : Entry) (others : List Entry) (values : Values)
@@ -72,10 +64,7 @@ module _ {size mask : ℕ} {z : Setting} {f : Frame size mask} {lines : List Lin
       let free = first_fits run in
       asks (Some (note.Full t))
       (in_window d v run free (set_gives (slot_free d run free) (window_free f h.held d free run.saves)))
-      (record {
-        inside = opens;
-        acts = acts_later (Refuses t) (slice_set ws d v) (length-set ws d v) run has doing on;
-      }))
+      (record { inside = opens; acts = acts_later (Refuses t) _ (length-set ws d v) run has doing on }))
 
   -- the message is handed on, and how many are ready is stored
   pub hands_on : {c x p t : ℕ} {m : Message} {e : Entry} {others : List Entry} {values : Values}

@@ -9,24 +9,20 @@ pub mod Requests
 pub mod Sections
 pub mod Noted
 pub mod Skips
-pub use Jobs.{left_at, left_passed, left_none, Lasts, lasts_less, has_left, left_later, lasts_left, Setting, Here}
-pub use Jobs.{ahead, InTime, spot}
-pub use Correct.{S, Later, more_time, moved, at_passed, by_line, Gives, given, does, goes, begun}
-pub use Correct.{begins}
-pub use Instructions.{one_there, two_there, three_there, Wrote, wrote, wrote_as, IsFree, kept_free, kept_same}
-pub use Instructions.{shows, Reads, Writes, set_gives, copy_gives, calc_gives, load_gives, load_at_gives}
-pub use Instructions.{store_gives, store_at_gives, mark_gives, jump_gives, jump_by_gives}
-pub use Window.{Frame, is_there, is_free, free_there, window, Now, Saves, window_read, window_set, window_there}
-pub use Window.{window_free, inner, inner_window, read_words, read_long, read_behind, frame_at, framed, window_long}
-pub use Window.{window_outside}
-pub use Runs.{shifted, shifted_note, placed, fits, all_fit, MayRun, Straight, next_in_time, may_go_on, first_fits}
-pub use Runs.{is_in, slot_of, slot_free, word_of, Next, ends, goes_on, sets, copies, calculates, loads}
-pub use Runs.{loads_at, stores}
-pub use Runs.{stores_at, jumps, jumps_off, stays, Opens, reads_open, writes_open}
-pub use Requests.{Follows, acts, GivesBack, emits_here, posts_here, clocks_here, alarms_here, no_alarm_here}
-pub use Requests.{MayCall, calls_here, returns_here}
-pub use Sections.{MayOpen, MayClose, entered, enters_here, leaves_here}
-pub use Noted.{behind_line, may_follow, goes_later, acts_later, by_noted, in_window, Follow, emits, posts}
-pub use Noted.{clocks, alarms}
-pub use Noted.{no_alarm}
+pub use Jobs.{Here, InTime, Lasts, Setting, ahead, has_left, lasts_left, lasts_less, left_at, left_none, left_passed}
+pub use Jobs.{spot}
+pub use Correct.{Gives, Later, S, at_passed, begins, begun, by_line, does, given, goes, moved}
+pub use Instructions.{IsFree, Reads, Writes, Wrote, calc_gives, copy_gives, jump_by_gives, jump_gives, kept_free}
+pub use Instructions.{kept_same, load_at_gives, load_gives, mark_gives, one_there, set_gives, shows, store_at_gives}
+pub use Instructions.{store_gives, three_there, two_there, wrote}
+pub use Window.{Frame, Now, Saves, frame_at, framed, free_there, inner, inner_window, is_free, is_there, read_behind}
+pub use Window.{read_words, window, window_free, window_long, window_outside, window_read, window_set, window_there}
+pub use Runs.{MayRun, Next, Opens, Straight, all_fit, calculates, copies, ends, first_fits, fits, goes_on, is_in, jumps}
+pub use Runs.{jumps_off, loads, loads_at, may_go_on, next_in_time, placed, reads_open, sets, shifted, shifted_note}
+pub use Runs.{slot_free, slot_of, stays, stores, stores_at, word_of, writes_open}
+pub use Requests.{Follows, GivesBack, MayCall, acts, alarms_here, calls_here, clocks_here, emits_here, no_alarm_here}
+pub use Requests.{posts_here, returns_here}
+pub use Sections.{MayClose, MayOpen, entered, enters_here, leaves_here}
+pub use Noted.{Follow, acts_later, alarms, behind_line, by_noted, clocks, emits, goes_later, in_window, may_follow}
+pub use Noted.{no_alarm, posts}
 pub use Skips.{may_skip, skips, skips_off}

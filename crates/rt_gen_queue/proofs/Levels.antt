@@ -1,107 +1,89 @@
 -- The ready queue of a level, as a plan has it in its tables.
-use Rattle.std.proofs.Common.{◌≡◌, ℕ, suc, ◌+◌, ◌^◌, ◌<◌, ◌≤◌, ◌==◌, nat_lt, not, Bool, true, false, cond}
-use Rattle.std.proofs.Common.{if◌then◌else◌, Some, None, List, [], ◌∷◌, length, map, filter, position}
-use Rattle.std.proofs.Common.{slice_get, slice_index, option_map, Contains, refl, ap, ◌∙◌, arith, inl, inr}
-use Rattle.std.specs.List.{position_or_len}
-use Rattle.std.proofs.lemmas.Bool.{lt-ltb, eqb-true}
-use Rattle.std.proofs.lemmas.Bool.Decides.{nat_tests}
-use Rattle.std.proofs.lemmas.Option.{slice_get_within}
-use Rattle.std.proofs.lemmas.List.{length-map}
-use Rattle.rt_lemmas.proofs.Lists.{mapped_at}
-use Rattle.rt_lemmas.proofs.Membership.{contains_none, contains_cases}
-use Rattle.rt_lemmas.proofs.Places.{read_at}
-use Rattle.rt_ids.specs.Lists.{or_zero, then_from}
+use Rattle.rt_gen_queue.proofs.Vocabulary.{App, Bool, Ceilings, Contains, IsAccepted, IsPlan, Layout, List, None, Plan}
+use Rattle.rt_gen_queue.proofs.Vocabulary.{Some, Task, [], accepted_are_sound, ap, app_of, arith, ceiling, cond}
+use Rattle.rt_gen_queue.proofs.Vocabulary.{eqb-true, false, filter, get_or, guarded, if◌then◌else◌, inl, inr}
+use Rattle.rt_gen_queue.proofs.Vocabulary.{irq_number, is_of_level, is_some, length, levels, ltb-true, map, mapped_at}
+use Rattle.rt_gen_queue.proofs.Vocabulary.{nat_lt, option_map, or_zero, position, queue_at, ready_at, refl, slice_get}
+use Rattle.rt_gen_queue.proofs.Vocabulary.{slice_get-get_or, slice_index, suc, sum_by, sum_by-cons, task_of, then_from}
+use Rattle.rt_gen_queue.proofs.Vocabulary.{true, ℕ, ◌+◌, ◌<◌, ◌==◌, ◌^◌, ◌∙◌, ◌∷◌, ◌≡◌, ◌≤◌}
+use Rattle.std.{proofs.lemmas.Bool.cases_Bool, proofs.lemmas.List.Sums.passes_at_first, specs.List.position_or_len}
+use Rattle.rt_lemmas.proofs.{Membership.any_contained, Places.read_at}
+use Rattle.rt_ids.proofs.Lists.{is_some-position, position-map}
 use Rattle.rt_ids.specs.declared.ids.Section.TheVariants as section
+use Rattle.rt_app.specs.declared.app.Task as code
 use Rattle.rt_app.specs.declared.ceilings.ReadyCeiling.{ReadyCeiling}
-use Rattle.rt_app.specs.declared.plan.Plan.{Plan}
-use Rattle.rt_app.specs.Tree.{App}
-use Rattle.rt_app.specs.Accepted.{IsAccepted}
-use Rattle.rt_app.specs.Ceiling.{Ceilings, ceiling}
-use Rattle.rt_app.specs.Handlers.{irq_number}
-use Rattle.rt_app.specs.Layout.{Layout, ready_at}
-use Rattle.rt_app.specs.Level.{levels}
-use Rattle.rt_app.specs.Plan.{IsPlan}
-use Rattle.rt_app.specs.View.{app_of}
-use Rattle.rt_app.proofs.Sound.{accepted_are_sound}
-use Rattle.rt_gen_queue.specs.Guards.{guarded}
-use Rattle.rt_gen_queue.specs.Queue.{queue_at}
 use Rattle.rt_gen_queue.specs.declared.queue.ReadyQueue.{ReadyQueue}
-use Rattle.rt_gen_queue.proofs.Rooms.{room_of}
+
+-- the messages of a level that may be ready, task by task
+abbrev pub room_of : ℕ → List code.Task → ℕ
+room_of p ts = sum_by (λ (t : Task). t.capacity) (filter (is_of_level p) (map task_of ts))
+
+abbrev pub capacity_at : ℕ → Task → ℕ
+capacity_at p t = if is_of_level p t then t.capacity else 0
+
+pub room_first : (p : ℕ) (t : code.Task) (ts : List code.Task)
+    → room_of p (t ∷ ts) ≡ capacity_at p (task_of t) + room_of p ts
+room_first p t ts =
+    elim (cases_Bool (is_of_level p (task_of t))) [
+      | inl passes ↦
+          rw passes (sum_by-cons (λ (t : Task). t.capacity) (task_of t) (filter (is_of_level p) (map task_of ts)))
+      | inr fails ↦ rw fails (omega arith)
+    ]
 
 abbrev pub row : App → ℕ → ReadyCeiling
 row app p = record { level = p; ceiling = ceiling app (section.Ready p) }
 
--- the place of a level
-first_place : (app : App) (p : ℕ) (ps : List ℕ) → Contains ps p
-    → slice_get ps (position_or_len (λ r. r.level == p) (map (row app) ps)) ≡ Some p
-first_place app p [] is = absurd (contains_none p is)
-first_place app p (q ∷ ps) is =
-    go (q == p) refl
-    (λ e. elim (contains_cases q ps p is) [
-      | inl same ↦ absurd (differ q p e same)
-      | inr behind ↦ first_place app p ps behind
-    ])
-  where
-    differ : (a b : ℕ) → (a == b) ≡ false → a ≡ b → ⊥
-    differ a b e same = grind (arith, nat_tests)
+-- the place of a level among those of the tables, and the ceiling that they have for it
+abbrev pub place_in : List ReadyCeiling → ℕ → ℕ
+place_in queues p = or_zero (position (λ r. r.level == p) queues)
 
-    go : (b : Bool) → (q == p) ≡ b
-        → ((q == p) ≡ false → slice_get ps (position_or_len (λ r. r.level == p) (map (row app) ps)) ≡ Some p)
-        → slice_get (q ∷ ps) (cond (not b) (1 + position_or_len (λ r. r.level == p) (map (row app) ps)) 0) ≡ Some p
-    go true e rest = ap Some (eqb-true q p e)
-    go false e rest =
-        let k : ℕ = position_or_len (λ r. r.level == p) (map (row app) ps) in
-        let one : 1 + k ≡ suc k = omega arith in
-        ap (slice_get (q ∷ ps)) one ∙ rest e
+abbrev pub top_in : List ReadyCeiling → ℕ → ℕ
+top_in queues p = or_zero (option_map (λ r. r.ceiling) (slice_get queues (place_in queues p)))
 
 position_there : (app : App) (p : ℕ) (ps : List ℕ) → Contains ps p
-    → slice_get ps (or_zero (position (λ r. r.level == p) (map (row app) ps))) ≡ Some p
+    → slice_get ps (place_in (map (row app) ps) p) ≡ Some p
 position_there app p ps is =
-    let k : ℕ = position_or_len (λ r. r.level == p) (map (row app) ps) in
-    let there : slice_get ps k ≡ Some p = first_place app p ps is in
-    let within : k < length (map (row app) ps) =
-    omega (arith, slice_get_within ps k p there, length-map ps (row app)) in
-    ap (λ (b : Bool). slice_get ps (or_zero (cond b (Some k) None))) (lt-ltb k (length (map (row app) ps)) within)
-    ∙ there
+    ap (λ o. slice_get ps (or_zero o)) (position-map (row app) (λ r. r.level == p) ps)
+    ∙ go (nat_lt k (length ps)) refl (is_some-position (λ q. q == p) ps ∙ any_contained p ps is)
+  where
+    k : ℕ
+    k = position_or_len (λ q. q == p) ps
+
+    go : (b : Bool) → nat_lt k (length ps) ≡ b → is_some (cond b (Some k) None) ≡ true
+        → slice_get ps (or_zero (cond b (Some k) None)) ≡ Some p
+    go true within some =
+        let less : k < length ps = ltb-true k (length ps) within in
+        slice_get-get_or ps k 0 less ∙ ap Some (eqb-true (get_or ps k 0) p (passes_at_first (λ q. q == p) ps 0 less))
+    go false within some = absurd cc
 
 -- what is made of the levels, at the place of a level
 pub made_at_level : (app : App) (p : ℕ) (f : ℕ → ℕ) (ps : List ℕ) → Contains ps p
-    → slice_index (map f ps) (or_zero (position (λ r. r.level == p) (map (row app) ps))) ≡ f p
-made_at_level app p f ps is =
-    read_at f ps (or_zero (position (λ r. r.level == p) (map (row app) ps))) p 0 (position_there app p ps is)
+    → slice_index (map f ps) (place_in (map (row app) ps) p) ≡ f p
+made_at_level app p f ps is = read_at f ps (place_in (map (row app) ps) p) p 0 (position_there app p ps is)
 
 pub ceiling_at_level : (app : App) (p : ℕ) (ps : List ℕ) → Contains ps p
-    → or_zero (option_map (λ r. r.ceiling)
-    (slice_get (map (row app) ps) (or_zero (position (λ r. r.level == p) (map (row app) ps)))))
-    ≡ ceiling app (section.Ready p)
+    → top_in (map (row app) ps) p ≡ ceiling app (section.Ready p)
 ceiling_at_level app p ps is =
     ap (λ o. or_zero (option_map (λ r. r.ceiling) o))
-    (mapped_at (row app) ps (or_zero (position (λ r. r.level == p) (map (row app) ps))) p (position_there app p ps is))
+    (mapped_at (row app) ps (place_in (map (row app) ps) p) p (position_there app p ps is))
 
 -- as many are above as levels are
 pub above_is : (app : App) (p : ℕ) (ps : List ℕ)
     → length (filter (λ r. nat_lt p r.level) (map (row app) ps)) ≡ length (filter (nat_lt p) ps)
 above_is app p [] = refl
-above_is app p (q ∷ ps) = go (nat_lt p q) (above_is app p ps)
-  where
-    go : (b : Bool) → length (filter (λ r. nat_lt p r.level) (map (row app) ps)) ≡ length (filter (nat_lt p) ps)
-        → length (if b then row app q ∷ filter (λ r. nat_lt p r.level) (map (row app) ps)
-        else filter (λ r. nat_lt p r.level) (map (row app) ps))
-        ≡ length (if b then q ∷ filter (nat_lt p) ps else filter (nat_lt p) ps)
-    go true rest = ap suc rest
-    go false rest = rest
+above_is app p (q ∷ ps) =
+    elim (cases_Bool (nat_lt p q)) [
+      | inl passes ↦ rw passes (ap suc (above_is app p ps))
+      | inr fails ↦ rw fails (above_is app p ps)
+    ]
 
--- the place of a level among those of the tables, and what the tables have for it
-abbrev pub place_in : List ReadyCeiling → ℕ → ℕ
-place_in queues p = or_zero (position (λ r. r.level == p) queues)
-
+-- what the tables have for a level
 abbrev pub queue_read : Plan → ℕ → ReadyQueue
 queue_read plan p = record {
   level = p;
   at = slice_index plan.lay.ready (place_in plan.ceil.ready p);
   room = room_of p plan.app.now.tasks.items;
-  guard = guarded plan.app.now.bits
-      (or_zero (option_map (λ r. r.ceiling) (slice_get plan.ceil.ready (place_in plan.ceil.ready p))));
+  guard = guarded plan.app.now.bits (top_in plan.ceil.ready p);
   irq = or_zero (then_from
       (option_map (λ d. d.irq)
       (slice_get (app_of plan.app.now).dispatchers (length (filter (λ r. nat_lt p r.level) plan.ceil.ready))))
@@ -115,13 +97,10 @@ module _ (plan : Plan) (p : ℕ) (planned : IsPlan plan) (level : Contains (leve
   listed : plan.ceil.ready ≡ map (row of_plan) (levels of_plan)
   listed = ap (λ (c : Ceilings). c.ready) planned.ceilings
 
-  top_at : or_zero (option_map (λ r. r.ceiling) (slice_get plan.ceil.ready (place_in plan.ceil.ready p)))
-      ≡ ceiling of_plan (section.Ready p)
+  top_at : top_in plan.ceil.ready p ≡ ceiling of_plan (section.Ready p)
   top_at = rw listed (ceiling_at_level of_plan p (levels of_plan) level)
 
-  pub top_small : IsAccepted of_plan
-      → or_zero (option_map (λ r. r.ceiling) (slice_get plan.ceil.ready (place_in plan.ceil.ready p)))
-      ≤ 2 ^ plan.app.now.bits
+  pub top_small : IsAccepted of_plan → top_in plan.ceil.ready p ≤ 2 ^ plan.app.now.bits
   top_small accepted =
       let most : ceiling of_plan (section.Ready p) ≤ 2 ^ of_plan.bits =
       (accepted_are_sound of_plan accepted).ceilings (section.Ready p) level in

@@ -1,3 +1,4 @@
+pub mod Vocabulary
 pub mod Masks
 pub mod Numbers
 pub mod Places
@@ -5,15 +6,11 @@ pub mod Queues
 pub mod Owning
 pub mod Facts
 pub mod Placing
-pub mod Inputs
 pub mod Whole
 pub mod Nameable
 pub mod Named
 pub mod Levels
 pub mod Planned
-pub mod Rooms
-pub mod Stores
-pub mod Appending
 pub mod Returning
 pub mod Layer
 pub mod Words

@@ -1,16 +1,10 @@
 -- What the guard of a section masks, at any level, and what its lines write and name.
-use Rattle.std.proofs.Common.{◌≡◌, ◌≢◌, ℕ, ◌<◌, ◌==◌, nat_le, Bool, true, false, if◌then◌else◌, List, length}
-use Rattle.std.proofs.Common.{slice_index, slice_set, refl, sym, ◌∙◌, arith, get_or-set_other, length-set}
-use Rattle.std.specs.List.{AllByRecursion}
-use Rattle.std.proofs.lemmas.Bool.Decides.{nat_tests}
-use Rattle.rt_ids.specs.Names.{Names}
-use Rattle.rt_ids.specs.Storage.{Storage, Runner}
-use Rattle.rt_ids.specs.declared.ids.Section.{Section}
+use Rattle.rt_gen_queue.proofs.Vocabulary.{AllByRecursion, Bool, IsMask, IsNameable, Kind, List, Marked, Masked, Names}
+use Rattle.rt_gen_queue.proofs.Vocabulary.{Raised, Runner, Section, Storage, arith, closing, enter_line, false}
+use Rattle.rt_gen_queue.proofs.Vocabulary.{get_or-set_other, if◌then◌else◌, kind_of, leave_line, length, length-set}
+use Rattle.rt_gen_queue.proofs.Vocabulary.{nat_le, nat_tests, opening, refl, saved_slot, saving, slice_index, slice_set}
+use Rattle.rt_gen_queue.proofs.Vocabulary.{sym, true, ℕ, ◌<◌, ◌==◌, ◌∙◌, ◌≡◌, ◌≢◌}
 use Rattle.rt_code.specs.Listable.{HasInstr, HasSection}
-use Rattle.rt_code.specs.Masking.{IsMask, opening, closing, saving}
-use Rattle.rt_code.specs.Owning.{Kind, Marked, Raised, Masked, saved_slot}
-use Rattle.rt_gen_queue.specs.Line.{IsNameable}
-use Rattle.rt_gen_queue.specs.Guards.{kind_of, enter_line, leave_line}
 use Rattle.rt_gen_queue.specs.declared.guard.Guard.{Guard}
 
 -- by whether the level is there already, and whether the ceiling's value is 0

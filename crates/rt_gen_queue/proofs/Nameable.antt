@@ -1,20 +1,11 @@
 -- What has to be known of lines for them to name only what is declared.
-use Rattle.std.proofs.Common.{◌≡◌, ℕ, ◌<◌, ◌==◌, Option, Some, None, List, [], ◌∷◌, ◌++◌, length, map, IsSome}
-use Rattle.std.proofs.Common.{option_map, refl, sym, ap, subst, ◌∙◌, eq-eqb, drop, Bool, true, false, if◌then◌else◌}
-use Rattle.std.proofs.lemmas.List.{drop_at}
-use Rattle.std.specs.List.{AllByRecursion}
-use Rattle.rt_lemmas.proofs.Lists.{found, some_at, mapped_at}
-use Rattle.rt_ids.specs.Lists.{or_zero}
-use Rattle.rt_ids.specs.Names.{Names}
+use Rattle.rt_gen_queue.proofs.Vocabulary.{AllByRecursion, App, Bool, HasIrq, Instr, IsNameable, IsSome, Line, List}
+use Rattle.rt_gen_queue.proofs.Vocabulary.{Names, None, Note, Option, Some, [], ap, drop, drop_at, eq-eqb, false}
+use Rattle.rt_gen_queue.proofs.Vocabulary.{if◌then◌else◌, irq_number, length, map, mapped_at, names_of, option_map}
+use Rattle.rt_gen_queue.proofs.Vocabulary.{or_zero, refl, subst, sym, true, ℕ, ◌++◌, ◌<◌, ◌==◌, ◌∙◌, ◌∷◌, ◌≡◌}
+use Rattle.rt_lemmas.proofs.Lists.{found, some_at}
 use Rattle.rt_app.specs.declared.app.IrqDecl.{IrqDecl}
-use Rattle.rt_app.specs.Tree.{App}
-use Rattle.rt_app.specs.Handlers.{irq_number}
-use Rattle.rt_app.specs.Names.{names_of}
-use Rattle.rt_code.specs.Listable.{HasIrq}
-use Rattle.rt_code.specs.declared.instr.Instr.{Instr}
 use Rattle.rt_code.specs.declared.instr.Instr.TheVariants as instr
-use Rattle.rt_code.specs.declared.instr.Note.{Note}
-use Rattle.rt_gen_queue.specs.Line.{Line, IsNameable}
 
 -- of a line with a note all, of one without that its interrupt is declared, where it has one; and the rest
 abbrev Needs : Names → Option Note → Instr → Type 0 → Type 0
@@ -56,8 +47,7 @@ claimed_both names (line ∷ xs) ys front back =
 pub claimed_each : {X : Type 0} (names : Names) (f : X → Line) (xs : List X)
     → ((x : X) → AreClaimed names (f x ∷ [])) → AreClaimed names (map f xs)
 claimed_each names f [] each = tt
-claimed_each names f (x ∷ xs) each =
-    claimed_both names (f x ∷ []) (map f xs) (each x) (claimed_each names f xs each)
+claimed_each names f (x ∷ xs) each = claimed_both names (f x ∷ []) (map f xs) (each x) (claimed_each names f xs each)
 
 -- what was put behind other lines
 pub named_behind : (names : Names) (front new code : List Line) → new ≡ front ++ code → AreClaimed names code

@@ -1,33 +1,19 @@
 -- The lines of a spawn name only what the application declares.
-use Rattle.std.proofs.Common.{◌≡◌, ℕ, ◌+◌, ◌*◌, ◌<◌, Option, Some, None, [], ◌∷◌, ◌++◌, length, filter}
-use Rattle.std.proofs.Common.{nat_lt, slice_get}
-use Rattle.std.proofs.Common.{option_map, Contains, IsSome, true, refl, sym, subst, arith}
-use Rattle.std.specs.List.{range_with_len}
-use Rattle.std.proofs.lemmas.List.{length-map}
-use Rattle.rt_lemmas.proofs.Membership.{all_at}
-use Rattle.rt_ids.specs.Lists.{or_zero, then_from, is_some_and}
-use Rattle.rt_ids.specs.Names.{Names}
+use Rattle.rt_gen_queue.proofs.Vocabulary.{App, Contains, HasIrq, IsAccepted, IsSome, Names, None, Option, Section}
+use Rattle.rt_gen_queue.proofs.Vocabulary.{Some, Task, [], accepted_are_sound, all_at, arith, dispatcher_number, filter}
+use Rattle.rt_gen_queue.proofs.Vocabulary.{irq_number, is_software, is_some_and, length, length-map, levels, names_of}
+use Rattle.rt_gen_queue.proofs.Vocabulary.{nat_lt, option_map, or_zero, plain, range_with_len, refl, slice_get}
+use Rattle.rt_gen_queue.proofs.Vocabulary.{spawn_code, store_code, subst, sym, target_of, task_priority, the_task}
+use Rattle.rt_gen_queue.proofs.Vocabulary.{then_from, true, ℕ, ◌*◌, ◌++◌, ◌+◌, ◌<◌, ◌∷◌, ◌≡◌}
 use Rattle.rt_ids.specs.declared.ids.Section.TheVariants as section
 use Rattle.rt_ids.specs.declared.op.Op.TheVariants as op
 use Rattle.rt_app.specs.declared.app.Dispatcher.{Dispatcher}
-use Rattle.rt_app.specs.Tree.{Task, App}
-use Rattle.rt_app.specs.Bodies.{task_priority}
-use Rattle.rt_app.specs.Handlers.{irq_number}
-use Rattle.rt_app.specs.Level.{levels, is_software}
-use Rattle.rt_app.specs.Names.{names_of}
-use Rattle.rt_app.specs.Sending.{dispatcher_number}
-use Rattle.rt_app.specs.Accepted.{IsAccepted}
-use Rattle.rt_app.proofs.Spelling.{the_task}
-use Rattle.rt_app.proofs.Sound.{accepted_are_sound}
-use Rattle.rt_code.specs.Listable.{HasIrq, HasTask}
+use Rattle.rt_code.specs.Listable.{HasTask}
 use Rattle.rt_code.specs.declared.instr.Instr.TheVariants as instr
-use Rattle.rt_gen_queue.specs.Line.{plain}
-use Rattle.rt_gen_queue.specs.SpawnLines.{store_code, fill_lines, ready_lines, end_lines}
-use Rattle.rt_gen_queue.specs.SpawnCode.{target_of, spawn_code}
-use Rattle.rt_gen_queue.specs.declared.target.Target.{Target}
-use Rattle.rt_gen_queue.proofs.Masks.{enter_named, leave_named}
+use Rattle.rt_gen_queue.{proofs.Masks.enter_named, proofs.Masks.leave_named, specs.declared.target.Target.Target}
 use Rattle.rt_gen_queue.proofs.Facts.{Spawned, is_there, known, priority}
 use Rattle.rt_gen_queue.proofs.Nameable.{AreClaimed, claimed_both, claimed_each, irq_declared}
+use Rattle.rt_gen_queue.specs.SpawnLines.{end_lines, fill_lines, ready_lines}
 
 -- the interrupt that serves a level is declared
 pub dispatcher_named : (app : App) (p : ℕ) → IsAccepted app → Contains (levels app) p
@@ -72,25 +58,16 @@ pub spawn_claimed : (app : App) (task : ℕ) (t : Task) → Spawned app task t �
     → AreClaimed (names_of app) (spawn_code app task level slot at)
 spawn_claimed app task t facts level slot at =
     let c : Target = target_of app task in
-    let p : ℕ = task_priority app task in
+    let ready : Section = section.Ready c.queue.level in
     let has = task_declared app task t facts in
+    let irq = level_declared app task t facts in
+    let enter = enter_named (names_of app) (section.Free task) c.guard level (slot + 8) has in
     let leave = leave_named (names_of app) (section.Free task) c.guard level (slot + 8) has in
+    let into = enter_named (names_of app) ready c.queue.guard level (slot + 8) tt in
+    let out_of = leave_named (names_of app) ready c.queue.guard level (slot + 8) tt in
     let last =
     claimed_both (names_of app) (fill_lines c level slot)
     (ready_lines c level slot ++ end_lines c level slot (at + (26 + c.args) + 2))
-    (fill_claimed (names_of app) c level slot) (
-      enter_named (names_of app) (section.Ready p) c.queue.guard level (slot + 8) tt,
-      (
-        record { instr = tt; note = has },
-        (
-          level_declared app task t facts,
-          (
-            leave_named (names_of app) (section.Ready p) c.queue.guard level (slot + 8) tt,
-            (record { instr = tt; note = has }, (leave, tt)),
-          ),
-        ),
-      ),
-    ) in (
-      enter_named (names_of app) (section.Free task) c.guard level (slot + 8) has,
-      (record { instr = tt; note = has }, (leave, last)),
-    )
+    (fill_claimed (names_of app) c level slot)
+    (into, (record { instr = tt; note = has }, (irq, (out_of, (record { instr = tt; note = has }, (leave, tt))))))
+    in (enter, (record { instr = tt; note = has }, (leave, last)))

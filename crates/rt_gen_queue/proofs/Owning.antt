@@ -1,23 +1,16 @@
 -- What a job owns of the queues: their cells where their section is opens, and nothing of them where it is not.
-use Rattle.std.proofs.Common.{◌≡◌, ◌≢◌, ℕ, ◌<◌, ◌||◌, Bool, true, false, if◌then◌else◌, List, ◌∷◌}
-use Rattle.std.proofs.Common.{length, slice_index, refl, sym, ap, subst, ◌∙◌}
-use Rattle.std.proofs.lemmas.Option.{slice_get_within}
-use Rattle.rt_lemmas.proofs.Bools.{or_left, or_neither}
-use Rattle.rt_lemmas.proofs.Places.{at_read}
-use Rattle.rt_ids.specs.Holder.{Holder, Guarded, Own, is_same_section, is_same_holder}
-use Rattle.rt_ids.specs.Content.{Content, Values, put_at}
-use Rattle.rt_ids.specs.Entry.{Entry, count}
-use Rattle.rt_ids.specs.Storage.{Runner, Starting, AtLevel, Home, At, In, Nowhere}
-use Rattle.rt_ids.specs.declared.ids.Section.{Section}
+use Rattle.rt_gen_queue.proofs.Vocabulary.{Agree, App, At, AtLevel, Bool, Content, Entry, Guarded, Held, Holder, Home}
+use Rattle.rt_gen_queue.proofs.Vocabulary.{In, LeavesMine, List, MayLoad, MayStore, NobodyKeeps, Own, Runner, Section}
+use Rattle.rt_gen_queue.proofs.Vocabulary.{SpellsFree, SpellsReady, SpellsTimer, Spot, Starting, Values, ap, count}
+use Rattle.rt_gen_queue.proofs.Vocabulary.{false, home_of, if◌then◌else◌, inl, inr, is_open, is_same_holder}
+use Rattle.rt_gen_queue.proofs.Vocabulary.{is_same_section, length, memory, one_section, or_left, owns_open, owns_reads}
+use Rattle.rt_gen_queue.proofs.Vocabulary.{put_at, reads, reads_more, refl, same_section, slice_get_within, slice_index}
+use Rattle.rt_gen_queue.proofs.Vocabulary.{storage, subst, sym, true, with_queue, ℕ, ◌<◌, ◌||◌, ◌∙◌, ◌∷◌, ◌≡◌, ◌≢◌}
+use Rattle.std.proofs.lemmas.Bool.{cases_Bool}
+use Rattle.rt_lemmas.proofs.{Bools.or_neither, Places.at_read}
+use Rattle.rt_ids.specs.Storage.{Nowhere}
 use Rattle.rt_ids.specs.declared.ids.Section.TheVariants as section
-use Rattle.rt_app.specs.Tree.{App}
-use Rattle.rt_app.specs.Layout.{memory, home_of}
-use Rattle.rt_app.specs.Holding.{storage, SpellsFree, SpellsReady, SpellsTimer}
-use Rattle.rt_code.specs.Acting.{with_queue}
-use Rattle.rt_code.specs.Masking.{NobodyKeeps}
-use Rattle.rt_code.specs.Owning.{Held, Spot, is_open, reads, MayLoad, MayStore, Agree, LeavesMine}
 use Rattle.rt_gen_queue.proofs.Layer.Jobs.{Setting}
-use Rattle.rt_code.proofs.Mine.{one_section, same_section, owns_reads, owns_open, reads_more}
 
 -- the sections of queues
 abbrev pub IsQueue : Section → Type 0
@@ -38,8 +31,7 @@ no_ones app (AtLevel q) (section.Ready p) queue = (refl, refl)
 no_ones app Starting section.Timer queue = (refl, refl)
 no_ones app (AtLevel q) section.Timer queue = (refl, refl)
 
-pub nobody_keeps : (app : App) (who runner : Runner) (x : Section) → IsQueue x
-    → NobodyKeeps (storage app) who runner x
+pub nobody_keeps : (app : App) (who runner : Runner) (x : Section) → IsQueue x → NobodyKeeps (storage app) who runner x
 nobody_keeps app who Starting x queue = (no_ones app Starting x queue).0
 nobody_keeps app who (AtLevel p) x queue = λ q. no_ones app (AtLevel q) x queue
 
@@ -88,8 +80,7 @@ pub apart : (app : App) (a b : ℕ) (x y : Home) → home_of app a ≡ x → hom
 apart app a b x y first second differ same = differ (sym first ∙ ap (home_of app) same ∙ second)
 
 -- a cell that belongs to something is in memory
-pub in_memory : (app : App) (c : ℕ) (home : Home) → home_of app c ≡ home → ¬ (Nowhere ≡ home)
-    → c < length (memory app)
+pub in_memory : (app : App) (c : ℕ) (home : Home) → home_of app c ≡ home → ¬ (Nowhere ≡ home) → c < length (memory app)
 in_memory app c home is some =
     let one = at_read (λ cell. cell.home) (memory app) c home Nowhere is some in
     slice_get_within (memory app) c one.0 one.1
@@ -144,14 +135,14 @@ module _ (app : App) (who : Runner) where
   -- another holder, where this section's is not read
   pub other_holder : (held : List Held) (x : Section) (h : Holder) → reads (storage app) who held (Guarded x) ≡ false
       → reads (storage app) who held h ≡ true → is_same_holder (Guarded x) h ≡ false
-  other_holder held x h none may = go (is_same_holder (Guarded x) h) refl
-    where
-      go : (b : Bool) → is_same_holder (Guarded x) h ≡ b → b ≡ false
-      go true is =
-          let e : reads (storage app) who held (Guarded x) ≡ true =
-          subst (λ (k : Holder). reads (storage app) who held k ≡ true) (same_holder x h is) may in
-          cc (e, none)
-      go false is = refl
+  other_holder held x h none may =
+      elim (cases_Bool (is_same_holder (Guarded x) h)) [
+        | inl is ↦
+            (let e : reads (storage app) who held (Guarded x) ≡ true =
+            subst (λ (k : Holder). reads (storage app) who held k ≡ true) (same_holder x h is) may in
+            cc (e, none))
+        | inr differs ↦ differs
+      ]
 
   pub put_here : (vs : Values) (x : Section) (content : Content) → put_at vs (Guarded x) content (Guarded x) ≡ content
   put_here vs x content = ap (λ (b : Bool). if b then content else vs (Guarded x)) (same_section x)

@@ -1,21 +1,14 @@
 -- How many places a level has, and that a list of different ones is no longer.
-use Rattle.std.proofs.Common.{◌≡◌, ℕ, zero, suc, ◌+◌, ◌*◌, ◌<◌, ◌≤◌, Bool, true, false, cond}
-use Rattle.std.proofs.Common.{if◌then◌else◌, List, [], ◌∷◌, ◌++◌, length, map, filter, sum_by, Some, slice_get}
-use Rattle.std.proofs.Common.{refl, sym, ap, ◌∙◌, arith}
-use Rattle.std.specs.List.{AllByRecursion, range_with_len}
-use Rattle.std.proofs.lemmas.Option.{same_Some, none-some}
-use Rattle.std.proofs.lemmas.List.Sums.{sum_by-cons, sum_by-append}
-use Rattle.std.proofs.lemmas.List.{length-append}
-use Rattle.rt_ids.specs.Lists.{is_some_and}
-use Rattle.rt_ids.specs.Entry.{Entry, is_same_entry, count}
-use Rattle.rt_app.specs.Tree.{Task, App}
-use Rattle.rt_app.specs.Level.{is_of_level}
-use Rattle.rt_app.specs.Sending.{capacity_of}
-use Rattle.rt_app.specs.Layout.{ready_room}
-use Rattle.rt_app.specs.Limits.{KeepsTaskLimits}
-use Rattle.rt_app.proofs.LaidQueues.{many, mapped, capacity_is}
-use Rattle.rt_app.proofs.Spelling.{the_task}
-use Rattle.rt_app.proofs.Counting.{one, count_more, same_entry, one_itself, counted, all_counted}
+use Rattle.rt_gen_queue.proofs.Vocabulary.{AllByRecursion, App, Bool, Entry, KeepsTaskLimits, List, Some, Task, []}
+use Rattle.rt_gen_queue.proofs.Vocabulary.{all_counted, ap, arith, capacity_is, capacity_of, cond, count, count_more}
+use Rattle.rt_gen_queue.proofs.Vocabulary.{counted, filter, if◌then◌else◌, inl, inr, is_of_level, is_some_and, length}
+use Rattle.rt_gen_queue.proofs.Vocabulary.{length-append, many, map, none-some, one, one_itself, range_with_len}
+use Rattle.rt_gen_queue.proofs.Vocabulary.{ready_room, refl, same_Some, same_entry, slice_get, suc, sum_by}
+use Rattle.rt_gen_queue.proofs.Vocabulary.{sum_by-append, sum_by-cons, sym, the_task, true, zero, ℕ, ◌*◌, ◌++◌, ◌+◌}
+use Rattle.rt_gen_queue.proofs.Vocabulary.{◌<◌, ◌∙◌, ◌∷◌, ◌≡◌, ◌≤◌}
+use Rattle.std.proofs.lemmas.Bool.{cases_Bool}
+use Rattle.rt_ids.specs.Entry.{is_same_entry}
+use Rattle.rt_app.proofs.LaidQueues.{mapped}
 
 -- a list without one that stands in it
 abbrev without : Entry → List Entry → List Entry
@@ -29,21 +22,18 @@ record Without (e : Entry) (xs rest : List Entry) : Type 0 where
 removed : (e : Entry) (xs : List Entry) → 0 < count e xs → Without e xs (without e xs)
 removed e [] some = absurd (omega arith)
 removed e (x ∷ xs) some =
-    go (is_same_entry e x) refl
-    (λ none. removed e xs (omega (arith, count_more e x xs, none)))
-  where
-    go : (b : Bool) → is_same_entry e x ≡ b → (one e x ≡ 0 → Without e xs (without e xs))
-        → Without e (x ∷ xs) (if b then xs else x ∷ without e xs)
-    go true is rest = record {
-      long = refl;
-      counts = λ y. count_more y x xs ∙ ap (λ z. one y z + count y xs) (sym (same_entry e x is));
-    }
-    go false is rest =
-        let others = rest (ap {B = ℕ} (λ b. cond b 1 0) is) in
-        record {
-          long = ap suc others.long;
-          counts = λ y. omega (arith, count_more y x xs, others.counts y, count_more y x (without e xs));
-        }
+    elim (cases_Bool (is_same_entry e x)) [
+      | inl is ↦
+          (let same = sym (same_entry e x is) in
+          rw is (record { long = refl; counts = λ y. count_more y x xs ∙ ap (λ z. one y z + count y xs) same }))
+      | inr differs ↦
+          (let none : one e x ≡ 0 = ap {B = ℕ} (λ b. cond b 1 0) differs in
+          let others = removed e xs (omega (arith, count_more e x xs, none)) in
+          rw differs (record {
+            long = ap suc others.long;
+            counts = λ y. omega (arith, count_more y x xs, others.counts y, count_more y x (without e xs));
+          }))
+    ]
 
 pub fits : (xs all : List Entry) → ((y : Entry) → count y xs ≤ count y all) → length xs ≤ length all
 fits [] all least = omega arith
@@ -85,20 +75,14 @@ places_from test n (t ∷ ts) = (if test n t then places_of n t.capacity else []
 pub places_long : (test : Task → Bool) (n : ℕ) (ts : List Task)
     → length (places_from (λ n t. test t) n ts) ≡ sum_by (λ t. t.capacity) (filter test ts)
 places_long test n [] = refl
-places_long test n (t ∷ ts) = go (test t) (places_long test (n + 1) ts)
-  where
-    go : (b : Bool) → length (places_from (λ n t. test t) (n + 1) ts) ≡ sum_by (λ t. t.capacity) (filter test ts)
-        → length ((if b then places_of n t.capacity else []) ++ places_from (λ n t. test t) (n + 1) ts)
-        ≡ sum_by (λ t. t.capacity) (if b then t ∷ filter test ts else filter test ts)
-    go true rest =
-        omega (
-          arith,
-          length-append (places_of n t.capacity) (places_from (λ n t. test t) (n + 1) ts),
-          many {X = Entry} (λ k. record { task = n; place = k }) t.capacity,
-          rest,
-          sum_by-cons (λ (t : Task). t.capacity) t (filter test ts),
-        )
-    go false rest = rest
+places_long test n (t ∷ ts) =
+    let rest = places_long test (n + 1) ts in
+    elim (cases_Bool (test t)) [
+      | inl passes ↦
+          rw passes
+          (omega (arith, length-append {A = Entry}, many (entry_at n), sum_by-cons (λ (t : Task). t.capacity)))
+      | inr fails ↦ rw fails rest
+    ]
 
 -- a place of a task that passes is among them
 pub stands_in : (test : ℕ → Task → Bool) (n : ℕ) (ts : List Task) (i : ℕ) (e : Entry) {t : Task}
@@ -114,20 +98,15 @@ stands_in test n (u ∷ ts) zero e {t = t} at passes (task, place) =
     mapped (λ k. record { task = n; place = k }) t.capacity e.place place ∙ ap Some (sym is) in
     let chosen : test n u ≡ true = ap (test n) same ∙ ap (λ k. test k t) (sym first) ∙ passes in
     let some = counted (places_of n t.capacity) e.place e stands in
-    omega (
-      arith,
-      sum_by-append (one e) (if test n u then places_of n u.capacity else []) (places_from test (n + 1) ts),
-      ap (λ (b : Bool). count e (if b then places_of n u.capacity else [])) chosen,
-      ap (λ u. count e (places_of n u.capacity)) same,
-      some,
-    )
+    let both = sum_by-append (one e) (if test n u then places_of n u.capacity else []) (places_from test (n + 1) ts) in
+    let passed = ap (λ (b : Bool). count e (if b then places_of n u.capacity else [])) chosen in
+    let own_places = ap (λ u. count e (places_of n u.capacity)) same in
+    omega arith
 stands_in test n (u ∷ ts) (suc i) e {t = t} at passes (task, place) =
     let next : n + 1 + i ≡ n + suc i = omega arith in
-    omega (
-      arith,
-      sum_by-append (one e) (if test n u then places_of n u.capacity else []) (places_from test (n + 1) ts),
-      stands_in test (n + 1) ts i e at (ap (λ k. test k t) next ∙ passes) (omega arith, place),
-    )
+    let both = sum_by-append (one e) (if test n u then places_of n u.capacity else []) (places_from test (n + 1) ts) in
+    let behind = stands_in test (n + 1) ts i e at (ap (λ k. test k t) next ∙ passes) (omega arith, place) in
+    omega arith
 
 -- a place of a task of a level
 abbrev pub IsPlaceOf : App → ℕ → Entry → Type 0
@@ -152,13 +131,12 @@ ring_room app p entries e all is once =
 few : (test : Task → Bool) (ts : List Task) → AllByRecursion KeepsTaskLimits ts
     → sum_by (λ t. t.capacity) (filter test ts) ≤ 16 * length ts
 few test [] all = omega arith
-few test (t ∷ ts) all = go (test t) (few test ts all.1)
-  where
-    go : (b : Bool) → sum_by (λ t. t.capacity) (filter test ts) ≤ 16 * length ts
-        → sum_by (λ t. t.capacity) (if b then t ∷ filter test ts else filter test ts) ≤ 16 * length (t ∷ ts)
-    go true rest =
-        omega (arith, rest, all.0.most_capacity, sum_by-cons (λ (t : Task). t.capacity) t (filter test ts))
-    go false rest = omega (arith, rest)
+few test (t ∷ ts) all =
+    let rest = few test ts all.1 in
+    elim (cases_Bool (test t)) [
+      | inl passes ↦ rw passes (omega (arith, all.0.most_capacity, sum_by-cons (λ (t : Task). t.capacity)))
+      | inr fails ↦ rw fails (omega arith)
+    ]
 
 pub few_places : (app : App) (p : ℕ) → AllByRecursion KeepsTaskLimits app.tasks → length app.tasks ≤ 64
     → ready_room app p ≤ 1024

@@ -1,18 +1,9 @@
 -- Where lines stand in code, and how many there are.
-use Rattle.std.proofs.Common.{◌≡◌, ℕ, suc, ◌+◌, ◌*◌, ◌++◌, Some, List, [], ◌∷◌, length, slice_get, slice_index}
-use Rattle.std.proofs.Common.{refl}
-use Rattle.std.proofs.Common.{subst, arith, append_assoc}
-use Rattle.std.proofs.lemmas.List.{length-append}
-use Rattle.std.proofs.lemmas.List.FromFn.{length-map-range_with_len}
-use Rattle.rt_ids.specs.declared.op.Op.TheVariants as op
-use Rattle.rt_app.specs.Tree.{App}
-use Rattle.rt_app.specs.Bodies.{task_priority}
-use Rattle.rt_app.specs.Layout.{layout}
-use Rattle.rt_app.specs.Holding.{arguments_of}
+use Rattle.rt_gen_queue.proofs.Vocabulary.{App, HasCode, Line, List, [], append_assoc, arguments_of, arith, fill_code}
+use Rattle.rt_gen_queue.proofs.Vocabulary.{length, length-append, length-map-range_with_len, plain, refl, spawn_code}
+use Rattle.rt_gen_queue.proofs.Vocabulary.{store_code, subst, suc, ℕ, ◌++◌, ◌+◌, ◌∷◌, ◌≡◌}
+use Rattle.std.proofs.lemmas.List.FromFn.{map-range_with_len_more}
 use Rattle.rt_code.specs.declared.instr.Instr.TheVariants as instr
-use Rattle.rt_gen_queue.specs.Line.{Line, plain, HasCode}
-use Rattle.rt_gen_queue.specs.SpawnLines.{store_code}
-use Rattle.rt_gen_queue.specs.SpawnCode.{fill_code, ready_code, end_code, spawn_code}
 
 pub code_front : (code : List Line) (at : ℕ) (front behind : List Line) → HasCode code at (front ++ behind)
     → HasCode code at front
@@ -28,47 +19,44 @@ code_behind code at to (line ∷ front) behind e (first, rest) =
     let next : to ≡ suc at + length front = omega arith in
     code_behind code (suc at) to front behind next rest
 
--- code between other code
-pub code_there : (front lines behind : List Line) → HasCode (front ++ (lines ++ behind)) (length front) lines
-code_there front lines behind = go front lines behind front refl
-  where
-    at_front : (front : List Line) (line : Line) (behind : List Line)
-        → slice_get (front ++ line ∷ behind) (length front) ≡ Some line
-    at_front [] line behind = refl
-    at_front (x ∷ front) line behind = at_front front line behind
+-- code behind a line
+code_later : (line : Line) (code : List Line) (at : ℕ) (lines : List Line) → HasCode code at lines
+    → HasCode (line ∷ code) (suc at) lines
+code_later line code at [] has = tt
+code_later line code at (first ∷ lines) has = (has.0, code_later line code (suc at) lines has.1)
 
-    go : (front lines behind all : List Line) → all ≡ front → HasCode (front ++ (lines ++ behind)) (length front) lines
-    go front [] behind all e = tt
-    go front (line ∷ lines) behind all e =
-        let moved : (front ++ line ∷ []) ++ (lines ++ behind) ≡ front ++ line ∷ (lines ++ behind) =
-        append_assoc front (line ∷ []) (lines ++ behind) in
-        let long : length (front ++ line ∷ []) ≡ suc (length front) = omega (arith, length-append front (line ∷ [])) in
-        let H : List Line → ℕ → Type 0 = λ code at. HasCode code at lines in (
-          at_front front line (lines ++ behind),
-          subst (λ (a : ℕ). H (front ++ line ∷ (lines ++ behind)) a) long
-              (subst (λ (code : List Line). H code (length (front ++ line ∷ []))) moved
-              (go (front ++ line ∷ []) lines behind (front ++ line ∷ []) refl)),
-        )
+-- code between other code
+code_first : (lines behind : List Line) → HasCode (lines ++ behind) 0 lines
+code_first [] behind = tt
+code_first (line ∷ lines) behind = (refl, code_later line (lines ++ behind) 0 lines (code_first lines behind))
+
+pub code_there : (front lines behind : List Line) → HasCode (front ++ (lines ++ behind)) (length front) lines
+code_there [] lines behind = code_first lines behind
+code_there (line ∷ front) lines behind =
+    code_later line (front ++ (lines ++ behind)) (length front) lines (code_there front lines behind)
 
 pub stores_long : (count cell slot from : ℕ) → length (store_code count cell slot from) ≡ count
 stores_long count cell slot from = length-map-range_with_len _ from count
 
 pub fill_long : (app : App) (task slot : ℕ) → length (fill_code app task slot) ≡ 4 + arguments_of app task
-fill_long app task slot =
-    let inputs : ℕ = slice_index (layout app).inputs task in
-    let last : List Line =
-    plain (instr.Set (slot + 7) (16 * task)) ∷ plain (instr.Calc op.Add (slot + 6) (slot + 6) (slot + 7)) ∷ [] in
-    omega (
-      arith,
-      length-append (store_code (arguments_of app task) inputs slot 0) last,
-      stores_long (arguments_of app task) inputs slot 0,
-    )
+fill_long app task slot = simp (length-append, length-map-range_with_len) (omega arith)
 
 pub spawn_long : (app : App) (task level slot at : ℕ)
     → length (spawn_code app task level slot at) ≡ 28 + arguments_of app task
-spawn_long app task level slot at =
-    let p : ℕ = task_priority app task in
-    let full : ℕ = at + (26 + arguments_of app task) in
-    let last : List Line = end_code app task level slot (full + 2) in
-    let ready : List Line = ready_code app task p level slot in
-    omega (arith, length-append (fill_code app task slot) (ready ++ last), fill_long app task slot)
+spawn_long app task level slot at = simp (length-append, length-map-range_with_len) (omega arith)
+
+-- a line that stores an argument, and one more of them
+abbrev pub store_line : ℕ → ℕ → ℕ → Line
+store_line cell slot j = plain (instr.StoreAt (cell + j) (slot + 7) (slot + j))
+
+pub stored_more : (k cell slot : ℕ) (old before after : List Line)
+    → before ≡ old ++ store_code k cell slot 0 → after ≡ before ++ store_line cell slot k ∷ []
+    → after ≡ old ++ store_code (k + 1) cell slot 0
+stored_more k cell slot old before after is made =
+    let more : store_code (k + 1) cell slot 0 ≡ store_code k cell slot 0 ++ store_line cell slot k ∷ [] =
+    map-range_with_len_more (store_line cell slot) 0 k k (omega arith) in
+    rw (made, is, more, append_assoc)
+
+-- four parts, one after the other
+pub four_appended : (o a b c d : List Line) → (((o ++ a) ++ b) ++ c) ++ d ≡ o ++ (a ++ (b ++ (c ++ d)))
+four_appended o a b c d = simp append_assoc

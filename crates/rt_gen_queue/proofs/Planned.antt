@@ -1,25 +1,40 @@
 -- What a spawn is made of, as a plan has it in its tables.
-use Rattle.std.proofs.Common.{◌≡◌, ℕ, zero, suc, ◌+◌, ◌^◌, ◌≤◌, Bool, true, if◌then◌else◌, Option, Some, None}
-use Rattle.std.proofs.Common.{List, [], ◌∷◌, slice_get, slice_index, sym, ap, ◌∙◌, arith}
-use Rattle.std.proofs.lemmas.Option.{same_Some, none-some}
-use Rattle.rt_ids.specs.Lists.{or_zero, then_from}
-use Rattle.rt_ids.specs.Priority.{hardware}
+use Rattle.rt_gen_queue.proofs.Vocabulary.{App, Bool, Ceilings, IsAccepted, IsPlan, Layout, Line, List, None, Option}
+use Rattle.rt_gen_queue.proofs.Vocabulary.{Plan, Some, Task, [], ap, app_of, arith, ceiling, free_at, guarded}
+use Rattle.rt_gen_queue.proofs.Vocabulary.{if◌then◌else◌, inputs_at, is_software, layout, lt-ltb, nat_lt, none-some}
+use Rattle.rt_gen_queue.proofs.Vocabulary.{or_zero, queue_at, same_Some, slice_get, slice_index, suc, sym, then_from}
+use Rattle.rt_gen_queue.proofs.Vocabulary.{true, zero, ℕ, ◌&&◌, ◌+◌, ◌<◌, ◌^◌, ◌∙◌, ◌∷◌, ◌≡◌, ◌≤◌}
+use Rattle.rt_ids.{proofs.Hardware.tells_priorities, specs.Priority.hardware}
 use Rattle.rt_ids.specs.declared.ids.Section.TheVariants as section
-use Rattle.rt_ids.proofs.Hardware.{tells_priorities}
-use Rattle.rt_app.specs.declared.plan.Plan.{Plan}
-use Rattle.rt_app.specs.Tree.{Task, App}
-use Rattle.rt_app.specs.Accepted.{IsAccepted}
-use Rattle.rt_app.specs.Ceiling.{Ceilings, ceiling, free_ceilings}
-use Rattle.rt_app.specs.Layout.{Layout, free_at}
-use Rattle.rt_app.specs.Level.{is_software}
-use Rattle.rt_app.specs.Plan.{IsPlan}
-use Rattle.rt_app.specs.View.{app_of}
-use Rattle.rt_gen_queue.specs.Guards.{guarded}
-use Rattle.rt_gen_queue.specs.Queue.{queue_at}
+use Rattle.rt_app.specs.{Ceiling.free_ceilings, Layout.has_inputs, Layout.numbers_of}
+use Rattle.rt_gen_queue.proofs.Facts.{Spawned, arguments, few_arguments, free_top, priority}
 use Rattle.rt_gen_queue.specs.SpawnCode as spec
 use Rattle.rt_gen_queue.specs.declared.target.Target.{Target}
-use Rattle.rt_gen_queue.proofs.Facts.{Spawned, arguments, priority, few_arguments, free_top}
-use Rattle.rt_gen_queue.proofs.Inputs.{number_at}
+
+-- the number of a task that passes
+pub number_at : (test : Task → Bool) (at : ℕ → ℕ) (n : ℕ) (ts : List Task) (i : ℕ) (t : Task)
+    → slice_get ts i ≡ Some t → test t ≡ true → slice_index (numbers_of test at n ts) i ≡ at (n + i)
+number_at test at n [] i t there passes = absurd (none-some t there)
+number_at test at n (u ∷ ts) zero t there passes =
+    let e : n ≡ n + 0 = omega arith in
+    ap (λ (b : Bool). if b then at n else 0) (ap test (same_Some u t there) ∙ passes) ∙ ap at e
+number_at test at n (u ∷ ts) (suc i) t there passes =
+    let e : n + 1 + i ≡ n + suc i = omega arith in number_at test at (n + 1) ts i t there passes ∙ ap at e
+
+-- Where the arguments of a task's places lie, as the layout tells it: a task that takes none has no cell there.
+module _ (app : App) (n : ℕ) {t : Task} (there : slice_get app.tasks n ≡ Some t) (software : is_software t ≡ true) where
+  input_is : 0 < t.args → slice_index (layout app).inputs n ≡ inputs_at app n
+  input_is some =
+      let zeroth : 0 + n ≡ n = omega arith in
+      let takes : has_inputs t ≡ true =
+      ap (λ b. b && nat_lt 0 t.args) software ∙ lt-ltb 0 t.args some in
+      number_at has_inputs (inputs_at app) 0 app.tasks n t there takes ∙ ap (inputs_at app) zeroth
+
+  -- so lines of so many arguments are the same by the layout and by where the arguments lie
+  pub lines_by_layout : (lines : ℕ → ℕ → List Line) → ((a b : ℕ) → lines 0 a ≡ lines 0 b) → (count : ℕ)
+      → count ≡ t.args → lines count (slice_index (layout app).inputs n) ≡ lines count (inputs_at app n)
+  lines_by_layout lines none zero is = none (slice_index (layout app).inputs n) (inputs_at app n)
+  lines_by_layout lines none (suc count) is = ap (lines (suc count)) (input_is (omega (arith, is)))
 
 -- the ceiling of a task's free places
 pub free_top_is : (app : App) (n : ℕ) (ts : List Task) (i : ℕ) (t : Task) → slice_get ts i ≡ Some t
@@ -35,13 +50,12 @@ free_top_is app n (u ∷ ts) (suc i) t there software =
     free_top_is app (n + 1) ts i t there software ∙ ap (λ k. ceiling app (section.Free k)) e
 
 -- the ceiling 0 masks nothing
-pub no_guard : (bits top : ℕ) → 3 ≤ bits → bits ≤ 7 → top ≡ 0
-    → record { ceiling = top; value = 256 } ≡ guarded bits top
+pub no_guard : (bits top : ℕ) → 3 ≤ bits → bits ≤ 7 → top ≡ 0 → record { ceiling = top; value = 256 } ≡ guarded bits top
 no_guard bits top few many e =
     ap (λ value. record { ceiling = top; value = value })
     (sym (tells_priorities.none bits few many) ∙ ap (hardware bits) (sym e))
 
-module _ (plan : Plan) (task : ℕ) (t : Task) (accepted : IsAccepted (app_of plan.app.now)) (planned : IsPlan plan)
+module _ {plan : Plan} (task : ℕ) {t : Task} (accepted : IsAccepted (app_of plan.app.now)) (planned : IsPlan plan)
     (there : slice_get (app_of plan.app.now).tasks task ≡ Some t) (software : is_software t ≡ true) where
   abbrev of_plan : App
   of_plan = app_of plan.app.now

@@ -1,38 +1,22 @@
 -- The code by which a spawn puts the message in its hands into the ring of a level, and pends the level's dispatcher.
-use Rattle.std.proofs.Common.{◌≡◌, ℕ, ◌+◌, ◌%◌, ◌<◌, ◌≤◌, true, List, [], ◌∷◌, ◌++◌, length, drop, take}
-use Rattle.std.proofs.Common.{Contains, slice_index, refl, sym, ap, subst, ◌∙◌, arith}
+use Rattle.rt_gen_queue.proofs.Vocabulary.{Agree, At, Contains, Content, Entry, Guarded, HasCode, Holder, Home, Leaves}
+use Rattle.rt_gen_queue.proofs.Vocabulary.{LeavesMine, List, Marked, MayLoad, Message, Messages, Posts, Readies, Rest}
+use Rattle.rt_gen_queue.proofs.Vocabulary.{Section, SpellsReady, TakesOver, Values, [], act_all, ap, arith, count}
+use Rattle.rt_gen_queue.proofs.Vocabulary.{count_more, dispatcher_number, drop, home_of, is_open, length, levels}
+use Rattle.rt_gen_queue.proofs.Vocabulary.{memory, message_at, message_word, messages, mine, one_itself, passed}
+use Rattle.rt_gen_queue.proofs.Vocabulary.{queued_more, reads_more, ready_actions, ready_at, ready_code, ready_is_home}
+use Rattle.rt_gen_queue.proofs.Vocabulary.{ready_room, refl, slice_index, storage, subst, sym, take, true, with_queue}
+use Rattle.rt_gen_queue.proofs.Vocabulary.{ℕ, ◌%◌, ◌++◌, ◌+◌, ◌<◌, ◌∙◌, ◌∷◌, ◌≡◌, ◌≤◌}
 use Rattle.std.proofs.lemmas.Nat.{mod_below}
-use Rattle.rt_ids.specs.Holder.{Holder, Guarded}
-use Rattle.rt_ids.specs.Content.{Content, Message, Messages, Values, messages}
-use Rattle.rt_ids.specs.Entry.{Entry, count}
-use Rattle.rt_ids.specs.Action.{Posts, Readies, Leaves}
-use Rattle.rt_ids.specs.Storage.{Home, At}
-use Rattle.rt_ids.specs.declared.ids.Section.{Section}
 use Rattle.rt_ids.specs.declared.ids.Section.TheVariants as section
 use Rattle.rt_app.specs.declared.costs.TheConstants.{READY_COST}
-use Rattle.rt_app.specs.Level.{levels}
-use Rattle.rt_app.specs.Sending.{Rest, act_all, dispatcher_number, ready_actions}
-use Rattle.rt_app.specs.Layout.{memory, ready_at, ready_room, home_of}
-use Rattle.rt_app.specs.Holding.{storage, message_word, message_at, SpellsReady}
-use Rattle.rt_app.proofs.Counting.{count_more, one_itself}
-use Rattle.rt_app.proofs.LaidQueues.{ready_is_home}
-use Rattle.rt_code.specs.Acting.{with_queue}
-use Rattle.rt_code.specs.Masking.{TakesOver}
-use Rattle.rt_code.specs.Owning.{Marked, is_open, mine, MayLoad, Agree, LeavesMine}
-use Rattle.rt_code.specs.Standing.{passed}
-use Rattle.rt_code.proofs.Mine.{queued_more, reads_more}
-use Rattle.rt_gen_queue.specs.Line.{HasCode}
-use Rattle.rt_gen_queue.specs.SpawnCode.{ready_code}
-use Rattle.rt_gen_queue.proofs.Numbers.{added, rest_of}
-use Rattle.rt_gen_queue.proofs.Places.{IsPlaceOf, ring_room}
-use Rattle.rt_gen_queue.proofs.Queues.{ready_put, message_alike}
-use Rattle.rt_gen_queue.proofs.Owning.{home_as, ready_spelled, ready_back}
-use Rattle.rt_gen_queue.proofs.Owning.{is_inside, put_here, queue_here}
-use Rattle.rt_gen_queue.proofs.Layer.{Setting, Here, ahead, InTime, spot, S, Frame, Now, Straight, ends, sets}
-use Rattle.rt_gen_queue.proofs.Layer.{calculates, loads, stores_at, posts, Opens, reads_open, writes_open}
-use Rattle.rt_gen_queue.proofs.Entering.{opened, MayEnter, within, enters, leaves, section_stands, reads_it}
-use Rattle.rt_gen_queue.proofs.Entering.{own_left, agree_left}
-use Rattle.rt_gen_queue.proofs.Handing.{hands_on}
+use Rattle.rt_gen_queue.proofs.{Handing.hands_on, Numbers.added, Numbers.rest_of, Places.IsPlaceOf, Places.ring_room}
+use Rattle.rt_gen_queue.proofs.Entering.{MayEnter, agree_left, enters, leaves, opened, own_left, reads_it}
+use Rattle.rt_gen_queue.proofs.Entering.{section_stands, within}
+use Rattle.rt_gen_queue.proofs.Layer.{Frame, Here, InTime, Now, Opens, S, Setting, Straight, ahead, calculates, ends}
+use Rattle.rt_gen_queue.proofs.Layer.{loads, posts, reads_open, sets, spot, stores_at, writes_open}
+use Rattle.rt_gen_queue.proofs.Owning.{home_as, is_inside, put_here, queue_here, ready_back, ready_spelled}
+use Rattle.rt_gen_queue.proofs.Queues.{PutsReady, message_alike, ready_put}
 use Rattle.rt_gen_queue.proofs.Words.{Arguments, Scratch, words}
 
 -- a message of a task of the level is in the hands, and its arguments are in the cells of its place
@@ -88,14 +72,9 @@ module _ {z : Setting} {f : Frame 9 8} {h : Here} {task p level : ℕ} {e : Entr
     -- inside, what is in the hands is in no list
     all_once : (y : Entry) → count y (e ∷ queues (Guarded ring)) ≤ 1
     all_once y =
-        omega (
-          arith,
-          taken.once y,
-          queued_more queues y (record { section = ring; kind = Marked }) h.held,
-          count_more y e (queues (Guarded ring)),
-          count_more y e others,
-          ap (count y) may.hands.hands,
-        )
+        let more = queued_more queues y (record { section = ring; kind = Marked }) h.held in
+        let first = count_more y e (queues (Guarded ring)) in
+        omega (arith, taken.once y, count_more y e others, ap (count y) may.hands.hands)
 
     -- and its arguments are as they were stored
     message_left : message_at z.app (slice_index cells) e ≡ m
@@ -157,24 +136,12 @@ module _ {z : Setting} {f : Frame 9 8} {h : Here} {task p level : ℕ} {e : Entr
         ap (λ k. Messages (messages content ++ k ∷ [])) message_left
         ∙ ap (λ c. Messages (messages c ++ m ∷ [])) (sym (agree (Guarded ring) read))
         ∙ sym (put_here z.app z.who us ring new) ∙ sym (agree2 (Guarded ring) read) in
+        let puts : PutsReady z.app p entries e content cells mid left =
+        record { is = may.known; spells = spells; room = room; place = may.hands.place; ring = put; count = counted } in
         let given : (storage z.app).Spells (Guarded ring) (slice_index left) (entries ++ e ∷ []) (us2 (Guarded ring)) =
         ready_back _ _ _ taken.spelled
         (subst (λ (c : Content). SpellsReady z.app (slice_index left) p (entries ++ e ∷ []) c) content_is
-        (ready_put
-        (record {
-          entries = entries;
-          entry = e;
-          content = content;
-          before = cells;
-          mid = mid;
-          known = may.known;
-          spells = spells;
-          room = room;
-          place = may.hands.place;
-          turn = turn_low;
-          ring = put;
-          counted = counted;
-        }))) in
+        (ready_put puts)) in
         leaves level refl refl refl
         (subst (λ (es : List Entry). (storage z.app).Spells (Guarded ring) (slice_index left) es (us2 (Guarded ring)))
         (sym (queue_here z.app z.who queues ring (entries ++ e ∷ []))) given)

@@ -1,30 +1,18 @@
 -- What the cells of a queue spell once a place is taken from the stack of free ones, and once a message is in the ring.
-use Rattle.std.proofs.Common.{◌≡◌, ◌≢◌, ℕ, zero, suc, ◌+◌, ◌-◌, ◌*◌, ◌%◌, ◌==◌, ◌<◌, List, [], ◌∷◌, ◌++◌, length}
-use Rattle.std.proofs.Common.{map, Some, option_map, slice_get, slice_index, Contains, refl, sym, ap, ◌∙◌, arith}
-use Rattle.std.proofs.Common.{inl, inr}
-use Rattle.std.specs.List.{AllByRecursion, range_with_len}
-use Rattle.std.proofs.lemmas.Option.{none-some, same_Some, slice_get_within}
-use Rattle.std.proofs.lemmas.List.{length-append, ext_get_or}
-use Rattle.std.proofs.lemmas.List.FromFn.{length-map-range_with_len, get_or-map-range_with_len}
-use Rattle.rt_lemmas.proofs.Bools.{and_left}
-use Rattle.rt_lemmas.proofs.Membership.{all_append}
+use Rattle.rt_gen_queue.proofs.Vocabulary.{AllByRecursion, App, At, Contains, Content, Entry, Guarded, In, List}
+use Rattle.rt_gen_queue.proofs.Vocabulary.{Messages, Number, Some, SpellsFree, SpellsReady, Task, [], all_append}
+use Rattle.rt_gen_queue.proofs.Vocabulary.{and_left, ap, arguments_of, arith, capacity_is, capacity_of, ext_get_or}
+use Rattle.rt_gen_queue.proofs.Vocabulary.{free_at, get_or-map-range_with_len, home_of, inl, input_is_home, inputs_at}
+use Rattle.rt_gen_queue.proofs.Vocabulary.{inr, is_of_level, is_software, length, length-append}
+use Rattle.rt_gen_queue.proofs.Vocabulary.{length-map-range_with_len, levels, map, map-append, message_at, message_word}
+use Rattle.rt_gen_queue.proofs.Vocabulary.{messages, none-some, number, option_map, or_zero, range_with_len, ready_at}
+use Rattle.rt_gen_queue.proofs.Vocabulary.{ready_is_home, ready_room, refl, same_Some, slice_get, slice_get_within}
+use Rattle.rt_gen_queue.proofs.Vocabulary.{slice_index, suc, sym, the_task, zero, ℕ, ◌%◌, ◌*◌, ◌++◌, ◌+◌, ◌-◌, ◌<◌}
+use Rattle.rt_gen_queue.proofs.Vocabulary.{◌==◌, ◌∙◌, ◌∷◌, ◌≡◌, ◌≢◌}
+use Rattle.std.proofs.lemmas.Nat.{mod_below}
 use Rattle.rt_lemmas.proofs.Places.{at_either}
-use Rattle.rt_ids.specs.Lists.{or_zero}
-use Rattle.rt_ids.specs.Holder.{Guarded}
-use Rattle.rt_ids.specs.Content.{Content, Number, Messages, number, messages}
-use Rattle.rt_ids.specs.Entry.{Entry}
-use Rattle.rt_ids.specs.Storage.{At, In}
 use Rattle.rt_ids.specs.declared.ids.Section.TheVariants as section
-use Rattle.rt_app.specs.Tree.{Task, App}
-use Rattle.rt_app.specs.Level.{is_software, is_of_level, levels}
-use Rattle.rt_app.specs.Sending.{capacity_of}
-use Rattle.rt_app.specs.Layout.{free_at, inputs_at, ready_at, ready_room, home_of}
-use Rattle.rt_app.specs.Holding.{message_word, arguments_of, message_at, SpellsFree, SpellsReady}
-use Rattle.rt_app.proofs.LaidQueues.{capacity_is, input_is_home, ready_is_home}
-use Rattle.rt_app.proofs.Spelling.{the_task}
-use Rattle.rt_gen_queue.proofs.Numbers.{apart}
-use Rattle.rt_gen_queue.proofs.Places.{IsPlaceOf}
-use Rattle.rt_gen_queue.proofs.Layer.Instructions.{Wrote}
+use Rattle.rt_gen_queue.proofs.{Layer.Instructions.Wrote, Numbers.apart, Places.IsPlaceOf}
 
 -- the first free place is taken, and the count is one less
 pub free_taken : {app : App} {n : ℕ} {e : Entry} {others : List Entry} {content : Content} {before after : List ℕ}
@@ -47,15 +35,14 @@ free_taken {app = app} {n = n} {others = others} {before = before} spells wrote 
           ∙ spells.stack (suc i) x at;
     }
 
-map_range_alike : (f g : ℕ → ℕ) (a n : ℕ) → ((k : ℕ) → k < n → f (a + k) ≡ g (a + k))
-    → map f (range_with_len a n) ≡ map g (range_with_len a n)
-map_range_alike f g a n same =
-    ext_get_or 0 (map f (range_with_len a n)) (map g (range_with_len a n))
-    (length-map-range_with_len f a n ∙ sym (length-map-range_with_len g a n))
+-- what a function gives of so many numbers from one on is a list that has it
+pub range_is : (f : ℕ → ℕ) (a n : ℕ) (xs : List ℕ) → length xs ≡ n → ((k : ℕ) → k < n → f (a + k) ≡ slice_index xs k)
+    → map f (range_with_len a n) ≡ xs
+range_is f a n xs long same =
+    ext_get_or 0 (map f (range_with_len a n)) xs (length-map-range_with_len f a n ∙ sym long)
     (λ i less.
     let within : i < n = omega (arith, length-map-range_with_len f a n) in
-    get_or-map-range_with_len f a n i (a + i) 0 within refl ∙ same i within
-    ∙ sym (get_or-map-range_with_len g a n i (a + i) 0 within refl))
+    get_or-map-range_with_len f a n i (a + i) 0 within refl ∙ same i within)
 
 -- a message goes by the cells of its place alone
 pub message_alike : (app : App) (p : ℕ) (before after : ℕ → ℕ) (e : Entry) → IsPlaceOf app p e
@@ -68,78 +55,68 @@ message_alike app p before after e is left =
     let arguments : arguments_of app e.task ≡ t.args = ap (λ o. or_zero (option_map (λ t. t.args) o)) task.1 in
     let place : e.place < t.capacity = omega (arith, is.1, capacity) in
     let first : ℕ = inputs_at app e.task + e.place * arguments_of app e.task in
+    let later : List ℕ = map after (range_with_len first (arguments_of app e.task)) in
     ap (λ args. record { task = e.task; args = args })
-    (map_range_alike before after first (arguments_of app e.task)
+    (range_is before first (arguments_of app e.task) later (length-map-range_with_len after first _)
     (λ k less.
     let d : first + k ≡ inputs_at app e.task + e.place * t.args + k =
     ap (λ a. inputs_at app e.task + e.place * a + k) arguments in
     left (first + k)
-    (ap (home_of app) d ∙ input_is_home app e.task t task.1 software e.place k place (omega arith))))
+    (ap (home_of app) d ∙ input_is_home app e.task t task.1 software e.place k place (omega arith))
+    ∙ sym (get_or-map-range_with_len after first (arguments_of app e.task) k (first + k) 0 less refl)))
+
+pub messages_alike : (app : App) (p : ℕ) (before after : ℕ → ℕ) (es : List Entry) → AllByRecursion (IsPlaceOf app p) es
+    → ((e : Entry) (c : ℕ) → home_of app c ≡ In e → before c ≡ after c)
+    → map (message_at app before) es ≡ map (message_at app after) es
+messages_alike app p before after [] placed left = refl
+messages_alike app p before after (e ∷ es) placed left =
+    ap (λ m. m ∷ map (message_at app before) es) (message_alike app p before after e placed.0 (left e))
+    ∙ ap (λ ms. message_at app after e ∷ ms) (messages_alike app p before after es placed.1 left)
 
 at_not_in : (app : App) (c d : ℕ) (x : _) (e : Entry) → home_of app c ≡ At x → home_of app d ≡ In e → d ≢ c
 at_not_in app c d x e at in_ same =
     let clash : At x ≡ In e = sym at ∙ sym (ap (home_of app) same) ∙ in_ in absurd cc
 
 -- a message more in the ring
-pub record PutsReady (app : App) (p : ℕ) (after : List ℕ) : Type 0 where
-  pub entries : List Entry
-  pub entry : Entry
-  pub content : Content
-  pub before : List ℕ
-  pub mid : List ℕ
-  pub known : Contains (levels app) p
+pub record PutsReady (app : App) (p : ℕ) (entries : List Entry) (e : Entry) (content : Content)
+    (before mid after : List ℕ) : Type 0 where
+  pub is : Contains (levels app) p
   pub spells : SpellsReady app (slice_index before) p entries content
   pub room : length entries < ready_room app p
-  pub place : IsPlaceOf app p entry
-  pub turn : (slice_index before (ready_at app p) + length entries) % ready_room app p < ready_room app p
+  pub place : IsPlaceOf app p e
   pub ring : Wrote (ready_at app p + 2 + (slice_index before (ready_at app p) + length entries) % ready_room app p)
-      (message_word entry) before mid
-  pub counted : Wrote (ready_at app p + 1) (length entries + 1) mid after
+      (message_word e) before mid
+  pub count : Wrote (ready_at app p + 1) (length entries + 1) mid after
 
-module _ {app : App} {p : ℕ} {after : List ℕ} (puts : PutsReady app p after) where
-  abbrev before : List ℕ
-  before = puts.before
-
-  abbrev entries : List Entry
-  entries = puts.entries
-
-  abbrev e : Entry
-  e = puts.entry
-
+module _ {app : App} {p : ℕ} {entries : List Entry} {e : Entry} {content : Content} {before mid after : List ℕ}
+    (puts : PutsReady app p entries e content before mid after) where
   abbrev ring_cell : ℕ
   ring_cell = ready_at app p + 2 + (slice_index before (ready_at app p) + length entries) % ready_room app p
+
+  some_room : 0 < ready_room app p
+  some_room = omega (arith, puts.room)
 
   ring_home : home_of app ring_cell ≡ At (Guarded (section.Ready p))
   ring_home =
       let turn : ℕ = (slice_index before (ready_at app p) + length entries) % ready_room app p in
       let d : ready_at app p + 2 + turn ≡ ready_at app p + (2 + turn) = omega arith in
-      let within : 2 + turn < 2 + ready_room app p = omega (arith, puts.turn) in
-      ap (home_of app) d ∙ ready_is_home app p puts.known (2 + turn) within
+      let less = mod_below (slice_index before (ready_at app p) + length entries) (ready_room app p) some_room in
+      let within : 2 + turn < 2 + ready_room app p = omega (arith, less) in
+      ap (home_of app) d ∙ ready_is_home app p puts.is (2 + turn) within
 
   count_home : home_of app (ready_at app p + 1) ≡ At (Guarded (section.Ready p))
-  count_home = ready_is_home app p puts.known 1 (omega arith)
+  count_home = ready_is_home app p puts.is 1 (omega arith)
 
   left : (c : ℕ) (x : Entry) → home_of app c ≡ In x → slice_index before c ≡ slice_index after c
   left c x is =
-      sym (puts.counted.others c (at_not_in app (ready_at app p + 1) c _ x count_home is)
+      sym (puts.count.others c (at_not_in app (ready_at app p + 1) c _ x count_home is)
       ∙ puts.ring.others c (at_not_in app ring_cell c _ x ring_home is))
-
-  messages_put : (xs : List Entry) → AllByRecursion (IsPlaceOf app p) xs
-      → map (message_at app (slice_index before)) xs ++ message_at app (slice_index before) e ∷ []
-      ≡ map (message_at app (slice_index after)) (xs ++ e ∷ [])
-  messages_put [] all =
-      ap (λ y. y ∷ [])
-      (message_alike app p (slice_index before) (slice_index after) e puts.place (λ c is. left c e is))
-  messages_put (x ∷ xs) all =
-      ap (λ y. y ∷ (map (message_at app (slice_index before)) xs ++ message_at app (slice_index before) e ∷ []))
-      (message_alike app p (slice_index before) (slice_index after) x all.0 (λ c is. left c x is))
-      ∙ ap (λ ys. message_at app (slice_index after) x ∷ ys) (messages_put xs all.1)
 
   head_is : slice_index after (ready_at app p) ≡ slice_index before (ready_at app p)
   head_is =
       let one : ready_at app p ≢ ready_at app p + 1 = omega arith in
       let two : ready_at app p ≢ ring_cell = omega arith in
-      puts.counted.others (ready_at app p) one ∙ puts.ring.others (ready_at app p) two
+      puts.count.others (ready_at app p) one ∙ puts.ring.others (ready_at app p) two
 
   ring_is : (i : ℕ) (x : Entry) → slice_get (entries ++ e ∷ []) i ≡ Some x
       → slice_index after (ready_at app p + 2 + (slice_index before (ready_at app p) + i) % ready_room app p)
@@ -150,7 +127,7 @@ module _ {app : App} {p : ℕ} {after : List ℕ} (puts : PutsReady app p after)
       let c : ℕ = ready_at app p + 2 + (head + i) % size in
       let no_count : c ≢ ready_at app p + 1 = omega arith in
       let start : head < size = omega (arith, puts.spells.head, puts.room) in
-      puts.counted.others c no_count
+      puts.count.others c no_count
       ∙ elim (at_either entries (e ∷ []) i x at) [
         | inl front ↦
             (let differ : (head + i) % size ≢ (head + length entries) % size =
@@ -162,28 +139,31 @@ module _ {app : App} {p : ℕ} {after : List ℕ} (puts : PutsReady app p after)
       ]
     where
       last : (k : ℕ) → i ≡ length entries + k → slice_get (e ∷ []) k ≡ Some x
-          → slice_index puts.mid (ready_at app p + 2 + (slice_index before (ready_at app p) + i) % ready_room app p)
+          → slice_index mid (ready_at app p + 2 + (slice_index before (ready_at app p) + i) % ready_room app p)
           ≡ message_word x
       last zero is here =
           let same : i ≡ length entries = omega arith in
           ap
           (λ j.
-          slice_index puts.mid (ready_at app p + 2 + (slice_index before (ready_at app p) + j) % ready_room app p))
+          slice_index mid (ready_at app p + 2 + (slice_index before (ready_at app p) + j) % ready_room app p))
           same ∙ puts.ring.here ∙ ap message_word (same_Some e x here)
       last (suc k) is here = absurd (none-some x here)
 
   pub ready_put : SpellsReady app (slice_index after) p (entries ++ e ∷ [])
-      (Messages (messages puts.content ++ message_at app (slice_index before) e ∷ []))
+      (Messages (messages content ++ message_at app (slice_index before) e ∷ []))
   ready_put =
       let long = length-append entries (e ∷ []) in
+      let placed = all_append (IsPlaceOf app p) entries (e ∷ []) puts.spells.places (puts.place, tt) in
       record {
         messages =
             ap (λ c. Messages (messages c ++ message_at app (slice_index before) e ∷ [])) puts.spells.messages
-            ∙ ap Messages (messages_put entries puts.spells.places);
+            ∙ ap Messages (sym (map-append (message_at app (slice_index before)) entries (e ∷ []))
+            ∙ messages_alike app p (slice_index before) (slice_index after) (entries ++ e ∷ []) placed
+            (λ x c. left c x));
         room = omega (arith, long, puts.room);
-        places = all_append (IsPlaceOf app p) entries (e ∷ []) puts.spells.places (puts.place, tt);
+        places = placed;
         head = omega (arith, head_is, puts.spells.head);
-        count = puts.counted.here ∙ omega (arith, long);
+        count = puts.count.here ∙ omega (arith, long);
         ring = λ i x at.
             ap (λ h. slice_index after (ready_at app p + 2 + (h + i) % ready_room app p)) head_is ∙ ring_is i x at;
       }

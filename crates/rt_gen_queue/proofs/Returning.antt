@@ -1,31 +1,16 @@
 -- A place of a task goes back among those that are free: the line that does so, and what the cells spell behind it.
-use Rattle.std.proofs.Common.{◌≡◌, ◌≢◌, ℕ, zero, suc, ◌+◌, ◌-◌, ◌<◌, ◌≤◌, true, Some, List, [], ◌∷◌, length}
-use Rattle.std.proofs.Common.{slice_get, slice_index, slice_set, refl, ap, ◌∙◌, subst, arith}
-use Rattle.std.specs.List.{AllByRecursion}
-use Rattle.std.proofs.lemmas.Option.{same_Some, slice_get_within}
-use Rattle.rt_ids.specs.Action.{Frees, effect}
-use Rattle.rt_ids.specs.Content.{Content, Number, Values, number}
-use Rattle.rt_ids.specs.Doing.{Doing, does}
-use Rattle.rt_ids.specs.Entry.{Entry, count}
-use Rattle.rt_ids.specs.Holder.{Guarded}
-use Rattle.rt_ids.specs.Storage.{At}
+use Rattle.rt_gen_queue.proofs.Vocabulary.{Agree, AllByRecursion, App, At, Content, Doing, Entry, Frees, Guarded, Line}
+use Rattle.rt_gen_queue.proofs.Vocabulary.{List, Number, Some, SpellsFree, Task, Values, [], ap, arith, capacity_is}
+use Rattle.rt_gen_queue.proofs.Vocabulary.{capacity_of, count, count_more, does, effect, free_at, free_is_home, home_of}
+use Rattle.rt_gen_queue.proofs.Vocabulary.{is_open, length, memory, noted, number, refl, same_Some, slice_get}
+use Rattle.rt_gen_queue.proofs.Vocabulary.{slice_get_within, slice_index, slice_set, storage, subst, suc, true}
+use Rattle.rt_gen_queue.proofs.Vocabulary.{with_queue, zero, ℕ, ◌+◌, ◌-◌, ◌<◌, ◌∙◌, ◌∷◌, ◌≡◌, ◌≢◌, ◌≤◌}
 use Rattle.rt_ids.specs.declared.ids.Section.TheVariants as section
-use Rattle.rt_app.specs.Holding.{SpellsFree, storage}
-use Rattle.rt_app.specs.Layout.{memory, free_at, home_of}
-use Rattle.rt_app.specs.Sending.{capacity_of}
-use Rattle.rt_app.specs.Tree.{Task, App}
-use Rattle.rt_app.proofs.Counting.{count_more}
-use Rattle.rt_app.proofs.LaidQueues.{capacity_is, free_is_home}
-use Rattle.rt_code.specs.Acting.{with_queue}
-use Rattle.rt_code.specs.Owning.{is_open, Agree}
 use Rattle.rt_code.specs.declared.instr.Instr.TheVariants as instr
 use Rattle.rt_code.specs.declared.instr.Note.TheVariants as note
-use Rattle.rt_gen_queue.specs.Line.{Line, noted}
-use Rattle.rt_gen_queue.proofs.Facts.{Spawned}
-use Rattle.rt_gen_queue.proofs.Places.{entry_at, places_few}
-use Rattle.rt_gen_queue.proofs.Layer.{Setting, Here, Frame, Now, Straight, Writes, Wrote, wrote, behind_line, by_noted}
-use Rattle.rt_gen_queue.proofs.Layer.{acts_later, slot_of, word_of, first_fits, store_gives}
-use Rattle.rt_gen_queue.proofs.Layer.Correct.{does as asks}
+use Rattle.rt_gen_queue.proofs.{Facts.Spawned, Layer.Correct.does as asks, Places.entry_at, Places.places_few}
+use Rattle.rt_gen_queue.proofs.Layer.{Frame, Here, Now, Setting, Straight, Writes, Wrote, acts_later, behind_line}
+use Rattle.rt_gen_queue.proofs.Layer.{by_noted, first_fits, slot_of, store_gives, word_of, wrote}
 
 -- the place in the hands is to be free again, inside its task's section
 pub record GivesUp (h : Here) (t : ℕ) (e : Entry) (others : List Entry) (values : Values)

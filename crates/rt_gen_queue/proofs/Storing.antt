@@ -1,37 +1,21 @@
 -- The code by which a spawn stores the arguments in the cells of its place, and makes the word of its message.
-use Rattle.std.proofs.Common.{◌≡◌, ◌≢◌, ℕ, zero, suc, ◌+◌, ◌*◌, ◌<◌, ◌≤◌, true, List, [], ◌∷◌, ◌++◌, length, map}
-use Rattle.std.proofs.Common.{slice_index, refl, sym, ap, subst, ◌∙◌, arith, inl, inr, take, drop}
-use Rattle.std.specs.List.{range_with_len}
-use Rattle.std.proofs.lemmas.Bool.{cases_lt, lt-ltb}
-use Rattle.std.proofs.lemmas.List.{get_or_append_left, map-append, length-append, ext_get_or, length-take-le}
-use Rattle.std.proofs.lemmas.List.{get_or-take}
-use Rattle.std.proofs.lemmas.List.FromFn.{length-map-range_with_len, get_or-map-range_with_len}
+use Rattle.rt_gen_queue.proofs.Vocabulary.{Entry, Guarded, HasCode, Holder, Home, In, LeavesMine, Line, List, MayLoad}
+use Rattle.rt_gen_queue.proofs.Vocabulary.{Task, [], ap, arguments_of, arith, capacity_of, cases_lt, count, count_more}
+use Rattle.rt_gen_queue.proofs.Vocabulary.{drop, fill_code, get_or-take, get_or_append_left, home_of, inl}
+use Rattle.rt_gen_queue.proofs.Vocabulary.{input_is_home, inputs_at, inr, length, length-append}
+use Rattle.rt_gen_queue.proofs.Vocabulary.{length-map-range_with_len, length-take-le, lt-ltb, map, map-append, may_load}
+use Rattle.rt_gen_queue.proofs.Vocabulary.{memory, message_at, message_word, mine, owns_open, plain, queued}
+use Rattle.rt_gen_queue.proofs.Vocabulary.{queues_same, range_with_len, refl, slice_index, storage, store_code, subst}
+use Rattle.rt_gen_queue.proofs.Vocabulary.{suc, sym, take, true, zero, ℕ, ◌*◌, ◌++◌, ◌+◌, ◌<◌, ◌∙◌, ◌∷◌, ◌≡◌, ◌≢◌, ◌≤◌}
 use Rattle.std.proofs.lemmas.Nat.{mul-le}
-use Rattle.rt_lemmas.proofs.Bools.{and_both}
-use Rattle.rt_ids.specs.Holder.{Holder, Guarded}
-use Rattle.rt_ids.specs.Entry.{Entry, count}
-use Rattle.rt_ids.specs.Storage.{Home, In}
 use Rattle.rt_ids.specs.declared.op.Op.TheVariants as op
-use Rattle.rt_app.specs.Tree.{Task}
-use Rattle.rt_app.specs.Sending.{capacity_of}
-use Rattle.rt_app.specs.Layout.{memory, inputs_at, home_of}
-use Rattle.rt_app.specs.Holding.{storage, message_word, message_at, arguments_of}
-use Rattle.rt_app.proofs.Counting.{count_more}
-use Rattle.rt_app.proofs.LaidQueues.{input_is_home}
-use Rattle.rt_code.specs.Owning.{mine, MayLoad, LeavesMine}
-use Rattle.rt_code.proofs.Mine.{queued, queues_same, owns_open, may_load}
 use Rattle.rt_code.specs.declared.instr.Instr.TheVariants as instr
-use Rattle.rt_gen_queue.specs.Line.{Line, plain, HasCode}
-use Rattle.rt_gen_queue.specs.SpawnLines.{store_code}
-use Rattle.rt_gen_queue.specs.SpawnCode.{fill_code}
-use Rattle.rt_gen_queue.proofs.Numbers.{added, multiplied, steps_and, steps_are}
-use Rattle.rt_gen_queue.proofs.Owning.{home_as, stores_place, place_in_memory}
-use Rattle.rt_gen_queue.proofs.Inputs.{lines_by_layout}
-use Rattle.rt_gen_queue.proofs.Facts.{Spawned, capacity, arguments, few_arguments, few_free, small}
-use Rattle.rt_gen_queue.proofs.Placing.{stores_long}
-use Rattle.rt_gen_queue.proofs.Layer.{Setting, Here, ahead, InTime, spot, S, Frame, Now, Saves, all_fit, placed}
-use Rattle.rt_gen_queue.proofs.Layer.{Straight, ends, moved, sets, calculates, stores_at, is_there}
-use Rattle.rt_gen_queue.proofs.Words.{Arguments, Scratch, words, listed}
+use Rattle.rt_gen_queue.proofs.{Numbers.added, Numbers.multiplied, Numbers.steps_and, Numbers.steps_are, Owning.home_as}
+use Rattle.rt_gen_queue.proofs.{Owning.place_in_memory, Owning.stores_place, Planned.lines_by_layout, Queues.range_is}
+use Rattle.rt_gen_queue.proofs.{Words.Arguments, Words.Scratch, Words.listed, Words.words}
+use Rattle.rt_gen_queue.proofs.Facts.{Spawned, arguments, capacity, few_arguments, few_free, small}
+use Rattle.rt_gen_queue.proofs.Layer.{Frame, Here, InTime, Now, S, Saves, Setting, Straight, ahead, all_fit, calculates}
+use Rattle.rt_gen_queue.proofs.Layer.{ends, moved, placed, sets, spot, stores_at}
 
 -- the cell of an argument of a place
 abbrev pub argument_at : Setting → ℕ → Entry → ℕ → ℕ
@@ -66,17 +50,14 @@ stores_placed : (count cell slot from : ℕ)
     → store_code count cell slot from ≡ map (placed slot) (store_code count cell 0 from)
 stores_placed zero cell slot from = refl
 stores_placed (suc count) cell slot from =
-    let e : slot + from ≡ slot + (0 + from) = omega arith in
-    ap (λ k. plain (instr.StoreAt (cell + from) (slot + 7) k) ∷ store_code count cell slot (from + 1)) e
-    ∙ ap (λ ls. plain (instr.StoreAt (cell + from) (slot + 7) (slot + (0 + from))) ∷ ls)
-    (stores_placed count cell slot (from + 1))
+    let e : slot + (0 + from) ≡ slot + from = omega arith in
+    rw (e, stores_placed count cell slot (from + 1)) refl
 
 stores_fit : (count cell from : ℕ) (lines : List Line) → from + count ≤ 4 → all_fit 9 8 lines ≡ true
     → all_fit 9 8 (store_code count cell 0 from ++ lines) ≡ true
 stores_fit zero cell from lines few fit = fit
 stores_fit (suc count) cell from lines few fit =
-    and_both (is_there 9 (0 + from)) (all_fit 9 8 (store_code count cell 0 (from + 1) ++ lines))
-    (lt-ltb (0 + from) 9 (omega arith)) (stores_fit count cell (from + 1) lines (omega arith) fit)
+    rw (lt-ltb (0 + from) 9 (omega arith)) (stores_fit count cell (from + 1) lines (omega arith) fit)
 
 module _ {z : Setting} {f : Frame 9 8} {h : Here} {task : ℕ} {t : Task} {e : Entry} (may : MayFill z f h task t e)
     (a : Arguments) (s : Scratch) where
@@ -98,20 +79,16 @@ module _ {z : Setting} {f : Frame 9 8} {h : Here} {task : ℕ} {t : Task} {e : E
   abbrev base : Scratch
   base = record s { word = e.place; number = e.place * args_of }
 
-  all_stored : {lines : List Line} {g : Here} (more from : ℕ) → from + more ≡ args_of → HasPlace z g task e
+  all_stored : {lines : List Line} {g : Here} (more from : ℕ) → from + more ≡ args_of → 0 < count e g.places
+      → length g.cells ≡ length (memory z.app)
       → ((done at : ℕ) (left : List ℕ) → done ≡ g.done + more → at ≡ g.at + more
       → Filled z task e (listed a) from g.cells left
       → Straight z f lines (record g { done = done; at = at; cells = left }) (words a base))
       → Straight z f (store_code more (inputs_at z.app task) 0 from ++ lines) g (words a base)
-  all_stored {g = g} zero from all hands on =
+  all_stored {g = g} zero from all some long on =
       on g.done g.at g.cells (omega arith) (omega arith)
-      (record {
-        long = refl;
-        there = λ k least less. absurd (omega arith);
-        lower = λ k less. refl;
-        others = λ c other. refl;
-      })
-  all_stored {g = g} (suc more) from all hands on =
+      (record { long = refl; there = λ k least less. absurd (omega arith); lower = λ k l. refl; others = λ c o. refl })
+  all_stored {g = g} (suc more) from all some long on =
       let c : ℕ = inputs_at z.app task + from + e.place * args_of in
       let c_is : c ≡ argument_at z task e from = omega arith in
       let home : home_of z.app c ≡ In e = ap (home_of z.app) c_is ∙ cell_home from (omega arith) in
@@ -121,17 +98,11 @@ module _ {z : Setting} {f : Frame 9 8} {h : Here} {task : ℕ} {t : Task} {e : E
       ap (slice_index (words a base)) zeroth ∙ get_or_append_left (listed a) (drop 4 (words a base)) 0 from low in
       stores_at (e.place * args_of) (slice_index (listed a) from) refl shown
       (record {
-        may = stores_place z.app z.who (spot z (Now f g (words a base))) c e home hands.some;
-        there = omega (arith, hands.long, place_in_memory z.app c e home);
+        may = stores_place z.app z.who (spot z (Now f g (words a base))) c e home some;
+        there = omega (arith, long, place_in_memory z.app c e home);
       })
       (λ cells wrote.
-      all_stored more (from + 1) (omega arith)
-      (record {
-        of_task = hands.of_task;
-        place = hands.place;
-        some = hands.some;
-        long = wrote.long ∙ hands.long;
-      })
+      all_stored more (from + 1) (omega arith) some (wrote.long ∙ long)
       (λ done at left done_is at_is filled.
       on done at left (omega arith) (omega arith)
       (record {
@@ -149,14 +120,12 @@ module _ {z : Setting} {f : Frame 9 8} {h : Here} {task : ℕ} {t : Task} {e : E
             let differ : argument_at z task e k ≢ c = omega arith in
             filled.lower k (omega arith) ∙ wrote.others (argument_at z task e k) differ;
         others = λ d other.
-            filled.others d other
-            ∙ wrote.others d (λ (same : d ≡ c). other (ap (home_of z.app) same ∙ home));
+            filled.others d other ∙ wrote.others d (λ (same : d ≡ c). other (ap (home_of z.app) same ∙ home));
       })))
 
   -- the lines of all of it, by the window, with where the arguments lie
   abbrev last : ℕ → List Line
-  last slot =
-      plain (instr.Set (slot + 7) (16 * task)) ∷ plain (instr.Calc op.Add (slot + 6) (slot + 6) (slot + 7)) ∷ []
+  last slot = plain (instr.Set (slot + 7) (16 * task)) ∷ plain (instr.Calc op.Add (slot + 6) (slot + 6) (slot + 7)) ∷ []
 
   abbrev around : ℕ → List Line → List Line
   around slot lines =
@@ -168,11 +137,10 @@ module _ {z : Setting} {f : Frame 9 8} {h : Here} {task : ℕ} {t : Task} {e : E
 
   code_is : (slot : ℕ) → fill_code z.app task slot ≡ map (placed slot) filling
   code_is slot =
-      ap (around slot) (lines_by_layout z.app task may.facts.at may.facts.software
+      let all_placed = map-append (placed slot) (store_code args_of (inputs_at z.app task) 0 0) (last 0) in
+      rw all_placed (ap (around slot) (lines_by_layout z.app task may.facts.at may.facts.software
       (λ n cell. store_code n cell slot 0) (λ n m. refl) args_of (arguments z.app task t may.facts)
-      ∙ stores_placed args_of (inputs_at z.app task) slot 0)
-      ∙ ap (λ ls. take 2 (around slot []) ++ ls)
-      (sym (map-append (placed slot) (store_code args_of (inputs_at z.app task) 0 0) (last 0)))
+      ∙ stores_placed args_of (inputs_at z.app task) slot 0))
 
   pub fill_stands : ((r : Scratch) (left : List ℕ) → Filled z task e (listed a) 0 h.cells left
       → S z (Now f (record (ahead (4 + args_of) h) { cells = left }) (words a (record r { word = message_word e }))))
@@ -181,19 +149,11 @@ module _ {z : Setting} {f : Frame 9 8} {h : Here} {task : ℕ} {t : Task} {e : E
       let places : e.place < 16 = omega (arith, may.hands.place, few_free z.app task t may.facts) in
       let product : e.place * args_of ≤ 16 * 4 = mul-le e.place args_of 16 4 (omega arith) few_args in
       let word : e.place + 16 * task ≡ message_word e = omega (arith, may.hands.of_task) in
-      let stores : List Line = store_code args_of (inputs_at z.app task) 0 0 in
-      let long : 4 + args_of ≡ length filling =
-      omega (arith, length-append stores (last 0), stores_long args_of (inputs_at z.app task) 0 0) in
+      let long : 4 + args_of ≡ length filling = simp (length-append, length-map-range_with_len) (omega arith) in
       let run : Straight z f filling h (words a (record s { word = e.place })) =
       sets
       (calculates (e.place * args_of) (multiplied e.place args_of (e.place * args_of) refl (omega arith))
-      (all_stored args_of 0 (omega arith)
-      (record {
-        of_task = may.hands.of_task;
-        place = may.hands.place;
-        some = may.hands.some;
-        long = may.hands.long;
-      })
+      (all_stored args_of 0 (omega arith) may.hands.some may.hands.long
       (λ done at left done_is at_is filled.
       sets
       (calculates (message_word e) (added e.place (16 * task) (message_word e) word
@@ -201,25 +161,10 @@ module _ {z : Setting} {f : Frame 9 8} {h : Here} {task : ℕ} {t : Task} {e : E
       (ends (moved (steps_and (4 + args_of) h.done) (steps_and (4 + args_of) h.at)
       (omega (arith, done_is, steps_are (4 + args_of) h.done)) (omega (arith, at_is, steps_are (4 + args_of) h.at))
       (on (record s { number = 16 * task }) left filled))))))) in
+      let fits = stores_fit args_of (inputs_at z.app task) 0 (last 0) (omega (arith, few_args)) refl in
       run.runs
-      (record {
-        time = subst (λ n. InTime (h.done + n) h) long may.time;
-        saves = may.saves;
-        long = refl;
-        fit = stores_fit args_of (inputs_at z.app task) 0 (last 0) (omega (arith, few_args)) refl;
-      }) (subst (HasCode z.code h.at) (code_is f.slot) may.code)
-
--- cells that have these words
-words_are : (cells : ℕ → ℕ) (words : List ℕ) (first n : ℕ) → n ≤ length words
-    → ((k : ℕ) → k < n → cells (first + k) ≡ slice_index words k)
-    → map cells (range_with_len first n) ≡ take n words
-words_are cells words first n long same =
-    ext_get_or 0 (map cells (range_with_len first n)) (take n words)
-    (length-map-range_with_len cells first n ∙ sym (length-take-le n words long))
-    (λ i less.
-    let within : i < n = omega (arith, length-map-range_with_len cells first n) in
-    get_or-map-range_with_len cells first n i (first + i) 0 within refl ∙ same i within
-    ∙ sym (get_or-take n words i 0 within))
+      (record { time = subst (λ n. InTime (h.done + n) h) long may.time; saves = may.saves; long = refl; fit = fits })
+      (subst (HasCode z.code h.at) (code_is f.slot) may.code)
 
 -- the message has the arguments
 pub message_is : {z : Setting} {task : ℕ} {t : Task} {e : Entry} {values before after : List ℕ}
@@ -235,9 +180,9 @@ message_is {z = z} {task = task} {t = t} {e = e} {values = values} {after = afte
           (arguments_of z.app n));
     }) of_task
     ∙ ap (λ ws. record { task = task; args = ws })
-    (words_are (slice_index after) values (inputs_at z.app task + e.place * count) count
-    (omega (arith, args, few, long))
-    (λ k less. filled.there k (omega arith) less)
+    (range_is (slice_index after) (inputs_at z.app task + e.place * count) count (take count values)
+    (length-take-le count values (omega (arith, args, few, long)))
+    (λ k less. filled.there k (omega arith) less ∙ sym (get_or-take count values k 0 less))
     ∙ ap (λ n. take n values) args)
 
 -- With a place in its hands that was nobody's, whose cells alone it changes, a job leaves its own as it was.

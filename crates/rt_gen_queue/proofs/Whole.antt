@@ -1,34 +1,23 @@
 -- The code of a whole spawn stands: a place is taken, filled and handed on, or none is left.
-use Rattle.std.proofs.Common.{◌≡◌, ◌⊎◌, ℕ, ◌+◌, ◌-◌, ◌<◌, ◌≤◌, List, [], ◌∷◌, ◌++◌, length, map}
-use Rattle.std.proofs.Common.{take, drop, slice_index, Some, refl, sym, ap, subst, ◌∙◌, arith, inl, inr}
-use Rattle.std.proofs.lemmas.List.{take-append-le}
-use Rattle.rt_ids.specs.Holder.{Holder}
-use Rattle.rt_ids.specs.Content.{Message, Values}
-use Rattle.rt_ids.specs.Entry.{Entry}
+use Rattle.rt_gen_queue.proofs.Vocabulary.{Agree, Entry, HasCode, Holder, LeavesMine, Line, List, Message, Rest, Some}
+use Rattle.rt_gen_queue.proofs.Vocabulary.{Values, [], act_all, ap, arguments_of, arith, count_more, drop, end_code}
+use Rattle.rt_gen_queue.proofs.Vocabulary.{fill_code, inl, inr, length, map, one_itself, plain, ready_actions}
+use Rattle.rt_gen_queue.proofs.Vocabulary.{ready_code, refl, slice_index, spawn_code, storage, subst, sym, take}
+use Rattle.rt_gen_queue.proofs.Vocabulary.{take-append-le, take_code, task_priority, ℕ, ◌++◌, ◌+◌, ◌-◌, ◌<◌, ◌∙◌, ◌∷◌}
+use Rattle.rt_gen_queue.proofs.Vocabulary.{◌≡◌, ◌≤◌, ◌⊎◌}
 use Rattle.rt_ids.specs.declared.ids.Section.TheVariants as section
-use Rattle.rt_app.specs.Bodies.{task_priority}
-use Rattle.rt_app.specs.Sending.{act_all, ready_actions}
-use Rattle.rt_app.specs.Holding.{storage, arguments_of}
-use Rattle.rt_app.proofs.Counting.{count_more, one_itself}
-use Rattle.rt_code.specs.Owning.{Agree, LeavesMine}
 use Rattle.rt_code.specs.declared.instr.Instr.TheVariants as instr
-use Rattle.rt_gen_queue.specs.Line.{Line, plain, HasCode}
-use Rattle.rt_gen_queue.specs.SpawnCode.{take_code, fill_code, ready_code, end_code, spawn_code}
+use Rattle.rt_gen_queue.proofs.{Entering.saves_below, Numbers.steps_and, Numbers.steps_are, Owning.nobody_keeps}
+use Rattle.rt_gen_queue.proofs.{Queueing.ready_stands, Storing.fill_stands, Storing.message_is, Storing.own_filled}
+use Rattle.rt_gen_queue.proofs.Facts.{Spawned, arguments, few_arguments, few_ready, free_top, known, place_of, priority}
+use Rattle.rt_gen_queue.proofs.Facts.{ready_top}
+use Rattle.rt_gen_queue.proofs.Granting.{HasTaken, MayTake, refused_stands, take_begins, with_place}
+use Rattle.rt_gen_queue.proofs.Layer.{Frame, Here, InTime, Now, S, Setting, Straight, ahead, begins, begun, frame_at}
+use Rattle.rt_gen_queue.proofs.Layer.{framed, jumps, lasts_less, moved, read_behind, sets, spot, window, window_long}
+use Rattle.rt_gen_queue.proofs.Layer.{window_outside, window_read}
+use Rattle.rt_gen_queue.proofs.Placing.{code_behind, code_front, fill_long, spawn_long}
+use Rattle.rt_gen_queue.proofs.Words.{Arguments, Scratch, listed, words}
 use Rattle.rt_gen_queue.specs.Spawning.{SpawnsStand}
-use Rattle.rt_gen_queue.proofs.Numbers.{steps_and, steps_are}
-use Rattle.rt_gen_queue.proofs.Owning.{nobody_keeps}
-use Rattle.rt_gen_queue.proofs.Facts.{Spawned, arguments, priority, few_arguments, known, free_top, ready_top, place_of}
-use Rattle.rt_gen_queue.proofs.Facts.{few_ready}
-use Rattle.rt_gen_queue.proofs.Placing.{code_front, code_behind, fill_long, spawn_long}
-use Rattle.rt_gen_queue.proofs.Layer.{lasts_less, Setting, Here, ahead, InTime, spot, S, moved, begun, begins}
-use Rattle.rt_gen_queue.proofs.Layer.{Frame, window}
-use Rattle.rt_gen_queue.proofs.Layer.{Now, window_read, window_outside, window_long, frame_at, framed, read_behind}
-use Rattle.rt_gen_queue.proofs.Layer.{Straight, sets, jumps}
-use Rattle.rt_gen_queue.proofs.Entering.{saves_below}
-use Rattle.rt_gen_queue.proofs.Granting.{MayTake, HasTaken, take_begins, refused_stands}
-use Rattle.rt_gen_queue.proofs.Storing.{fill_stands, message_is, own_filled}
-use Rattle.rt_gen_queue.proofs.Queueing.{ready_stands}
-use Rattle.rt_gen_queue.proofs.Words.{Arguments, Scratch, words, listed}
 
 pub spawn_stands : SpawnsStand
 spawn_stands app task t code bodies thread who level slot n k s value args place rest vs accepted at software has may
@@ -39,7 +28,7 @@ spawn_stands app task t code bodies thread who level slot n k s value args place
     (λ r cells queues us taken.
     refused_stands may_take taken a r has_full
     (λ vs own agree.
-    moved _ (s.address + length lines) refl (sym end_at ∙ omega arith)
+    moved _ end refl (sym end_at ∙ omega arith)
     (ends_at 0 5 r vs (omega arith) (omega arith) own agree)))))
   where
     z : Setting
@@ -69,7 +58,10 @@ spawn_stands app task t code bodies thread who level slot n k s value args place
     full : ℕ
     full = s.address + (26 + count)
 
-    end_at : full + 2 ≡ s.address + length lines
+    end : ℕ
+    end = s.address + length lines
+
+    end_at : full + 2 ≡ end
     end_at = omega (arith, spawn_long app task level slot s.address)
 
     ending : List Line
@@ -128,17 +120,15 @@ spawn_stands app task t code bodies thread who level slot n k s value args place
     message : Message
     message = record { task = task; args = map value args }
 
+    readies : Rest
+    readies = act_all (ready_actions app (task_priority app task) message) (rest 1)
+
     -- behind all of it
     ends_at : {cells : List ℕ} {queues : Holder → List Entry} (granted used : ℕ) (r : Scratch) (us : Values)
         → granted ≤ 1 → used ≤ 32 → LeavesMine (storage app) who (spot z h) cells queues
         → Agree (storage app) who s.held us vs
-        → S z (Now f (record h {
-          done = used;
-          at = s.address + length lines;
-          cells = cells;
-          queues = queues;
-          rest = rest granted us;
-        }) (words (record a { first = granted }) r))
+        → S z (Now f (record h { done = used; at = end; cells = cells; queues = queues; rest = rest granted us })
+        (words (record a { first = granted }) r))
     ends_at {cells = cells} {queues = queues} granted used r us one soon own agree =
         let ws : List ℕ = words (record a { first = granted }) r in
         let before : List ℕ = words a w in
@@ -183,20 +173,9 @@ spawn_stands app task t code bodies thread who level slot n k s value args place
     -- with a place in the hands
     granted : (e : Entry) (r : Scratch) (cells : List ℕ) (queues : Holder → List Entry) (us : Values)
         → HasTaken z h task vs e cells queues us
-        → S z (Now f (record (ahead 8 h) {
-          places = e ∷ h.places;
-          cells = cells;
-          queues = queues;
-          rest = act_all (ready_actions app (task_priority app task) message) (rest 1) us;
-        }) (words a (record r { word = e.place })))
+        → S z (Now f (with_place h e cells queues (readies us)) (words a (record r { word = e.place })))
     granted e r cells queues us taken =
-        let holding : Here =
-        record (ahead 8 h) {
-          places = e ∷ h.places;
-          cells = cells;
-          queues = queues;
-          rest = act_all (ready_actions app (task_priority app task) message) (rest 1) us;
-        } in
+        let holding : Here = with_place h e cells queues (readies us) in
         let p_is : task_priority app task ≡ t.priority = priority app task t facts in
         let soon : steps_and (4 + count) 8 ≡ 12 + count = omega (arith, steps_are (4 + count) 8) in
         fill_stands {f = f} {h = holding}
@@ -239,26 +218,17 @@ spawn_stands app task t code bodies thread who level slot n k s value args place
           };
         }) a r2 (ap (λ q. act_all (ready_actions app q message) (rest 1) us) p_is)
         (λ r3 last more us3 readied.
-        let g : Here =
-        record (ahead 12 (ahead (4 + count) holding)) {
-          places = s.places;
-          cells = last;
-          queues = more;
-          rest = rest 1 us3;
-        } in
+        let at_end : Here = ahead 12 (ahead (4 + count) holding) in
+        let g : Here = record at_end { places = s.places; cells = last; queues = more; rest = rest 1 us3 } in
         let run : Straight z f (plain (instr.Set 0 1) ∷ plain (instr.Jump (full + 2)) ∷ []) g (words a r3) =
         sets (jumps
-        (moved _ (s.address + length lines) refl (sym end_at)
+        (moved _ end refl (sym end_at)
         (ends_at 1 (steps_and 14 (steps_and (4 + count) 8)) r3 us3 (omega arith) (omega (arith, soon, few))
         (own_filled h taken.none taken.own filled
         (record { long = readied.own.long; touched = readied.own.touched; queued = readied.own.queued }))
         (λ holder read. readied.agree holder read ∙ taken.agree holder read)))) in
         let zeroth : slot ≡ slot + 0 = omega arith in
+        let time = lasts (steps_and 12 (steps_and (4 + count) 8) + 2) (omega (arith, soon, few)) in
         run.runs
-        (record {
-          time = lasts (steps_and 12 (steps_and (4 + count) 8) + 2) (omega (arith, soon, few));
-          saves = saves_below f s.held may.masks;
-          long = refl;
-          fit = refl;
-        })
+        (record { time = time; saves = saves_below f s.held may.masks; long = refl; fit = refl })
         (has_end.0 ∙ ap (λ d. Some (plain (instr.Set d 1))) zeroth, (has_end.1.0, tt))))

@@ -1,6 +1,5 @@
 pub mod Levels
 pub mod SameSections
-pub mod Rows
 pub mod ExitLists
 pub mod Bounds
 pub mod Walking

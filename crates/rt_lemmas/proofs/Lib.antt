@@ -1,6 +1,7 @@
 pub mod Bools
 pub mod Numbers
 pub mod Lists
+pub mod Rows
 pub mod Runs
 pub mod Texts
 pub mod Options

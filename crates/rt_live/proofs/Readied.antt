@@ -405,6 +405,28 @@ module _ (ready : Prepared) (is : IsReady ready) (line : Core) (same : IsSameLin
   pub known_ended : device_numbers ended ≡ device_numbers ready.devices
   known_ended = (all_ended ready.words ready.script ready.devices ended as_many worked is.waiting).1
 
+  -- With their lines gathered it is ready again. The devices and the rows were lent as slices, and are written back.
+  pub ready_again : (n : ℕ) → n ≡ length ready.devices → (next : Core)
+      → next ≡ gathering (take n (ended ++ drop (length ended) ready.devices)) line
+      → (rows : List AccountRow) → AllByRecursion (IsCounted next.gathered) rows → irqs_of rows ≡ irqs_of ready.rows
+      → (m : ℕ) → length rows ≡ length ready.rows → m ≡ length ready.rows → (left : List Device) → left ≡ []
+      → IsReady (record ready {
+        line = next;
+        devices = left;
+        rows = take m (rows ++ drop (length rows) ready.rows);
+      })
+  ready_again n all next gathers rows counted irqs m same_rows all_rows left none =
+      let back = taken_back ended ready.devices n as_many all in
+      let is_so = ready_gathered ready is line same ended have_ended known_ended next
+      (gathers ∙ ap (λ (ds : List Device). gathering ds line) back) rows counted irqs in
+      subst (λ (ds : List Device). IsReady (record ready {
+        line = next;
+        devices = ds;
+        rows = take m (rows ++ drop (length rows) ready.rows);
+      })) (sym none)
+      (subst (λ (rs : List AccountRow). IsReady (record ready { line = next; devices = []; rows = rs }))
+      (sym (taken_back rows ready.rows m same_rows all_rows)) is_so)
+
   pub words_ended : AllByRecursion (λ (d : Device). d.line.words ≡ ready.words) ended
   words_ended =
       all_weaker (HasEnded ready.words ready.script) (λ (d : Device). d.line.words ≡ ready.words)

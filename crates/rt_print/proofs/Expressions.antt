@@ -40,21 +40,7 @@ IsOf signs o = (at : ℕ) → op_of signs (spelling at o) ≡ Some o
 
 sign_is_front : (o : Op) (Y : List ℕ) → IsFront (sign_text o) kind.Sign (32 ∷ Y)
 sign_is_front op.Add Y = refl
-sign_is_front op.Sub Y = refl
-sign_is_front op.Mul Y = refl
-sign_is_front op.Div Y = refl
-sign_is_front op.Rem Y = refl
-sign_is_front op.And Y = refl
-sign_is_front op.Or Y = refl
-sign_is_front op.Xor Y = refl
-sign_is_front op.Shl Y = refl
-sign_is_front op.Shr Y = refl
-sign_is_front op.Eq Y = refl
-sign_is_front op.Ne Y = refl
-sign_is_front op.Lt Y = refl
-sign_is_front op.Le Y = refl
-sign_is_front op.Gt Y = refl
-sign_is_front op.Ge Y = refl
+sign_is_front o Y = refl
 
 abbrev IsThis : Op → Op → Type 0
 IsThis o p = p ≡ o

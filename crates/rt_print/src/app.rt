@@ -7,8 +7,8 @@ ghost use Rattle.rt_ast.specs.Canonical as spec;
 
 use crate::block::push_block;
 use crate::declarations::{push_head, push_irqs, push_locals, push_mono, push_shared};
+use crate::list::push_separated;
 use crate::options::{push_body_options, push_task_options};
-use crate::separated::push_names;
 use crate::text::push_name;
 use rt_ast::{AppTree, BodyTree, Ident, Stmt, TaskTree};
 use rt_ids::{NoMemory, push_bytes};
@@ -52,7 +52,7 @@ fn push_arguments(out: &mut Vec<u8>, args: &[Ident]) -> Result<(), NoMemory>
         return Ok(());
     }
     push_bytes(out, b" with ")?;
-    push_names(out, args)
+    push_separated(out, args)
 }
 
 /// Appends the lines of a task.

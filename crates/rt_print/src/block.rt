@@ -5,7 +5,7 @@ ghost use Rattle.rt_ast.specs.CanonicalBlock.{deeper, call_text, spawn_text, val
 ghost use Rattle.rt_ast.specs.CanonicalBlock.{else_text, lines_text, branch_head, repeat_head, lock_head};
 
 use crate::expr::push_expression;
-use crate::separated::push_expressions;
+use crate::list::push_expressions;
 use crate::text::push_name;
 use rt_ast::{Expr, Ident, Spawn, Stmt, Value};
 use rt_ids::{NoMemory, push_bytes, push_number};

@@ -1,24 +1,13 @@
 ghost use Rattle.std.specs.Prelude.{◌≡◌, ◌++◌, Some, OnOk};
 ghost use Rattle.rt_ast.specs.View.{app_of};
-ghost use Rattle.rt_ast.specs.CanonicalExpression.{further, name_text};
-ghost use Rattle.rt_ast.specs.CanonicalOptions.{bracketed};
-ghost use Rattle.rt_ast.specs.Canonical.{enclosed, dispatchers_text, fpu_text, head_text, irq_text, irqs_text};
+ghost use Rattle.rt_ast.specs.Canonical.{dispatchers_text, fpu_text, head_text, irq_text, irqs_text};
 ghost use Rattle.rt_ast.specs.Canonical.{mono_text};
 ghost use Rattle.rt_ast.specs.Canonical.{resource_text, shared_text, local_text, locals_text};
 
-use crate::separated::push_names;
+use crate::list::{Item, push_bracketed, push_enclosed};
 use crate::text::push_name;
 use rt_ast::{AppTree, Ident, IrqTree, LocalTree, MonoTree, SharedTree};
 use rt_ids::{NoMemory, push_bytes, push_number};
-
-/// Appends names in brackets.
-pub(crate) fn push_bracketed(out: &mut Vec<u8>, names: &[Ident]) -> Result<(), NoMemory>
-    ensures { OnOk result (out.new.items ≡ out.old.items ++ bracketed name_text names.now) }
-{
-    push_bytes(out, b"[")?;
-    push_names(out, names)?;
-    push_bytes(out, b"]")
-}
 
 /// Appends the dispatchers, where there are any.
 fn push_dispatchers(out: &mut Vec<u8>, names: &[Ident]) -> Result<(), NoMemory>
@@ -55,38 +44,13 @@ pub(crate) fn push_head(out: &mut Vec<u8>, tree: &AppTree) -> Result<(), NoMemor
     push_bytes(out, b");\n")
 }
 
-/// Appends a declared interrupt.
-fn push_irq(out: &mut Vec<u8>, irq: &IrqTree) -> Result<(), NoMemory>
-    ensures { OnOk result (out.new.items ≡ out.old.items ++ irq_text irq.now) }
-{
-    push_name(out, &irq.name)?;
-    push_bytes(out, b" = ")?;
-    push_number(out, irq.number.value)
-}
+impl Item for IrqTree {
+    ghost text = { irq_text };
 
-/// Appends interrupts, each behind a comma.
-fn push_further_irqs(out: &mut Vec<u8>, irqs: &[IrqTree]) -> Result<(), NoMemory>
-    ensures { OnOk result (out.new.items ≡ out.old.items ++ further irq_text irqs.now) }
-{
-    for irq in irqs {
-        push_bytes(out, b", ")?;
-        push_irq(out, irq)?;
-    }
-    Ok(())
-}
-
-/// Appends interrupts in braces.
-fn push_enclosed_irqs(out: &mut Vec<u8>, irqs: &[IrqTree]) -> Result<(), NoMemory>
-    ensures { OnOk result (out.new.items ≡ out.old.items ++ enclosed irq_text irqs.now) }
-{
-    match irqs.split_first() {
-        Some((first, rest)) => {
-            push_bytes(out, b"{ ")?;
-            push_irq(out, first)?;
-            push_further_irqs(out, rest)?;
-            push_bytes(out, b" }")
-        }
-        None => push_bytes(out, b"{}"),
+    fn push(&self, out: &mut Vec<u8>) -> Result<(), NoMemory> {
+        push_name(out, &self.name)?;
+        push_bytes(out, b" = ")?;
+        push_number(out, self.number.value)
     }
 }
 
@@ -95,7 +59,7 @@ pub(crate) fn push_irqs(out: &mut Vec<u8>, irqs: &[IrqTree]) -> Result<(), NoMem
     ensures { OnOk result (out.new.items ≡ out.old.items ++ irqs_text irqs.now) }
 {
     push_bytes(out, b"interrupts ")?;
-    push_enclosed_irqs(out, irqs)?;
+    push_enclosed(out, irqs)?;
     push_bytes(out, b"\n")
 }
 
@@ -120,78 +84,48 @@ pub(crate) fn push_mono(out: &mut Vec<u8>, mono: &Option<MonoTree>) -> Result<()
     }
 }
 
-/// Appends a shared resource.
-fn push_resource(out: &mut Vec<u8>, resource: &SharedTree) -> Result<(), NoMemory>
-    ensures { OnOk result (out.new.items ≡ out.old.items ++ resource_text resource.now) }
-{
-    let mark: &[u8] = if resource.lock_free {
-        b"lock_free "
-    } else {
-        b""
-    };
-    push_bytes(out, mark)?;
-    push_name(out, &resource.name)?;
-    push_bytes(out, b" = ")?;
-    push_number(out, resource.first)
-}
+impl Item for SharedTree {
+    ghost text = { resource_text };
 
-/// Appends shared resources, each behind a comma.
-fn push_further_resources(out: &mut Vec<u8>, resources: &[SharedTree]) -> Result<(), NoMemory>
-    ensures { OnOk result (out.new.items ≡ out.old.items ++ further resource_text resources.now) }
-{
-    for resource in resources {
-        push_bytes(out, b", ")?;
-        push_resource(out, resource)?;
+    fn push(&self, out: &mut Vec<u8>) -> Result<(), NoMemory> {
+        let mark: &[u8] = if self.lock_free { b"lock_free " } else { b"" };
+        push_bytes(out, mark)?;
+        push_name(out, &self.name)?;
+        push_bytes(out, b" = ")?;
+        push_number(out, self.first)
     }
-    Ok(())
 }
 
 /// Appends the line of the shared resources, where there are any.
 pub(crate) fn push_shared(out: &mut Vec<u8>, resources: &[SharedTree]) -> Result<(), NoMemory>
     ensures { OnOk result (out.new.items ≡ out.old.items ++ shared_text resources.now) }
 {
-    match resources.split_first() {
-        Some((first, rest)) => {
-            push_bytes(out, b"shared { ")?;
-            push_resource(out, first)?;
-            push_further_resources(out, rest)?;
-            push_bytes(out, b" }\n")
-        }
-        None => Ok(()),
+    if resources.is_empty() {
+        return Ok(());
     }
+    push_bytes(out, b"shared ")?;
+    push_enclosed(out, resources)?;
+    push_bytes(out, b"\n")
 }
 
-/// Appends a local resource.
-fn push_local(out: &mut Vec<u8>, local: &LocalTree) -> Result<(), NoMemory>
-    ensures { OnOk result (out.new.items ≡ out.old.items ++ local_text local.now) }
-{
-    push_name(out, &local.name)?;
-    push_bytes(out, b" = ")?;
-    push_number(out, local.first)
-}
+impl Item for LocalTree {
+    ghost text = { local_text };
 
-/// Appends local resources, each behind a comma.
-fn push_further_locals(out: &mut Vec<u8>, locals: &[LocalTree]) -> Result<(), NoMemory>
-    ensures { OnOk result (out.new.items ≡ out.old.items ++ further local_text locals.now) }
-{
-    for local in locals {
-        push_bytes(out, b", ")?;
-        push_local(out, local)?;
+    fn push(&self, out: &mut Vec<u8>) -> Result<(), NoMemory> {
+        push_name(out, &self.name)?;
+        push_bytes(out, b" = ")?;
+        push_number(out, self.first)
     }
-    Ok(())
 }
 
 /// Appends the line of the local resources, where there are any.
 pub(crate) fn push_locals(out: &mut Vec<u8>, locals: &[LocalTree]) -> Result<(), NoMemory>
     ensures { OnOk result (out.new.items ≡ out.old.items ++ locals_text locals.now) }
 {
-    match locals.split_first() {
-        Some((first, rest)) => {
-            push_bytes(out, b"local { ")?;
-            push_local(out, first)?;
-            push_further_locals(out, rest)?;
-            push_bytes(out, b" }\n")
-        }
-        None => Ok(()),
+    if locals.is_empty() {
+        return Ok(());
     }
+    push_bytes(out, b"local ")?;
+    push_enclosed(out, locals)?;
+    push_bytes(out, b"\n")
 }

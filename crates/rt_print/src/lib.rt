@@ -6,8 +6,8 @@ pub mod block;
 pub mod declarations;
 pub mod expr;
 pub mod laws;
+pub mod list;
 pub mod options;
-pub mod separated;
 pub mod text;
 
 pub use app::canonical;

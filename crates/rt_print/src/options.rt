@@ -1,11 +1,10 @@
 ghost use Rattle.std.specs.Prelude.{◌≡◌, ◌++◌, ◌||◌, false, IfOk, OnOk};
 ghost use Rattle.rt_ast.specs.View as view;
-ghost use Rattle.rt_ast.specs.CanonicalExpression.{further, name_text};
-ghost use Rattle.rt_ast.specs.CanonicalOptions.{bracketed, listed_text, binds_option, priority_option, capacity_option};
+ghost use Rattle.rt_ast.specs.CanonicalOptions.{listed_text, binds_option, priority_option, capacity_option};
 ghost use Rattle.rt_ast.specs.CanonicalOptions.{shared_option, local_option, body_options, task_options, options_text};
 ghost use Rattle.rt_print.specs.Opened.{has_any, opening, opened_text, closing};
 
-use crate::declarations::push_bracketed;
+use crate::list::{Item, push_bracketed};
 use crate::text::push_name;
 use rt_ast::{BodyTree, Ident, ListedTree, Number, TaskTree};
 use rt_ids::{NoMemory, push_bytes, push_number};
@@ -84,38 +83,13 @@ fn push_capacity(out: &mut Vec<u8>, opened: bool, capacity: Option<u32>) -> Resu
     }
 }
 
-/// Appends a shared resource that a body lists.
-fn push_listed(out: &mut Vec<u8>, listed: &ListedTree) -> Result<(), NoMemory>
-    ensures { OnOk result (out.new.items ≡ out.old.items ++ listed_text listed.now) }
-{
-    let mark: &[u8] = if listed.by_ref { b"&" } else { b"" };
-    push_bytes(out, mark)?;
-    push_name(out, &listed.name)
-}
+impl Item for ListedTree {
+    ghost text = { listed_text };
 
-/// Appends listed resources, each behind a comma.
-fn push_further_listed(out: &mut Vec<u8>, listed: &[ListedTree]) -> Result<(), NoMemory>
-    ensures { OnOk result (out.new.items ≡ out.old.items ++ further listed_text listed.now) }
-{
-    for resource in listed {
-        push_bytes(out, b", ")?;
-        push_listed(out, resource)?;
-    }
-    Ok(())
-}
-
-/// Appends listed resources in brackets.
-fn push_bracketed_listed(out: &mut Vec<u8>, listed: &[ListedTree]) -> Result<(), NoMemory>
-    ensures { OnOk result (out.new.items ≡ out.old.items ++ bracketed listed_text listed.now) }
-{
-    match listed.split_first() {
-        Some((first, rest)) => {
-            push_bytes(out, b"[")?;
-            push_listed(out, first)?;
-            push_further_listed(out, rest)?;
-            push_bytes(out, b"]")
-        }
-        None => push_bytes(out, b"[]"),
+    fn push(&self, out: &mut Vec<u8>) -> Result<(), NoMemory> {
+        let mark: &[u8] = if self.by_ref { b"&" } else { b"" };
+        push_bytes(out, mark)?;
+        push_name(out, &self.name)
     }
 }
 
@@ -129,7 +103,7 @@ fn push_shared(out: &mut Vec<u8>, opened: bool, shared: &[ListedTree]) -> Result
     }
     push_opening(out, opened)?;
     push_bytes(out, b"shared = ")?;
-    push_bracketed_listed(out, shared)?;
+    push_bracketed(out, shared)?;
     Ok(true)
 }
 

@@ -47,7 +47,8 @@ use Rattle.rt_core.specs.Transfer as transfer
 use Rattle.rt_core.proofs.Happening.{step_by, step_is}
 use Rattle.rt_core.proofs.Picking.{picked_row}
 use Rattle.rt_run.specs.Writable.{IsKnown}
-use Rattle.rt_run.specs.Inside.Writing.{HasNumbers, HasLevel, IsWordIf, HasValueOf, HasWords, ShowsWords}
+use Rattle.rt_run.specs.Numbers.{HasNumbers, HasLevel, IsWordIf}
+use Rattle.rt_run.specs.Inside.Writing.{HasValueOf, HasWords, ShowsWords}
 
 is_section : (names : Names) (x : Section) → HasSection names x → HasLevel x → IsSection names x
 is_section names (section.Res r) h n = h

@@ -1,4 +1,5 @@
 pub mod Done
+pub mod Numbers
 pub mod Written
 pub mod Writable
 pub mod Sending

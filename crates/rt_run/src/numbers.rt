@@ -1,11 +1,11 @@
 ghost use Rattle.std.specs.Prelude.{◌<◌, ◌^◌};
-ghost use Rattle.rt_run.specs.Inside.Writing.{HasNumbers, HasLevel};
+ghost use Rattle.rt_run.specs.Numbers.{HasNumbers, HasLevel};
 
 use rt_ids::Section;
 use rt_trace::What;
 
 /// The numbers of an item are in range, as each is that the code holds.
-pub(crate) fn numbers_fit(what: &What)
+pub fn numbers_fit(what: &What)
     ensures { HasNumbers what.now }
 {
     match what {

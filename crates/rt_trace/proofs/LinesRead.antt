@@ -30,27 +30,7 @@ use Rattle.rt_trace.proofs.Tables.{irq_known, irq_read, name_at, task_read, reso
 
 verb_read : (v : Verb) → verb_named (spelling v) ≡ Some v
 verb_read verb.Pend = refl
-verb_read verb.Tick = refl
-verb_read verb.Alarm = refl
-verb_read verb.AlarmSet = refl
-verb_read verb.Take = refl
-verb_read verb.Ret = refl
-verb_read verb.Enter = refl
-verb_read verb.Leave = refl
-verb_read verb.Emit = refl
-verb_read verb.Placed = refl
-verb_read verb.Full = refl
-verb_read verb.Ready = refl
-verb_read verb.Start = refl
-verb_read verb.Free = refl
-verb_read verb.Post = refl
-verb_read verb.Clock = refl
-verb_read verb.Arm = refl
-verb_read verb.Fire = refl
-verb_read verb.Cancel = refl
-verb_read verb.Move = refl
-verb_read verb.End = refl
-verb_read verb.Trap = refl
+verb_read v = refl
 
 -- a number of 32 bits
 word_read : (n : ℕ) → IsWord n → number_at (2 ^ 32) (decimal n) ≡ Ok n

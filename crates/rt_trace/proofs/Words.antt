@@ -61,27 +61,7 @@ unspaced_append (b ∷ v) w h k = (h.0, unspaced_append v w h.1 k)
 
 spelling_test : (v : Verb) → list_any (λ b. b == 32) (spelling v) ≡ false
 spelling_test verb.Pend = refl
-spelling_test verb.Tick = refl
-spelling_test verb.Alarm = refl
-spelling_test verb.AlarmSet = refl
-spelling_test verb.Take = refl
-spelling_test verb.Ret = refl
-spelling_test verb.Enter = refl
-spelling_test verb.Leave = refl
-spelling_test verb.Emit = refl
-spelling_test verb.Placed = refl
-spelling_test verb.Full = refl
-spelling_test verb.Ready = refl
-spelling_test verb.Start = refl
-spelling_test verb.Free = refl
-spelling_test verb.Post = refl
-spelling_test verb.Clock = refl
-spelling_test verb.Arm = refl
-spelling_test verb.Fire = refl
-spelling_test verb.Cancel = refl
-spelling_test verb.Move = refl
-spelling_test verb.End = refl
-spelling_test verb.Trap = refl
+spelling_test v = refl
 
 pub spelling_unspaced : (v : Verb) → IsUnspaced (spelling v)
 spelling_unspaced v = unspaced_from_test (spelling v) (spelling_test v)

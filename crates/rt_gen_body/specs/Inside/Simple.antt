@@ -4,11 +4,13 @@ use Rattle.std.specs.Prelude.{ℕ, ◌+◌, Bool, ◌&&◌, is_some, List, [], �
 use Rattle.rt_ids.specs.Lists.{is_some_and}
 use Rattle.rt_app.specs.declared.expr.Atom.{Atom}
 use Rattle.rt_app.specs.Level.{is_software}
-use Rattle.rt_app.specs.Tree.{Expression, Spawn, Soon, After, Cancel, Move, Value, Calc, Now, Call}
+use Rattle.rt_app.specs.Tree.{App, Expression, Spawn, Soon, After, Cancel, Move, Value, Calc, Now, Call}
 use Rattle.rt_code.specs.declared.instr.Instr.TheVariants as instr
 use Rattle.rt_gen_queue.specs.Line.{Line, plain}
 use Rattle.rt_gen_queue.specs.SpawnCode.{spawn_code}
 use Rattle.rt_gen_timer.specs.TimerCode.{after_code, cancel_code, move_code}
+use Rattle.rt_gen_body.specs.declared.lines.Timed.{Timed}
+use Rattle.rt_gen_body.specs.declared.lines.Timed.TheVariants as timed
 use Rattle.rt_gen_body.specs.Inside.Values.{Context, store, value_code, arguments_code}
 
 -- the values that a spawn goes with
@@ -17,6 +19,12 @@ values_of (Soon n args place) = args
 values_of (After word delay n args place) = delay ∷ args
 values_of (Cancel word n handle place) = handle ∷ []
 values_of (Move word delay n handle place) = delay ∷ handle ∷ []
+
+-- the code of a `spawn_after`, a `cancel` and a `reschedule_after`
+abbrev pub timed_lines : Timed → App → ℕ → ℕ → ℕ → ℕ → List Line
+timed_lines timed.After app n level slot at = after_code app n level slot at
+timed_lines timed.Cancel app n level slot at = cancel_code app n level slot at
+timed_lines timed.Move app n level slot at = move_code app n level slot at
 
 module _ (c : Context) where
   -- a spawn whose arguments are there, at a static level, from an address on; none of what is no software task
@@ -28,17 +36,9 @@ module _ (c : Context) where
   abbrev pub is_timed : ℕ → Bool
   is_timed n = is_some c.app.mono && is_some_and is_software (slice_get c.app.tasks n)
 
-  -- a `spawn_after` whose delay and arguments are there, at a static level, from an address on
-  abbrev pub delayed_code : ℕ → ℕ → ℕ → List Line
-  delayed_code level at n = if is_timed n then after_code c.app n level c.spawns at else []
-
-  -- a `cancel` whose handle is there, at a static level, from an address on
-  abbrev pub cancelled_code : ℕ → ℕ → ℕ → List Line
-  cancelled_code level at n = if is_timed n then cancel_code c.app n level c.spawns at else []
-
-  -- a `reschedule_after` whose delay and handle are there, at a static level, from an address on
-  abbrev pub moved_code : ℕ → ℕ → ℕ → List Line
-  moved_code level at n = if is_timed n then move_code c.app n level c.spawns at else []
+  -- what goes to the timer queue, whose delay, arguments and handle are there; none where there is none for the task
+  abbrev pub timed_code : Timed → ℕ → ℕ → ℕ → List Line
+  timed_code kind level at n = if is_timed n then timed_lines kind c.app n level c.spawns at else []
 
   -- The values of a spawn come into the slots of spawns from the first on, in the order of the text.
   abbrev pub values_code : Spawn → List Line
@@ -47,9 +47,9 @@ module _ (c : Context) where
   -- what goes once they are there
   abbrev pub goes_code : ℕ → ℕ → Spawn → List Line
   goes_code level at (Soon n args place) = message_code level at n
-  goes_code level at (After word delay n args place) = delayed_code level at n
-  goes_code level at (Cancel word n handle place) = cancelled_code level at n
-  goes_code level at (Move word delay n handle place) = moved_code level at n
+  goes_code level at (After word delay n args place) = timed_code timed.After level at n
+  goes_code level at (Cancel word n handle place) = timed_code timed.Cancel level at n
+  goes_code level at (Move word delay n handle place) = timed_code timed.Move level at n
 
   -- a spawn: its values, and then what goes
   abbrev pub send_code : ℕ → ℕ → Spawn → List Line

@@ -1,18 +1,11 @@
 -- Code is correct from where a job is: one line of it leads on to where the code is correct again.
-use Rattle.std.proofs.Common.{◌≡◌, ℕ, suc, ◌-◌, ◌≤◌, Bool, false, Option, Some, None, List, slice_get, refl, sym, subst}
-use Rattle.std.proofs.Common.{arith}
-use Rattle.rt_app.specs.Holding.{storage}
-use Rattle.rt_code.specs.Access.{access_of}
-use Rattle.rt_code.specs.Effect.{effect}
-use Rattle.rt_code.specs.Owning.{Spot, MayAccess}
-use Rattle.rt_code.specs.Processor.{Effect, Leads}
-use Rattle.rt_code.specs.Standing.{Stands, LineFits, Asks, Goes, Does, KeepsSaved, passed, processor_of}
-use Rattle.rt_code.specs.declared.instr.Instr.{Instr}
-use Rattle.rt_code.specs.declared.instr.Note.{Note}
+use Rattle.rt_gen_queue.proofs.Vocabulary.{Asks, Bool, Goes, Instr, KeepsSaved, Leads, Line, LineFits, List, MayAccess}
+use Rattle.rt_gen_queue.proofs.Vocabulary.{None, Note, Option, Some, Spot, Stands, arith, false, passed, plain}
+use Rattle.rt_gen_queue.proofs.Vocabulary.{processor_of, refl, slice_get, storage, subst, suc, sym, ℕ, ◌-◌, ◌≡◌}
+use Rattle.rt_code.proofs.Standing.{stands_step}
+use Rattle.rt_code.specs.{Access.access_of, Effect.effect, Processor.Effect, Standing.Does}
 use Rattle.rt_code.specs.declared.processor.Request.TheVariants as request
-use Rattle.rt_code.proofs.Standing.{least_same, stands_step, stands_with_more}
-use Rattle.rt_gen_queue.specs.Line.{Line, plain}
-use Rattle.rt_gen_queue.proofs.Layer.Jobs.{Setting, Here, InTime, spot, left_passed, left_none, has_left}
+use Rattle.rt_gen_queue.proofs.Layer.Jobs.{Here, InTime, Setting, has_left, left_none, left_passed, spot}
 
 -- the code is correct from here on, within the steps that are left
 pub record S (z : Setting) (h : Here) : Type 0 where
@@ -21,15 +14,6 @@ pub record S (z : Setting) (h : Here) : Type 0 where
 -- it is correct at a configuration that one more step leads to
 abbrev pub Later : Setting → Here → Spot → Type 0
 Later z h s = Stands (storage z.app) z.code z.bodies z.thread z.who (h.until - suc h.done) s
-
--- correct within fewer steps is correct within more
-pub more_time : {z : Setting} (h : Here) (until : ℕ) → h.until ≤ until → S z h → S z (record h { until = until })
-more_time {z = z} h until less correct =
-    let fewer : h.until - h.done ≤ until - h.done = omega arith in
-    record {
-      stands = stands_with_more (storage z.app) z.bodies z.thread z.who z.code (h.until - h.done) (until - h.done)
-          (spot z h) (spot z h).lefts fewer (least_same (spot z h).lefts) correct.stands;
-    }
 
 -- correct where a job is, by equal numbers of steps and of lines
 pub moved : {z : Setting} {h : Here} (done at : ℕ) → done ≡ h.done → at ≡ h.at
@@ -70,8 +54,7 @@ given h slots to cells = record h { slots = slots; at = to; cells = cells }
 
 -- the same with what its note asks
 pub does : {z : Setting} {h : Here} {i : Instr} {slots : List ℕ} {to : ℕ} {cells : List ℕ} (told : Option Note)
-    → Gives z h i slots to cells
-    → Asks (storage z.app) z.code z.bodies z.thread z.who request.Nothing told
+    → Gives z h i slots to cells → Asks (storage z.app) z.code z.bodies z.thread z.who request.Nothing told
     (passed (spot z (given h slots to cells))) (Later z h)
     → Does (storage z.app) z.code z.bodies z.thread z.who i told (passed (spot z h)) (Later z h)
 does {z = z} {h = h} {i = i} told gives asks = record {

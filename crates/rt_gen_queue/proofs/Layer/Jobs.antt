@@ -1,17 +1,10 @@
 -- Where a job is while it runs generated code: what its configuration has, with the steps that it has done and its
 -- deadlines in place of what is left of them.
-use Rattle.std.proofs.Common.{◌≡◌, ℕ, suc, ◌+◌, ◌-◌, ◌≤◌, Option, List, [], ◌∷◌, map, refl, ap, ◌∙◌, arith}
-use Rattle.std.specs.List.{AllByRecursion}
-use Rattle.rt_ids.specs.Holder.{Holder}
-use Rattle.rt_ids.specs.Content.{Values}
-use Rattle.rt_ids.specs.Entry.{Entry}
-use Rattle.rt_ids.specs.Doing.{Doing}
-use Rattle.rt_ids.specs.Storage.{Runner}
-use Rattle.rt_app.specs.Tree.{App}
-use Rattle.rt_code.specs.Owning.{Held, Spot}
+use Rattle.rt_gen_queue.proofs.Vocabulary.{AllByRecursion, App, BodyRow, Doing, Entry, Held, Holder, Line, List, Option}
+use Rattle.rt_gen_queue.proofs.Vocabulary.{Runner, Spot, Values, [], all_weaker, ap, arith, map, refl, suc, ℕ, ◌+◌, ◌-◌}
+use Rattle.rt_gen_queue.proofs.Vocabulary.{◌<◌, ◌∙◌, ◌∷◌, ◌≡◌, ◌≤◌}
+use Rattle.rt_lemmas.proofs.Lists.{all_map}
 use Rattle.rt_code.specs.Standing.{HaveLeft}
-use Rattle.rt_code.specs.declared.image.BodyRow.{BodyRow}
-use Rattle.rt_gen_queue.specs.Line.{Line}
 use Rattle.rt_gen_queue.proofs.Numbers.{steps_and}
 
 -- what is left to each deadline
@@ -34,26 +27,17 @@ abbrev pub Lasts : ℕ → List ℕ → Type 0
 Lasts k deadlines = AllByRecursion (λ d. k ≤ d) deadlines
 
 pub lasts_less : (j k : ℕ) (deadlines : List ℕ) → j ≤ k → Lasts k deadlines → Lasts j deadlines
-lasts_less j k [] less lasts = tt
-lasts_less j k (d ∷ deadlines) less (first, rest) = (omega arith, lasts_less j k deadlines less rest)
+lasts_less j k deadlines less lasts = all_weaker (λ d. k ≤ d) (λ d. j ≤ d) (λ d within. omega arith) deadlines lasts
 
 pub has_left : (k : ℕ) (deadlines : List ℕ) → Lasts (suc k) deadlines → HaveLeft (left_at k deadlines)
-has_left k [] lasts = tt
-has_left k (d ∷ deadlines) (first, rest) = (omega arith, has_left k deadlines rest)
+has_left k deadlines lasts =
+    all_map (λ d. d - k) (λ d. suc k ≤ d) (λ n. 0 < n) (λ d within. omega arith) deadlines lasts
 
--- what is left behind more steps
-pub left_later : (k more : ℕ) (deadlines : List ℕ) → map (λ n. n - more) (left_at k deadlines)
-    ≡ left_at (k + more) deadlines
-left_later k more [] = refl
-left_later k more (d ∷ deadlines) =
-    let e : (d - k) - more ≡ d - (k + more) = omega arith in
-    ap (λ n. n ∷ map (λ m. m - more) (left_at k deadlines)) e
-    ∙ ap (λ ns. (d - (k + more)) ∷ ns) (left_later k more deadlines)
-
+-- what is left to each lasts as long
 pub lasts_left : (k more : ℕ) (deadlines : List ℕ) → Lasts (k + more) deadlines
     → AllByRecursion (λ n. more ≤ n) (left_at k deadlines)
-lasts_left k more [] lasts = tt
-lasts_left k more (d ∷ deadlines) (first, rest) = (omega arith, lasts_left k more deadlines rest)
+lasts_left k more deadlines lasts =
+    all_map (λ d. d - k) (λ d. k + more ≤ d) (λ n. more ≤ n) (λ d within. omega arith) deadlines lasts
 
 -- code for a runner of an application, in a frame that a handler may have called
 pub record Setting : Type 0 where

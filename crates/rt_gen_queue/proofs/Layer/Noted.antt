@@ -1,27 +1,19 @@
 -- Lines of a run that are not silent: those that ask the core for something, and those whose note says what is done.
-use Rattle.std.proofs.Common.{◌≡◌, ℕ, suc, ◌+◌, ◌^◌, ◌<◌, true, Some, None, List, ◌∷◌, length, map}
-use Rattle.std.proofs.Common.{slice_index, slice_set, refl, sym, ap, subst, ◌∙◌, arith, length-set}
-use Rattle.rt_lemmas.proofs.Bools.{and_right}
-use Rattle.rt_ids.specs.Holder.{Holder, Guarded}
-use Rattle.rt_ids.specs.Content.{Values, delays, least_instant}
-use Rattle.rt_ids.specs.Entry.{Entry}
-use Rattle.rt_ids.specs.Action.{Action, Emits, Posts, Clocks, SetsAlarm, effect}
-use Rattle.rt_ids.specs.Doing.{Doing, does}
+use Rattle.rt_gen_queue.proofs.Vocabulary.{Action, Agree, Clocks, Doing, Emits, Entry, Guarded, HasCode, Holder, Instr}
+use Rattle.rt_gen_queue.proofs.Vocabulary.{Line, LineFits, List, None, Posts, SetsAlarm, Some, Values, and_right, ap}
+use Rattle.rt_gen_queue.proofs.Vocabulary.{arith, delays, does, effect, is_open, least_instant, length, length-set, map}
+use Rattle.rt_gen_queue.proofs.Vocabulary.{passed, plain, refl, slice_index, slice_set, storage, subst, suc, sym, true}
+use Rattle.rt_gen_queue.proofs.Vocabulary.{ℕ, ◌+◌, ◌<◌, ◌^◌, ◌∙◌, ◌∷◌, ◌≡◌}
 use Rattle.rt_ids.specs.declared.ids.Section.TheVariants as section
-use Rattle.rt_app.specs.Holding.{storage}
 use Rattle.rt_code.specs.Acting.{Acts}
-use Rattle.rt_code.specs.Owning.{is_open, Agree}
-use Rattle.rt_code.specs.Standing.{LineFits, passed}
-use Rattle.rt_code.specs.declared.instr.Instr.{Instr}
 use Rattle.rt_code.specs.declared.instr.Instr.TheVariants as instr
-use Rattle.rt_gen_queue.specs.Line.{Line, plain, HasCode}
-use Rattle.rt_gen_queue.proofs.Layer.Jobs.{Setting, Here, lasts_less, spot}
-use Rattle.rt_gen_queue.proofs.Layer.Correct.{S, Later, Gives, at_passed, by_line}
-use Rattle.rt_gen_queue.proofs.Layer.Window.{Frame, window, Now, is_free, window_set, window_free}
-use Rattle.rt_gen_queue.proofs.Layer.Window.{window_there, free_there}
-use Rattle.rt_gen_queue.proofs.Layer.Runs.{fits, all_fit, placed, MayRun, Straight, next_in_time, first_fits, slot_of}
+use Rattle.rt_gen_queue.proofs.Layer.Correct.{Gives, Later, S, at_passed, by_line}
+use Rattle.rt_gen_queue.proofs.Layer.Jobs.{Here, Setting, lasts_less, spot}
+use Rattle.rt_gen_queue.proofs.Layer.Requests.{alarms_here, clocks_here, emits_here, no_alarm_here, posts_here}
+use Rattle.rt_gen_queue.proofs.Layer.Runs.{MayRun, Straight, all_fit, first_fits, fits, next_in_time, placed, slot_of}
 use Rattle.rt_gen_queue.proofs.Layer.Runs.{word_of}
-use Rattle.rt_gen_queue.proofs.Layer.Requests.{emits_here, posts_here, clocks_here, alarms_here, no_alarm_here}
+use Rattle.rt_gen_queue.proofs.Layer.Window.{Frame, Now, free_there, is_free, window, window_free, window_set}
+use Rattle.rt_gen_queue.proofs.Layer.Window.{window_there}
 
 -- The place behind a line that may have changed all but the open sections and the deadlines.
 abbrev pub behind_line : Here → List Entry → List ℕ → (Holder → List Entry) → Doing Values → Here
@@ -48,38 +40,32 @@ module _ {size mask : ℕ} where
     fit = and_right (fits size mask line.0) (all_fit size mask lines) may.fit;
   }
 
-  -- a run that goes on behind a line, as what the line's note asks for
-  pub goes_later : {z : Setting} {f : Frame size mask} {line : Line} {lines : List Line} {h : Here} {ws : List ℕ}
-      {places : List Entry} {cells : List ℕ} {queues : Holder → List Entry} {rest : Doing Values} {after : List ℕ}
-      → length after ≡ length ws → MayRun f (line ∷ lines) h ws → HasCode z.code (suc h.at) (map (placed f.slot) lines)
-      → Straight z f lines (behind_line h places cells queues rest) after
-      → Later z h (passed (spot z (record (behind_line h places cells queues rest) {
-        done = h.done;
-        slots = window f after;
-      })))
-  goes_later {f = f} {h = h} {places = places} {cells = cells} {queues = queues} {rest = rest} {after = after} long may
-      has on =
-      at_passed (record (behind_line h places cells queues rest) { done = h.done; slots = window f after })
-      (on.runs (may_follow places cells queues rest after long may) has)
+  module _ {z : Setting} {f : Frame size mask} {line : Line} {lines : List Line} {h : Here} {ws : List ℕ}
+      {places : List Entry} {cells : List ℕ} {queues : Holder → List Entry} where
+    -- a run that goes on behind a line, as what the line's note asks for
+    pub goes_later : {rest : Doing Values} {after : List ℕ} → length after ≡ length ws → MayRun f (line ∷ lines) h ws
+        → HasCode z.code (suc h.at) (map (placed f.slot) lines)
+        → Straight z f lines (behind_line h places cells queues rest) after
+        → Later z h (passed (spot z (Now f (record (behind_line h places cells queues rest) { done = h.done }) after)))
+    goes_later {rest = rest} {after = after} long may has on =
+        at_passed (Now f (record (behind_line h places cells queues rest) { done = h.done }) after)
+        (on.runs (may_follow places cells queues rest after long may) has)
 
-  -- the next action of what is left to do, as a line's note has it, and the lines behind it
-  pub acts_later : {z : Setting} {f : Frame size mask} {line : Line} {lines : List Line} {h : Here} {ws : List ℕ}
-      {places : List Entry} {cells : List ℕ} {queues : Holder → List Entry} {values : Values}
-      {rest : Values → Doing Values} (action : Action) (after : List ℕ) → length after ≡ length ws
-      → MayRun f (line ∷ lines) h ws → HasCode z.code (suc h.at) (map (placed f.slot) lines)
-      → h.rest ≡ does action values (λ answer. rest)
-      → ((vs : Values) → Agree (storage z.app) z.who h.held vs values
-      → Straight z f lines (behind_line h places cells queues (rest (effect action vs))) after)
-      → Acts (storage z.app) z.bodies z.who action 0
-      (passed (spot z (record (behind_line h places cells queues h.rest) { done = h.done; slots = window f after })))
-      (Later z h)
-  acts_later {places = places} {cells = cells} {queues = queues} {values = values} {rest = rest} action after long may
-      has is on = record {
-        values = values;
-        follows = λ answer. rest;
-        is = is;
-        on = λ vs agree. goes_later long may has (on vs agree);
-      }
+    -- the next action of what is left to do, as a line's note has it, and the lines behind it
+    pub acts_later : {values : Values} {rest : Values → Doing Values} (action : Action) (after : List ℕ)
+        → length after ≡ length ws → MayRun f (line ∷ lines) h ws
+        → HasCode z.code (suc h.at) (map (placed f.slot) lines) → h.rest ≡ does action values (λ answer. rest)
+        → ((vs : Values) → Agree (storage z.app) z.who h.held vs values
+        → Straight z f lines (behind_line h places cells queues (rest (effect action vs))) after)
+        → Acts (storage z.app) z.bodies z.who action 0
+        (passed (spot z (Now f (record (behind_line h places cells queues h.rest) { done = h.done }) after)))
+        (Later z h)
+    acts_later {values = values} {rest = rest} action after long may has is on = record {
+      values = values;
+      follows = λ answer. rest;
+      is = is;
+      on = λ vs agree. goes_later long may has (on vs agree);
+    }
 
   module _ {z : Setting} {f : Frame size mask} {line : Line} {lines : List Line} {h : Here} {ws : List ℕ} where
     -- a line by what fits it where it is
@@ -94,8 +80,7 @@ module _ {size mask : ℕ} where
 
     -- what an instruction gives that writes a free slot of the window
     pub in_window : {i : Instr} {to : ℕ} {cells : List ℕ} (d v : ℕ) → MayRun f (line ∷ lines) h ws
-        → is_free size mask d ≡ true
-        → Gives z (Now f h ws) i (slice_set (window f ws) (f.slot + d) v) to cells
+        → is_free size mask d ≡ true → Gives z (Now f h ws) i (slice_set (window f ws) (f.slot + d) v) to cells
         → Gives z (Now f h ws) i (window f (slice_set ws d v)) to cells
     in_window {i = i} {to = to} {cells = cells} d v may free gives =
         let there : d < length ws = omega (arith, may.long, free_there size mask d free) in

@@ -1,30 +1,18 @@
 -- Lines that ask the core for something, wherever they are: each does the next action of what is left to do.
-use Rattle.std.proofs.Common.{◌≡◌, ℕ, suc, ◌^◌, ◌<◌, Bool, true, false, Some, None, [], length, slice_get}
-use Rattle.std.proofs.Common.{slice_index, slice_set, refl, sym, subst}
-use Rattle.rt_ids.specs.Holder.{Holder, Guarded}
-use Rattle.rt_ids.specs.Content.{Values, delays, least_instant}
-use Rattle.rt_ids.specs.Action.{Action, Emits, Posts, Clocks, SetsAlarm, Returns}
-use Rattle.rt_ids.specs.Action.{effect as action_effect}
-use Rattle.rt_ids.specs.Doing.{Doing, does}
+use Rattle.rt_gen_queue.proofs.Vocabulary.{Action, Agree, Asks, BodyRow, Bool, Clocks, Doing, Emits, Goes, Guarded}
+use Rattle.rt_gen_queue.proofs.Vocabulary.{Holder, Instr, Leads, MayAccess, None, Posts, Returns, SetsAlarm, Some}
+use Rattle.rt_gen_queue.proofs.Vocabulary.{Values, [], body_frame, caller_frame, delays, does, effect as action_effect}
+use Rattle.rt_gen_queue.proofs.Vocabulary.{false, is_open, least_instant, length, passed, plain, processor_of, refl}
+use Rattle.rt_gen_queue.proofs.Vocabulary.{slice_get, slice_index, slice_set, storage, subst, suc, sym, true, ℕ, ◌<◌}
+use Rattle.rt_gen_queue.proofs.Vocabulary.{◌^◌, ◌≡◌}
 use Rattle.rt_ids.specs.declared.ids.Section.TheVariants as section
-use Rattle.rt_app.specs.Holding.{storage}
-use Rattle.rt_code.specs.Access.{access_of}
-use Rattle.rt_code.specs.Acting.{Acts}
-use Rattle.rt_code.specs.Effect.{effect}
-use Rattle.rt_code.specs.Owning.{is_open, MayAccess, Agree}
-use Rattle.rt_code.specs.Processor.{Effect, Leads}
-use Rattle.rt_code.specs.Stack.{arguments_fit, body_frame, caller_frame}
-use Rattle.rt_code.specs.Standing.{Asks, Goes, passed, processor_of}
-use Rattle.rt_code.specs.declared.image.BodyRow.{BodyRow}
-use Rattle.rt_code.specs.declared.instr.Instr.{Instr}
+use Rattle.rt_code.{proofs.Done.effect_is_done, specs.Access.access_of, specs.Acting.Acts, specs.Effect.effect}
+use Rattle.rt_code.{specs.Processor.Effect, specs.Stack.arguments_fit, specs.declared.processor.Request.Request}
 use Rattle.rt_code.specs.declared.instr.Instr.TheVariants as instr
-use Rattle.rt_code.specs.declared.processor.Request.{Request}
 use Rattle.rt_code.specs.declared.processor.Request.TheVariants as request
-use Rattle.rt_code.proofs.Done.{effect_is_done}
-use Rattle.rt_gen_queue.specs.Line.{plain}
-use Rattle.rt_gen_queue.proofs.Layer.Jobs.{Setting, Here, InTime, spot}
-use Rattle.rt_gen_queue.proofs.Layer.Correct.{S, Later, at_passed, by_line}
+use Rattle.rt_gen_queue.proofs.Layer.Correct.{Later, S, at_passed, by_line}
 use Rattle.rt_gen_queue.proofs.Layer.Instructions.{IsFree, kept_free, kept_same, one_there}
+use Rattle.rt_gen_queue.proofs.Layer.Jobs.{Here, InTime, Setting, spot}
 
 -- what is left to do behind the next action, whatever others did to what is not the job's
 abbrev pub Follows : Setting → Here → Values → (Values → Doing Values) → Type 0
@@ -49,10 +37,8 @@ asks_for : {z : Setting} {h : Here} (i : Instr) (asked : Request) (to : ℕ) →
     → ((time b : ℕ) (m : Bool) → effect i time (processor_of (spot z h) b m)
     ≡ Leads (record { address = to; basepri = b; primask = m; slots = h.slots; cells = h.cells }) asked)
     → MayAccess (storage z.app) z.who (spot z h)
-    (access_of i (processor_of (spot z h) 0 false))
-    → Asks (storage z.app) z.code z.bodies z.thread z.who asked None
-    (record (passed (spot z h)) { address = to }) (Later z h)
-    → S z h
+    (access_of i (processor_of (spot z h) 0 false)) → Asks (storage z.app) z.code z.bodies z.thread z.who asked None
+    (record (passed (spot z h)) { address = to }) (Later z h) → S z h
 asks_for {z = z} {h = h} i asked to here time leads may asks =
     by_line i None here time
     (record {
@@ -102,12 +88,7 @@ module _ {z : Setting} {h : Here} where
       → slice_get z.code h.at ≡ Some (plain (instr.Clock d)) → InTime (suc h.done) h → d < length h.slots
       → IsFree h.held d → h.rest ≡ does Clocks values follows
       → ((now : ℕ) (vs : Values) → now < 2 ^ 31 → Agree (storage z.app) z.who h.held vs values
-      → S z (record h {
-        done = suc h.done;
-        slots = slice_set h.slots d now;
-        at = suc h.at;
-        rest = follows now vs;
-      }))
+      → S z (record h { done = suc h.done; slots = slice_set h.slots d now; at = suc h.at; rest = follows now vs }))
       → S z h
   clocks_here {d = d} {values = values} {follows = follows} here time there free is on =
       by_line (instr.Clock d) None here time
@@ -179,8 +160,7 @@ module _ {z : Setting} {h : Here} where
   -- the job returns
   pub returns_here : {values : Values} {rest : Values → Doing Values}
       → slice_get z.code h.at ≡ Some (plain instr.Ret) → InTime (suc h.done) h → z.caller ≡ None → h.held ≡ []
-      → h.places ≡ [] → h.rest ≡ does Returns values (λ answer. rest) → GivesBack z h values
-      → S z h
+      → h.places ≡ [] → h.rest ≡ does Returns values (λ answer. rest) → GivesBack z h values → S z h
   returns_here {values = values} {rest = rest} here time own closed empty is back =
       asks_for {z = z} {h = h} instr.Ret request.Return h.at here time
       (λ now b m. effect_is_done instr.Ret now (processor_of (spot z h) b m) refl refl) tt

@@ -1,33 +1,21 @@
 -- Lines that run one after another on a window of the frame, their slots numbered from the window's first. That they
 -- are in the code, that there is time for them, and that they write free slots of the window is asked once for all of
 -- them; each line then asks for what it alone needs.
-use Rattle.std.proofs.Common.{◌≡◌, ℕ, suc, ◌+◌, ◌<◌, ◌==◌, ◌&&◌, Bool, true, false}
-use Rattle.std.proofs.Common.{option_map, List, [], ◌∷◌, length, map, slice_index, slice_set}
-use Rattle.std.proofs.Common.{refl, ap, subst, ◌∙◌, arith, length-set}
-use Rattle.std.proofs.lemmas.Bool.{ltb-true}
-use Rattle.std.proofs.lemmas.Bool.Decides.{nat_tests}
-use Rattle.rt_lemmas.proofs.Bools.{and_left, and_right}
-use Rattle.rt_ids.specs.Holder.{Guarded}
-use Rattle.rt_ids.specs.Operation.{operate}
-use Rattle.rt_ids.specs.Storage.{At}
-use Rattle.rt_ids.specs.declared.ids.Section.{Section}
+use Rattle.rt_gen_queue.proofs.Vocabulary.{At, Bool, Guarded, HasCode, Instr, Line, List, Note, Section, [], and_left}
+use Rattle.rt_gen_queue.proofs.Vocabulary.{and_right, ap, arith, false, home_of, is_open, length, length-set, ltb-true}
+use Rattle.rt_gen_queue.proofs.Vocabulary.{map, memory, nat_tests, operate, option_map, plain, refl, slice_index}
+use Rattle.rt_gen_queue.proofs.Vocabulary.{slice_set, subst, suc, true, ℕ, ◌&&◌, ◌+◌, ◌<◌, ◌==◌, ◌∙◌, ◌∷◌, ◌≡◌}
 use Rattle.rt_ids.specs.declared.op.Op.{Op}
-use Rattle.rt_app.specs.Layout.{memory, home_of}
-use Rattle.rt_code.specs.Owning.{is_open}
-use Rattle.rt_code.specs.declared.instr.Instr.{Instr}
 use Rattle.rt_code.specs.declared.instr.Instr.TheVariants as instr
-use Rattle.rt_code.specs.declared.instr.Note.{Note}
 use Rattle.rt_code.specs.declared.instr.Note.TheVariants as note
-use Rattle.rt_gen_queue.specs.Line.{Line, plain, HasCode}
+use Rattle.rt_gen_queue.proofs.Layer.Correct.{Gives, S, goes}
+use Rattle.rt_gen_queue.proofs.Layer.Instructions.{IsFree, Reads, Writes, Wrote, calc_gives, copy_gives, jump_by_gives}
+use Rattle.rt_gen_queue.proofs.Layer.Instructions.{jump_gives, load_at_gives, load_gives, set_gives, store_at_gives}
+use Rattle.rt_gen_queue.proofs.Layer.Instructions.{store_gives, wrote}
+use Rattle.rt_gen_queue.proofs.Layer.Jobs.{Here, InTime, Setting, lasts_less, spot}
+use Rattle.rt_gen_queue.proofs.Layer.Window.{Frame, Now, Saves, free_there, is_free, is_there, window, window_free}
+use Rattle.rt_gen_queue.proofs.Layer.Window.{window_read, window_set, window_there}
 use Rattle.rt_gen_queue.proofs.Owning.{at_in_memory, loads_open, stores_open}
-use Rattle.rt_gen_queue.proofs.Layer.Jobs.{Setting, Here, InTime, spot, lasts_less}
-use Rattle.rt_gen_queue.proofs.Layer.Correct.{S, Gives, goes}
-use Rattle.rt_gen_queue.proofs.Layer.Instructions.{Reads, Writes, Wrote, wrote, IsFree, set_gives}
-use Rattle.rt_gen_queue.proofs.Layer.Instructions.{copy_gives, calc_gives}
-use Rattle.rt_gen_queue.proofs.Layer.Instructions.{load_gives, load_at_gives, store_gives, store_at_gives, jump_gives}
-use Rattle.rt_gen_queue.proofs.Layer.Instructions.{jump_by_gives}
-use Rattle.rt_gen_queue.proofs.Layer.Window.{Frame, window, Now, Saves, is_there, is_free, window_read, window_set}
-use Rattle.rt_gen_queue.proofs.Layer.Window.{window_there, window_free, free_there}
 
 -- an instruction whose slots are numbered from a slot on
 abbrev pub shifted : ℕ → Instr → Instr
@@ -106,20 +94,19 @@ module _ {size mask : ℕ} where
         may.time;
     saves = may.saves;
     long = long ∙ may.long;
-    fit = and_right (fits size mask line.0) (all_fit size mask lines) may.fit;
+    fit = and_right _ _ may.fit;
   }
 
   module _ {f : Frame size mask} {line : Line} {lines : List Line} {h : Here} {ws : List ℕ} where
     -- the first line fits
     pub first_fits : MayRun f (line ∷ lines) h ws → fits size mask line.0 ≡ true
-    first_fits may = and_left (fits size mask line.0) (all_fit size mask lines) may.fit
+    first_fits may = and_left _ _ may.fit
 
     -- a slot that an instruction reads is in the frame, and what it has
     pub is_in : (x : ℕ) → MayRun f (line ∷ lines) h ws → is_there size x ≡ true → x < length ws
     is_in x may there = omega (arith, may.long, ltb-true x size there)
 
-    pub slot_of : (x : ℕ) → MayRun f (line ∷ lines) h ws → is_there size x ≡ true
-        → f.slot + x < length (window f ws)
+    pub slot_of : (x : ℕ) → MayRun f (line ∷ lines) h ws → is_there size x ≡ true → f.slot + x < length (window f ws)
     slot_of x may there = window_there f ws x (is_in x may there)
 
     -- so is one that it may write
@@ -133,8 +120,7 @@ module _ {size mask : ℕ} where
 
   -- the next lines, with these cells and words
   abbrev pub Next : Setting → Frame size mask → List Line → Here → List ℕ → List ℕ → Type 0
-  Next z f lines h cells after =
-      Straight z f lines (record h { done = suc h.done; at = suc h.at; cells = cells }) after
+  Next z f lines h cells after = Straight z f lines (record h { done = suc h.done; at = suc h.at; cells = cells }) after
 
   -- where no line is left
   pub ends : {z : Setting} {f : Frame size mask} {h : Here} {ws : List ℕ} → S z (Now f h ws) → Straight z f [] h ws
@@ -152,8 +138,7 @@ module _ {size mask : ℕ} where
     }
 
     -- an instruction that writes a slot of the window, and nothing else
-    writes : (i : Instr) (d v : ℕ)
-        → (MayRun f (plain i ∷ lines) h ws → is_free size mask d ≡ true)
+    writes : (i : Instr) (d v : ℕ) → (MayRun f (plain i ∷ lines) h ws → is_free size mask d ≡ true)
         → (MayRun f (plain i ∷ lines) h ws → IsFree h.held (f.slot + d) → f.slot + d < length (window f ws)
         → Gives z (Now f h ws) (shifted f.slot i) (slice_set (window f ws) (f.slot + d) v) (suc h.at) h.cells)
         → Next z f lines h h.cells (slice_set ws d v) → Straight z f (plain i ∷ lines) h ws
@@ -177,21 +162,18 @@ module _ {size mask : ℕ} where
         → Straight z f (plain (instr.Copy d x) ∷ lines) h ws
     copies {d = d} {x = x} on =
         let v : ℕ = slice_index ws x in
-        writes (instr.Copy d x) d v (λ may. and_left (is_free size mask d) (is_there size x) (first_fits may))
-        (λ may free there.
-        let from = and_right (is_free size mask d) (is_there size x) (first_fits may) in
+        writes (instr.Copy d x) d v (λ may. and_left _ _ (first_fits may)) (λ may free there.
+        let from = and_right _ _ (first_fits may) in
         copy_gives v there (slot_of x may from) free (word_of x v may from refl)) on
 
     -- a slot gets what an operation gives on two
     pub calculates : {op : Op} {d x y : ℕ} (value : ℕ) → operate op (slice_index ws x) (slice_index ws y) ≡ value
         → Next z f lines h h.cells (slice_set ws d value) → Straight z f (plain (instr.Calc op d x y) ∷ lines) h ws
     calculates {op = op} {d = d} {x = x} {y = y} value is on =
-        writes (instr.Calc op d x y) d value
-        (λ may. and_left (is_free size mask d) (is_there size x && is_there size y) (first_fits may))
-        (λ may free there.
-        let both = and_right (is_free size mask d) (is_there size x && is_there size y) (first_fits may) in
-        let left = and_left (is_there size x) (is_there size y) both in
-        let right = and_right (is_there size x) (is_there size y) both in
+        writes (instr.Calc op d x y) d value (λ may. and_left _ _ (first_fits may)) (λ may free there.
+        let both = and_right _ _ (first_fits may) in
+        let left = and_left _ _ both in
+        let right = and_right _ _ both in
         calc_gives value there (slot_of x may left) (slot_of y may right) free
         (ap (λ k. operate op k (slice_index (window f ws) (f.slot + y))) (word_of x (slice_index ws x) may left refl)
         ∙ ap (operate op (slice_index ws x)) (word_of y (slice_index ws y) may right refl) ∙ is)) on
@@ -206,9 +188,8 @@ module _ {size mask : ℕ} where
     pub loads_at : {d c x : ℕ} (k value : ℕ) → slice_index ws x ≡ k → Reads z (Now f h ws) (c + k) value
         → Next z f lines h h.cells (slice_set ws d value) → Straight z f (plain (instr.LoadAt d c x) ∷ lines) h ws
     loads_at {d = d} {c = c} {x = x} k value shown reads on =
-        writes (instr.LoadAt d c x) d value (λ may. and_left (is_free size mask d) (is_there size x) (first_fits may))
-        (λ may free there.
-        let from = and_right (is_free size mask d) (is_there size x) (first_fits may) in
+        writes (instr.LoadAt d c x) d value (λ may. and_left _ _ (first_fits may)) (λ may free there.
+        let from = and_right _ _ (first_fits may) in
         load_at_gives k value there (slot_of x may from) free (word_of x k may from shown) reads) on
 
     -- a cell gets what a slot has
@@ -228,8 +209,8 @@ module _ {size mask : ℕ} where
     stores_at {c = c} {x = x} {a = a} k value shown is writes on =
         goes_on (instr.StoreAt c x a) (slice_set h.cells (c + k) value) ws refl
         (λ may.
-        let from = and_left (is_there size x) (is_there size a) (first_fits may) in
-        let of = and_right (is_there size x) (is_there size a) (first_fits may) in
+        let from = and_left _ _ (first_fits may) in
+        let of = and_right _ _ (first_fits may) in
         store_at_gives k value (slot_of x may from) (slot_of a may of) (word_of x k may from shown)
         (word_of a value may of is) writes)
         (on (slice_set h.cells (c + k) value) (wrote (c + k) value h.cells writes.there))

@@ -1,22 +1,14 @@
 -- How a job goes into a section and comes out of it, whatever the section guards and however it holds others off.
-use Rattle.std.proofs.Common.{◌≡◌, ℕ, suc, ◌+◌, ◌-◌, ◌<◌, false, Some, List, [], ◌∷◌, length, map, drop, Contains}
-use Rattle.std.proofs.Common.{slice_get, slice_index, refl, sym, ap, subst, ◌∙◌, arith}
-use Rattle.std.specs.List.{AllByRecursion}
-use Rattle.rt_ids.specs.Holder.{Holder, Guarded}
-use Rattle.rt_ids.specs.Content.{Values}
-use Rattle.rt_ids.specs.Entry.{Entry}
-use Rattle.rt_ids.specs.Action.{Enters, Leaves}
-use Rattle.rt_ids.specs.Doing.{Doing, does}
-use Rattle.rt_ids.specs.declared.ids.Section.{Section}
-use Rattle.rt_app.specs.Holding.{storage}
-use Rattle.rt_code.specs.Masking.{TakesOver, IsKindFor, IsWithin, NobodyKeeps, opening, closing, saving, inside}
-use Rattle.rt_code.specs.Owning.{Kind, Held, is_open, saved_slot, saved_slots, Agree}
-use Rattle.rt_code.specs.Standing.{passed}
-use Rattle.rt_code.specs.declared.instr.Instr.{Instr}
+use Rattle.rt_gen_queue.proofs.Vocabulary.{Agree, AllByRecursion, Contains, Doing, Enters, Entry, Guarded, Held, Holder}
+use Rattle.rt_gen_queue.proofs.Vocabulary.{Instr, IsKindFor, IsWithin, Kind, Leaves, List, NobodyKeeps, Section, Some}
+use Rattle.rt_gen_queue.proofs.Vocabulary.{TakesOver, Values, [], ap, arith, closing, does, drop, false, is_open}
+use Rattle.rt_gen_queue.proofs.Vocabulary.{length, map, noted, opening, passed, refl, saved_slot, saved_slots, saving}
+use Rattle.rt_gen_queue.proofs.Vocabulary.{slice_get, slice_index, storage, subst, suc, sym, ℕ, ◌+◌, ◌-◌, ◌<◌, ◌∙◌, ◌∷◌}
+use Rattle.rt_gen_queue.proofs.Vocabulary.{◌≡◌}
+use Rattle.rt_code.specs.Masking.{inside}
 use Rattle.rt_code.specs.declared.instr.Note.TheVariants as note
-use Rattle.rt_gen_queue.specs.Line.{noted}
-use Rattle.rt_gen_queue.proofs.Layer.Jobs.{left_at, left_passed, Setting, Here, InTime, spot}
-use Rattle.rt_gen_queue.proofs.Layer.Correct.{S, Later, by_line}
+use Rattle.rt_gen_queue.proofs.Layer.Correct.{Later, S, by_line}
+use Rattle.rt_gen_queue.proofs.Layer.Jobs.{Here, InTime, Setting, left_at, left_passed, spot}
 
 -- the section may be opened so
 pub record MayOpen (z : Setting) (h : Here) (x : Section) (kind : Kind) : Type 0 where

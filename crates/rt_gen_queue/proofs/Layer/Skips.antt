@@ -1,13 +1,10 @@
 -- A jump forward in a run: so many of the next lines are left out.
-use Rattle.std.proofs.Common.{◌≡◌, ℕ, zero, suc, ◌+◌, true, List, [], ◌∷◌, length, map, drop, slice_index}
-use Rattle.std.proofs.Common.{subst, arith}
+use Rattle.rt_gen_queue.proofs.Vocabulary.{HasCode, Line, List, [], and_right, arith, drop, length, map, plain}
+use Rattle.rt_gen_queue.proofs.Vocabulary.{slice_index, subst, suc, true, zero, ℕ, ◌+◌, ◌∷◌, ◌≡◌}
 use Rattle.std.proofs.lemmas.List.{length-drop}
-use Rattle.rt_lemmas.proofs.Bools.{and_right}
 use Rattle.rt_code.specs.declared.instr.Instr.TheVariants as instr
-use Rattle.rt_gen_queue.specs.Line.{Line, plain, HasCode}
-use Rattle.rt_gen_queue.proofs.Layer.Jobs.{Setting, Here, lasts_less}
-use Rattle.rt_gen_queue.proofs.Layer.Runs.{placed, fits, all_fit, MayRun, Straight, jumps, jumps_off}
-use Rattle.rt_gen_queue.proofs.Layer.Window.{Frame}
+use Rattle.rt_gen_queue.proofs.Layer.{Jobs.Here, Jobs.Setting, Jobs.lasts_less, Window.Frame}
+use Rattle.rt_gen_queue.proofs.Layer.Runs.{MayRun, Straight, all_fit, fits, jumps, jumps_off, placed}
 
 fit_behind : (size mask k : ℕ) (lines : List Line) → all_fit size mask lines ≡ true
     → all_fit size mask (drop k lines) ≡ true

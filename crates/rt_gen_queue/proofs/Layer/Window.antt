@@ -1,18 +1,13 @@
 -- A window of the frame: so many slots that one piece of code works in, as a list of words, with the slots before and
 -- behind them. A write into one of them is a write into the list, and that computes. One slot of the window is for the
 -- mask of a section.
-use Rattle.std.proofs.Common.{◌≡◌, ◌≢◌, ◌⊎◌, ℕ, zero, suc, ◌+◌, ◌-◌, ◌<◌, ◌≤◌, ◌==◌, ◌&&◌, nat_lt, not, Bool, true}
-use Rattle.std.proofs.Common.{List, [], ◌∷◌, ◌++◌, length, take, drop, slice_index, slice_set, drop-cons}
-use Rattle.std.proofs.Common.{refl, sym, ap, subst, ◌∙◌, arith, inl, inr, append_assoc}
-use Rattle.std.specs.List.{AllByRecursion}
-use Rattle.std.proofs.lemmas.List.{get_or-append-add, get_or_append_left, set-append_left, set-append_right}
-use Rattle.std.proofs.lemmas.List.{length-append, length-take-le, take-append-drop}
-use Rattle.std.proofs.lemmas.Bool.{ltb-true, false≢true}
-use Rattle.std.proofs.lemmas.Bool.Decides.{nat_tests}
-use Rattle.rt_lemmas.proofs.Bools.{and_left, and_right}
-use Rattle.rt_code.specs.Owning.{Held, saved_slots}
-use Rattle.rt_gen_queue.proofs.Layer.Jobs.{Here}
-use Rattle.rt_gen_queue.proofs.Layer.Instructions.{IsFree}
+use Rattle.rt_gen_queue.proofs.Vocabulary.{AllByRecursion, Bool, Held, List, [], all_weaker, and_left, ap, append_assoc}
+use Rattle.rt_gen_queue.proofs.Vocabulary.{arith, drop, drop-cons, get_or_append_left, inl, inr, length, length-append}
+use Rattle.rt_gen_queue.proofs.Vocabulary.{length-take-le, ltb-true, nat_lt, nat_tests, not, refl, saved_slots}
+use Rattle.rt_gen_queue.proofs.Vocabulary.{slice_index, slice_set, suc, sym, take, take-append-drop, true, zero, ℕ}
+use Rattle.rt_gen_queue.proofs.Vocabulary.{◌&&◌, ◌++◌, ◌+◌, ◌-◌, ◌<◌, ◌==◌, ◌∙◌, ◌∷◌, ◌≡◌, ◌≢◌, ◌≤◌, ◌⊎◌}
+use Rattle.std.proofs.lemmas.List.{get_or-append-add, set-append_left, set-append_right}
+use Rattle.rt_gen_queue.proofs.Layer.{Instructions.IsFree, Jobs.Here}
 
 -- the slots before a window of so many, from whose end on its own are numbered, and those behind it
 pub record Frame (size mask : ℕ) : Type 0 where
@@ -33,21 +28,7 @@ pub free_there : (size mask d : ℕ) → is_free size mask d ≡ true → d < si
 free_there size mask d free = ltb-true d size (and_left (nat_lt d size) (not (d == mask)) free)
 
 not_the_mask : (size mask d : ℕ) → is_free size mask d ≡ true → d ≢ mask
-not_the_mask size mask d free same =
-    let e : not (mask == mask) ≡ true =
-    subst (λ (k : ℕ). not (k == mask) ≡ true) same (and_right (nat_lt d size) (not (d == mask)) free) in
-    let is : (mask == mask) ≡ true = grind (arith, nat_tests) in
-    false≢true (sym (ap not is) ∙ e)
-
-free_all : (mask : ℕ) (saved : List ℕ) (slot d : ℕ) → d ≢ mask
-    → AllByRecursion (λ e. (e < slot) ⊎ (e ≡ slot + mask)) saved
-    → AllByRecursion (λ e. e ≢ slot + d) saved
-free_all mask [] slot d other saves = tt
-free_all mask (e ∷ saved) slot d other (first, rest) = (differ e first, free_all mask saved slot d other rest)
-  where
-    differ : (e : ℕ) → (e < slot) ⊎ (e ≡ slot + mask) → e ≢ slot + d
-    differ e (inl less) = omega arith
-    differ e (inr is) = omega (arith, other)
+not_the_mask size mask d free same = grind (arith, nat_tests)
 
 module _ {size mask : ℕ} where
   -- all slots, with these words in the window
@@ -80,16 +61,18 @@ module _ {size mask : ℕ} where
       ∙ ap (λ (ys : List ℕ). f.front ++ ys) (set-append_left ws f.back d v there)
 
   -- the slots of the window are there
-  pub window_there : (f : Frame size mask) (ws : List ℕ) (d : ℕ) → d < length ws
-      → f.slot + d < length (window f ws)
-  window_there f ws d there =
-      omega (arith, f.begins, length-append f.front (ws ++ f.back), length-append ws f.back)
+  pub window_there : (f : Frame size mask) (ws : List ℕ) (d : ℕ) → d < length ws → f.slot + d < length (window f ws)
+  window_there f ws d there = omega (arith, f.begins, length-append f.front (ws ++ f.back), length-append ws f.back)
 
   -- a free slot may be written
   pub window_free : (f : Frame size mask) (held : List Held) (d : ℕ) → is_free size mask d ≡ true → Saves f held
       → IsFree held (f.slot + d)
   window_free f held d free saves =
-      free_all mask (saved_slots held) f.slot d (not_the_mask size mask d free) saves
+      all_weaker (λ e. (e < f.slot) ⊎ (e ≡ f.slot + mask)) (λ e. e ≢ f.slot + d) differ (saved_slots held) saves
+    where
+      differ : (e : ℕ) → (e < f.slot) ⊎ (e ≡ f.slot + mask) → e ≢ f.slot + d
+      differ e (inl less) = omega arith
+      differ e (inr is) = omega (arith, not_the_mask size mask d free)
 
 -- a window inside a window, with words before and behind it
 abbrev pub inner : {size mask n m : ℕ} → Frame size mask → (before behind : List ℕ) → Frame n m
@@ -112,10 +95,6 @@ abbrev pub read_words : List ℕ → ℕ → ℕ → List ℕ
 read_words slots slot zero = []
 read_words slots slot (suc n) = slice_index slots slot ∷ read_words slots (suc slot) n
 
-pub read_long : (slots : List ℕ) (slot n : ℕ) → length (read_words slots slot n) ≡ n
-read_long slots slot zero = refl
-read_long slots slot (suc n) = ap suc (read_long slots (suc slot) n)
-
 pub read_behind : (slots : List ℕ) (slot n : ℕ) → slot + n ≤ length slots
     → drop slot slots ≡ read_words slots slot n ++ drop (slot + n) slots
 read_behind slots slot zero within = let e : slot ≡ slot + 0 = omega arith in ap (λ k. drop k slots) e
@@ -137,21 +116,12 @@ frame_at size mask slots slot within = record {
 pub framed : (size mask : ℕ) (slots : List ℕ) (slot : ℕ) (within : slot + size ≤ length slots)
     → slots ≡ window (frame_at size mask slots slot within) (read_words slots slot size)
 framed size mask slots slot within =
-    sym (take-append-drop slot slots)
-    ∙ ap (λ (ys : List ℕ). take slot slots ++ ys) (read_behind slots slot size within)
+    sym (take-append-drop slot slots) ∙ ap (λ (ys : List ℕ). take slot slots ++ ys) (read_behind slots slot size within)
 
 -- what is outside of it is the same, whatever is in it
 module _ {size mask : ℕ} (f : Frame size mask) (ws vs : List ℕ) (same : length ws ≡ length vs) where
   pub window_long : length (window f ws) ≡ length (window f vs)
-  window_long =
-      omega (
-        arith,
-        same,
-        length-append f.front (ws ++ f.back),
-        length-append f.front (vs ++ f.back),
-        length-append ws f.back,
-        length-append vs f.back,
-      )
+  window_long = simp length-append (omega (arith, same))
 
   pub window_outside : (d : ℕ) → (d < f.slot) ⊎ (f.slot + length ws ≤ d)
       → slice_index (window f ws) d ≡ slice_index (window f vs) d
@@ -168,5 +138,4 @@ module _ {size mask : ℕ} (f : Frame size mask) (ws vs : List ℕ) (same : leng
     where
       behind : (us : List ℕ) (k : ℕ)
           → slice_index (window f us) (length f.front + (length us + k)) ≡ slice_index f.back k
-      behind us k =
-          get_or-append-add f.front (us ++ f.back) (length us + k) 0 ∙ get_or-append-add us f.back k 0
+      behind us k = get_or-append-add f.front (us ++ f.back) (length us + k) 0 ∙ get_or-append-add us f.back k 0

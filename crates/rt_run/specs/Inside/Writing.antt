@@ -1,6 +1,5 @@
--- How far a run's trace is written while lines are held back, and which items have a line: their names are in the
--- tables, and their numbers in range.
-use Rattle.std.specs.Prelude.{◌≡◌, ℕ, ◌+◌, ◌<◌, ◌≤◌, ◌^◌, List}
+-- How far a run's trace is written while lines are held back, and which items have their names in the tables.
+use Rattle.std.specs.Prelude.{◌≡◌, ℕ, ◌+◌, ◌≤◌, List}
 use Rattle.std.specs.Prelude.{◌++◌, length, Option, Some, None, IsSome}
 use Rattle.std.specs.List.{AllByRecursion}
 use Rattle.rt_ids.specs.Event.{Event}
@@ -10,36 +9,12 @@ use Rattle.rt_ids.specs.declared.ids.Section.TheVariants as section
 use Rattle.rt_code.specs.Listable.{HasIrq, HasTask, HasSection, HasBody}
 use Rattle.rt_core.specs.Machine.{Machine}
 use Rattle.rt_outside.specs.Bytes.{Took, TookPrefix}
-use Rattle.rt_trace.specs.Lined.{HasLine, IsWord}
+use Rattle.rt_trace.specs.Lined.{HasLine}
 use Rattle.rt_trace.specs.declared.buffer.TheConstants.{BUFFER_BYTES, LINE_BYTES}
 use Rattle.rt_trace.specs.declared.item.What.{What}
 use Rattle.rt_trace.specs.declared.item.What.TheVariants as what
 use Rattle.rt_run.specs.Done.{Leads}
 use Rattle.rt_run.specs.Sending.{shown_items, lines_of}
-
--- a level is in the range of a priority
-abbrev pub HasLevel : Section → Type 0
-HasLevel (section.Ready p) = p < 2 ^ 8
-HasLevel s = Unit {0}
-
--- a number, where there is one, is of 32 bits
-abbrev pub IsWordIf : Option ℕ → Type 0
-IsWordIf None = Unit {0}
-IsWordIf (Some n) = IsWord n
-
--- the numbers of an item are in the range of their types
-abbrev pub HasNumbers : What → Type 0
-HasNumbers (what.Take i depth) = IsWord depth
-HasNumbers (what.Enter x) = HasLevel x
-HasNumbers (what.Leave x value) = HasLevel x × IsWordIf value
-HasNumbers (what.Emit v) = IsWord v
-HasNumbers (what.Start t args) = (length args ≤ 4) × AllByRecursion IsWord args
-HasNumbers (what.Clock v) = IsWord v
-HasNumbers (what.Arm t v) = IsWord v
-HasNumbers (what.Cancel t h) = IsWord h
-HasNumbers (what.Move t h v) = IsWord h × IsWord v
-HasNumbers (what.Trap k) = k < 2 ^ 8
-HasNumbers w = Unit {0}
 
 -- a resource is left with a value, and a queue with none
 abbrev pub HasValueOf : Section → Option ℕ → Type 0

@@ -1,13 +1,31 @@
-use Rattle.std.proofs.Common.{◌≡◌, ◌++◌, ℕ, List, refl, ap, subst}
+use Rattle.std.proofs.Common.{◌++◌, ℕ, List, refl, ap, subst}
 use Rattle.std.proofs.lemmas.Result.{on_ok_weaker, on_err_weaker}
 use Rattle.rt_lemmas.proofs.Results.{on_err_from}
 use Rattle.rt_code.specs.Image.{Image}
 use Rattle.rt_outside.specs.Bytes.{Took, TookPrefix}
 use Rattle.rt_run.proofs.Taking.{took_on, part_on, part_more}
 use Rattle.rt_live.specs.Account.{account_text}
+use Rattle.rt_live.specs.Ready.{irqs_of}
 use Rattle.rt_live.specs.declared.account.AccountRow.{AccountRow}
+use Rattle.rt_dual.specs.declared.half.Half.{Half}
+use Rattle.rt_dual.specs.declared.pairing.Both.{Both}
+use Rattle.rt_dual.specs.declared.side.Side.{Side}
+use Rattle.rt_dual.specs.Inside.Both.{IsWritten}
+use Rattle.rt_dual.specs.Inside.Halves.{Settles}
 use Rattle.rt_dual.proofs.Coursing.{same_text}
 use Rattle.rt_dual.proofs.pairing.put_both.Goals as goal
+
+-- what is written of a core
+abbrev text_of : Image → Half → Side → List AccountRow → List ℕ
+text_of img half side rows = half.front.items ++ (side.trace.bytes.items ++ account_text img.names rows)
+
+-- and of both
+both_written : (first second : Image) (both : Both) (one two : List AccountRow)
+    → Settles both.left.line.calls both.right.bell (irqs_of both.one.rows.items) one
+    → Settles both.right.line.calls both.left.bell (irqs_of both.two.rows.items) two
+    → IsWritten first second both (text_of first both.one both.left one ++ text_of second both.two both.right two)
+both_written first second both one two settled_one settled_two =
+    record { one = one; two = two; one_settled = settled_one; two_settled = settled_two; written = refl }
 
 pub returns-in_err-put_core-clause-err : goal.returns-in_err-put_core-clause-err
 returns-in_err-put_core-clause-err g c =
@@ -16,22 +34,15 @@ returns-in_err-put_core-clause-err g c =
     let y = g.K.Sink.taken c.put_core.new.out in
     let one : List AccountRow = c.account_of-account_one.result.rows.items in
     let two : List AccountRow = c.account_of-account_two.result.rows.items in
-    let text_one : List ℕ =
-    both.one.front.items ++ (both.left.trace.bytes.items ++ account_text c.args.first.now.names one) in
-    let text_two : List ℕ =
-    both.two.front.items ++ (both.right.trace.bytes.items ++ account_text c.args.second.now.names two) in
+    let text_one = text_of c.args.first.now both.one both.left one in
+    let text_two = text_of c.args.second.now both.two both.right two in
     let same_one = same_text c.deref.result.now both.one.front.items c.deref-2.result.now both.left.trace.bytes.items
     c.first.inside.names c.args.first.now.names one c.deref.ensures.value c.deref-2.ensures.value
     (ap (λ (i : Image). i.names) c.first.view_is) in
     on_err_from c.from_residual.result (
       text_one ++ text_two,
-      record {
-        one = one;
-        two = two;
-        one_settled = c.account_of-account_one.ensures;
-        two_settled = c.account_of-account_two.ensures;
-        written = refl;
-      },
+      both_written c.args.first.now c.args.second.now both one two c.account_of-account_one.ensures
+          c.account_of-account_two.ensures,
       part_more x y text_one text_two (subst (TookPrefix x y) same_one c.in_err-put_core.ensures.err),
     )
 
@@ -43,10 +54,8 @@ returns-clause-ok g c =
     let z = g.K.Sink.taken c.put_core-2.new.out in
     let one : List AccountRow = c.account_of-account_one.result.rows.items in
     let two : List AccountRow = c.account_of-account_two.result.rows.items in
-    let text_one : List ℕ =
-    both.one.front.items ++ (both.left.trace.bytes.items ++ account_text c.args.first.now.names one) in
-    let text_two : List ℕ =
-    both.two.front.items ++ (both.right.trace.bytes.items ++ account_text c.args.second.now.names two) in
+    let text_one = text_of c.args.first.now both.one both.left one in
+    let text_two = text_of c.args.second.now both.two both.right two in
     let same_one = same_text c.deref.result.now both.one.front.items c.deref-2.result.now both.left.trace.bytes.items
     c.first.inside.names c.args.first.now.names one c.deref.ensures.value c.deref-2.ensures.value
     (ap (λ (i : Image). i.names) c.first.view_is) in
@@ -55,13 +64,8 @@ returns-clause-ok g c =
     (ap (λ (i : Image). i.names) c.second.view_is) in
     on_ok_weaker c.put_core-2.result (λ took. (
       text_one ++ text_two,
-      record {
-        one = one;
-        two = two;
-        one_settled = c.account_of-account_one.ensures;
-        two_settled = c.account_of-account_two.ensures;
-        written = refl;
-      },
+      both_written c.args.first.now c.args.second.now both one two c.account_of-account_one.ensures
+          c.account_of-account_two.ensures,
       took_on x y z text_one text_two (subst (Took x y) same_one c.in_ok-put_core.ensures.ok)
           (subst (Took y z) same_two took),
     )) c.put_core-2.ensures.ok
@@ -74,10 +78,8 @@ returns-clause-err g c =
     let z = g.K.Sink.taken c.put_core-2.new.out in
     let one : List AccountRow = c.account_of-account_one.result.rows.items in
     let two : List AccountRow = c.account_of-account_two.result.rows.items in
-    let text_one : List ℕ =
-    both.one.front.items ++ (both.left.trace.bytes.items ++ account_text c.args.first.now.names one) in
-    let text_two : List ℕ =
-    both.two.front.items ++ (both.right.trace.bytes.items ++ account_text c.args.second.now.names two) in
+    let text_one = text_of c.args.first.now both.one both.left one in
+    let text_two = text_of c.args.second.now both.two both.right two in
     let same_one = same_text c.deref.result.now both.one.front.items c.deref-2.result.now both.left.trace.bytes.items
     c.first.inside.names c.args.first.now.names one c.deref.ensures.value c.deref-2.ensures.value
     (ap (λ (i : Image). i.names) c.first.view_is) in
@@ -86,13 +88,8 @@ returns-clause-err g c =
     (ap (λ (i : Image). i.names) c.second.view_is) in
     on_err_weaker c.put_core-2.result (λ part. (
       text_one ++ text_two,
-      record {
-        one = one;
-        two = two;
-        one_settled = c.account_of-account_one.ensures;
-        two_settled = c.account_of-account_two.ensures;
-        written = refl;
-      },
+      both_written c.args.first.now c.args.second.now both one two c.account_of-account_one.ensures
+          c.account_of-account_two.ensures,
       part_on x y z text_one text_two (subst (Took x y) same_one c.in_ok-put_core.ensures.ok)
           (subst (TookPrefix y z) same_two part),
     )) c.put_core-2.ensures.err

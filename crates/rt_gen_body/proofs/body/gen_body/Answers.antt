@@ -8,10 +8,8 @@ use Rattle.rt_gen_queue.specs.Line.{Line, IsNameable}
 use Rattle.rt_gen_queue.proofs.Nameable.{nameable}
 use Rattle.rt_gen_body.specs.Form.{HasForm}
 use Rattle.rt_gen_body.specs.Inside.Whole.{code_of}
-use Rattle.rt_gen_body.proofs.Forms.{code_formed}
+use Rattle.rt_gen_body.proofs.Shapes.{code_formed, code_claimed, code_short}
 use Rattle.rt_gen_body.proofs.Generated.{generated_stands}
-use Rattle.rt_gen_body.proofs.Nameable.{code_claimed}
-use Rattle.rt_gen_body.proofs.Sizes.{code_short}
 use Rattle.rt_gen_body.proofs.body.gen_body.Goals as goal
 
 pub returns : goal.returns

@@ -1,15 +1,9 @@
-use Rattle.std.proofs.Common.{◌≡◌, ◌++◌, List, length, drop, ap, ◌∙◌, sym, subst, arith, length-append}
-use Rattle.std.specs.List.{AllByRecursion}
-use Rattle.std.proofs.lemmas.List.{drop_at}
-use Rattle.rt_app.specs.Names.{names_of}
-use Rattle.rt_app.specs.Tree.{App}
-use Rattle.rt_app.specs.View.{app_of}
-use Rattle.rt_gen_queue.specs.Line.{Line, IsNameable}
+use Rattle.rt_gen_queue.proofs.Vocabulary.{AllByRecursion, App, IsNameable, Line, List, ap, app_of, arith, drop}
+use Rattle.rt_gen_queue.proofs.Vocabulary.{drop_at, length, length-append, names_of, subst, sym, ◌++◌, ◌∙◌, ◌≡◌}
 use Rattle.rt_gen_queue.proofs.Named.{dispatcher_named}
-use Rattle.rt_gen_disp.specs.Code.{dispatcher_code}
-use Rattle.rt_gen_disp.proofs.Nameable.{dispatcher_lines_named}
-use Rattle.rt_gen_disp.proofs.Sizes.{dispatcher_short}
+use Rattle.rt_gen_disp.proofs.{Nameable.dispatcher_lines_named, Sizes.dispatcher_short}
 use Rattle.rt_gen_disp.proofs.dispatcher.gen_dispatcher.Goals as goal
+use Rattle.rt_gen_disp.specs.Code.{dispatcher_code}
 
 abbrev own : goal.After-drop-lines-2 → List Line
 own c = dispatcher_code (app_of c.args.plan.now.app.now) c.args.level c.in_ok-entry.entry
@@ -17,8 +11,7 @@ own c = dispatcher_code (app_of c.args.plan.now.app.now) c.args.level c.in_ok-en
 -- the lines were generated into none, and then put behind the code
 appended : (c : goal.After-drop-lines-2) → c.extend_from_slice.new.self.items ≡ c.args.code.now.items ++ own c
 appended c =
-    c.in_ok-extend_from_slice.ensures.items
-    ∙ ap (λ lines. c.args.code.now.items ++ lines)
+    c.in_ok-extend_from_slice.ensures.items ∙ ap (λ lines. c.args.code.now.items ++ lines)
     (c.deref-2.ensures.value ∙ c.in_ok-generate.ensures ∙ ap (λ lines. lines ++ own c) c.new-lines.ensures.items)
 
 pub returns-clause-lines : goal.returns-clause-lines
@@ -35,10 +28,7 @@ returns-clause-names c =
 
 pub returns-clause-size : goal.returns-clause-size
 returns-clause-size c =
-    omega (
-      arith,
-      ap (λ (l : List Line). length l) (appended c),
-      length-append c.args.code.now.items (own c),
-      dispatcher_short (app_of c.args.plan.now.app.now) c.args.level c.in_ok-entry.entry
-          c.requires.accepted.limits.tasks,
-    )
+    let long = length-append c.args.code.now.items (own c) in
+    let short = dispatcher_short (app_of c.args.plan.now.app.now) c.args.level c.in_ok-entry.entry
+    c.requires.accepted.limits.tasks in
+    omega (arith, ap (λ (l : List Line). length l) (appended c))

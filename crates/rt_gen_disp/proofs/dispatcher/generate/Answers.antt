@@ -1,13 +1,10 @@
-use Rattle.std.proofs.Common.{OnOk, ℕ, List, map, refl, ap, ◌∙◌, ◌+◌, ◌++◌, ◌≡◌, subst, sym, length, arith}
-use Rattle.std.proofs.Common.{length-append, append_assoc}
-use Rattle.rt_app.specs.Tree.{App}
-use Rattle.rt_app.specs.View.{app_of, task_of}
-use Rattle.rt_gen_queue.specs.Line.{Line}
-use Rattle.rt_gen_queue.specs.Queue.{queue_at}
+use Rattle.rt_gen_queue.proofs.Vocabulary.{App, Line, List, OnOk, ap, app_of, append_assoc, arith, length}
+use Rattle.rt_gen_queue.proofs.Vocabulary.{length-append, map, queue_at, refl, subst, sym, task_of, ℕ, ◌++◌, ◌+◌, ◌∙◌}
+use Rattle.rt_gen_queue.proofs.Vocabulary.{◌≡◌}
 use Rattle.rt_gen_queue.specs.declared.queue.ReadyQueue.{ReadyQueue}
-use Rattle.rt_gen_disp.specs.Code.{front_lines, choices_code, exit_of, last_from}
-use Rattle.rt_gen_disp.specs.declared.lines.Exit.{Exit}
 use Rattle.rt_gen_disp.proofs.dispatcher.generate.Goals as goal
+use Rattle.rt_gen_disp.specs.Code.{choices_code, exit_of, front_lines, last_from}
+use Rattle.rt_gen_disp.specs.declared.lines.Exit.{Exit}
 
 pub push_choices-requires-clause-queue : goal.push_choices-requires-clause-queue
 push_choices-requires-clause-queue c =

@@ -1,11 +1,8 @@
-use Rattle.std.proofs.Common.{◌≡◌, sym, ap, ◌∙◌, ◌+◌, if◌then◌else◌, map, drop}
-use Rattle.std.proofs.lemmas.List.{drop_all}
-use Rattle.rt_app.specs.Level.{is_of_level}
-use Rattle.rt_app.specs.View.{task_of}
-use Rattle.rt_gen_disp.specs.Code.{last_from}
-use Rattle.rt_gen_disp.proofs.Generated.{tasks_left}
+use Rattle.rt_gen_queue.proofs.Vocabulary.{ap, drop, drop_all, if◌then◌else◌, is_of_level, map, sym, task_of, ◌+◌, ◌∙◌}
+use Rattle.rt_gen_queue.proofs.Vocabulary.{◌≡◌}
+use Rattle.rt_gen_disp.{proofs.Generated.tasks_left, specs.Code.last_from}
+use Rattle.rt_gen_disp.proofs.dispatcher.last_of.Goals.{else-is_of_level, then-is_of_level}
 use Rattle.rt_gen_disp.proofs.dispatcher.last_of.Goals as goal
-use Rattle.rt_gen_disp.proofs.dispatcher.last_of.Goals.{then-is_of_level, else-is_of_level}
 
 pub loop-number-preserved : goal.loop-number-preserved
 loop-number-preserved c =
@@ -16,8 +13,7 @@ loop-number-preserved c =
       | then-is_of_level w ↦ w.last-is ∙ rw (sym c.is_of_level.ensures ∙ w.if-is_of_level.true)
       | else-is_of_level w ↦ w.last-is ∙ rw (sym c.is_of_level.ensures ∙ w.if-is_of_level.false)
     ] in
-    c.loop-number.invariant
-    ∙ ap (last_from c.args.level c.loop-number.last c.loop-number.number)
+    c.loop-number.invariant ∙ ap (last_from c.args.level c.loop-number.last c.loop-number.number)
     (tasks_left c.args.tasks.now c.loop-number.number c.index-tasks-number.result c.loop-number-test.true
     c.index-tasks-number.is)
     ∙ ap (λ k. last_from c.args.level k (c.loop-number.number + 1)

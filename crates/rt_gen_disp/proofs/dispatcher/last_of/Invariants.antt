@@ -1,8 +1,7 @@
 -- The last task of the level among those so far and those that are left.
-use Rattle.std.proofs.Common.{◌≡◌, map, drop}
-use Rattle.rt_app.specs.View.{task_of}
-use Rattle.rt_gen_disp.specs.Code.{last_from}
+use Rattle.rt_gen_queue.proofs.Vocabulary.{drop, map, task_of, ◌≡◌}
 use Rattle.rt_gen_disp.proofs.dispatcher.last_of.Given as goal
+use Rattle.rt_gen_disp.specs.Code.{last_from}
 
 abbrev pub invariant-loop-number : goal.invariant-loop-number
 invariant-loop-number l =

@@ -1,7 +1,5 @@
-use Rattle.std.proofs.Common.{arith, ◌∙◌, sym, refl}
-use Rattle.std.proofs.lemmas.List.{append-nil, drop_all}
-use Rattle.rt_app.specs.View.{app_of}
-use Rattle.rt_gen_disp.proofs.Generated.{choices_next, at_most_one}
+use Rattle.rt_gen_queue.proofs.Vocabulary.{app_of, append-nil, arith, drop_all, refl, sym, ◌∙◌}
+use Rattle.rt_gen_disp.proofs.Generated.{at_most_one, choices_next}
 use Rattle.rt_gen_disp.proofs.dispatcher.push_choices.Goals as goal
 
 pub loop-number-init : goal.loop-number-init
@@ -17,8 +15,7 @@ loop-number-preserved c = record {
         exit = c.args.exit;
         entry = c.args.entry;
       }) c.args.plan.now.app.now.tasks.items c.loop-number.lines.items c.loop-number.row (omega arith)
-      c.index-task.ensures
-      ∙ rw (c.in_ok-push_task.ensures, c.from-row.ensures, c.is_software.ensures) refl;
+      c.index-task.ensures ∙ rw (c.in_ok-push_task.ensures, c.from-row.ensures, c.is_software.ensures) refl;
   row = omega (arith, at_most_one c.is_software.result);
 }
 

@@ -1,8 +1,5 @@
 -- The lines so far and those of the tasks that are left are all; a software task's row is not above its number.
-use Rattle.std.proofs.Common.{◌≡◌, ◌≤◌, ℕ, List, map, drop}
-use Rattle.rt_app.specs.Tree.{Task}
-use Rattle.rt_app.specs.View.{task_of, app_of}
-use Rattle.rt_gen_queue.specs.Line.{Line}
+use Rattle.rt_gen_queue.proofs.Vocabulary.{Line, List, Task, app_of, drop, map, task_of, ℕ, ◌≡◌, ◌≤◌}
 use Rattle.rt_gen_disp.proofs.Generated.{with_rest}
 use Rattle.rt_gen_disp.proofs.dispatcher.push_choices.Given as goal
 

@@ -1,9 +1,7 @@
-use Rattle.std.proofs.Common.{◌≡◌, Some, map, slice_get, sym, refl, ◌∙◌}
-use Rattle.std.proofs.lemmas.List.{append-nil}
-use Rattle.rt_app.specs.View.{task_of}
-use Rattle.rt_gen_disp.proofs.Generated.{task_there, no_task}
-use Rattle.rt_gen_disp.proofs.dispatcher.push_task.Goals as goal
+use Rattle.rt_gen_queue.proofs.Vocabulary.{Some, append-nil, map, refl, slice_get, sym, task_of, ◌∙◌, ◌≡◌}
+use Rattle.rt_gen_disp.proofs.Generated.{no_task, task_there}
 use Rattle.rt_gen_disp.proofs.dispatcher.push_task.Goals.{In-Some}
+use Rattle.rt_gen_disp.proofs.dispatcher.push_task.Goals as goal
 
 there : (c : In-Some) → slice_get (map task_of c.args.plan.now.app.now.tasks.items) c.args.number
     ≡ Some (task_of c.in-Some.task.now)
@@ -16,30 +14,18 @@ called_of-requires-clause-task c = there (goal.at.called_of-requires-clause-task
 
 pub returns-then-not-is_of_level : goal.returns-then-not-is_of_level
 returns-then-not-is_of_level c =
-    rw (
-      there (goal.at.returns-then-not-is_of_level c).In-Some,
-      sym c.is_of_level.ensures ∙ c.if-not-is_of_level.true,
-      append-nil,
-    ) refl
+    rw (there (goal.at.returns-then-not-is_of_level c).In-Some, sym c.is_of_level.ensures ∙ c.if-not-is_of_level.true)
+    (rw append-nil refl)
 
 pub returns-in-None : goal.returns-in-None
 returns-in-None c =
-    rw (
-      no_task c.args.plan.now.app.now c.deref.result.now c.args.number c.deref.ensures.value
-          c.in-None.ensures.lookup.3,
-      append-nil,
-    ) refl
+    let app = c.args.plan.now.app.now in
+    let past = no_task app c.deref.result.now c.args.number c.deref.ensures.value c.in-None.ensures.lookup.3 in
+    rw (past, append-nil) refl
 
 pub returns-in_ok-at-in-Some : goal.returns-in_ok-at-in-Some
 returns-in_ok-at-in-Some c =
-    let sent =
-    rw (
-      c.called_of.ensures.is,
-      c.next_for-next.ensures,
-      c.from.ensures,
-      c.in_ok-at-in-Some.ensures.at,
-      c.deref-in-Some.ensures.value,
-      c.requires.queue,
-    ) at c.push_choice.ensures in
+    let sent = rw (c.called_of.ensures.is, c.next_for-next.ensures, c.from.ensures) at c.push_choice.ensures in
+    let pushed = rw (c.in_ok-at-in-Some.ensures.at, c.deref-in-Some.ensures.value, c.requires.queue) at sent in
     rw (there (goal.at.returns-in_ok-at-in-Some c).In-Some, sym c.is_of_level.ensures ∙ c.if-not-is_of_level.false)
-    sent
+    pushed

@@ -1,6 +1,5 @@
-use Rattle.std.proofs.Common.{◌+◌, ◌∷◌, [], ◌++◌, ap, ◌∙◌}
+use Rattle.rt_gen_queue.proofs.Vocabulary.{[], ap, plain, ◌++◌, ◌+◌, ◌∙◌, ◌∷◌}
 use Rattle.rt_code.specs.declared.instr.Instr.TheVariants as instr
-use Rattle.rt_gen_queue.specs.Line.{plain}
 use Rattle.rt_gen_disp.proofs.Generated.{arguments_more}
 use Rattle.rt_gen_disp.proofs.lines.push_arguments.Goals as goal
 

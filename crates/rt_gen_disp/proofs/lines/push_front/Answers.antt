@@ -1,4 +1,4 @@
-use Rattle.std.proofs.Common.{refl, ◌∙◌}
+use Rattle.rt_gen_queue.proofs.Vocabulary.{refl, ◌∙◌}
 use Rattle.rt_gen_disp.proofs.lines.push_front.Goals as goal
 
 pub returns : goal.returns

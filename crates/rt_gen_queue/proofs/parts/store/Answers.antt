@@ -1,6 +1,5 @@
-use Rattle.std.proofs.Common.{◌∷◌, [], ◌++◌, ap, ◌∙◌}
-use Rattle.rt_gen_queue.specs.Making.{Made}
-use Rattle.rt_gen_queue.proofs.Stores.{store_line, stored_more}
+use Rattle.rt_gen_queue.proofs.Vocabulary.{Made, [], ap, ◌++◌, ◌∙◌, ◌∷◌}
+use Rattle.rt_gen_queue.proofs.Placing.{store_line, stored_more}
 use Rattle.rt_gen_queue.proofs.parts.store.Goals as goal
 
 pub loop-argument-preserved : goal.loop-argument-preserved

@@ -1,6 +1,5 @@
 -- The arguments so far are stored.
-use Rattle.std.proofs.Common.{◌≡◌, ◌++◌}
-use Rattle.rt_gen_queue.specs.SpawnLines.{store_code}
+use Rattle.rt_gen_queue.proofs.Vocabulary.{store_code, ◌++◌, ◌≡◌}
 use Rattle.rt_gen_queue.proofs.parts.store.Given as goal
 
 abbrev pub invariant-loop-argument : goal.invariant-loop-argument

@@ -1,6 +1,5 @@
-use Rattle.std.proofs.Common.{ap, ◌∙◌}
-use Rattle.rt_app.specs.declared.plan.Plan.{Plan}
-use Rattle.rt_gen_queue.proofs.Levels.{top_small, queue_made}
+use Rattle.rt_gen_queue.proofs.Vocabulary.{Plan, ap, ◌∙◌}
+use Rattle.rt_gen_queue.proofs.Levels.{queue_made, top_small}
 use Rattle.rt_gen_queue.proofs.queue.queue_of.Goals as goal
 
 pub of-requires-clause-greatest : goal.of-requires-clause-greatest
@@ -19,19 +18,6 @@ returns c =
     let third = c.deref-4.ensures.value ∙ ap (λ (p : Plan). p.ceil.ready) c.plan.view_is in
     let cells = c.deref-2.ensures.value ∙ ap (λ (p : Plan). p.lay.ready) c.plan.view_is in
     let tasks = c.deref-3.ensures.value ∙ ap (λ (p : Plan). p.app.now.tasks.items) c.plan.view_is in
-    rw (
-      c.cell_at.ensures,
-      c.ready_room.ensures,
-      c.of.ensures,
-      c.dispatcher_number.ensures,
-      c.ceiling_at.ensures,
-      c.levels_above.ensures,
-      c.place_of-place.ensures,
-      app,
-      first,
-      second,
-      third,
-      cells,
-      tasks,
-    )
-    (queue_made c.args.plan.now c.args.level c.requires.planned c.requires.software)
+    rw (c.cell_at.ensures, c.ready_room.ensures, c.of.ensures, c.dispatcher_number.ensures, c.ceiling_at.ensures)
+    (rw (c.levels_above.ensures, c.place_of-place.ensures, app, first, second, third, cells, tasks)
+    (queue_made c.args.plan.now c.args.level c.requires.planned c.requires.software))

@@ -1,6 +1,6 @@
 -- The tasks that are left make up the rest.
-use Rattle.std.proofs.Common.{◌≡◌, ◌+◌, ◌*◌, ◌≤◌, drop}
-use Rattle.rt_gen_queue.proofs.Rooms.{room_of}
+use Rattle.rt_gen_queue.proofs.Vocabulary.{drop, ◌*◌, ◌+◌, ◌≡◌, ◌≤◌}
+use Rattle.rt_gen_queue.proofs.Levels.{room_of}
 use Rattle.rt_gen_queue.proofs.queue.ready_room.Given as goal
 
 abbrev pub invariant-loop-task : goal.invariant-loop-task

@@ -1,5 +1,5 @@
-use Rattle.std.proofs.Common.{◌≡◌, ℕ, ◌+◌, ◌-◌, arith}
-use Rattle.rt_gen_queue.proofs.Appending.{four_appended}
+use Rattle.rt_gen_queue.proofs.Vocabulary.{arith, ℕ, ◌+◌, ◌-◌, ◌≡◌}
+use Rattle.rt_gen_queue.proofs.Placing.{four_appended}
 use Rattle.rt_gen_queue.proofs.spawn.append_spawn.Goals as goal
 
 pub returns : goal.returns
@@ -7,15 +7,5 @@ returns c =
     let full : ℕ = c.args.entry + (26 + c.args.target.now.args) in
     let first : c.in_ok-end.end - 2 ≡ full = omega (arith, c.in_ok-end.ensures) in
     let last : c.in_ok-end.end ≡ full + 2 = omega (arith, c.in_ok-end.ensures) in
-    rw (
-      c.in_ok-append-3.ensures,
-      c.in_ok-append-2.ensures,
-      c.in_ok-fill.ensures,
-      c.in_ok-append.ensures,
-      c.answer.ensures,
-      c.ready.ensures,
-      c.take.ensures,
-      first,
-      last,
-      four_appended,
-    )
+    rw (c.in_ok-append-3.ensures, c.in_ok-append-2.ensures, c.in_ok-fill.ensures, c.in_ok-append.ensures)
+    (rw (c.answer.ensures, c.ready.ensures, c.take.ensures, first, last, four_appended))

@@ -1,8 +1,5 @@
-use Rattle.std.proofs.Common.{ap, ◌∙◌}
-use Rattle.rt_app.specs.View.{app_of, task_of}
-use Rattle.rt_app.specs.declared.plan.Plan.{Plan}
-use Rattle.rt_gen_queue.proofs.Facts.{known}
-use Rattle.rt_gen_queue.proofs.Planned.{facts, top_small, few_planned, target_made}
+use Rattle.rt_gen_queue.proofs.Vocabulary.{Plan, ap, app_of, task_of, ◌∙◌}
+use Rattle.rt_gen_queue.proofs.{Facts.known, Planned.facts, Planned.few_planned, Planned.target_made, Planned.top_small}
 use Rattle.rt_gen_queue.proofs.target.target_of.Goals as goal
 
 pub of-requires-clause-greatest : goal.of-requires-clause-greatest
@@ -10,14 +7,12 @@ of-requires-clause-greatest c =
     let bits = ap (λ (p : Plan). p.app.now.bits) c.plan.view_is in
     let tops = c.deref-3.ensures.value ∙ ap (λ (p : Plan). p.ceil.free) c.plan.view_is in
     rw (c.free_ceiling.ensures, bits, tops)
-    (top_small c.args.plan.now c.args.task (task_of c.args.declared.now) c.requires.accepted c.requires.planned
-    c.requires.is_there c.requires.software)
+    (top_small c.args.task c.requires.accepted c.requires.planned c.requires.is_there c.requires.software)
 
 pub queue_of-requires-clause-software : goal.queue_of-requires-clause-software
 queue_of-requires-clause-software c =
     known (app_of c.args.plan.now.app.now) c.args.task (task_of c.args.declared.now)
-    (facts c.args.plan.now c.args.task (task_of c.args.declared.now) c.requires.accepted c.requires.planned
-    c.requires.is_there c.requires.software)
+    (facts c.args.task c.requires.accepted c.requires.planned c.requires.is_there c.requires.software)
 
 pub returns-clause-is : goal.returns-clause-is
 returns-clause-is c =
@@ -26,22 +21,10 @@ returns-clause-is c =
     let starts = c.deref-2.ensures.value ∙ ap (λ (p : Plan). p.lay.inputs) c.plan.view_is in
     let tops = c.deref-3.ensures.value ∙ ap (λ (p : Plan). p.ceil.free) c.plan.view_is in
     let at = c.from-place.ensures ∙ c.task.view_is in
-    rw (
-      c.cell_at-free.ensures,
-      c.cell_at-inputs.ensures,
-      c.of.ensures,
-      c.free_ceiling.ensures,
-      c.queue_of.ensures,
-      bits,
-      cells,
-      starts,
-      tops,
-      at,
-    )
-    (target_made c.args.plan.now c.args.task (task_of c.args.declared.now) c.requires.accepted c.requires.planned
-    c.requires.is_there c.requires.software)
+    rw (c.cell_at-free.ensures, c.cell_at-inputs.ensures, c.of.ensures, c.free_ceiling.ensures, c.queue_of.ensures)
+    (rw (bits, cells, starts, tops, at)
+    (target_made c.args.task c.requires.accepted c.requires.planned c.requires.is_there c.requires.software))
 
 pub returns-clause-few : goal.returns-clause-few
 returns-clause-few c =
-    few_planned c.args.plan.now c.args.task (task_of c.args.declared.now) c.requires.accepted c.requires.planned
-    c.requires.is_there c.requires.software
+    few_planned c.args.task c.requires.accepted c.requires.planned c.requires.is_there c.requires.software

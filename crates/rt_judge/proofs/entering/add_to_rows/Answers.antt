@@ -1,6 +1,6 @@
 use Rattle.std.proofs.Common.{ℕ, ◌<◌, length, arith}
 use Rattle.rt_judge.specs.Inside.Entering.{added}
-use Rattle.rt_judge.proofs.Rows.{changed}
+use Rattle.rt_lemmas.proofs.Rows.{changed}
 use Rattle.rt_judge.proofs.entering.add_to_rows.Goals as goal
 
 pub loop-row-preserved : goal.loop-row-preserved

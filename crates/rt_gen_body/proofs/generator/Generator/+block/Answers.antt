@@ -1,4 +1,4 @@
-use Rattle.std.proofs.Common.{rules, length, refl, sym, ap, ◌∙◌, ℕ, ◌+◌, List}
+use Rattle.std.proofs.Common.{arith, length-append, length, refl, sym, ap, ◌∙◌, ℕ, ◌+◌, List, append_assoc}
 use Rattle.rt_app.specs.Limits.{statements_in}
 use Rattle.rt_app.specs.declared.stmt.Stmt.{Stmt}
 use Rattle.rt_app.specs.View.{block_of}
@@ -8,12 +8,10 @@ use Rattle.rt_gen_queue.specs.Line.{Line}
 use Rattle.rt_gen_body.specs.Inside.Blocks.{one_code, block_code}
 use Rattle.rt_gen_body.specs.Inside.Lines.{next_address, Appends}
 use Rattle.rt_gen_body.specs.Inside.Generating.{context}
-use Rattle.std.proofs.Common.{append_assoc}
 use Rattle.std.proofs.Math.Seq.{set-append_seam}
 use Rattle.std.proofs.lemmas.List.{take_more, append-nil}
-use Rattle.rt_gen_body.proofs.Emitted.{behind_at, behind_four, behind_loop, fourth_seam, block_code-append}
-use Rattle.rt_gen_body.proofs.Emitted.{first_within, statement_within, no_statements, some_statements, no_second}
-use Rattle.rt_gen_body.proofs.Emitted.{two_emitted, between}
+use Rattle.rt_gen_body.proofs.Generated.{behind_at, behind_four, behind_loop, fourth_seam, block_code-append}
+use Rattle.rt_gen_body.proofs.Generated.{first_within, statement_within, no_second, some_second, two_emitted}
 use Rattle.rt_gen_body.proofs.generator.Generator.+block.Goals as goal
 
 pub block-loop-stmt-preserved : goal.block-loop-stmt-preserved
@@ -73,7 +71,7 @@ repeat-returns t c =
 
 pub statement-returns-then-is_empty : goal.statement-returns-then-is_empty
 statement-returns-then-is_empty t c =
-    let none = no_statements c.in-Branch.second.len c.in-Branch.second.items c.in-Branch.second.ok.0
+    let none = no_second c.in-Branch.second.len c.in-Branch.second.items c.in-Branch.second.ok.0
     (sym c.if-is_empty.true ∙ c.is_empty.ensures) in
     let block : ℕ → List Line =
     λ at. block_code (context c.args.self.now) c.args.level c.args.lock at (block_of c.deref.result.now) in
@@ -84,16 +82,13 @@ statement-returns-then-is_empty t c =
       one,
       c.in_ok-value-in-Branch.ensures,
       branch_at _ _ _ _ _ _ c.in-Branch.is c.deref.ensures.value refl,
-      no_second c.in-Branch.second.items none,
+      none,
     ) (simp (behind_at, append_assoc))) c.choose_one.ensures
 
 pub statement-returns-in_ok-over-in-Branch : goal.statement-returns-in_ok-over-in-Branch
 statement-returns-in_ok-over-in-Branch t c =
     let block : List Stmt → ℕ → List Line =
     λ stmts at. block_code (context c.args.self.now) c.args.level c.args.lock at (block_of stmts) in
-    let some = some_statements c.in-Branch.second.len c.deref-else-is_empty-2.result.now
-    (c.in-Branch.second.ok.0 ∙ ap (λ l. length l) (sym c.deref-else-is_empty-2.ensures.value))
-    (sym c.if-is_empty.false ∙ c.is_empty.ensures) in
     on_ok_weaker c.choose_second.result _ _
     (λ ends. rw (
       two_emitted (context c.args.self.now) c.value.new.code c.choose_first.new.code
@@ -102,7 +97,9 @@ statement-returns-in_ok-over-in-Branch t c =
           (rw c.in_ok-over-in-Branch.ensures.place at ends),
       c.in_ok-value-in-Branch.ensures,
       branch_at _ _ _ _ _ _ c.in-Branch.is c.deref-else-is_empty.ensures.value c.deref-else-is_empty-2.ensures.value,
-      between (context c.args.self.now) _ _ _ c.deref-else-is_empty-2.result.now some,
+      some_second (context c.args.self.now) _ _ _ c.in-Branch.second.len c.deref-else-is_empty-2.result.now
+          (c.in-Branch.second.ok.0 ∙ ap (λ l. length l) (sym c.deref-else-is_empty-2.ensures.value))
+          (sym c.if-is_empty.false ∙ c.is_empty.ensures),
     ) (simp (behind_at, append_assoc)))
     c.choose_second.ensures
 
@@ -118,17 +115,17 @@ pub block-statement-requires : goal.block-statement-requires
 block-statement-requires t c =
     let few =
     statement_within c.args.stmts.now c.loop-stmt.stmt-index c.stmt-item.result c.loop-stmt-test.true c.stmt-item.is in
-    search rules
+    (omega (arith, c.decreases), c.requires)
 
 pub statement-choose_one-requires : goal.statement-choose_one-requires
 statement-choose_one-requires t c =
     let s = ap statements_in (branch_at _ _ _ _ _ _ c.in-Branch.is c.deref.ensures.value refl) in
-    search rules
+    (omega (arith, c.decreases), c.requires)
 
 pub statement-choose_first-requires : goal.statement-choose_first-requires
 statement-choose_first-requires t c =
     let s = ap statements_in (branch_at _ _ _ _ _ _ c.in-Branch.is c.deref-else-is_empty.ensures.value refl) in
-    search rules
+    (omega (arith, c.decreases), c.requires)
 
 pub statement-choose_second-requires : goal.statement-choose_second-requires
 statement-choose_second-requires t c =
@@ -140,14 +137,32 @@ statement-choose_second-requires t c =
     (block_code (context c.args.self.now) c.args.level c.args.lock (next_address c.value.new.code + 1)
     (block_of c.deref-else-is_empty.result.now)) c.in_ok-over-in-Branch.ensures.place
     c.in_ok-over-in-Branch.ensures.lines in
-    search rules
+    (omega (arith, c.decreases), (c.requires, within))
 
 pub statement-repeat-requires : goal.statement-repeat-requires
 statement-repeat-requires t c =
     let s = ap statements_in (repeat_at _ _ _ _ _ _ c.in-Repeat.is c.deref-in-Repeat.ensures.value) in
-    search rules
+    (omega (arith, c.decreases), c.requires)
 
 pub statement-lock-requires : goal.statement-lock-requires
 statement-lock-requires t c =
     let s = ap statements_in (locked_at _ _ _ _ _ c.in-Locked.is c.deref-in-Locked.ensures.value) in
-    search rules
+    (omega (arith, c.decreases), c.requires)
+
+pub choose_one-replace-requires : goal.choose_one-replace-requires
+choose_one-replace-requires t c =
+    rw (c.len-over.ensures, c.in_ok-block.ensures, c.in_ok-push.ensures) (simp length-append (omega arith))
+
+pub choose_first-replace-requires : goal.choose_first-replace-requires
+choose_first-replace-requires t c =
+    rw (c.len-over.ensures, c.in_ok-push-2.ensures, c.in_ok-block.ensures, c.in_ok-push.ensures)
+    (simp length-append (omega arith))
+
+pub repeat-replace-requires : goal.repeat-replace-requires
+repeat-replace-requires t c =
+    rw (
+      c.len-over.ensures,
+      c.in_ok-loop_tail.ensures,
+      c.in_ok-block.ensures,
+      c.in_ok-push.ensures,
+    ) (simp length-append (omega arith))

@@ -1,26 +1,31 @@
-use Rattle.std.proofs.Common.{◌≡◌, length, take, refl, ap, ◌∙◌, arith, append_assoc}
-use Rattle.std.proofs.lemmas.List.{take_more, length-take-le}
-use Rattle.rt_gen_body.specs.Inside.Values.{next_slot}
-use Rattle.rt_gen_body.proofs.Emitted.{next_on, arguments_append}
-use Rattle.rt_gen_body.proofs.Generated.{appends_none}
+use Rattle.std.proofs.Common.{List, ◌++◌, map, refl, ap, sym, ◌∙◌, append_assoc}
+use Rattle.std.proofs.lemmas.List.{append-nil, drop_all}
+use Rattle.rt_lemmas.proofs.Lists.{drop_as_cons}
+use Rattle.rt_app.specs.View.{expression_of}
+use Rattle.rt_app.specs.declared.expr.Expr.{Expr}
+use Rattle.rt_gen_body.specs.Inside.Values.{arguments_code}
+use Rattle.rt_gen_body.specs.Inside.Generating.{context}
+use Rattle.rt_gen_body.specs.Inside.Lines.{Lines}
 use Rattle.rt_gen_body.proofs.generator.Generator.arguments.Goals as goal
 
 pub loop-arg-init : goal.loop-arg-init
-loop-arg-init c = (appends_none c.args.code.now, refl)
+loop-arg-init c = (refl, refl)
 
 pub loop-arg-preserved : goal.loop-arg-preserved
-loop-arg-preserved c =
-    let counted : length (take c.loop-arg.arg-index c.args.args.now) ≡ c.loop-arg.arg-index =
-    length-take-le c.loop-arg.arg-index c.args.args.now (omega arith) in (
-      rw (
-        c.in_ok-expression.ensures,
-        c.loop-arg.invariant.0,
-        take_more c.args.args.now c.loop-arg.arg-index c.arg-item.result c.loop-arg-test.true,
-        ← c.arg-item.is,
-        arguments_append,
-        counted,
-        ← c.loop-arg.invariant.1,
-        append_assoc,
-      ),
-      c.next_slot-next.ensures ∙ ap next_slot c.loop-arg.invariant.1 ∙ next_on c.loop-arg.arg-index c.args.slot,
-    )
+loop-arg-preserved c = (
+  ap (λ (code : Lines). code.entry) c.in_ok-expression.ensures ∙ c.loop-arg.invariant.0,
+  rw (c.in_ok-expression.ensures, c.next_slot-next.ensures, append_assoc)
+      (ap (λ (es : List Expr). c.loop-arg.code.lines
+      ++ arguments_code (context c.args.self.now) (map expression_of es) c.loop-arg.next)
+      (sym (drop_as_cons c.args.args.now c.loop-arg.arg-index c.arg-item.result c.loop-arg-test.true c.arg-item.is))
+      ∙ c.loop-arg.invariant.1),
+)
+
+pub returns : goal.returns
+returns c =
+    let none = drop_all c.loop-arg.arg-index c.args.args.now c.loop-arg-test.false in
+    let lines = sym (append-nil c.loop-arg.code.lines)
+    ∙ ap (λ (es : List Expr). c.loop-arg.code.lines
+    ++ arguments_code (context c.args.self.now) (map expression_of es) c.loop-arg.next) (sym none)
+    ∙ c.loop-arg.invariant.1 in
+    λ i. record { entry = c.loop-arg.invariant.0 i; lines = lines i }

@@ -1,5 +1,5 @@
 use Rattle.std.proofs.Common.{append_assoc}
-use Rattle.rt_gen_body.proofs.Emitted.{behind_at}
+use Rattle.rt_gen_body.proofs.Generated.{behind_at}
 use Rattle.rt_gen_body.proofs.generator.Generator.send.Goals as goal
 
 pub returns : goal.returns

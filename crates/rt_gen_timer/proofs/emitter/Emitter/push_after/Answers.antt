@@ -1,4 +1,4 @@
-use Rattle.rt_gen_queue.proofs.Appending.{four_appended}
+use Rattle.rt_gen_queue.proofs.Placing.{four_appended}
 use Rattle.rt_gen_timer.proofs.emitter.Emitter.push_after.Goals as goal
 
 pub returns : goal.returns

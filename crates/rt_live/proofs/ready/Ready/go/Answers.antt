@@ -7,12 +7,10 @@ use Rattle.rt_script.specs.Script.{HasNames, count, core_events}
 use Rattle.rt_devices.specs.declared.device.Device.{Device}
 use Rattle.rt_run.proofs.Known.{fresh_known}
 use Rattle.rt_words.specs.Lines.{Core}
-use Rattle.rt_live.specs.Gathering.{gathering}
-use Rattle.rt_live.specs.Ready.{Prepared, IsReady, irqs_of}
-use Rattle.rt_live.specs.declared.account.AccountRow.{AccountRow}
+use Rattle.rt_live.specs.Ready.{Prepared, irqs_of}
 use Rattle.rt_live.specs.Inside.Working.{CanWork, AllWork, calls_gathered, calls_made}
-use Rattle.rt_live.proofs.Readied.{able_ready, names_ready, can_work, taken_back, words_ended, room_ended, have_ended}
-use Rattle.rt_live.proofs.Readied.{known_ended, ready_gathered, ready_calls, within}
+use Rattle.rt_live.proofs.Readied.{able_ready, names_ready, can_work, taken_back, words_ended, room_ended}
+use Rattle.rt_live.proofs.Readied.{ready_again, ready_calls, within}
 use Rattle.std.proofs.lemmas.Result.{on_ok_weaker, on_err_weaker}
 use Rattle.rt_ids.specs.Event.{Step, steps}
 use Rattle.rt_live.specs.Latched.{Halts}
@@ -76,29 +74,11 @@ invariant_of-self g c =
     let as_many : length ended ≡ length devices.items =
     omega (arith, c.beside-done.auto.devices, ap length c.deref_mut.ensures.value) in
     let worked = subst (λ (ds : List Device). AllWork ds ended) c.deref_mut.ensures.value c.beside-done.ensures.worked in
-    let same = c.beside-done.ensures.same in
-    let line = c.beside-done.new.line in
-    let back = taken_back ended devices.items devices.len as_many (omega (arith, devices.ok.0)) in
-    let is = ready_gathered _ c.self.invariant line same ended
-    (have_ended _ c.self.invariant line same ended worked as_many)
-    (known_ended _ c.self.invariant line same ended worked as_many) c.gather_all.new.line
-    (c.gather_all.ensures.line ∙ ap (λ (ds : List Device). gathering ds line) back) c.gather_all.new.rows
-    c.gather_all.ensures.counted (c.gather_all.ensures.irqs ∙ ap irqs_of c.deref_mut-2.ensures.value) in
-    subst (λ (ds : List Device). IsReady (record {
-      script = c.self.inside.script.now;
-      words = c.self.inside.words;
-      line = c.gather_all.new.line;
-      devices = ds;
-      rows = take rows.len (c.gather_all.new.rows ++ drop (length c.gather_all.new.rows) rows.items);
-    })) (sym c.gather_all.ensures.devices)
-    (subst (λ (rs : List AccountRow). IsReady (record {
-      script = c.self.inside.script.now;
-      words = c.self.inside.words;
-      line = c.gather_all.new.line;
-      devices = [];
-      rows = rs;
-    })) (sym (taken_back c.gather_all.new.rows rows.items rows.len
-    (omega (arith, c.gather_all.auto.rows, ap length c.deref_mut-2.ensures.value)) (omega (arith, rows.ok.0)))) is)
+    ready_again _ c.self.invariant c.beside-done.new.line c.beside-done.ensures.same ended worked as_many devices.len
+    (omega (arith, devices.ok.0)) c.gather_all.new.line c.gather_all.ensures.line c.gather_all.new.rows
+    c.gather_all.ensures.counted (c.gather_all.ensures.irqs ∙ ap irqs_of c.deref_mut-2.ensures.value) rows.len
+    (omega (arith, c.gather_all.auto.rows, ap length c.deref_mut-2.ensures.value)) (omega (arith, rows.ok.0)) _
+    c.gather_all.ensures.devices
 
 pub returns-in_err-done-clause-err : goal.returns-in_err-done-clause-err
 returns-in_err-done-clause-err g c =
@@ -171,30 +151,13 @@ invariant_of-self-2 g c =
     let as_many : length ended ≡ length devices.items =
     omega (arith, c.beside-done.auto.devices, ap length c.deref_mut.ensures.value) in
     let worked = subst (λ (ds : List Device). AllWork ds ended) c.deref_mut.ensures.value c.beside-done.ensures.worked in
-    let same = c.beside-done.ensures.same in
-    let line = c.beside-done.new.line in
-    let back = taken_back ended devices.items devices.len as_many (omega (arith, devices.ok.0)) in
-    let is = ready_gathered _ c.self.invariant line same ended
-    (have_ended _ c.self.invariant line same ended worked as_many)
-    (known_ended _ c.self.invariant line same ended worked as_many) c.gather_all.new.line
-    (c.gather_all.ensures.line ∙ ap (λ (ds : List Device). gathering ds line) back) c.gather_all.new.rows
-    c.gather_all.ensures.counted (c.gather_all.ensures.irqs ∙ ap irqs_of c.deref_mut-2.ensures.value) in
-    subst (λ (ds : List Device). IsReady (record {
-      script = c.self.inside.script.now;
-      words = c.self.inside.words;
-      line = c.end.new.line;
-      devices = ds;
-      rows = take rows.len (c.gather_all.new.rows ++ drop (length c.gather_all.new.rows) rows.items);
-    })) (sym c.gather_all.ensures.devices)
-    (subst (λ (rs : List AccountRow). IsReady (record {
-      script = c.self.inside.script.now;
-      words = c.self.inside.words;
-      line = c.end.new.line;
-      devices = [];
-      rows = rs;
-    })) (sym (taken_back c.gather_all.new.rows rows.items rows.len
-    (omega (arith, c.gather_all.auto.rows, ap length c.deref_mut-2.ensures.value)) (omega (arith, rows.ok.0))))
-    (ready_calls _ is c.end.new.line c.end.ensures.same))
+    ready_calls _
+    (ready_again _ c.self.invariant c.beside-done.new.line c.beside-done.ensures.same ended worked as_many devices.len
+    (omega (arith, devices.ok.0)) c.gather_all.new.line c.gather_all.ensures.line c.gather_all.new.rows
+    c.gather_all.ensures.counted (c.gather_all.ensures.irqs ∙ ap irqs_of c.deref_mut-2.ensures.value) rows.len
+    (omega (arith, c.gather_all.auto.rows, ap length c.deref_mut-2.ensures.value)) (omega (arith, rows.ok.0)) _
+    c.gather_all.ensures.devices)
+    c.end.new.line c.end.ensures.same
 
 pub returns-clause-ok : goal.returns-clause-ok
 returns-clause-ok g c =

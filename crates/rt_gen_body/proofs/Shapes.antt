@@ -1,0 +1,348 @@
+-- The lines of a body, one by one: they name only what the application declares, there are no more of them than the
+-- rule on sizes counts, they end as it is fixed, and those of a body that emits literals and pends interrupts alone are
+-- fixed.
+use Rattle.std.proofs.Common.{◌≡◌, ℕ, ◌+◌, ◌≤◌, max, Bool, true, false, if◌then◌else◌, Option, Some, None}
+use Rattle.std.proofs.Common.{option_map, is_some, List, [], ◌∷◌, ◌++◌, length, slice_get, sum_by, refl, ap, subst}
+use Rattle.std.proofs.Common.{arith, length-append, ◌<◌, map, slice_index, sym, ◌==◌}
+use Rattle.std.proofs.lemmas.List.Sums.{get_or-le-sum_by}
+use Rattle.std.proofs.lemmas.Option.{none-some, same_Some, get_or_from_slice_get, slice_get_within}
+use Rattle.rt_ids.specs.declared.ids.BodyId.{BodyId}
+use Rattle.rt_ids.specs.declared.ids.BodyId.TheVariants as body
+use Rattle.rt_app.specs.Tree.{Expression, Num, Read, Oper, Spawn, Soon, After, Cancel, Move, Calc, Now, Call, Body}
+use Rattle.rt_app.specs.Tree.{Task, App, Statement, Bind, Assign, Branch, Repeat, Locked, Emit, Pend, Spawns, Block}
+use Rattle.rt_app.specs.Tree.{Empty, Then}
+use Rattle.rt_app.specs.Accepted.{IsAccepted, behind, IsStatementPlaced, IsBlockPlaced}
+use Rattle.rt_app.specs.Bodies.{Member, members, member_at, body_at}
+use Rattle.rt_app.specs.BodyCost.{size_measure, body_cost, cost_of}
+use Rattle.rt_app.specs.Frame.{first_lock_slot}
+use Rattle.rt_app.specs.Steps.{expression_steps, expressions_steps, spawn_steps, statement_steps, block_steps}
+use Rattle.rt_app.specs.declared.costs.TheConstants.{SPAWN_COST, SPAWN_AFTER_COST, HANDLE_COST}
+use Rattle.rt_app.specs.Level.{is_software}
+use Rattle.rt_lemmas.proofs.Bools.{and_parts}
+use Rattle.rt_ids.specs.Lists.{is_some_and, or_zero}
+use Rattle.rt_app.proofs.Capping.{cap_steps}
+use Rattle.rt_app.proofs.Members.{has_body, made_of}
+use Rattle.rt_app.proofs.Sound.{accepted_are_sound}
+use Rattle.rt_code.specs.declared.instr.Instr.TheVariants as instr
+use Rattle.rt_gen_queue.specs.Line.{Line, plain, noted}
+use Rattle.rt_gen_body.specs.Inside.Values.{Context, next_slot, load, store, expression_code, value_code}
+use Rattle.rt_gen_body.specs.Inside.Values.{arguments_code}
+use Rattle.rt_gen_timer.specs.TimerCode.{queue_of}
+use Rattle.rt_gen_queue.proofs.Named.{spawned, task_declared, spawn_claimed}
+use Rattle.rt_gen_timer.proofs.Generated.{after_short, timer_named, after_claimed, cancel_claimed, move_claimed}
+use Rattle.rt_gen_body.specs.Inside.Simple.{is_timed, values_of}
+use Rattle.rt_gen_body.specs.Inside.Simple.{values_code, goes_code, send_code}
+use Rattle.rt_gen_body.specs.Inside.Blocks.{guard_at, branch_code, statement_code, block_code, loop_back, lock_code}
+use Rattle.rt_gen_body.specs.Inside.Whole.{context_of, level_of, code_of, blocks_of}
+use Rattle.rt_gen_queue.proofs.Facts.{arguments, few_arguments, Spawned}
+use Rattle.rt_gen_queue.proofs.Placing.{spawn_long}
+use Rattle.std.proofs.lemmas.List.{length-map}
+use Rattle.std.specs.List.{range_with_len}
+use Rattle.rt_ids.specs.declared.ids.Section.TheVariants as section
+use Rattle.rt_app.specs.declared.expr.Atom.{Atom}
+use Rattle.rt_app.specs.declared.expr.Atom.TheVariants as atom
+use Rattle.rt_app.specs.Names.{names_of}
+use Rattle.rt_app.specs.Variables.{variables, variables_in}
+use Rattle.rt_code.specs.Listable.{HasIrq, HasSection}
+use Rattle.rt_code.specs.declared.instr.Note.TheVariants as note
+use Rattle.rt_gen_queue.specs.Guards.{enter_line, leave_line}
+use Rattle.rt_gen_queue.specs.declared.guard.Guard.{Guard}
+use Rattle.rt_gen_body.specs.Form.{end_line, fixed_block, fixed_body, HasForm}
+use Rattle.rt_gen_queue.proofs.Masks.{enter_named, leave_named}
+use Rattle.rt_gen_queue.proofs.Nameable.{AreClaimed, claimed_both, irq_declared}
+use Rattle.rt_gen_body.proofs.Storing.{number_is}
+use Rattle.std.proofs.lemmas.Bool.{eqb-true}
+use Rattle.rt_app.specs.Handlers.{irq_number}
+
+-- lines that name only what is declared, and of which there are no more than so many
+record Fine (app : App) (lines : List Line) (most : ℕ) : Type 0 where
+  named : AreClaimed (names_of app) lines
+  few : length lines ≤ most
+
+module _ {app : App} where
+  both : {xs ys : List Line} {m n : ℕ} → Fine app xs m → Fine app ys n → Fine app (xs ++ ys) (m + n)
+  both {xs = xs} {ys = ys} one two = record {
+    named = claimed_both (names_of app) xs ys one.named two.named;
+    few = omega (arith, length-append xs ys, one.few, two.few);
+  }
+
+  fewer : {lines : List Line} {m n : ℕ} → Fine app lines m → m ≤ n → Fine app lines n
+  fewer fine less = record { named = fine.named; few = omega (arith, fine.few) }
+
+  one_line : (line : Line) → AreClaimed (names_of app) (line ∷ []) → Fine app (line ∷ []) 1
+  one_line line named = record { named = named; few = omega arith }
+
+  -- lines that stand where a test passes
+  if_fine : (b : Bool) {lines : List Line} {most : ℕ} → (b ≡ true → Fine app lines most)
+      → Fine app (if b then lines else []) most
+  if_fine true fine = fine refl
+  if_fine false fine = record { named = tt; few = omega arith }
+
+-- where a statement is placed: the local resources that its body lists, and the variables before it and in scope
+record Where : Type 0 where
+  listed : List ℕ
+  count : ℕ
+  visible : List ℕ
+
+module _ {app : App} (m : Member) (accepted : IsAccepted app) where
+  abbrev c : Context
+  c = context_of app m
+
+  -- what stands where there is a timer queue, and its messages are of a software task
+  timed : (task : ℕ) {lines : List Line} {most : ℕ}
+      → ((t : Task) → HasIrq (names_of app) (queue_of app).irq → Spawned app task t → Fine app lines most)
+      → Fine app (if is_timed c task then lines else []) most
+  timed task fine =
+      if_fine (is_timed c task)
+      (λ is.
+      let parts = and_parts (is_some app.mono) (is_some_and is_software (slice_get app.tasks task)) is in
+      let one = spawned app task accepted parts.1 in
+      fine one.0 (timer_named app accepted parts.0) one.1)
+
+  -- what goes of a spawn behind its values, which are as many as the rule leaves room for
+  goes_fine : (level at : ℕ) (s : Spawn) → (most : ℕ) × Fine app (goes_code c level at s) most
+      × (expressions_steps (values_of s) + most ≤ spawn_steps (size_measure app) s)
+  goes_fine level at (Soon task args place) = (
+    SPAWN_COST,
+    if_fine (is_some_and is_software (slice_get app.tasks task))
+        (λ is.
+        let one = spawned app task accepted is in
+        record {
+          named = spawn_claimed app task one.0 one.1 level c.spawns at;
+          few = omega (
+            arith,
+            spawn_long app task level c.spawns at,
+            arguments app task one.0 one.1,
+            few_arguments app task one.0 one.1,
+          );
+        }),
+    omega arith,
+  )
+  goes_fine level at (After word delay task args place) = (
+    SPAWN_AFTER_COST,
+    timed task (λ t irq facts. record {
+      named = after_claimed app irq c.spawns level task t facts at;
+      few = omega (arith, after_short app task level c.spawns at t facts);
+    }),
+    omega arith,
+  )
+  goes_fine level at (Cancel word task handle place) = (
+    HANDLE_COST,
+    timed task
+        (λ t irq facts. record { named = cancel_claimed app irq c.spawns level task t facts at; few = omega arith }),
+    omega arith,
+  )
+  goes_fine level at (Move word delay task handle place) = (
+    HANDLE_COST,
+    timed task
+        (λ t irq facts. record { named = move_claimed app irq c.spawns level task t facts at; few = omega arith }),
+    omega arith,
+  )
+
+  load_named : (x : Atom) (slot : ℕ) → AreClaimed (names_of app) (plain (load c x slot) ∷ [])
+  load_named (atom.Var x) slot = tt
+  load_named (atom.Shared r) slot = tt
+  load_named (atom.Local n) slot = tt
+
+  store_named : (x : Atom) (slot : ℕ) → AreClaimed (names_of app) (plain (store c x slot) ∷ [])
+  store_named (atom.Var x) slot = tt
+  store_named (atom.Shared r) slot = tt
+  store_named (atom.Local n) slot = tt
+
+  expression_fine : (e : Expression) (slot free : ℕ) → Fine app (expression_code c e slot free) (expression_steps e)
+  expression_fine (Num n) slot free = one_line (plain (instr.Set slot n)) tt
+  expression_fine (Read x at) slot free = one_line (plain (load c x slot)) (load_named x slot)
+  expression_fine (Oper o left right) slot free =
+      fewer
+      (both (expression_fine left slot free)
+      (both (expression_fine right free (next_slot free)) (one_line (plain (instr.Calc o slot slot free)) tt)))
+      (omega arith)
+
+  -- a value, and a line behind it
+  valued : (e : Expression) (last : Line) → AreClaimed (names_of app) (last ∷ [])
+      → Fine app (value_code c e ++ last ∷ []) (expression_steps e + 1)
+  valued e last named = both (expression_fine e c.expressions (next_slot c.expressions)) (one_line last named)
+
+  arguments_fine : (es : List Expression) (slot : ℕ) → Fine app (arguments_code c es slot) (expressions_steps es)
+  arguments_fine [] slot = record { named = tt; few = omega arith }
+  arguments_fine (e ∷ es) slot = both (expression_fine e slot c.expressions) (arguments_fine es (next_slot slot))
+
+  send_fine : (level at : ℕ) (s : Spawn) → Fine app (send_code c level at s) (spawn_steps (size_measure app) s)
+  send_fine level at s =
+      let behind = goes_fine level (at + length (values_code c s)) s in
+      fewer (both (arguments_fine (values_of s) c.spawns) behind.1) behind.2
+
+  -- the two choices of blocks whose lines are, wherever they stand
+  branch_fine : (at : ℕ) (first second : ℕ → List Line) (b : Block) {m n : ℕ} → ((a : ℕ) → Fine app (first a) m)
+      → ((a : ℕ) → Fine app (second a) n) → Fine app (branch_code c at first second b) (2 + (m + n))
+  branch_fine at first second Empty one two =
+      record { named = (one (at + 1)).named; few = omega (arith, (one (at + 1)).few) }
+  branch_fine at first second (Then s rest) one two =
+      let to : ℕ = at + 1 + length (first (at + 1)) + 1 in
+      let all = both (one (at + 1)) (both (one_line (plain (instr.Jump (to + length (second to)))) tt) (two to)) in
+      record { named = all.named; few = omega (arith, all.few) }
+
+  lock_fine : (level lock at r : ℕ) (block : ℕ → ℕ → ℕ → List Line) {n : ℕ} → r < length app.shared
+      → ((inside slot a : ℕ) → Fine app (block inside slot a) n)
+      → Fine app (lock_code c level lock at r block) (2 + n)
+  lock_fine level lock at r block there fine =
+      let x = section.Res r in
+      let g : Guard = guard_at c r in
+      let has : HasSection (names_of app) x = omega (arith, length-map app.shared (λ s. s.name)) in
+      fewer
+      (both (one_line (enter_line x g level lock) (enter_named (names_of app) x g level lock has, tt))
+      (both (fine (max level g.ceiling) (next_slot lock) (at + 1))
+      (one_line (leave_line x g level lock) (leave_named (names_of app) x g level lock has, tt)))) (omega arith)
+
+  mutual
+    statement_fine : (s : Statement) (w : Where) (level lock at : ℕ)
+        → IsStatementPlaced app w.listed w.count w.visible s
+        → Fine app (statement_code c level lock at s) (statement_steps (size_measure app) s)
+    statement_fine (Bind x (Calc e)) w level lock at placed = valued e (plain (instr.Copy x c.expressions)) tt
+    statement_fine (Bind x (Now place)) w level lock at placed = record { named = tt; few = omega arith }
+    statement_fine (Bind x (Call s)) w level lock at placed =
+        both (send_fine level at s) (one_line (plain (instr.Copy x c.spawns)) tt)
+    statement_fine (Assign x e place) w level lock at placed =
+        valued e (plain (store c x c.expressions)) (store_named x c.expressions)
+    statement_fine (Branch e first second) w level lock at placed =
+        fewer
+        (both (expression_fine e c.expressions (next_slot c.expressions))
+        (branch_fine (at + length (value_code c e)) (λ a. block_code c level lock a first)
+        (λ a. block_code c level lock a second) second (λ a. block_fine first w level lock a placed.1)
+        (λ a. block_fine second (record w { count = w.count + variables first }) level lock a placed.2)))
+        (omega arith)
+    statement_fine (Repeat x first last turn) w level lock at placed =
+        let inside : Where = record w { count = w.count + 1; visible = w.count ∷ w.visible } in
+        let back : Fine app (loop_back c x (at + 1)) 3 = record { named = tt; few = omega arith } in
+        let all = both (block_fine turn inside level lock (at + 4) placed.1) back in
+        record { named = all.named; few = omega (arith, all.few) }
+    statement_fine (Locked r inner place) w level lock at placed =
+        lock_fine level lock at r (λ inside slot a. block_code c inside slot a inner) placed.0
+        (λ inside slot a. block_fine inner w inside slot a placed.1)
+    statement_fine (Emit e) w level lock at placed = valued e (plain (instr.Emit c.expressions)) tt
+    statement_fine (Pend i) w level lock at placed =
+        one_line (plain (instr.Post (slice_index c.numbers i)))
+        (subst (HasIrq (names_of app)) (sym (number_is app i app.irqs)) (irq_declared app i placed), tt)
+    statement_fine (Spawns s) w level lock at placed = send_fine level at s
+
+    block_fine : (b : Block) (w : Where) (level lock at : ℕ) → IsBlockPlaced app w.listed w.count w.visible b
+        → Fine app (block_code c level lock at b) (block_steps (size_measure app) b)
+    block_fine Empty w level lock at placed = record { named = tt; few = omega arith }
+    block_fine (Then s rest) w level lock at placed =
+        both (statement_fine s w level lock at placed.0)
+        (block_fine rest
+        (record w { count = w.count + variables_in s; visible = behind app w.listed w.count w.visible s }) level lock
+        (at + length (statement_code c level lock at s)) placed.1)
+
+module _ (app : App) (accepted : IsAccepted app) where
+  end_fine : (id : BodyId) (entry : ℕ) → Fine app (end_line app id entry ∷ []) 1
+  end_fine body.Init entry = one_line (end_line app body.Init entry) (record { instr = tt; note = tt }, tt)
+  end_fine body.Idle entry = one_line (end_line app body.Idle entry) (record { instr = tt; note = tt }, tt)
+  end_fine (body.Task n) entry = go (is_some_and is_software (slice_get app.tasks n)) refl
+    where
+      go : (b : Bool) → is_some_and is_software (slice_get app.tasks n) ≡ b
+          → Fine app ((if b then noted instr.Back (note.End (body.Task n)) else plain instr.Ret) ∷ []) 1
+      go false is = one_line (plain instr.Ret) tt
+      go true is =
+          let one = spawned app n accepted is in
+          one_line (noted instr.Back (note.End (body.Task n)))
+          (record { instr = tt; note = task_declared app n one.0 one.1 }, tt)
+
+  -- no size of a body comes to the cap of its sum
+  uncapped : (id : BodyId) (m : Member) → member_at app id ≡ Some m
+      → block_steps (size_measure app) m.body.block + 1 ≤ body_cost (size_measure app) m.body
+  uncapped id m is =
+      let at = (has_body app accepted id m is).is_one in
+      let size : Member → ℕ = λ m. body_cost (size_measure app) m.body in
+      let few : size m ≤ sum_by size (members app) =
+      subst (λ n. size n ≤ sum_by size (members app)) (get_or_from_slice_get (members app) at.0 m m at.1)
+      (get_or-le-sum_by size (members app) at.0 m (slice_get_within (members app) at.0 m at.1)) in
+      let all = (accepted_are_sound app accepted).size in
+      omega (arith, cap_steps.blocks (size_measure app) m.body.block)
+
+  -- the lines of a body, declared or not
+  lines_fine : (id : BodyId) (o : Option Member) (entry : ℕ) → member_at app id ≡ o
+      → Fine app (code_of app id o entry) (cost_of (size_measure app) (option_map (λ m. m.body) o))
+  lines_fine id None entry is = fewer (end_fine id entry) (omega arith)
+  lines_fine id (Some m) entry is =
+      fewer
+      (both (block_fine m accepted m.body.block
+      (record { listed = map (λ o. o.local) m.body.local; count = m.args; visible = range_with_len 0 m.args })
+      (level_of app m) (first_lock_slot m.args m.body) entry (has_body app accepted id m is).placed.block)
+      (end_fine id entry)) (uncapped id m is)
+
+  -- the body of a member is the body
+  thread_body : (id : BodyId) (o : Option Body) → option_map (λ (m : Member). m.body)
+      (option_map (λ b. record { id = id; priority = 0; args = 0; body = b }) o) ≡ o
+  thread_body id None = refl
+  thread_body id (Some b) = refl
+
+  task_body : (id : BodyId) (o : Option Task) → option_map (λ (m : Member). m.body)
+      (option_map (λ t. record { id = id; priority = t.priority; args = t.args; body = t.body }) o)
+      ≡ option_map (λ t. t.body) o
+  task_body id None = refl
+  task_body id (Some t) = refl
+
+  body_is : (id : BodyId) → option_map (λ m. m.body) (member_at app id) ≡ body_at app id
+  body_is body.Init = thread_body body.Init app.init
+  body_is body.Idle = thread_body body.Idle app.idle
+  body_is (body.Task n) = task_body (body.Task n) (slice_get app.tasks n)
+
+  pub code_claimed : (id : BodyId) (entry : ℕ) → AreClaimed (names_of app) (code_of app id (member_at app id) entry)
+  code_claimed id entry = (lines_fine id (member_at app id) entry refl).named
+
+  pub code_short : (id : BodyId) (entry : ℕ) → length (code_of app id (member_at app id) entry)
+      ≤ cost_of (size_measure app) (body_at app id)
+  code_short id entry =
+      subst (λ (o : Option Body). length (code_of app id (member_at app id) entry) ≤ cost_of (size_measure app) o)
+      (body_is id) (lines_fine id (member_at app id) entry refl).few
+
+-- what a block that is fixed emits and pends first
+abbrev emit_first : ℕ → List Line → List Line
+emit_first value more = plain (instr.Set 0 value) ∷ plain (instr.Emit 0) ∷ more
+
+abbrev pend_first : ℕ → List Line → List Line
+pend_first irq more = plain (instr.Post irq) ∷ more
+
+-- it brings in no variables, and its lines are these, where expressions are evaluated in the first slot
+block_fixed : (app : App) (c : Context) (level lock at : ℕ) (b : Block) {lines : List Line}
+    → ((irq : ℕ) → slice_index c.numbers irq ≡ or_zero (irq_number app irq)) → fixed_block app b ≡ Some lines
+    → (variables b ≡ 0) × (c.expressions ≡ 0 → block_code c level lock at b ≡ lines)
+block_fixed app c level lock at Empty {lines = lines} known is = (refl, λ first. same_Some [] lines is)
+block_fixed app c level lock at (Then (Emit (Num value)) rest) {lines = lines} known is =
+    let one = made_of (emit_first value) (fixed_block app rest) lines is in
+    let more = block_fixed app c level lock (at + 2) rest known one.1 in (
+      omega (arith, more.0),
+      λ first. rw (first, more.1 first) one.2,
+    )
+block_fixed app c level lock at (Then (Pend irq) rest) {lines = lines} known is =
+    let one = made_of (pend_first (or_zero (irq_number app irq))) (fixed_block app rest) lines is in
+    let more = block_fixed app c level lock (at + 1) rest known one.1 in (
+      omega (arith, more.0),
+      λ first. rw (known irq, more.1 first) one.2,
+    )
+block_fixed app c level lock at (Then other rest) {lines = lines} known is = absurd (none-some lines is)
+
+module _ (app : App) where
+  blocks_fixed : (member : Option Member) (at : ℕ) (lines : List Line) → fixed_body app member ≡ Some lines
+      → blocks_of app member at ≡ lines
+  blocks_fixed None at lines is = same_Some [] lines is
+  blocks_fixed (Some m) at lines is = go (m.args == 0) refl is
+    where
+      go : (b : Bool) → (m.args == 0) ≡ b → (if b then fixed_block app m.body.block else None) ≡ Some lines
+          → blocks_of app (Some m) at ≡ lines
+      go true none fixed =
+          let args : m.args ≡ 0 = eqb-true m.args 0 none in
+          let both =
+          block_fixed app (context_of app m) (level_of app m) (first_lock_slot m.args m.body) at m.body.block
+          (λ irq. number_is app irq app.irqs) fixed in
+          both.1 (omega (arith, args, both.0))
+      go false none fixed = absurd (none-some lines fixed)
+
+  -- the code of each body
+  pub code_formed : (id : BodyId) (entry : ℕ) → HasForm app id entry (code_of app id (member_at app id) entry)
+  code_formed id entry = record {
+    ends = (blocks_of app (member_at app id) entry, refl);
+    fixed = λ front is. ap (λ (lines : List Line). lines ++ end_line app id entry ∷ [])
+        (blocks_fixed (member_at app id) entry front is);
+  }
