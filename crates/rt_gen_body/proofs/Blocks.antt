@@ -1,54 +1,34 @@
 -- The code of every block stands, with that of sections round blocks: it does what the block means, within its steps.
-use Rattle.std.proofs.Common.{◌≡◌, ℕ, suc, ◌+◌, ◌<◌, ◌≤◌, max, List, [], ◌∷◌, ◌++◌, length, slice_index, Contains, refl}
-use Rattle.std.proofs.Common.{ap, sym, ◌∙◌, subst, arith, length-append, zero, ◌==◌, ◌-◌, ◌*◌, inl, inr}
-use Rattle.std.specs.List.{AllByRecursion, list_any}
-use Rattle.std.proofs.lemmas.Bool.{false_from_ne_true}
-use Rattle.rt_ids.specs.Holder.{Guarded}
-use Rattle.rt_ids.specs.Action.{Leaves}
-use Rattle.rt_ids.specs.Content.{Values}
-use Rattle.rt_ids.specs.declared.ids.Section.TheVariants as section
-use Rattle.rt_ids.specs.declared.limits.TheConstants.{BODY_COST}
-use Rattle.rt_app.specs.Tree.{Block, Locked, App, Statement, Bind, Assign, Branch, Repeat, Emit, Pend, Spawns, Calc}
-use Rattle.rt_app.specs.Tree.{Now, Call, Empty, Then}
-use Rattle.rt_app.specs.Cost.{lock_cost, block_cost, capped}
-use Rattle.rt_app.specs.Steps.{block_steps, statement_steps}
-use Rattle.rt_app.specs.BodyCost.{cost_measure}
-use Rattle.rt_app.specs.Holding.{storage}
-use Rattle.rt_app.specs.Sound.{IsSoundLock, IsSoundStatement, IsSoundBlock}
-use Rattle.rt_app.specs.Sending.{act}
-use Rattle.rt_app.specs.Meaning.{run, run_block}
-use Rattle.rt_app.proofs.Capping.{cap_steps}
-use Rattle.rt_app.proofs.Sound.{accepted_are_sound}
-use Rattle.rt_code.specs.Masking.{IsKindFor, opening, saving}
-use Rattle.rt_code.specs.Owning.{Kind, Held, saved_slot, saved_slots}
-use Rattle.rt_code.specs.Standing.{passed}
-use Rattle.rt_lemmas.proofs.Membership.{all_append, all_has, all_weaker, contained_any, contains_cases, contains_there}
-use Rattle.rt_gen_queue.specs.Line.{Line, HasCode}
-use Rattle.rt_gen_queue.specs.Guards.{guard_of, kind_of, leave_line}
-use Rattle.rt_gen_queue.specs.declared.guard.Guard.{Guard}
-use Rattle.rt_gen_queue.proofs.Layer.{Here, MayOpen, enters_here, leaves_here, spot}
-use Rattle.rt_gen_queue.proofs.Masks.{of_kinds, saved_beside}
-use Rattle.rt_gen_queue.proofs.Owning.{reads_inside}
-use Rattle.rt_gen_queue.proofs.Entering.{kind_fits}
-use Rattle.rt_gen_queue.specs.Spawning.{HoldsOff}
-use Rattle.rt_gen_queue.proofs.Placing.{code_front, code_behind}
-use Rattle.rt_gen_body.specs.Inside.Values.{Context, next_slot}
-use Rattle.rt_gen_body.specs.Inside.Blocks.{guard_at, block_code, statement_code}
-use Rattle.rt_gen_body.proofs.Owning.{resource_cell, spelled_inside, spelled_outside, spelled_agreed, open_as}
-use Rattle.rt_gen_body.proofs.Storing.{guard_is}
-use Rattle.rt_gen_body.proofs.Places.{inside_as, level_inside, needs, Fits, Body, Scope, Inside, Begins}
-use Rattle.rt_gen_body.proofs.Places.{sooner, Performs, goes_behind, listed_by, fewer_visible, front_of, named}
-use Rattle.rt_gen_body.proofs.Places.{block_needs, part_fits}
-use Rattle.rt_gen_body.proofs.Loops.{BlockPerforms, chooses, in_loop, loops}
+use Rattle.rt_gen_queue.proofs.Vocabulary.{AllByRecursion, App, Assign, BODY_COST, Bind, Block, Branch, Calc, Call}
+use Rattle.rt_gen_queue.proofs.Vocabulary.{Contains, Emit, Empty, Guarded, HasCode, Held, HoldsOff, IsKindFor}
+use Rattle.rt_gen_queue.proofs.Vocabulary.{IsSoundLock, Kind, Leaves, Line, List, Locked, Now, Pend, Repeat, Spawns}
+use Rattle.rt_gen_queue.proofs.Vocabulary.{Statement, Then, Values, [], accepted_are_sound, act, all_append, all_has}
+use Rattle.rt_gen_queue.proofs.Vocabulary.{all_weaker, ap, arith, block_steps, cap_steps, contains_cases}
+use Rattle.rt_gen_queue.proofs.Vocabulary.{contains_there, cost_measure, false_from_ne_true, guard_of, has_loop, inl}
+use Rattle.rt_gen_queue.proofs.Vocabulary.{inr, kind_of, leave_line, length, length-append, list_any, max, opening}
+use Rattle.rt_gen_queue.proofs.Vocabulary.{or_left, or_right, passed, refl, run, run_block, saved_slot, saved_slots}
+use Rattle.rt_gen_queue.proofs.Vocabulary.{saving, slice_index, spawns, statement_steps, storage, subst, suc, sym}
+use Rattle.rt_gen_queue.proofs.Vocabulary.{variables, variables_in, zero, ℕ, ◌*◌, ◌++◌, ◌+◌, ◌-◌, ◌<◌, ◌==◌, ◌∙◌, ◌∷◌}
+use Rattle.rt_gen_queue.proofs.Vocabulary.{◌≡◌, ◌≤◌}
 use Rattle.std.proofs.Math.Nat.{suc-mul}
-use Rattle.rt_app.specs.Spawned.{statement_spawns, spawns}
-use Rattle.rt_app.specs.Variables.{variables, variables_in}
-use Rattle.rt_app.specs.Frame.{is_loop, has_loop}
-use Rattle.rt_app.specs.Accepted.{behind, IsStatementPlaced, IsBlockPlaced}
-use Rattle.rt_app.proofs.Members.{in_front, in_back}
-use Rattle.rt_lemmas.proofs.Bools.{or_left, or_right}
-use Rattle.rt_gen_body.proofs.Sending.{sends, binds_sent}
-use Rattle.rt_gen_body.proofs.Expressions.{Sets, sets_variable, binds_time, emits_value, assigns, pends}
+use Rattle.rt_lemmas.proofs.Membership.{contained_any}
+use Rattle.rt_ids.specs.declared.ids.Section.TheVariants as section
+use Rattle.rt_app.proofs.Members.{in_back, in_front}
+use Rattle.rt_app.specs.{Frame.is_loop, Sound.IsSoundBlock, Sound.IsSoundStatement, Spawned.statement_spawns}
+use Rattle.rt_app.specs.Accepted.{IsBlockPlaced, IsStatementPlaced, behind}
+use Rattle.rt_app.specs.Cost.{block_cost, capped, lock_cost}
+use Rattle.rt_gen_queue.proofs.{Entering.kind_fits, Masks.of_kinds, Masks.saved_beside, Owning.reads_inside}
+use Rattle.rt_gen_queue.proofs.{Placing.code_behind, Placing.code_front}
+use Rattle.rt_gen_queue.proofs.Layer.{Here, MayOpen, enters_here, leaves_here, spot}
+use Rattle.rt_gen_queue.specs.declared.guard.Guard.{Guard}
+use Rattle.rt_gen_body.proofs.{Sending.binds_sent, Sending.sends, Storing.guard_is}
+use Rattle.rt_gen_body.proofs.Expressions.{Sets, assigns, binds_time, emits_value, pends, sets_variable}
+use Rattle.rt_gen_body.proofs.Loops.{BlockPerforms, chooses, in_loop, loops}
+use Rattle.rt_gen_body.proofs.Owning.{open_as, resource_cell, spelled_agreed, spelled_inside, spelled_outside}
+use Rattle.rt_gen_body.proofs.Places.{Begins, Body, Fits, Inside, Performs, Scope, block_needs, fewer_visible, front_of}
+use Rattle.rt_gen_body.proofs.Places.{goes_behind, inside_as, level_inside, listed_by, named, needs, part_fits, sooner}
+use Rattle.rt_gen_body.specs.Inside.Blocks.{block_code, guard_at, statement_code}
+use Rattle.rt_gen_body.specs.Inside.Values.{Context, next_slot}
 
 -- a section costs its steps, where they are few
 section_cost : (app : App) (inner : Block) → 2 + block_steps (cost_measure app) inner ≤ BODY_COST

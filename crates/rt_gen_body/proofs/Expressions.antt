@@ -1,41 +1,28 @@
 -- The code of an expression leaves its value in a slot, and statements without blocks do their action, or change their
 -- variable or resource, within their steps.
-use Rattle.std.proofs.Common.{◌≡◌, ◌≢◌, ℕ, suc, ◌+◌, ◌<◌, ◌≤◌, List, [], ◌∷◌, ◌++◌, length, slice_index, slice_set}
-use Rattle.std.proofs.Common.{refl, ap, sym, ◌∙◌, subst, arith, get_or-set_same, ◌⊎◌, inl, inr, get_or-set_other}
-use Rattle.std.proofs.Common.{length-set, length-append, ◌==◌, Bool, true, false, Some, slice_get, Contains}
-use Rattle.rt_lemmas.proofs.Bools.{or_left}
-use Rattle.rt_ids.specs.Operation.{operate}
-use Rattle.rt_ids.specs.Holder.{Guarded, Own, Holder}
-use Rattle.rt_ids.specs.Content.{Values, number, Number, put_at}
-use Rattle.rt_ids.specs.declared.ids.Section.TheVariants as section
-use Rattle.rt_app.specs.declared.expr.Atom.TheVariants as atom
-use Rattle.rt_app.specs.Tree.{Expression, Num, Read, Oper, Assign, Emit, Pend}
-use Rattle.rt_app.specs.Accepted.{AreMeant, IsMeant}
-use Rattle.rt_app.specs.Sound.{AreReached, IsReached, IsChangeable}
-use Rattle.rt_app.specs.Steps.{expression_steps}
-use Rattle.rt_app.specs.Frame.{depth}
-use Rattle.rt_app.specs.Meaning.{Later, value_in, run}
-use Rattle.rt_code.specs.declared.instr.Instr.{Instr}
-use Rattle.rt_code.specs.declared.instr.Instr.TheVariants as instr
-use Rattle.rt_gen_queue.specs.Line.{Line, plain, HasCode}
-use Rattle.rt_gen_queue.proofs.Layer.{Here, S, IsFree, Gives, goes, set_gives, copy_gives, calc_gives, load_gives}
-use Rattle.rt_gen_queue.proofs.Layer.{store_gives, emits_here, posts_here, clocks_here}
-use Rattle.rt_gen_queue.proofs.Placing.{code_behind}
-use Rattle.rt_gen_body.specs.Inside.Values.{Context, next_slot, expression_code, value_code}
-use Rattle.rt_gen_body.proofs.Owning.{HasCell, resource_cell, local_cell, reads_cell, writes_cell, spelled_agreed}
-use Rattle.rt_gen_body.proofs.Owning.{spelled_put, OpenAre}
-use Rattle.rt_gen_body.proofs.Places.{Body, Scope, listed_by, free_slot, Knows, Begins, sooner, front_of, Behind}
-use Rattle.rt_gen_body.proofs.Places.{still_behind, named, Inside, Performs, goes_behind}
-use Rattle.rt_gen_body.proofs.Storing.{number_is, resource_read, resource_owned, local_owned}
-use Rattle.std.proofs.lemmas.Bool.{eqb-true}
+use Rattle.rt_gen_queue.proofs.Vocabulary.{Agree, Assign, Bool, Clocks, Contains, Emit, Expression, Guarded, HasCode}
+use Rattle.rt_gen_queue.proofs.Vocabulary.{Held, Holder, Instr, IsChangeable, Line, List, Num, Number, Oper, Own, Pend}
+use Rattle.rt_gen_queue.proofs.Vocabulary.{Read, Some, Values, [], ap, arith, does, eqb-true, expression_steps, false}
+use Rattle.rt_gen_queue.proofs.Vocabulary.{get_or-set_other, get_or-set_same, inl, inr, length, length-append}
+use Rattle.rt_gen_queue.proofs.Vocabulary.{length-set, nat_tests, number, operate, or_left, owns, plain, put_at, refl}
+use Rattle.rt_gen_queue.proofs.Vocabulary.{run, slice_get, slice_index, slice_set, storage, subst, suc, sym, true}
+use Rattle.rt_gen_queue.proofs.Vocabulary.{value_in, ℕ, ◌++◌, ◌+◌, ◌<◌, ◌==◌, ◌∙◌, ◌∷◌, ◌≡◌, ◌≢◌, ◌≤◌, ◌⊎◌}
 use Rattle.std.proofs.lemmas.Grind.{get_or-set_at}
-use Rattle.std.proofs.lemmas.Bool.Decides.{nat_tests}
-use Rattle.rt_ids.specs.Action.{Clocks}
-use Rattle.rt_ids.specs.Doing.{does}
-use Rattle.rt_app.specs.declared.expr.Atom.{Atom}
-use Rattle.rt_app.specs.Holding.{storage}
-use Rattle.rt_code.specs.Owning.{Held, owns, Agree}
-use Rattle.rt_gen_body.specs.Inside.Simple.{emit_code, assign_code}
+use Rattle.rt_ids.specs.declared.ids.Section.TheVariants as section
+use Rattle.rt_app.specs.{Accepted.AreMeant, Accepted.IsMeant, Frame.depth, Meaning.Later, Sound.AreReached}
+use Rattle.rt_app.specs.{Sound.IsReached, declared.expr.Atom.Atom}
+use Rattle.rt_app.specs.declared.expr.Atom.TheVariants as atom
+use Rattle.rt_code.specs.declared.instr.Instr.TheVariants as instr
+use Rattle.rt_gen_queue.proofs.Layer.{Gives, Here, IsFree, S, calc_gives, clocks_here, copy_gives, emits_here, goes}
+use Rattle.rt_gen_queue.proofs.Layer.{load_gives, posts_here, set_gives, store_gives}
+use Rattle.rt_gen_queue.proofs.Placing.{code_behind}
+use Rattle.rt_gen_body.proofs.Owning.{HasCell, OpenAre, local_cell, reads_cell, resource_cell, spelled_agreed}
+use Rattle.rt_gen_body.proofs.Owning.{spelled_put, writes_cell}
+use Rattle.rt_gen_body.proofs.Places.{Begins, Behind, Body, Inside, Knows, Performs, Scope, free_slot, front_of}
+use Rattle.rt_gen_body.proofs.Places.{goes_behind, listed_by, named, sooner, still_behind}
+use Rattle.rt_gen_body.proofs.Storing.{local_owned, number_is, resource_owned, resource_read}
+use Rattle.rt_gen_body.specs.Inside.Simple.{assign_code, emit_code}
+use Rattle.rt_gen_body.specs.Inside.Values.{Context, expression_code, next_slot, value_code}
 
 -- A value has come into a slot; but for it, all slots below those that were free and from the top on are as before.
 pub record Evaluated (slot free top result : ℕ) (before after : List ℕ) : Type 0 where

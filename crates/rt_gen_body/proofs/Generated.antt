@@ -1,46 +1,30 @@
 -- How the code of a body comes about: what a generator's calls append, one after the other, is the code of what they
 -- are for, and so the whole code of a body stands.
-use Rattle.std.proofs.Common.{◌==◌, ◌≡◌, ◌≢◌, refl, sym, ap, subst, ◌∙◌, ℕ, zero, suc, map, ◌+◌, ◌≤◌, ◌<◌, List, []}
-use Rattle.std.proofs.Common.{◌∷◌, ◌++◌, None, slice_get, length, get_or, slice_set, true, false}
-use Rattle.std.proofs.Common.{append_assoc, length-append, arith, ◌^◌, Option, Some, option_map}
-use Rattle.std.proofs.lemmas.Bool.{eqb-true, eqb-false}
-use Rattle.std.proofs.lemmas.List.{append-nil}
-use Rattle.std.proofs.Math.Seq.{set-append_seam}
-use Rattle.rt_app.specs.Limits.{statements_in, statements_of, KeepsTaskLimits}
-use Rattle.rt_app.specs.Tree as tree
-use Rattle.rt_app.specs.View.{statement_of, block_of, app_of, task_of, body_of}
-use Rattle.rt_app.specs.declared.stmt.Stmt.{Stmt}
-use Rattle.rt_code.specs.declared.instr.Instr.TheVariants as instr
-use Rattle.rt_gen_queue.specs.Line.{Line, plain}
-use Rattle.rt_gen_body.specs.Inside.Values.{Context}
-use Rattle.rt_gen_body.specs.Inside.Blocks.{branch_code, two_code, first_code, statement_code, block_code}
-use Rattle.rt_gen_body.specs.Inside.Lines.{Lines, next_address, Appends, EndsWith}
-use Rattle.std.specs.List.{AllByRecursion, range_with_len}
-use Rattle.std.proofs.lemmas.Simd.{map-map}
-use Rattle.std.proofs.lemmas.Option.{slice_get_read, slice_get-map}
-use Rattle.rt_lemmas.proofs.Lists.{all_map, mapped_at}
-use Rattle.rt_lemmas.proofs.Membership.{all_at, all_from_members}
-use Rattle.rt_ids.specs.declared.ids.BodyId.{BodyId}
+use Rattle.rt_gen_queue.proofs.Vocabulary.{AllByRecursion, App, BodyId, Ceilings, IsAccepted, IsPlan, KeepsTaskLimits}
+use Rattle.rt_gen_queue.proofs.Vocabulary.{Line, List, None, Option, Plan, Some, Task, [], accepted_are_sound, all_at}
+use Rattle.rt_gen_queue.proofs.Vocabulary.{ap, app_of, append-nil, append_assoc, arith, block_of, ceiling, eqb-true}
+use Rattle.rt_gen_queue.proofs.Vocabulary.{false, frame_words, get_or, guarded, length, length-append, map, mapped_at}
+use Rattle.rt_gen_queue.proofs.Vocabulary.{member_at, option_map, plain, range_with_len, refl, set-append_seam}
+use Rattle.rt_gen_queue.proofs.Vocabulary.{slice_get, slice_get_read, slice_set, statements_in, subst, suc, sym}
+use Rattle.rt_gen_queue.proofs.Vocabulary.{task_of, true, zero, ℕ, ◌++◌, ◌+◌, ◌<◌, ◌==◌, ◌^◌, ◌∙◌, ◌∷◌, ◌≡◌, ◌≢◌, ◌≤◌}
+use Rattle.std.proofs.lemmas.{Bool.eqb-false, Option.slice_get-map, Simd.map-map}
+use Rattle.rt_lemmas.proofs.{Lists.all_map, Membership.all_from_members}
 use Rattle.rt_ids.specs.declared.ids.BodyId.TheVariants as body
+use Rattle.rt_ids.specs.declared.ids.Section.TheVariants as section
+use Rattle.rt_app.specs.{Limits.statements_of, View.body_of, View.statement_of, declared.stmt.Stmt.Stmt}
+use Rattle.rt_app.specs.Tree as tree
 use Rattle.rt_app.specs.declared.app.App as code
 use Rattle.rt_app.specs.declared.app.Task as row
-use Rattle.rt_ids.specs.declared.ids.Section.TheVariants as section
-use Rattle.rt_app.specs.declared.plan.Plan.{Plan}
-use Rattle.rt_app.specs.Tree.{Task, App}
-use Rattle.rt_gen_queue.specs.Guards.{guarded}
-use Rattle.rt_gen_queue.specs.declared.guard.Guard.{Guard}
-use Rattle.rt_gen_body.specs.Bodies.{IsBodyOf, DeclaredStands, BodyStands}
-use Rattle.rt_gen_body.specs.Inside.Whole.{guards_of, blocks_of, code_of}
-use Rattle.rt_app.specs.Ceiling.{Ceilings, ceiling}
-use Rattle.rt_app.specs.Frame.{frame_words}
-use Rattle.rt_app.specs.Plan.{IsPlan}
-use Rattle.rt_app.proofs.Sound.{accepted_are_sound}
 use Rattle.rt_frames.proofs.Within.{frame_few}
-use Rattle.rt_app.specs.Bodies.{member_at}
-use Rattle.rt_app.specs.Accepted.{IsAccepted}
-use Rattle.rt_gen_body.specs.Inside.Generating.{slots_code}
-use Rattle.rt_gen_body.proofs.Promises.{contains_range, BodyThere, of_task, body_between, init_stands, idle_stands}
-use Rattle.rt_gen_body.proofs.Promises.{task_stands, called_stands}
+use Rattle.rt_code.specs.declared.instr.Instr.TheVariants as instr
+use Rattle.rt_gen_queue.specs.declared.guard.Guard.{Guard}
+use Rattle.rt_gen_body.proofs.Promises.{BodyThere, body_between, called_stands, contains_range, idle_stands}
+use Rattle.rt_gen_body.proofs.Promises.{init_stands, of_task, task_stands}
+use Rattle.rt_gen_body.specs.Bodies.{BodyStands, DeclaredStands, IsBodyOf}
+use Rattle.rt_gen_body.specs.Inside.{Generating.slots_code, Values.Context}
+use Rattle.rt_gen_body.specs.Inside.Blocks.{block_code, branch_code, first_code, statement_code, two_code}
+use Rattle.rt_gen_body.specs.Inside.Lines.{Appends, EndsWith, Lines, next_address}
+use Rattle.rt_gen_body.specs.Inside.Whole.{blocks_of, code_of, guards_of}
 
 -- the address behind lines
 pub behind_at : (n : ℕ) (xs ys : List Line) → n + length (xs ++ ys) ≡ n + length xs + length ys

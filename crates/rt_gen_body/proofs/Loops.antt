@@ -1,30 +1,21 @@
 -- The code of a choice between two blocks, and of a loop: from its head, turn after turn.
-use Rattle.std.proofs.Common.{◌≡◌, ℕ, suc, ◌+◌, ◌≤◌, ◌==◌, max, Bool, true, false, if◌then◌else◌, List, ◌∷◌, ◌++◌}
-use Rattle.std.proofs.Common.{length, refl, ap, ◌∙◌, subst, arith, length-append, zero, ◌-◌, ◌*◌, ◌^◌, ◌<◌, nat_lt, []}
-use Rattle.std.proofs.Common.{slice_index, slice_set, Contains, inl, inr, get_or-set_same, get_or-set_other, length-set}
-use Rattle.rt_ids.specs.Content.{Values}
-use Rattle.rt_app.specs.Tree.{Expression, Branch, Block, Empty, Then, Repeat}
-use Rattle.rt_app.specs.Steps.{expression_steps, block_steps, statement_steps}
-use Rattle.rt_app.specs.BodyCost.{cost_measure}
-use Rattle.rt_app.specs.Meaning.{Later, value_in, run, run_block, turns_from}
-use Rattle.rt_code.specs.declared.instr.Instr.TheVariants as instr
-use Rattle.rt_gen_queue.specs.Line.{Line, plain, HasCode}
-use Rattle.rt_gen_queue.proofs.Layer.{Here, S, goes, jump_gives, jump_by_gives, set_gives, calc_gives}
-use Rattle.rt_gen_queue.proofs.Placing.{code_front, code_behind}
-use Rattle.rt_gen_body.specs.Inside.Values.{value_code}
-use Rattle.rt_gen_body.specs.Inside.Blocks.{block_code, statement_code, loop_back}
-use Rattle.rt_gen_body.proofs.Expressions.{Sound, valued, with_value, next_begins, still_known, variable_set}
-use Rattle.rt_gen_body.proofs.Places.{Body, Scope, Begins, sooner, Behind, Performs, goes_behind, still_behind, named}
-use Rattle.rt_gen_body.proofs.Places.{Inside, inside_as, free_slot, Knows, fewer_visible}
-use Rattle.std.proofs.lemmas.Bool.{lt-ltb, le-ltb}
+use Rattle.rt_gen_queue.proofs.Vocabulary.{Block, Bool, Branch, Contains, Doing, Empty, Expression, HasCode, Held, Line}
+use Rattle.rt_gen_queue.proofs.Vocabulary.{List, Repeat, Then, Values, [], ap, arith, block_steps, contains_cases}
+use Rattle.rt_gen_queue.proofs.Vocabulary.{contains_here, contains_there, cost_measure, expression_steps, false}
+use Rattle.rt_gen_queue.proofs.Vocabulary.{get_or-set_other, get_or-set_same, if◌then◌else◌, inl, inr, le-ltb, length}
+use Rattle.rt_gen_queue.proofs.Vocabulary.{length-append, length-set, lt-ltb, max, nat_lt, number_of, plain, refl, run}
+use Rattle.rt_gen_queue.proofs.Vocabulary.{run_block, slice_index, slice_set, statement_steps, subst, suc, sym, true}
+use Rattle.rt_gen_queue.proofs.Vocabulary.{value_in, zero, ℕ, ◌*◌, ◌++◌, ◌+◌, ◌-◌, ◌<◌, ◌==◌, ◌^◌, ◌∙◌, ◌∷◌, ◌≡◌, ◌≤◌}
 use Rattle.std.proofs.Math.Nat.{suc-mul}
-use Rattle.rt_ids.specs.Operation.{number_of}
 use Rattle.rt_ids.specs.declared.op.Op.TheVariants as op
-use Rattle.rt_code.specs.Owning.{Held}
-use Rattle.rt_lemmas.proofs.Membership.{contains_cases, contains_there, contains_here}
-use Rattle.rt_gen_queue.proofs.Numbers.{added, steps_and}
-use Rattle.std.proofs.Common.{sym}
-use Rattle.rt_ids.specs.Doing.{Doing}
+use Rattle.rt_app.specs.Meaning.{Later, turns_from}
+use Rattle.rt_code.specs.declared.instr.Instr.TheVariants as instr
+use Rattle.rt_gen_queue.proofs.{Numbers.added, Numbers.steps_and, Placing.code_behind, Placing.code_front}
+use Rattle.rt_gen_queue.proofs.Layer.{Here, S, calc_gives, goes, jump_by_gives, jump_gives, set_gives}
+use Rattle.rt_gen_body.proofs.Expressions.{Sound, next_begins, still_known, valued, variable_set, with_value}
+use Rattle.rt_gen_body.proofs.Places.{Begins, Behind, Body, Inside, Knows, Performs, Scope, fewer_visible, free_slot}
+use Rattle.rt_gen_body.proofs.Places.{goes_behind, inside_as, named, sooner, still_behind}
+use Rattle.rt_gen_body.specs.Inside.{Blocks.block_code, Blocks.loop_back, Blocks.statement_code, Values.value_code}
 
 -- a block does what it means, and leaves in scope what was
 abbrev pub BlockPerforms : Body → Scope → Block → Type 0

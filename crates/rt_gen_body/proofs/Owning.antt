@@ -1,26 +1,18 @@
 -- How an application keeps resources, each in a cell of its own that spells its value, and what is known of values as
 -- code goes on: a resource that may be read has the value that is in its cell. The sections that are open while a body
 -- runs are those of the resources that it has locked.
-use Rattle.std.proofs.Common.{◌≡◌, ℕ, ◌||◌, false, List, [], ◌∷◌, refl, ap, ◌∙◌, ◌≢◌, ◌+◌, ◌<◌, Bool}
-use Rattle.std.proofs.Common.{true, if◌then◌else◌, length, slice_index, slice_set, sym, subst, arith, get_or-set_same}
-use Rattle.std.proofs.Common.{get_or-set_other, ◌⊎◌, inl, inr}
-use Rattle.std.specs.List.{list_any}
-use Rattle.std.proofs.lemmas.Bool.{false_from_ne_true, eqb-true, eq-eqb}
-use Rattle.rt_ids.specs.Holder.{is_same_section, Holder, Guarded, Own, is_same_holder}
-use Rattle.rt_ids.specs.declared.ids.Section.TheVariants as section
-use Rattle.rt_code.specs.Owning.{Held, is_open, Spot, owns, reads, MayLoad, MayStore, Agree, LeavesMine}
-use Rattle.rt_ids.specs.Content.{Content, Number, number, Values, put_at}
-use Rattle.rt_ids.specs.Entry.{Entry}
-use Rattle.rt_ids.specs.Storage.{Home, At, Runner, Starting, AtLevel}
-use Rattle.rt_app.specs.Tree.{App}
-use Rattle.rt_app.specs.Layout.{memory}
-use Rattle.rt_app.specs.Holding.{storage, is_kept, is_constant, IsHeld}
-use Rattle.rt_app.proofs.Laid.{long_enough, resource_is_home, local_is_home}
-use Rattle.rt_code.specs.Masking.{TakesOver}
-use Rattle.rt_code.proofs.Mine.{one_section, same_section, reads_more}
-use Rattle.rt_gen_queue.proofs.Layer.{Setting, Here, spot, Reads, Writes}
-use Rattle.rt_ids.specs.declared.ids.Section.{Section}
+use Rattle.rt_gen_queue.proofs.Vocabulary.{Agree, App, At, AtLevel, Bool, Content, Entry, Guarded, Held, Holder, Home}
+use Rattle.rt_gen_queue.proofs.Vocabulary.{LeavesMine, List, MayLoad, MayStore, Number, Own, Runner, Section, Spot}
+use Rattle.rt_gen_queue.proofs.Vocabulary.{Starting, TakesOver, Values, [], ap, arith, eq-eqb, eqb-true, false}
+use Rattle.rt_gen_queue.proofs.Vocabulary.{false_from_ne_true, get_or-set_other, get_or-set_same, if◌then◌else◌, inl}
+use Rattle.rt_gen_queue.proofs.Vocabulary.{inr, is_constant, is_kept, is_open, is_same_holder, is_same_section, length}
+use Rattle.rt_gen_queue.proofs.Vocabulary.{list_any, local_is_home, memory, number, one_section, owns, put_at, reads}
+use Rattle.rt_gen_queue.proofs.Vocabulary.{reads_more, refl, resource_is_home, same_section, slice_index, slice_set}
+use Rattle.rt_gen_queue.proofs.Vocabulary.{storage, subst, sym, true, ℕ, ◌+◌, ◌<◌, ◌||◌, ◌∙◌, ◌∷◌, ◌≡◌, ◌≢◌, ◌⊎◌}
 use Rattle.rt_lemmas.proofs.Membership.{any_one}
+use Rattle.rt_ids.specs.declared.ids.Section.TheVariants as section
+use Rattle.rt_app.{proofs.Laid.long_enough, specs.Holding.IsHeld}
+use Rattle.rt_gen_queue.proofs.Layer.{Here, Reads, Setting, Writes, spot}
 
 -- the open sections are those of these resources, innermost first
 abbrev pub OpenAre : List Held → List ℕ → Type 0

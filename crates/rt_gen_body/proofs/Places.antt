@@ -1,43 +1,22 @@
 -- What is known of a body, of what its code is generated with and of a place in it, what a statement asks of the frame
 -- there, and what it means that code does what it is to do.
-use Rattle.std.proofs.Common.{◌≡◌, ℕ, ◌^◌, ◌<◌, ◌≤◌, max, true, List, [], ◌∷◌, ◌||◌, length, map, slice_index, arith}
-use Rattle.std.proofs.Common.{◌≢◌, ◌⊎◌, ◌+◌, Contains, ◌++◌, refl, sym, ◌∙◌, subst, inl, inr, Bool}
-use Rattle.rt_ids.specs.Holder.{Guarded, Own, Holder}
-use Rattle.rt_ids.specs.Storage.{Runner, Starting, AtLevel}
-use Rattle.rt_ids.specs.declared.ids.Section.{Section}
+use Rattle.rt_gen_queue.proofs.Vocabulary.{AllByRecursion, App, AtLevel, BODY_COST, Block, Bool, Contains, Doing, Entry}
+use Rattle.rt_gen_queue.proofs.Vocabulary.{Guarded, HasCode, Held, Holder, HoldsOff, IsAccepted, IsChangeable, IsIn}
+use Rattle.rt_gen_queue.proofs.Vocabulary.{IsSoundLock, IsWithin, Line, List, Member, NobodyKeeps, Own, Runner, Section}
+use Rattle.rt_gen_queue.proofs.Vocabulary.{Spawn, Starting, Statement, Values, [], all_weaker, arith, block_steps}
+use Rattle.rt_gen_queue.proofs.Vocabulary.{ceiling, cost_measure, has_loop, inl, inr, is_constant, is_kept, length, map}
+use Rattle.rt_gen_queue.proofs.Vocabulary.{max, memory, refl, saved_slots, slice_index, spawn_words, spawns}
+use Rattle.rt_gen_queue.proofs.Vocabulary.{statement_steps, storage, subst, sym, true, variables, variables_in, ℕ, ◌++◌}
+use Rattle.rt_gen_queue.proofs.Vocabulary.{◌+◌, ◌<◌, ◌^◌, ◌||◌, ◌∙◌, ◌∷◌, ◌≡◌, ◌≢◌, ◌≤◌, ◌⊎◌}
 use Rattle.rt_ids.specs.declared.ids.Section.TheVariants as section
+use Rattle.rt_app.specs.{Declarations.owns as owns_local, Meaning.Later, Spawned.statement_spawns}
+use Rattle.rt_app.specs.Frame.{block_depth, is_loop, locks, statement_depth, statement_locks}
+use Rattle.rt_app.specs.Statements.{is_free, is_init}
 use Rattle.rt_app.specs.declared.expr.Atom.TheVariants as atom
-use Rattle.rt_app.specs.Tree.{App, Spawn, Statement, Block}
-use Rattle.rt_app.specs.Ceiling.{ceiling}
-use Rattle.rt_app.specs.Accepted.{IsAccepted}
-use Rattle.rt_app.specs.Bodies.{Member}
-use Rattle.rt_app.specs.Sound.{IsChangeable, IsSoundLock}
-use Rattle.rt_code.specs.Masking.{IsWithin, NobodyKeeps}
-use Rattle.rt_code.specs.Owning.{Held, saved_slots}
-use Rattle.rt_gen_body.specs.Inside.Values.{Context}
-use Rattle.rt_gen_body.specs.Inside.Whole.{context_of}
-use Rattle.rt_gen_body.proofs.Owning.{OpenAre, IsSpelled}
-use Rattle.std.specs.List.{AllByRecursion}
-use Rattle.rt_lemmas.proofs.Membership.{all_weaker}
-use Rattle.rt_ids.specs.Content.{Values}
-use Rattle.rt_ids.specs.Entry.{Entry}
-use Rattle.rt_ids.specs.Doing.{Doing}
-use Rattle.rt_app.specs.Holding.{storage, is_kept, is_constant}
-use Rattle.rt_app.specs.Declarations.{owns as owns_local}
-use Rattle.rt_app.specs.Statements.{is_init, is_free}
-use Rattle.rt_app.specs.Layout.{memory}
-use Rattle.rt_app.specs.Meaning.{Later}
-use Rattle.rt_gen_queue.specs.Line.{Line, HasCode}
-use Rattle.rt_gen_queue.specs.Spawning.{HoldsOff}
-use Rattle.rt_gen_queue.proofs.Layer.{Setting, Here, S, InTime, IsFree, lasts_less}
+use Rattle.rt_gen_queue.proofs.Layer.{Here, InTime, IsFree, S, Setting, lasts_less}
 use Rattle.rt_gen_queue.proofs.Placing.{code_front}
-use Rattle.rt_ids.specs.Choice.{IsIn}
-use Rattle.rt_ids.specs.declared.limits.TheConstants.{BODY_COST}
-use Rattle.rt_app.specs.Spawned.{statement_spawns, spawns}
-use Rattle.rt_app.specs.Variables.{variables, variables_in}
-use Rattle.rt_app.specs.Steps.{statement_steps, block_steps}
-use Rattle.rt_app.specs.BodyCost.{cost_measure}
-use Rattle.rt_app.specs.Frame.{statement_depth, block_depth, is_loop, has_loop, statement_locks, locks, spawn_words}
+use Rattle.rt_gen_body.proofs.Owning.{IsSpelled, OpenAre}
+use Rattle.rt_gen_body.specs.Inside.{Values.Context, Whole.context_of}
 
 -- a section that opens raises the level that is held off
 pub level_inside : (app : App) (who : Runner) (held : List Held) (level : ℕ) (h : Held)

@@ -1,65 +1,32 @@
 -- What is promised of the code of each kind of body: it stands, from its entry through its blocks to its end.
-use Rattle.std.proofs.Common.{◌≡◌, ℕ, suc, ◌-◌, Some, None, List, [], slice_get, refl, sym, subst, zero, ◌+◌, ◌^◌, ◌<◌}
-use Rattle.std.proofs.Common.{◌≤◌, max, Bool, true, false, if◌then◌else◌, ◌∷◌, ◌++◌, length, replicate, take, map}
-use Rattle.std.proofs.Common.{slice_index, Contains, ap, ◌∙◌, arith, length-append, Option, option_map}
-use Rattle.std.proofs.Common.{append_assoc}
-use Rattle.rt_ids.specs.Content.{Values}
-use Rattle.rt_ids.specs.Action.{Action, Ends, Returns}
-use Rattle.rt_ids.specs.Doing.{Doing}
-use Rattle.rt_ids.specs.Storage.{Starting, AtLevel, Runner}
+use Rattle.rt_gen_queue.proofs.Vocabulary.{Action, App, AtLevel, BODY_COST, Body as AppBody, BodyId, BodyRow, Bool}
+use Rattle.rt_gen_queue.proofs.Vocabulary.{Contains, Doing, Ends, Entry, HasCode, Holder, HoldsOff, IsAccepted, IsIn}
+use Rattle.rt_gen_queue.proofs.Vocabulary.{IsSound, Line, List, Member, None, Option, Rest, Returns, Runner, Some}
+use Rattle.rt_gen_queue.proofs.Vocabulary.{Spawn, Spot, Stands, StandsFrom, Starting, Task, Values, [], act, all_at, ap}
+use Rattle.rt_gen_queue.proofs.Vocabulary.{append_assoc, arith, block_steps, body_cost, calm, cap_steps, contains_none}
+use Rattle.rt_gen_queue.proofs.Vocabulary.{cost_measure, false, first_lock_slot, frame_words, get_or-take}
+use Rattle.rt_gen_queue.proofs.Vocabulary.{get_or_append_left, greatest, has_body, has_loop, if◌then◌else◌, is_software}
+use Rattle.rt_gen_queue.proofs.Vocabulary.{length, length-append, length-replicate, length-take-le, map, max, member_at}
+use Rattle.rt_gen_queue.proofs.Vocabulary.{members, memory, none-some, noted, nothing, option_map, or_left, passed}
+use Rattle.rt_gen_queue.proofs.Vocabulary.{plain, range_with_len, refl, replicate, row_for, same_Some, slice_get}
+use Rattle.rt_gen_queue.proofs.Vocabulary.{slice_index, spawn_words, spawns, stands_with_more, storage, subst, suc, sym}
+use Rattle.rt_gen_queue.proofs.Vocabulary.{take, true, variables, zero, ℕ, ◌++◌, ◌+◌, ◌-◌, ◌<◌, ◌^◌, ◌∙◌, ◌∷◌, ◌≡◌, ◌≤◌}
+use Rattle.std.proofs.lemmas.List.FromFn.{get_or-range_with_len, length-range_with_len}
 use Rattle.rt_ids.specs.declared.ids.BodyId.TheVariants as body
-use Rattle.rt_app.specs.Holding.{storage}
-use Rattle.rt_code.specs.Owning.{Spot}
-use Rattle.rt_code.specs.Stack.{return_address}
-use Rattle.rt_code.specs.Standing.{Stands, Finishes, passed, StandsFrom}
+use Rattle.rt_app.specs.{BodyCost.cost_of, Cost.capped, Stack.thread_frame, Stack.thread_words, Statements.is_init}
+use Rattle.rt_app.specs.Doings.{body_doing, declared_doing, task_doing}
+use Rattle.rt_app.specs.Frame.{block_depth, first_expression_slot, first_spawn_slot}
+use Rattle.rt_code.specs.{Stack.return_address, Standing.Finishes}
 use Rattle.rt_code.specs.declared.instr.Instr.TheVariants as instr
 use Rattle.rt_code.specs.declared.instr.Note.TheVariants as note
-use Rattle.rt_gen_queue.specs.Line.{noted, Line, HasCode, plain}
-use Rattle.rt_gen_queue.proofs.Layer.{Setting, Here, Lasts, S, spot, by_line, returns_here, begun, begins}
-use Rattle.std.specs.List.{range_with_len}
-use Rattle.std.proofs.lemmas.List.{length-replicate, length-take-le, get_or_append_left, get_or-take}
-use Rattle.std.proofs.lemmas.Option.{none-some, same_Some}
-use Rattle.std.proofs.lemmas.List.FromFn.{get_or-range_with_len, length-range_with_len}
-use Rattle.rt_lemmas.proofs.Bools.{or_left}
-use Rattle.rt_lemmas.proofs.Membership.{all_at, contains_none}
-use Rattle.rt_ids.specs.Lists.{greatest}
-use Rattle.rt_ids.specs.Choice.{IsIn}
-use Rattle.rt_ids.specs.Holder.{Holder}
-use Rattle.rt_ids.specs.Entry.{Entry}
-use Rattle.rt_ids.specs.declared.limits.TheConstants.{BODY_COST}
-use Rattle.rt_app.specs.Tree.{Spawn, Body as AppBody, App, Task}
-use Rattle.rt_app.specs.Bodies.{Member, members, member_at}
-use Rattle.rt_app.specs.Variables.{variables}
-use Rattle.rt_app.specs.Cost.{capped}
-use Rattle.rt_app.specs.Steps.{block_steps}
-use Rattle.rt_app.specs.BodyCost.{cost_measure, body_cost, cost_of}
-use Rattle.rt_app.specs.Frame.{block_depth, has_loop, first_expression_slot, first_lock_slot, first_spawn_slot}
-use Rattle.rt_app.specs.Frame.{frame_words, spawn_words}
-use Rattle.rt_app.specs.Spawned.{spawns}
-use Rattle.rt_app.specs.Layout.{memory}
-use Rattle.rt_app.specs.Sending.{Rest, act}
-use Rattle.rt_app.specs.Doings.{nothing, body_doing, declared_doing, task_doing}
-use Rattle.rt_app.specs.Accepted.{IsAccepted}
-use Rattle.rt_app.specs.Acceptance.{IsSound}
-use Rattle.rt_app.proofs.Capping.{cap_steps}
-use Rattle.rt_app.proofs.Members.{has_body}
-use Rattle.rt_gen_queue.specs.Spawning.{HoldsOff}
-use Rattle.rt_gen_queue.specs.Called.{calm, row_for, CalledBodyStands}
-use Rattle.rt_gen_body.specs.Inside.Blocks.{block_code}
-use Rattle.rt_gen_body.specs.Inside.Whole.{context_of, level_of, blocks_of, code_of}
-use Rattle.rt_gen_body.proofs.Blocks.{block_stands}
-use Rattle.rt_gen_body.proofs.Places.{Facts, Body, Scope, State, then_at}
-use Rattle.rt_gen_body.proofs.Owning.{AllSpelled, spelled, known_of, all_agreed}
-use Rattle.rt_ids.specs.declared.ids.BodyId.{BodyId}
-use Rattle.rt_app.specs.Level.{is_software}
-use Rattle.rt_app.specs.Statements.{is_init}
-use Rattle.rt_app.specs.Stack.{thread_frame, thread_words}
-use Rattle.rt_code.specs.declared.image.BodyRow.{BodyRow}
-use Rattle.rt_code.proofs.Standing.{stands_with_more}
-use Rattle.rt_gen_body.specs.Bodies.{BodyStands}
-use Rattle.rt_gen_body.specs.Form.{end_line}
-use Rattle.rt_gen_queue.proofs.Placing.{code_front, code_behind, code_there}
-use Rattle.rt_gen_body.proofs.Storing.{facts_for}
+use Rattle.rt_gen_queue.proofs.Layer.{Here, Lasts, S, Setting, begins, begun, by_line, returns_here, spot}
+use Rattle.rt_gen_queue.proofs.Placing.{code_behind, code_front, code_there}
+use Rattle.rt_gen_queue.specs.Called.{CalledBodyStands}
+use Rattle.rt_gen_body.proofs.{Blocks.block_stands, Storing.facts_for}
+use Rattle.rt_gen_body.proofs.Owning.{AllSpelled, all_agreed, known_of, spelled}
+use Rattle.rt_gen_body.proofs.Places.{Body, Facts, Scope, State, then_at}
+use Rattle.rt_gen_body.specs.{Bodies.BodyStands, Form.end_line, Inside.Blocks.block_code}
+use Rattle.rt_gen_body.specs.Inside.Whole.{blocks_of, code_of, context_of, level_of}
 
 -- a cost that is short is the steps and the end
 pub cost_is : (app : App) (b : AppBody) → block_steps (cost_measure app) b.block + 1 ≤ BODY_COST

@@ -1,49 +1,32 @@
 -- The code of a spawn with its arguments: their values come into the slots of the spawn, and then the message goes, to
 -- the ready queue or to the timer queue, or what its handle takes back or puts to another instant.
-use Rattle.std.proofs.Common.{◌≡◌, ℕ, suc, ◌+◌, ◌-◌, ◌*◌, ◌<◌, ◌≤◌, ◌&&◌, true, Some, is_some}
-use Rattle.std.proofs.Common.{List, [], ◌∷◌, length, map, take, drop, slice_get, slice_index, refl, ap, sym, ◌∙◌, subst}
-use Rattle.std.proofs.Common.{inl, inr, arith, if◌then◌else◌, slice_set, length-append}
-use Rattle.std.specs.List.{AllByRecursion}
-use Rattle.std.proofs.lemmas.List.{drop_more, length-map}
-use Rattle.rt_lemmas.proofs.Membership.{all_weaker}
-use Rattle.rt_ids.specs.Lists.{is_some_and, greatest}
-use Rattle.rt_ids.specs.Content.{Values}
+use Rattle.rt_gen_queue.proofs.Vocabulary.{After, AllByRecursion, App, Bool, Call, Cancel, Expression, HANDLE_COST}
+use Rattle.rt_gen_queue.proofs.Vocabulary.{HasCode, Line, List, Move, Rest, SPAWN_AFTER_COST, Some, Soon, Spawn, Spawns}
+use Rattle.rt_gen_queue.proofs.Vocabulary.{Task, Values, [], all_weaker, ap, arith, armed_messages, ceiling}
+use Rattle.rt_gen_queue.proofs.Vocabulary.{cost_measure, drop, drop_more, greatest, if◌then◌else◌, inl, inr}
+use Rattle.rt_gen_queue.proofs.Vocabulary.{is_software, is_some, is_some_and, length, length-append, length-map, map}
+use Rattle.rt_gen_queue.proofs.Vocabulary.{plain, refl, run, saved_slots, slice_get, slice_index, slice_set}
+use Rattle.rt_gen_queue.proofs.Vocabulary.{spawn_actions, spawn_code, spawn_words, stands_with_more, storage, subst}
+use Rattle.rt_gen_queue.proofs.Vocabulary.{suc, sym, take, true, value_in, ℕ, ◌&&◌, ◌*◌, ◌+◌, ◌-◌, ◌<◌, ◌∙◌, ◌∷◌, ◌≡◌}
+use Rattle.rt_gen_queue.proofs.Vocabulary.{◌≤◌}
 use Rattle.rt_ids.specs.declared.ids.Section.TheVariants as section
-use Rattle.rt_app.specs.declared.costs.TheConstants.{SPAWN_COST, SPAWN_AFTER_COST, MESSAGE_COST, HANDLE_COST}
-use Rattle.rt_app.specs.declared.costs.TheConstants.{HANDLE_MESSAGE_COST, TIMER_QUEUE_WORDS}
-use Rattle.rt_app.specs.Tree.{Spawn, Soon, After, Cancel, Move, Task, App, Expression, Call, Spawns}
-use Rattle.rt_app.specs.Ceiling.{ceiling}
-use Rattle.rt_app.specs.Level.{is_software, armed_messages}
-use Rattle.rt_app.specs.BodyCost.{timer_section_cost, cost_measure}
-use Rattle.rt_app.specs.Frame.{spawn_depth, spawn_words, depth}
-use Rattle.rt_app.specs.Meaning.{value_in, run}
-use Rattle.rt_app.specs.Sending.{Rest, spawn_actions}
-use Rattle.rt_app.specs.Holding.{storage}
-use Rattle.rt_app.specs.Sound.{IsSoundSpawn, SpawnsTask, AreReached}
-use Rattle.rt_app.specs.Accepted.{IsSpawnPlaced, AreMeant}
-use Rattle.rt_code.specs.Owning.{saved_slots}
+use Rattle.rt_app.specs.{Accepted.AreMeant, Accepted.IsSpawnPlaced, BodyCost.timer_section_cost, Frame.depth}
+use Rattle.rt_app.specs.{Frame.spawn_depth, Steps.expressions_steps, Steps.spawn_steps}
+use Rattle.rt_app.specs.Sound.{AreReached, IsSoundSpawn, SpawnsTask}
+use Rattle.rt_app.specs.declared.costs.TheConstants.{HANDLE_MESSAGE_COST, MESSAGE_COST, SPAWN_COST, TIMER_QUEUE_WORDS}
 use Rattle.rt_code.specs.StandingLaws.{AreAtLeast}
-use Rattle.rt_code.proofs.Standing.{stands_with_more}
-use Rattle.rt_gen_queue.specs.Line.{Line, HasCode, plain}
-use Rattle.rt_gen_queue.specs.SpawnCode.{spawn_code}
-use Rattle.rt_gen_queue.proofs.Layer.{Here, S, spot, left_at, lasts_left, goes, copy_gives}
-use Rattle.rt_gen_queue.proofs.Whole.{spawn_stands}
-use Rattle.rt_gen_timer.specs.TimerCode.{after_code, cancel_code, move_code}
-use Rattle.rt_gen_timer.specs.TimerCalls.{MayUseTimer, MayUsePlaces, StandsBefore}
-use Rattle.rt_gen_timer.proofs.Afters.{afters_stand}
-use Rattle.rt_gen_timer.proofs.Cancelling.{cancels_all_stand}
-use Rattle.rt_gen_timer.proofs.Moving.{moves_all_stand}
-use Rattle.rt_gen_body.specs.Inside.Simple.{values_of, goes_code, send_code, bind_code}
-use Rattle.rt_gen_body.proofs.Owning.{spelled_left, not_open}
-use Rattle.rt_gen_body.proofs.Places.{Body, Scope, listed_by, Begins, State, Settled, then_at, sooner}
-use Rattle.rt_gen_body.proofs.Places.{front_of, free_slot, Performs, goes_behind, named}
-use Rattle.rt_app.specs.Steps.{expressions_steps, spawn_steps}
 use Rattle.rt_code.specs.declared.instr.Instr.TheVariants as instr
-use Rattle.rt_gen_queue.proofs.Facts.{Spawned, few_arguments}
-use Rattle.rt_gen_queue.proofs.Placing.{code_behind}
-use Rattle.rt_gen_body.specs.Inside.Values.{Context, next_slot, expression_code, arguments_code}
-use Rattle.rt_gen_body.proofs.Expressions.{Sound, evaluates, next_begins, Sets, variable_set, kept_set}
-use Rattle.std.proofs.Common.{Bool}
+use Rattle.rt_gen_queue.proofs.{Facts.Spawned, Facts.few_arguments, Placing.code_behind, Whole.spawn_stands}
+use Rattle.rt_gen_queue.proofs.Layer.{Here, S, copy_gives, goes, lasts_left, left_at, spot}
+use Rattle.rt_gen_body.proofs.Expressions.{Sets, Sound, evaluates, kept_set, next_begins, variable_set}
+use Rattle.rt_gen_body.proofs.Owning.{not_open, spelled_left}
+use Rattle.rt_gen_body.proofs.Places.{Begins, Body, Performs, Scope, Settled, State, free_slot, front_of, goes_behind}
+use Rattle.rt_gen_body.proofs.Places.{listed_by, named, sooner, then_at}
+use Rattle.rt_gen_body.specs.Inside.Simple.{bind_code, goes_code, send_code, values_of}
+use Rattle.rt_gen_body.specs.Inside.Values.{Context, arguments_code, expression_code, next_slot}
+use Rattle.rt_gen_timer.proofs.{Afters.afters_stand, Cancelling.cancels_all_stand, Moving.moves_all_stand}
+use Rattle.rt_gen_timer.specs.TimerCalls.{MayUsePlaces, MayUseTimer, StandsBefore}
+use Rattle.rt_gen_timer.specs.TimerCode.{after_code, cancel_code, move_code}
 
 -- the first of the values in the slots from one on, and the others
 first_value : (n slot v : ℕ) (slots vs : List ℕ) → slot < length slots → take (suc n) (drop slot slots) ≡ v ∷ vs

@@ -1,58 +1,43 @@
 -- The lines of a body, one by one: they name only what the application declares, there are no more of them than the
 -- rule on sizes counts, they end as it is fixed, and those of a body that emits literals and pends interrupts alone are
 -- fixed.
-use Rattle.std.proofs.Common.{◌≡◌, ℕ, ◌+◌, ◌≤◌, max, Bool, true, false, if◌then◌else◌, Option, Some, None}
-use Rattle.std.proofs.Common.{option_map, is_some, List, [], ◌∷◌, ◌++◌, length, slice_get, sum_by, refl, ap, subst}
-use Rattle.std.proofs.Common.{arith, length-append, ◌<◌, map, slice_index, sym, ◌==◌}
+use Rattle.rt_gen_queue.proofs.Vocabulary.{After, App, Assign, Bind, Block, Body, BodyId, Bool, Branch, Calc, Call}
+use Rattle.rt_gen_queue.proofs.Vocabulary.{Cancel, Emit, Empty, Expression, HANDLE_COST, HasIrq, IsAccepted, Line, List}
+use Rattle.rt_gen_queue.proofs.Vocabulary.{Locked, Member, Move, None, Now, Num, Oper, Option, Pend, Read, Repeat}
+use Rattle.rt_gen_queue.proofs.Vocabulary.{SPAWN_AFTER_COST, Some, Soon, Spawn, Spawns, Statement, Task, Then, []}
+use Rattle.rt_gen_queue.proofs.Vocabulary.{accepted_are_sound, ap, arith, block_steps, body_cost, cap_steps, enter_line}
+use Rattle.rt_gen_queue.proofs.Vocabulary.{eqb-true, expression_steps, false, first_lock_slot, get_or_from_slice_get}
+use Rattle.rt_gen_queue.proofs.Vocabulary.{has_body, if◌then◌else◌, irq_number, is_software, is_some, is_some_and}
+use Rattle.rt_gen_queue.proofs.Vocabulary.{leave_line, length, length-append, length-map, map, max, member_at, members}
+use Rattle.rt_gen_queue.proofs.Vocabulary.{names_of, none-some, noted, option_map, or_zero, plain, range_with_len, refl}
+use Rattle.rt_gen_queue.proofs.Vocabulary.{same_Some, slice_get, slice_get_within, slice_index, statement_steps, subst}
+use Rattle.rt_gen_queue.proofs.Vocabulary.{sum_by, sym, true, variables, variables_in, ℕ, ◌++◌, ◌+◌, ◌<◌, ◌==◌, ◌∷◌}
+use Rattle.rt_gen_queue.proofs.Vocabulary.{◌≡◌, ◌≤◌}
 use Rattle.std.proofs.lemmas.List.Sums.{get_or-le-sum_by}
-use Rattle.std.proofs.lemmas.Option.{none-some, same_Some, get_or_from_slice_get, slice_get_within}
-use Rattle.rt_ids.specs.declared.ids.BodyId.{BodyId}
-use Rattle.rt_ids.specs.declared.ids.BodyId.TheVariants as body
-use Rattle.rt_app.specs.Tree.{Expression, Num, Read, Oper, Spawn, Soon, After, Cancel, Move, Calc, Now, Call, Body}
-use Rattle.rt_app.specs.Tree.{Task, App, Statement, Bind, Assign, Branch, Repeat, Locked, Emit, Pend, Spawns, Block}
-use Rattle.rt_app.specs.Tree.{Empty, Then}
-use Rattle.rt_app.specs.Accepted.{IsAccepted, behind, IsStatementPlaced, IsBlockPlaced}
-use Rattle.rt_app.specs.Bodies.{Member, members, member_at, body_at}
-use Rattle.rt_app.specs.BodyCost.{size_measure, body_cost, cost_of}
-use Rattle.rt_app.specs.Frame.{first_lock_slot}
-use Rattle.rt_app.specs.Steps.{expression_steps, expressions_steps, spawn_steps, statement_steps, block_steps}
-use Rattle.rt_app.specs.declared.costs.TheConstants.{SPAWN_COST, SPAWN_AFTER_COST, HANDLE_COST}
-use Rattle.rt_app.specs.Level.{is_software}
 use Rattle.rt_lemmas.proofs.Bools.{and_parts}
-use Rattle.rt_ids.specs.Lists.{is_some_and, or_zero}
-use Rattle.rt_app.proofs.Capping.{cap_steps}
-use Rattle.rt_app.proofs.Members.{has_body, made_of}
-use Rattle.rt_app.proofs.Sound.{accepted_are_sound}
-use Rattle.rt_code.specs.declared.instr.Instr.TheVariants as instr
-use Rattle.rt_gen_queue.specs.Line.{Line, plain, noted}
-use Rattle.rt_gen_body.specs.Inside.Values.{Context, next_slot, load, store, expression_code, value_code}
-use Rattle.rt_gen_body.specs.Inside.Values.{arguments_code}
-use Rattle.rt_gen_timer.specs.TimerCode.{queue_of}
-use Rattle.rt_gen_queue.proofs.Named.{spawned, task_declared, spawn_claimed}
-use Rattle.rt_gen_timer.proofs.Generated.{after_short, timer_named, after_claimed, cancel_claimed, move_claimed}
-use Rattle.rt_gen_body.specs.Inside.Simple.{is_timed, values_of}
-use Rattle.rt_gen_body.specs.Inside.Simple.{values_code, goes_code, send_code}
-use Rattle.rt_gen_body.specs.Inside.Blocks.{guard_at, branch_code, statement_code, block_code, loop_back, lock_code}
-use Rattle.rt_gen_body.specs.Inside.Whole.{context_of, level_of, code_of, blocks_of}
-use Rattle.rt_gen_queue.proofs.Facts.{arguments, few_arguments, Spawned}
-use Rattle.rt_gen_queue.proofs.Placing.{spawn_long}
-use Rattle.std.proofs.lemmas.List.{length-map}
-use Rattle.std.specs.List.{range_with_len}
+use Rattle.rt_ids.specs.declared.ids.BodyId.TheVariants as body
 use Rattle.rt_ids.specs.declared.ids.Section.TheVariants as section
-use Rattle.rt_app.specs.declared.expr.Atom.{Atom}
+use Rattle.rt_app.proofs.Members.{made_of}
+use Rattle.rt_app.specs.{Bodies.body_at, BodyCost.cost_of, BodyCost.size_measure, Steps.expressions_steps}
+use Rattle.rt_app.specs.{Steps.spawn_steps, declared.costs.TheConstants.SPAWN_COST, declared.expr.Atom.Atom}
+use Rattle.rt_app.specs.Accepted.{IsBlockPlaced, IsStatementPlaced, behind}
 use Rattle.rt_app.specs.declared.expr.Atom.TheVariants as atom
-use Rattle.rt_app.specs.Names.{names_of}
-use Rattle.rt_app.specs.Variables.{variables, variables_in}
-use Rattle.rt_code.specs.Listable.{HasIrq, HasSection}
+use Rattle.rt_code.specs.Listable.{HasSection}
+use Rattle.rt_code.specs.declared.instr.Instr.TheVariants as instr
 use Rattle.rt_code.specs.declared.instr.Note.TheVariants as note
-use Rattle.rt_gen_queue.specs.Guards.{enter_line, leave_line}
+use Rattle.rt_gen_queue.proofs.{Facts.Spawned, Facts.arguments, Facts.few_arguments, Masks.enter_named}
+use Rattle.rt_gen_queue.proofs.{Masks.leave_named, Nameable.AreClaimed, Nameable.claimed_both, Nameable.irq_declared}
+use Rattle.rt_gen_queue.proofs.{Named.spawn_claimed, Named.spawned, Named.task_declared, Placing.spawn_long}
 use Rattle.rt_gen_queue.specs.declared.guard.Guard.{Guard}
-use Rattle.rt_gen_body.specs.Form.{end_line, fixed_block, fixed_body, HasForm}
-use Rattle.rt_gen_queue.proofs.Masks.{enter_named, leave_named}
-use Rattle.rt_gen_queue.proofs.Nameable.{AreClaimed, claimed_both, irq_declared}
 use Rattle.rt_gen_body.proofs.Storing.{number_is}
-use Rattle.std.proofs.lemmas.Bool.{eqb-true}
-use Rattle.rt_app.specs.Handlers.{irq_number}
+use Rattle.rt_gen_body.specs.Form.{HasForm, end_line, fixed_block, fixed_body}
+use Rattle.rt_gen_body.specs.Inside.Blocks.{block_code, branch_code, guard_at, lock_code, loop_back, statement_code}
+use Rattle.rt_gen_body.specs.Inside.Simple.{goes_code, is_timed, send_code, values_code, values_of}
+use Rattle.rt_gen_body.specs.Inside.Values.{Context, arguments_code, expression_code, load, next_slot, store}
+use Rattle.rt_gen_body.specs.Inside.Values.{value_code}
+use Rattle.rt_gen_body.specs.Inside.Whole.{blocks_of, code_of, context_of, level_of}
+use Rattle.rt_gen_timer.proofs.Generated.{after_claimed, after_short, cancel_claimed, move_claimed, timer_named}
+use Rattle.rt_gen_timer.specs.TimerCode.{queue_of}
 
 -- lines that name only what is declared, and of which there are no more than so many
 record Fine (app : App) (lines : List Line) (most : ℕ) : Type 0 where

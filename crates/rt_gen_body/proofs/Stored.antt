@@ -1,6 +1,5 @@
 -- What an application's holders' cells spell depends on their own cells.
-use Rattle.rt_app.specs.Tree.{App}
-use Rattle.rt_app.specs.Holding.{storage}
+use Rattle.rt_gen_queue.proofs.Vocabulary.{App, storage}
 use Rattle.rt_app.proofs.Spelling.{spells_by_its_own}
 use Rattle.rt_code.specs.StandingLaws.{SpellsByItsOwn}
 

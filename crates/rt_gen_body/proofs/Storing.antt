@@ -1,39 +1,24 @@
 -- What a body of an application may do.
-use Rattle.std.proofs.Common.{◌≡◌, ◌⊎◌, ℕ, zero, suc, ◌<◌, ◌==◌, ◌&&◌, ◌||◌, not, Bool, true, false, Option, None}
-use Rattle.std.proofs.Common.{Some, option_map, List, [], ◌∷◌, length, map, find, flat_map, if◌then◌else◌, slice_get}
-use Rattle.std.proofs.Common.{slice_index, Contains, refl, ap, sym, ◌∙◌, inl, inr, arith, eq-eqb}
-use Rattle.std.specs.List.{list_any}
-use Rattle.std.proofs.lemmas.Bool.{lt-ltb, eqb-true, false_from_ne_true}
+use Rattle.rt_gen_queue.proofs.Vocabulary.{App, AtLevel, Bool, Contains, Guarded, Held, IsAccepted, IsChangeable, IsIn}
+use Rattle.rt_gen_queue.proofs.Vocabulary.{IsSound, List, Member, None, Option, Own, Runner, Some, Starting, []}
+use Rattle.rt_gen_queue.proofs.Vocabulary.{and_both, and_left, any_passes, ap, arith, eq-eqb, eqb-true, false}
+use Rattle.rt_gen_queue.proofs.Vocabulary.{false_from_ne_true, find, flat_map, get_or-map-range_with_len, guard_of}
+use Rattle.rt_gen_queue.proofs.Vocabulary.{if◌then◌else◌, inl, inr, is_constant, is_kept, is_open, is_some_and, length}
+use Rattle.rt_gen_queue.proofs.Vocabulary.{list_any, lt-ltb, map, members, not, option_map, or_left, or_right, or_zero}
+use Rattle.rt_gen_queue.proofs.Vocabulary.{owns, reads, refl, slice_get, slice_index, storage, suc, sym, true, zero, ℕ}
+use Rattle.rt_gen_queue.proofs.Vocabulary.{◌&&◌, ◌<◌, ◌==◌, ◌||◌, ◌∙◌, ◌∷◌, ◌≡◌, ◌⊎◌}
 use Rattle.std.proofs.lemmas.List.Folds.{list_any-append}
-use Rattle.std.proofs.lemmas.List.FromFn.{get_or-map-range_with_len}
-use Rattle.rt_lemmas.proofs.Bools.{or_left, or_right, or_cases, or_assoc, and_left, and_both, and_parts}
-use Rattle.rt_lemmas.proofs.Membership.{any_contained, any_passes, any_one}
+use Rattle.rt_lemmas.proofs.Bools.{and_parts, or_assoc, or_cases}
+use Rattle.rt_lemmas.proofs.Membership.{any_contained, any_one}
 use Rattle.rt_ids.proofs.Lists.{list_any-map}
-use Rattle.rt_ids.specs.Lists.{or_zero, is_some_and}
-use Rattle.rt_ids.specs.Choice.{IsIn}
-use Rattle.rt_ids.specs.Holder.{Guarded, Own}
-use Rattle.rt_ids.specs.Storage.{Runner, Starting, AtLevel}
 use Rattle.rt_ids.specs.declared.ids.Section.TheVariants as section
-use Rattle.rt_app.specs.declared.app.IrqDecl.{IrqDecl}
-use Rattle.rt_app.specs.declared.body.Listed.{Listed}
+use Rattle.rt_app.specs.{Ceiling.lists, Declarations.owns as owns_local, Holding.is_some_at, Sound.IsReached}
+use Rattle.rt_app.specs.{declared.app.IrqDecl.IrqDecl, declared.body.Listed.Listed}
+use Rattle.rt_app.specs.Listing.{Listing, is_lock_free, listings, listings_of}
+use Rattle.rt_app.specs.Statements.{is_free, is_init, is_lockable, listing_in}
 use Rattle.rt_app.specs.declared.expr.Atom.TheVariants as atom
-use Rattle.rt_app.specs.Tree.{App}
-use Rattle.rt_app.specs.Bodies.{Member, members}
-use Rattle.rt_app.specs.Ceiling.{lists}
-use Rattle.rt_app.specs.Declarations.{owns as owns_local}
-use Rattle.rt_app.specs.Statements.{is_init, listing_in, is_lockable, is_free}
-use Rattle.rt_app.specs.Listing.{Listing, listings_of, listings, is_lock_free}
-use Rattle.rt_app.specs.Accepted.{IsAccepted}
-use Rattle.rt_app.specs.Holding.{is_some_at, is_kept, is_constant, storage}
-use Rattle.rt_app.specs.Sound.{IsReached, IsChangeable}
-use Rattle.rt_app.specs.Acceptance.{IsSound}
-use Rattle.rt_code.specs.Owning.{Held, is_open, owns, reads}
-use Rattle.rt_gen_queue.specs.Guards.{guard_of}
-use Rattle.rt_gen_body.specs.Inside.Blocks.{guard_at}
-use Rattle.rt_gen_body.specs.Inside.Whole.{context_of}
-use Rattle.rt_gen_body.proofs.Owning.{OpenAre, open_as}
-use Rattle.rt_gen_body.proofs.Places.{Facts}
-use Rattle.rt_gen_body.specs.Inside.Values.{Context}
+use Rattle.rt_gen_body.proofs.{Owning.OpenAre, Owning.open_as, Places.Facts}
+use Rattle.rt_gen_body.specs.Inside.{Blocks.guard_at, Values.Context, Whole.context_of}
 
 pub guard_is : (app : App) (m : Member) (r : ℕ) → r < length app.shared → guard_at (context_of app m) r
     ≡ guard_of app (section.Res r)

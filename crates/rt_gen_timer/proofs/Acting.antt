@@ -1,17 +1,13 @@
 -- Runs of lines on the window of the timer's code, and the cells of the timer queue while its section is open.
-use Rattle.std.proofs.Common.{◌≡◌, ℕ, zero, suc, ◌+◌, ◌*◌, ◌<◌, ◌≤◌, true, List, [], ◌∷◌, length, map, take, drop}
-use Rattle.std.proofs.Common.{refl, ap, subst, ◌∙◌, arith}
-use Rattle.rt_ids.specs.Holder.{Guarded}
-use Rattle.rt_ids.specs.Storage.{At}
+use Rattle.rt_gen_queue.proofs.Vocabulary.{At, Guarded, HasCode, Held, Line, List, [], ap, arith, drop, home_of}
+use Rattle.rt_gen_queue.proofs.Vocabulary.{is_open, length, map, memory, refl, subst, suc, take, true, zero, ℕ, ◌*◌}
+use Rattle.rt_gen_queue.proofs.Vocabulary.{◌+◌, ◌<◌, ◌∙◌, ◌∷◌, ◌≡◌, ◌≤◌}
 use Rattle.rt_ids.specs.declared.ids.Section.TheVariants as section
-use Rattle.rt_app.specs.Layout.{memory, home_of}
-use Rattle.rt_code.specs.Owning.{Held, is_open}
-use Rattle.rt_gen_queue.specs.Line.{Line, HasCode}
-use Rattle.rt_gen_queue.proofs.Layer.{Setting, Here, S, Lasts, lasts_less, Saves, Now, all_fit, placed}
-use Rattle.rt_gen_queue.proofs.Layer.{MayRun, Straight, Opens}
-use Rattle.rt_gen_timer.specs.TimerLines.{armings_of, given_of, instants_of, numbers_of, handles_of, heap_of}
-use Rattle.rt_gen_timer.specs.declared.queue.TimerQueue.{TimerQueue}
+use Rattle.rt_gen_queue.proofs.Layer.{Here, Lasts, MayRun, Now, Opens, S, Saves, Setting, Straight, all_fit, lasts_less}
+use Rattle.rt_gen_queue.proofs.Layer.{placed}
 use Rattle.rt_gen_timer.proofs.Window.{Slots, Words, words}
+use Rattle.rt_gen_timer.specs.TimerLines.{armings_of, given_of, handles_of, heap_of, instants_of, numbers_of}
+use Rattle.rt_gen_timer.specs.declared.queue.TimerQueue.{TimerQueue}
 
 -- Each end is so many steps away, and masks are kept where the window keeps them.
 pub record Lasting (f : Slots) (steps : ℕ) (held : List Held) (ends : List ℕ) : Type 0 where

@@ -1,72 +1,48 @@
 -- The code of a whole `spawn_after`: a place is taken and filled, and in the section of the timer queue its message is
 -- armed, with the handle for an answer; or none is left, and the answer is 0.
-use Rattle.std.proofs.Common.{◌≡◌, ℕ, suc, ◌+◌, ◌*◌, ◌^◌, ◌<◌, ◌≤◌, ◌&&◌, true, Some, None, List, [], ◌∷◌, ◌++◌, length}
-use Rattle.std.proofs.Common.{take, drop, slice_get, slice_index, refl, sym, ap, subst, ◌∙◌, arith}
-use Rattle.std.proofs.lemmas.List.{length-append, length_push, take-append-le}
-use Rattle.rt_lemmas.proofs.Bools.{and_both}
-use Rattle.rt_lemmas.proofs.Membership.{all_weaker}
-use Rattle.rt_ids.specs.Lists.{is_some_and}
-use Rattle.rt_ids.specs.Holder.{Holder, Guarded}
-use Rattle.rt_ids.specs.Content.{Content, Message, Timed, Values, timed, with_armed}
-use Rattle.rt_ids.specs.Entry.{Entry}
-use Rattle.rt_ids.specs.Action.{Arms, Refuses, Leaves}
-use Rattle.rt_ids.specs.Storage.{Home}
-use Rattle.rt_ids.specs.declared.ids.Section.{Section}
+use Rattle.rt_gen_queue.proofs.Vocabulary.{App, Arms, Content, Entry, Guarded, HasCode, Held, Holder, Home}
+use Rattle.rt_gen_queue.proofs.Vocabulary.{IsTimedPlace, Leaves, Line, List, Marked, MayLoad, Message, None, Refuses}
+use Rattle.rt_gen_queue.proofs.Vocabulary.{Rest, SPAWN_AFTER_COST, Section, Some, TakesOver, Timed, Values, [], act}
+use Rattle.rt_gen_queue.proofs.Vocabulary.{act_all, all_weaker, and_both, ap, arguments_of, arith, arm_actions}
+use Rattle.rt_gen_queue.proofs.Vocabulary.{armed_before, armed_messages, armed_place, capacity_of, count_more, drop}
+use Rattle.rt_gen_queue.proofs.Vocabulary.{enter, few_before, few_messages, fill_code, guard_of, is_armed, is_software}
+use Rattle.rt_gen_queue.proofs.Vocabulary.{is_some_and, kind_at, leave, leave_timer, length, length-append, length_push}
+use Rattle.rt_gen_queue.proofs.Vocabulary.{message_at, message_word, mine, noted, one_itself, passed, plain}
+use Rattle.rt_gen_queue.proofs.Vocabulary.{queued_more, reads_more, refl, slice_get, slice_index, storage, subst, suc}
+use Rattle.rt_gen_queue.proofs.Vocabulary.{sym, take, take-append-le, take_code, take_place, timed, true, with_armed, ℕ}
+use Rattle.rt_gen_queue.proofs.Vocabulary.{◌&&◌, ◌*◌, ◌++◌, ◌+◌, ◌<◌, ◌^◌, ◌∙◌, ◌∷◌, ◌≡◌, ◌≤◌}
 use Rattle.rt_ids.specs.declared.ids.Section.TheVariants as section
-use Rattle.rt_app.specs.declared.costs.TheConstants.{SPAWN_AFTER_COST, MESSAGE_COST}
-use Rattle.rt_app.specs.Tree.{App}
-use Rattle.rt_app.specs.Level.{is_software, is_armed, armed_messages, armed_before}
-use Rattle.rt_app.specs.Sending.{Rest, act, capacity_of, act_all, arm_actions, leave_timer, take_place}
-use Rattle.rt_app.specs.Holding.{storage, message_word, message_at, armed_place, arguments_of}
-use Rattle.rt_app.proofs.ArmedPlaces.{few_before, few_messages}
-use Rattle.rt_app.proofs.Counting.{count_more, one_itself}
-use Rattle.rt_app.proofs.Spelling.{IsTimedPlace}
-use Rattle.rt_code.specs.Masking.{TakesOver}
-use Rattle.rt_code.specs.Owning.{Held, Marked, mine, MayLoad}
-use Rattle.rt_code.specs.Standing.{passed}
+use Rattle.rt_app.specs.declared.costs.TheConstants.{MESSAGE_COST}
 use Rattle.rt_code.specs.declared.instr.Instr.TheVariants as instr
 use Rattle.rt_code.specs.declared.instr.Note.TheVariants as note
-use Rattle.rt_code.proofs.Mine.{queued_more, reads_more}
-use Rattle.rt_gen_queue.specs.Guards.{guard_of, kind_at, enter, leave}
-use Rattle.rt_gen_queue.specs.Line.{Line, HasCode, plain, noted}
-use Rattle.rt_gen_queue.specs.SpawnCode.{take_code, fill_code}
-use Rattle.rt_gen_queue.proofs.Entering.{opened, MayEnter, enters, enter_placed, enter_fits, leaves, leave_placed}
-use Rattle.rt_gen_queue.proofs.Entering.{leave_fits, saves_inside, saves_below}
+use Rattle.rt_gen_queue.proofs.{Handing.refuses, Numbers.steps_and, Numbers.steps_are, Queues.message_alike}
+use Rattle.rt_gen_queue.proofs.Entering.{MayEnter, enter_fits, enter_placed, enters, leave_fits, leave_placed, leaves}
+use Rattle.rt_gen_queue.proofs.Entering.{opened, saves_below, saves_inside}
 use Rattle.rt_gen_queue.proofs.Facts.{arguments, few_arguments, few_free, free_top, place_of, small as small_words}
-use Rattle.rt_gen_queue.proofs.Granting.{MayTake, HasTaken, at_full, take_begins}
-use Rattle.rt_gen_queue.proofs.Handing.{refuses}
-use Rattle.rt_gen_queue.proofs.Layer.{Setting, Here, InTime, spot, S, moved, Frame, Now, inner, inner_window}
-use Rattle.rt_gen_queue.proofs.Layer.{Straight, jumps, ends, read_behind, fits, all_fit, writes_open}
-use Rattle.rt_gen_queue.proofs.Numbers.{steps_and, steps_are}
-use Rattle.rt_gen_queue.proofs.Owning.{nobody_keeps, is_inside, reads_inside, home_as, timer_spelled}
-use Rattle.rt_gen_queue.proofs.Placing.{code_front, code_behind, fill_long}
-use Rattle.rt_gen_queue.proofs.Queues.{message_alike}
+use Rattle.rt_gen_queue.proofs.Granting.{HasTaken, MayTake, at_full, take_begins}
+use Rattle.rt_gen_queue.proofs.Layer.{Frame, Here, InTime, Now, S, Setting, Straight, all_fit, ends, fits, inner}
+use Rattle.rt_gen_queue.proofs.Layer.{inner_window, jumps, moved, read_behind, spot, writes_open}
+use Rattle.rt_gen_queue.proofs.Owning.{home_as, is_inside, nobody_keeps, reads_inside, timer_spelled}
+use Rattle.rt_gen_queue.proofs.Placing.{code_behind, code_front, fill_long}
 use Rattle.rt_gen_queue.proofs.Storing.{Filled, fill_stands, message_is, own_filled}
-use Rattle.rt_gen_queue.proofs.Words.{Arguments, Scratch as Work, words as nine_words, listed}
-use Rattle.rt_gen_timer.specs.TimerCode.{queue_of, armed_task, after_code}
-use Rattle.rt_gen_timer.specs.TimerLines.{heap_of, row_lines, arm_lines, full_lines, alarm_lines}
-use Rattle.rt_gen_timer.specs.TimerCalls.{MayUsePlaces, AftersStand}
-use Rattle.rt_gen_timer.specs.declared.queue.TimerQueue.{TimerQueue}
-use Rattle.rt_gen_timer.proofs.Window.{Words, words, Scratch, scratch_of}
-use Rattle.rt_gen_timer.proofs.Acting.{Lasting, Runs, sooner, run_stands, code_first, code_part, heap_open}
-use Rattle.rt_gen_timer.proofs.Alone.{instant_in, number_in, timed_row}
-use Rattle.rt_gen_timer.proofs.Calling.{leaving_fits, leaving_code, Call, Begins, f, w, on_window, Left}
-use Rattle.rt_gen_timer.proofs.Calling.{HasCalled, behind_call, Inside, entries, at_work, IsInside, AgreeInside}
-use Rattle.rt_gen_timer.proofs.Calling.{columns_now, queue_now, settles, stands_called}
-use Rattle.rt_gen_timer.proofs.Comparing.{Hand, Place, in_hand}
-use Rattle.rt_gen_timer.proofs.Delaying.{at_address, delayed, time_stands}
+use Rattle.rt_gen_queue.proofs.Words.{Arguments, Scratch as Work, listed, words as nine_words}
+use Rattle.rt_gen_timer.proofs.{Alone.instant_in, Alone.number_in, Alone.timed_row, Comparing.Hand, Comparing.Place}
+use Rattle.rt_gen_timer.proofs.{Comparing.in_hand, Delaying.at_address, Delaying.delayed, Delaying.time_stands}
+use Rattle.rt_gen_timer.proofs.{Lasting.last_alone, Marking.arms, Moves.settled_risen, Opening.MayOpen}
+use Rattle.rt_gen_timer.proofs.{Opening.may_enter, Order.above_less, Rowing.HasRow, Rowing.row_stands, Rowing.with_row}
+use Rattle.rt_gen_timer.proofs.{Sifting.IsReady, Sifting.IsRisen, Sifting.rises_stand, Spelled.few_armings}
+use Rattle.rt_gen_timer.proofs.{Turning.AreTurns, Turning.arm_steps, Turning.turns_for}
+use Rattle.rt_gen_timer.proofs.Acting.{Lasting, Runs, code_first, code_part, heap_open, run_stands, sooner}
+use Rattle.rt_gen_timer.proofs.Calling.{AgreeInside, Begins, Call, HasCalled, Inside, IsInside, Left, at_work}
+use Rattle.rt_gen_timer.proofs.Calling.{behind_call, columns_now, entries, f, leaving_code, leaving_fits, on_window}
+use Rattle.rt_gen_timer.proofs.Calling.{queue_now, settles, stands_called, w}
 use Rattle.rt_gen_timer.proofs.Hollow.{IsBeside, beside_more, beside_one_place, hollow_filled}
-use Rattle.rt_gen_timer.proofs.Lasting.{last_alone}
-use Rattle.rt_gen_timer.proofs.Marking.{arms}
-use Rattle.rt_gen_timer.proofs.Moves.{settled_risen}
-use Rattle.rt_gen_timer.proofs.Opening.{MayOpen, may_enter}
-use Rattle.rt_gen_timer.proofs.Order.{above_less}
-use Rattle.rt_gen_timer.proofs.Pushing.{MayPush, armings_before, size, room, counts, are, is_row, longer, hole_begins}
-use Rattle.rt_gen_timer.proofs.Pushing.{hollow_begins, spelled_more}
-use Rattle.rt_gen_timer.proofs.Sifting.{IsReady, IsRisen, rises_stand}
-use Rattle.rt_gen_timer.proofs.Rowing.{HasRow, with_row, row_stands}
-use Rattle.rt_gen_timer.proofs.Spelled.{few_armings}
-use Rattle.rt_gen_timer.proofs.Turning.{arm_steps, AreTurns, turns_for}
+use Rattle.rt_gen_timer.proofs.Pushing.{MayPush, are, armings_before, counts, hole_begins, hollow_begins, is_row}
+use Rattle.rt_gen_timer.proofs.Pushing.{longer, room, size, spelled_more}
+use Rattle.rt_gen_timer.proofs.Window.{Scratch, Words, scratch_of, words}
+use Rattle.rt_gen_timer.specs.{TimerCalls.AftersStand, TimerCalls.MayUsePlaces, declared.queue.TimerQueue.TimerQueue}
+use Rattle.rt_gen_timer.specs.TimerCode.{after_code, armed_task, queue_of}
+use Rattle.rt_gen_timer.specs.TimerLines.{alarm_lines, arm_lines, full_lines, heap_of, row_lines}
 
 -- the steps of such a call
 abbrev after_steps : App → ℕ

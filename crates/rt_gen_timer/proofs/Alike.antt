@@ -1,16 +1,13 @@
 -- On counts of a list of messages: one that is counted stands at a place, and splits the list there. And on two
 -- readings of keys that are one on the messages of a list.
-use Rattle.std.proofs.Common.{◌≡◌, ◌≢◌, ℕ, ◌+◌, ◌<◌, ◌≤◌, cond, List, [], ◌∷◌, ◌++◌, map, length, take, drop, get_or}
-use Rattle.std.proofs.Common.{slice_set, ◌==◌, ◌&&◌, refl, sym, ap, ◌∙◌, arith, length-set, get_or-set_other}
-use Rattle.std.proofs.lemmas.Bool.{ne_eqb}
-use Rattle.std.proofs.lemmas.List.{take-append-drop}
-use Rattle.std.proofs.lemmas.Option.{slice_get_within, get_or_from_slice_get}
-use Rattle.std.proofs.lemmas.List.Sums.{sum_by-append, sum_by-set, get_or-le-sum_by}
-use Rattle.std.specs.List.{AllByRecursion}
-use Rattle.rt_app.proofs.Counting.{one, count_more, one_itself, all_counted, counted, counted_at as stands_at}
-use Rattle.rt_app.specs.Heap.{IsRising, IsArranged, above, at, key_of}
-use Rattle.rt_ids.specs.Entry.{Entry, count}
-use Rattle.rt_lemmas.proofs.Lists.{drop_as_cons}
+use Rattle.rt_gen_queue.proofs.Vocabulary.{AllByRecursion, Entry, IsArranged, List, [], above, all_counted, ap, arith}
+use Rattle.rt_gen_queue.proofs.Vocabulary.{at, cond, count, count_more, counted, drop, drop_as_cons, get_or}
+use Rattle.rt_gen_queue.proofs.Vocabulary.{get_or-set_other, get_or_from_slice_get, key_of, length, length-set, map}
+use Rattle.rt_gen_queue.proofs.Vocabulary.{ne_eqb, one, one_itself, refl, slice_get_within, slice_set, sum_by-append}
+use Rattle.rt_gen_queue.proofs.Vocabulary.{sym, take, take-append-drop, ℕ, ◌&&◌, ◌++◌, ◌+◌, ◌<◌, ◌==◌, ◌∙◌, ◌∷◌, ◌≡◌}
+use Rattle.rt_gen_queue.proofs.Vocabulary.{◌≢◌, ◌≤◌}
+use Rattle.std.proofs.lemmas.List.Sums.{get_or-le-sum_by, sum_by-set}
+use Rattle.rt_app.{proofs.Counting.counted_at as stands_at, specs.Heap.IsRising}
 
 -- a message between two lists
 pub count_around : (x : Entry) (before behind : List Entry) (e : Entry)

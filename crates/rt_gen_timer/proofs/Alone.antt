@@ -1,21 +1,12 @@
 -- Where only cells of the timer queue are others, the messages of armed places are as they were.
-use Rattle.std.proofs.Common.{◌≡◌, ◌⊎◌, ℕ, ◌+◌, ◌-◌, ◌*◌, ◌<◌, ◌≤◌, ◌==◌, true, List, slice_index, IsSome, refl, sym}
-use Rattle.std.proofs.Common.{ap, ◌∙◌, arith, eq-eqb}
-use Rattle.rt_app.proofs.ArmedPlaces.{armed_place_within, armed_place_once}
-use Rattle.rt_app.proofs.LaidTimer.{timer_is_home}
-use Rattle.rt_app.proofs.Spelling.{IsTimedPlace, the_task}
-use Rattle.rt_app.specs.Holding.{armed_place, instant_at, arming_at, handle_at, message_at, armed_at}
-use Rattle.rt_app.specs.Layout.{timer_at, home_of}
-use Rattle.rt_app.specs.Level.{is_software, is_of_level, armed_messages}
-use Rattle.rt_app.specs.Tree.{App}
-use Rattle.rt_gen_queue.proofs.Queues.{message_alike}
-use Rattle.rt_ids.specs.Content.{Armed}
-use Rattle.rt_ids.specs.Entry.{Entry}
-use Rattle.rt_ids.specs.Holder.{Guarded}
-use Rattle.rt_ids.specs.Lists.{is_some_and}
-use Rattle.rt_ids.specs.Storage.{At}
-use Rattle.rt_lemmas.proofs.Bools.{and_both}
+use Rattle.rt_gen_queue.proofs.Vocabulary.{App, Armed, At, Entry, Guarded, IsSome, IsTimedPlace, List, and_both, ap}
+use Rattle.rt_gen_queue.proofs.Vocabulary.{arith, armed_at, armed_messages, armed_place, arming_at, eq-eqb, handle_at}
+use Rattle.rt_gen_queue.proofs.Vocabulary.{home_of, instant_at, is_of_level, is_software, is_some_and, message_at, refl}
+use Rattle.rt_gen_queue.proofs.Vocabulary.{slice_index, sym, the_task, timer_at, true, ℕ, ◌*◌, ◌+◌, ◌-◌, ◌<◌, ◌==◌, ◌∙◌}
+use Rattle.rt_gen_queue.proofs.Vocabulary.{◌≡◌, ◌≤◌, ◌⊎◌}
 use Rattle.rt_ids.specs.declared.ids.Section.TheVariants as section
+use Rattle.rt_app.proofs.{ArmedPlaces.armed_place_once, ArmedPlaces.armed_place_within, LaidTimer.timer_is_home}
+use Rattle.rt_gen_queue.proofs.Queues.{message_alike}
 
 -- what cells have of a message that is armed
 abbrev pub instant_in : App → List ℕ → Entry → ℕ

@@ -1,8 +1,6 @@
 -- Lines that are appended part by part. A rewrite of each part in turn would look for it in all lines at once, which is
 -- dear to check.
-use Rattle.std.proofs.Common.{◌≡◌, List, ◌++◌, ap, ◌∙◌, append_assoc}
-use Rattle.rt_gen_queue.specs.Line.{Line}
-use Rattle.rt_gen_queue.specs.Making.{Made, Appends}
+use Rattle.rt_gen_queue.proofs.Vocabulary.{Appends, Line, List, Made, ap, append_assoc, ◌++◌, ◌∙◌, ◌≡◌}
 
 -- the last part, which is known as these lines
 pub last : (before : Made) {after : Made} {made part : List Line} → Appends before after made → made ≡ part

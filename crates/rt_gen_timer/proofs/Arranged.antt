@@ -1,24 +1,21 @@
 -- On the timer queue as a heap: its first message is the least armed one, the message of a handle is found by it, and
 -- it stays arranged where a message is armed, leaves, or is put to another instant.
-use Rattle.std.proofs.Common.{◌≡◌, ◌≢◌, ◌⊎◌, ℕ, ◌+◌, ◌^◌, ◌<◌, ◌≤◌, List, [], ◌∷◌, ◌++◌, map, length, take, Option}
-use Rattle.std.proofs.Common.{Some, None, slice_set, refl, sym, ap, subst, ◌∙◌, arith}
-use Rattle.std.proofs.lemmas.List.{length-take-le, length-append, length_push, get_or-take, take_all, nil_from_length}
-use Rattle.std.proofs.lemmas.List.{map-append}
-use Rattle.std.proofs.lemmas.List.Sums.{sum_by_more, sum_by-append}
-use Rattle.std.specs.List.{AllByRecursion}
-use Rattle.rt_app.proofs.Counting.{one, one_itself}
-use Rattle.rt_app.specs.Heap.{above, IsHeap, IsRising, IsArranged, at, keys, key_of}
-use Rattle.rt_gen_timer.proofs.Alike.{count_around, counted_at, counted_both, IsSplit, splits, all_from_counted}
-use Rattle.rt_gen_timer.proofs.Alike.{AreSame, same_keys, rising_same, below_same}
-use Rattle.rt_gen_timer.proofs.Least.{least_is, AreApart, armed_as_is, none_has, of_other_task}
+use Rattle.rt_gen_queue.proofs.Vocabulary.{AllByRecursion, Armed, Entry, IsArranged, IsHeap, List, None, Option, Some}
+use Rattle.rt_gen_queue.proofs.Vocabulary.{[], above, all_append, all_behind, all_front, all_weaker, ap, arith}
+use Rattle.rt_gen_queue.proofs.Vocabulary.{armed_as, at, count, get_or-take, key_of, keys, least, least_instant, length}
+use Rattle.rt_gen_queue.proofs.Vocabulary.{length-append, length-take-le, length_push, map, map-append, one, one_itself}
+use Rattle.rt_gen_queue.proofs.Vocabulary.{refl, slice_set, subst, sum_by-append, sym, take, take_all, without_handle}
+use Rattle.rt_gen_queue.proofs.Vocabulary.{without_least, ℕ, ◌++◌, ◌+◌, ◌<◌, ◌^◌, ◌∙◌, ◌∷◌, ◌≡◌, ◌≢◌, ◌≤◌, ◌⊎◌}
+use Rattle.std.proofs.lemmas.List.{nil_from_length, Sums.sum_by_more}
+use Rattle.rt_lemmas.proofs.Lists.{all_both, all_map}
+use Rattle.rt_app.specs.Heap.{IsRising}
+use Rattle.rt_gen_timer.proofs.Alike.{AreSame, IsSplit, all_from_counted, below_same, count_around, counted_at}
+use Rattle.rt_gen_timer.proofs.Alike.{counted_both, rising_same, same_keys, splits}
+use Rattle.rt_gen_timer.proofs.Least.{AreApart, armed_as_is, least_is, none_has, of_other_task}
 use Rattle.rt_gen_timer.proofs.Moves.{HasHole, HasSettled, count_put, hole_behind, hole_rekeyed}
-use Rattle.rt_gen_timer.proofs.Numbered.{Along, along_from, along_at, along_less, along_more, along_before}
-use Rattle.rt_gen_timer.proofs.Numbered.{along_others, all_less}
+use Rattle.rt_gen_timer.proofs.Numbered.{Along, all_less, along_at, along_before, along_from, along_less, along_more}
+use Rattle.rt_gen_timer.proofs.Numbered.{along_others}
 use Rattle.rt_gen_timer.proofs.Order.{first_is_least}
-use Rattle.rt_ids.specs.Content.{Armed, least_instant, least, without_least, armed_as, without_handle}
-use Rattle.rt_ids.specs.Entry.{Entry, count}
-use Rattle.rt_lemmas.proofs.Lists.{all_map, all_both, all_front, all_behind, all_append}
-use Rattle.rt_lemmas.proofs.Membership.{all_weaker}
 
 -- A message of the queue is the one that a search finds among the armed ones, and a removal leaves the others.
 pub record IsPicked (armed_at : Entry → Armed) (entries : List Entry) (e : Entry)

@@ -1,40 +1,24 @@
 -- A call of the timer queue's code in a body: where it begins, on a window of the job's slots, what is known inside its
 -- section, how that closes, and where the call ends.
-use Rattle.std.proofs.Common.{◌≡◌, ℕ, ◌+◌, ◌-◌, ◌^◌, ◌<◌, ◌≤◌, false, List, ◌∷◌, ◌++◌, length, map, IsSome}
-use Rattle.std.proofs.Common.{slice_index, refl, sym, ap, subst, ◌∙◌, arith}
-use Rattle.std.specs.List.{AllByRecursion}
-use Rattle.rt_ids.specs.Content.{Content, Delays, Timed, Values, put_at, timed}
-use Rattle.rt_ids.specs.Doing.{Doing}
-use Rattle.rt_ids.specs.Entry.{Entry}
-use Rattle.rt_ids.specs.Holder.{Holder, Guarded}
+use Rattle.rt_gen_queue.proofs.Vocabulary.{Agree, AllByRecursion, Content, Delays, Doing, Entry, Guarded, HasCode}
+use Rattle.rt_gen_queue.proofs.Vocabulary.{Holder, HoldsOff, IsSome, IsWithin, LeavesMine, Line, List, Rest}
+use Rattle.rt_gen_queue.proofs.Vocabulary.{SpellsTimer, Spot, TakesOver, Task, Timed, Values, ap, arith, count_more}
+use Rattle.rt_gen_queue.proofs.Vocabulary.{false, is_open, leave, leave_timer, length, map, may_load, memory, mine}
+use Rattle.rt_gen_queue.proofs.Vocabulary.{owns_open, passed, put_at, queued, queues_same, refl, saved_slots}
+use Rattle.rt_gen_queue.proofs.Vocabulary.{slice_index, storage, subst, sym, timed, with_queue, ℕ, ◌++◌, ◌+◌, ◌-◌, ◌<◌}
+use Rattle.rt_gen_queue.proofs.Vocabulary.{◌^◌, ◌∙◌, ◌∷◌, ◌≡◌, ◌≤◌}
 use Rattle.rt_ids.specs.declared.ids.Section.TheVariants as section
 use Rattle.rt_app.specs.declared.costs.TheConstants.{TIMER_QUEUE_WORDS}
-use Rattle.rt_app.specs.Tree.{Task}
-use Rattle.rt_app.specs.Holding.{storage, SpellsTimer}
-use Rattle.rt_app.specs.Layout.{memory}
-use Rattle.rt_app.specs.Sending.{Rest, leave_timer}
-use Rattle.rt_app.proofs.Counting.{count_more}
-use Rattle.rt_code.specs.Acting.{with_queue}
-use Rattle.rt_code.specs.Masking.{IsWithin, TakesOver}
-use Rattle.rt_code.specs.Owning.{Spot, is_open, saved_slots, mine, Agree, LeavesMine}
-use Rattle.rt_code.specs.Standing.{passed}
-use Rattle.rt_code.proofs.Mine.{queued, queues_same, owns_open, may_load}
-use Rattle.rt_gen_queue.specs.Guards.{leave}
-use Rattle.rt_gen_queue.specs.Line.{Line, HasCode}
-use Rattle.rt_gen_queue.specs.Spawning.{HoldsOff}
-use Rattle.rt_gen_queue.proofs.Entering.{opened, within, reads_it, own_left, agree_left}
+use Rattle.rt_gen_queue.proofs.Entering.{agree_left, opened, own_left, reads_it, within}
 use Rattle.rt_gen_queue.proofs.Facts.{Spawned}
-use Rattle.rt_gen_queue.proofs.Layer.{window_long, window_outside, begun, begins, lasts_less, Setting, Here, InTime}
-use Rattle.rt_gen_queue.proofs.Layer.{spot, S, window, window_read, Now, Straight, placed}
-use Rattle.rt_gen_queue.proofs.Owning.{queue_here, timer_back, put_here, spelled_put}
-use Rattle.rt_gen_timer.specs.TimerCode.{queue_of}
+use Rattle.rt_gen_queue.proofs.Layer.{Here, InTime, Now, S, Setting, Straight, begins, begun, lasts_less, placed, spot}
+use Rattle.rt_gen_queue.proofs.Layer.{window, window_long, window_outside, window_read}
+use Rattle.rt_gen_queue.proofs.Owning.{put_here, queue_here, spelled_put, timer_back}
+use Rattle.rt_gen_timer.proofs.{Acting.Columns, Alone.IsTimerAlone, Closing.closes_timer, Closing.leaving_placed}
+use Rattle.rt_gen_timer.proofs.Opening.{MayOpen, columns_inside, may_enter}
+use Rattle.rt_gen_timer.proofs.Window.{Slots, Words, frame_of, window_of, words, words_of}
+use Rattle.rt_gen_timer.specs.{TimerCode.queue_of, TimerLines.alarm_lines}
 use Rattle.rt_gen_timer.specs.TimerCalls.{MayUseTimer, StandsBefore}
-use Rattle.rt_gen_timer.specs.TimerLines.{alarm_lines}
-use Rattle.rt_gen_timer.proofs.Acting.{Columns}
-use Rattle.rt_gen_timer.proofs.Alone.{IsTimerAlone}
-use Rattle.rt_gen_timer.proofs.Closing.{closes_timer, leaving_placed}
-use Rattle.rt_gen_timer.proofs.Opening.{MayOpen, may_enter, columns_inside}
-use Rattle.rt_gen_timer.proofs.Window.{Slots, Words, words, words_of, frame_of, window_of}
 pub use Rattle.rt_gen_timer.proofs.Closing.{leaving_fits}
 
 -- lines with one that leaves the timer queue's section among them, as they stand in code

@@ -1,58 +1,38 @@
 -- The code of a `cancel`: the message of the handle leaves the queue and its place becomes free, or there is none.
-use Rattle.std.proofs.Common.{◌≡◌, ℕ, suc, ◌+◌, ◌-◌, ◌*◌, ◌<◌, ◌≤◌, List, [], ◌∷◌, ◌++◌, length, take, drop}
-use Rattle.std.proofs.Common.{None, slice_index, refl, sym, ap, subst, ◌∙◌, arith}
-use Rattle.rt_ids.specs.Action.{Enters, Leaves, Frees, Cancels}
-use Rattle.rt_ids.specs.Content.{Content, Number, number, with_cancelled}
-use Rattle.rt_ids.specs.Entry.{Entry, count}
-use Rattle.rt_ids.specs.Holder.{Guarded}
-use Rattle.rt_ids.specs.Operation.{operate}
-use Rattle.rt_ids.specs.declared.ids.Section.{Section}
+use Rattle.rt_gen_queue.proofs.Vocabulary.{Agree, Cancels, Content, Enters, Entry, FREE_COST, Frees, Guarded, Leaves}
+use Rattle.rt_gen_queue.proofs.Vocabulary.{LeavesMine, Line, List, Marked, None, Number, Rest, Section, [], act}
+use Rattle.rt_gen_queue.proofs.Vocabulary.{act_all, ap, arith, armed_before, armed_messages, armed_place, at}
+use Rattle.rt_gen_queue.proofs.Vocabulary.{capacity_of, count, count_more, drop, few_messages, free_at}
+use Rattle.rt_gen_queue.proofs.Vocabulary.{handle_section_cost, leave, leave_timer, length, memory, noted, number}
+use Rattle.rt_gen_queue.proofs.Vocabulary.{operate, queued_more, refl, slice_index, storage, subst, suc, sym, take}
+use Rattle.rt_gen_queue.proofs.Vocabulary.{target_of, with_queue, ℕ, ◌*◌, ◌++◌, ◌+◌, ◌-◌, ◌<◌, ◌∙◌, ◌∷◌, ◌≡◌, ◌≤◌}
+use Rattle.rt_ids.specs.Content.{with_cancelled}
 use Rattle.rt_ids.specs.declared.ids.Section.TheVariants as section
 use Rattle.rt_ids.specs.declared.op.Op.TheVariants as op
-use Rattle.rt_app.specs.declared.costs.TheConstants.{FREE_COST}
-use Rattle.rt_app.specs.BodyCost.{handle_section_cost}
-use Rattle.rt_app.specs.Heap.{at}
-use Rattle.rt_app.specs.Holding.{storage, armed_place}
-use Rattle.rt_app.specs.Layout.{memory, free_at}
-use Rattle.rt_app.specs.Level.{armed_messages, armed_before}
-use Rattle.rt_app.specs.Sending.{Rest, act, act_all, capacity_of, leave_timer, cancel_actions}
-use Rattle.rt_app.proofs.ArmedPlaces.{few_messages}
-use Rattle.rt_app.proofs.Counting.{count_more, parts_alike}
-use Rattle.rt_code.specs.Acting.{with_queue}
-use Rattle.rt_code.specs.Owning.{Marked, Agree, LeavesMine}
+use Rattle.rt_app.{proofs.Counting.parts_alike, specs.Sending.cancel_actions}
 use Rattle.rt_code.specs.declared.instr.Instr.TheVariants as instr
 use Rattle.rt_code.specs.declared.instr.Note.TheVariants as note
-use Rattle.rt_code.proofs.Mine.{queued_more}
-use Rattle.rt_gen_queue.specs.Guards.{leave}
-use Rattle.rt_gen_queue.specs.Line.{Line, noted}
-use Rattle.rt_gen_queue.specs.SpawnCode.{target_of}
-use Rattle.rt_gen_queue.proofs.Entering.{opened, MayEnter, enters, leaves, section_stands, own_left, agree_left}
-use Rattle.rt_gen_queue.proofs.Entering.{reads_it}
-use Rattle.rt_gen_queue.proofs.Facts.{few_free, capacity, free_top}
-use Rattle.rt_gen_queue.proofs.Places.{entry_at}
-use Rattle.rt_gen_queue.proofs.Numbers.{added, steps_and}
-use Rattle.rt_gen_queue.proofs.Owning.{free_spelled, free_back, nobody_keeps, is_inside, spelled_put}
-use Rattle.rt_gen_queue.proofs.Returning.{Returned, free_home, room_left, given_back, IsGiven, frees}
-use Rattle.rt_gen_queue.proofs.Layer.{Setting, Here, spot, S, moved, Now, sets, calculates, loads, stores_at}
-use Rattle.rt_gen_queue.proofs.Layer.{jumps, ends, reads_open, writes_open}
-use Rattle.rt_gen_timer.specs.TimerLines.{alarm_lines, set, calc, free_lines, answer_lines}
-use Rattle.rt_gen_timer.specs.TimerCalls.{CancelsStand, MayUsePlaces}
-use Rattle.rt_gen_timer.specs.TimerCode.{queue_of, cancel_code}
-use Rattle.rt_gen_timer.proofs.Window.{Words, words}
-use Rattle.rt_gen_timer.proofs.Acting.{sooner, run_stands, code_first, code_part}
-use Rattle.rt_gen_timer.proofs.Alone.{instant_in, number_in}
-use Rattle.rt_gen_timer.proofs.Calling.{leaving_fits, leaving_code, Call, Begins, Left, HasCalled}
-use Rattle.rt_gen_timer.proofs.Calling.{behind_call, f, on_window, at_work, columns_now, settles, own_on, stands_called}
-use Rattle.rt_gen_timer.proofs.Comparing.{Place}
-use Rattle.rt_gen_timer.proofs.Delaying.{at_address}
-use Rattle.rt_gen_timer.proofs.Seeking.{Taken}
+use Rattle.rt_gen_queue.proofs.{Numbers.added, Numbers.steps_and, Places.entry_at}
+use Rattle.rt_gen_queue.proofs.Entering.{MayEnter, agree_left, enters, leaves, opened, own_left, reads_it}
+use Rattle.rt_gen_queue.proofs.Entering.{section_stands}
+use Rattle.rt_gen_queue.proofs.Facts.{capacity, few_free, free_top}
+use Rattle.rt_gen_queue.proofs.Layer.{Here, Now, S, Setting, calculates, ends, jumps, loads, moved, reads_open, sets}
+use Rattle.rt_gen_queue.proofs.Layer.{spot, stores_at, writes_open}
+use Rattle.rt_gen_queue.proofs.Owning.{free_back, free_spelled, is_inside, nobody_keeps, spelled_put}
+use Rattle.rt_gen_queue.proofs.Returning.{IsGiven, Returned, free_home, frees, given_back, room_left}
+use Rattle.rt_gen_timer.proofs.{Alone.instant_in, Alone.number_in, Comparing.Place, Delaying.at_address}
+use Rattle.rt_gen_timer.proofs.{Marking.cancels, Rowing.taken_off, Settling.reach_enough, Window.Words, Window.words}
+use Rattle.rt_gen_timer.proofs.Acting.{code_first, code_part, run_stands, sooner}
+use Rattle.rt_gen_timer.proofs.Calling.{Begins, Call, HasCalled, Left, at_work, behind_call, columns_now, f}
+use Rattle.rt_gen_timer.proofs.Calling.{leaving_code, leaving_fits, on_window, own_on, settles, stands_called}
 use Rattle.rt_gen_timer.proofs.Leaving.{IsAsBefore, alone, timer_left}
-use Rattle.rt_gen_timer.proofs.Marking.{cancels}
-use Rattle.rt_gen_timer.proofs.Removing.{Removal, IsRemoved, removed, removes_stand}
-use Rattle.rt_gen_timer.proofs.Rowing.{taken_off}
-use Rattle.rt_gen_timer.proofs.Seeking.{handle_steps, MaySeek, IsSeen, seen, seen_words, runs_seen, runs_call, seeks}
-use Rattle.rt_gen_timer.proofs.Settling.{reach_enough}
+use Rattle.rt_gen_timer.proofs.Removing.{IsRemoved, Removal, removed, removes_stand}
+use Rattle.rt_gen_timer.proofs.Seeking.{IsSeen, MaySeek, Taken, handle_steps, runs_call, runs_seen, seeks, seen}
+use Rattle.rt_gen_timer.proofs.Seeking.{seen_words}
 use Rattle.rt_gen_timer.proofs.Spelled.{few_armings, place_of, row_of, spelled_whole}
+use Rattle.rt_gen_timer.specs.TimerCalls.{CancelsStand, MayUsePlaces}
+use Rattle.rt_gen_timer.specs.TimerCode.{cancel_code, queue_of}
+use Rattle.rt_gen_timer.specs.TimerLines.{alarm_lines, answer_lines, calc, free_lines, set}
 
 -- what is asked of it beside what is asked of each call
 record AsksCancel (c : Call) (handle : ℕ) (h : Here) : Type 0 where

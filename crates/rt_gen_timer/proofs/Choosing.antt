@@ -1,18 +1,12 @@
 -- How the choices of the timer handler come about.
-use Rattle.std.proofs.Common.{◌≡◌, ℕ, ◌+◌, ◌≤◌, ◌&&◌, Bool, true, false, Some, List, [], ◌∷◌, ◌++◌, length}
-use Rattle.std.proofs.Common.{drop, slice_get, if◌then◌else◌, sym, ap, subst, ◌∙◌, arith, append_assoc}
-use Rattle.std.proofs.lemmas.List.{append-nil, length-append, drop_all}
-use Rattle.std.proofs.lemmas.Option.{slice_get_within, get_or_from_slice_get}
-use Rattle.rt_lemmas.proofs.Lists.{drop_as_cons}
+use Rattle.rt_gen_queue.proofs.Vocabulary.{App, Appends, Bool, Line, List, Made, Some, Task, [], ap, app_of, append-nil}
+use Rattle.rt_gen_queue.proofs.Vocabulary.{append_assoc, arith, drop, drop_all, drop_as_cons, false}
+use Rattle.rt_gen_queue.proofs.Vocabulary.{get_or_from_slice_get, if◌then◌else◌, is_armed, is_software, length}
+use Rattle.rt_gen_queue.proofs.Vocabulary.{length-append, slice_get, slice_get_within, subst, sym, true, ℕ, ◌&&◌, ◌++◌}
+use Rattle.rt_gen_queue.proofs.Vocabulary.{◌+◌, ◌∙◌, ◌∷◌, ◌≡◌, ◌≤◌}
 use Rattle.rt_app.specs.declared.app.App as code
-use Rattle.rt_app.specs.Tree.{Task, App}
-use Rattle.rt_app.specs.View.{app_of}
-use Rattle.rt_app.specs.Level.{is_software, is_armed}
-use Rattle.rt_gen_queue.specs.Line.{Line}
-use Rattle.rt_gen_queue.specs.Making.{Made, Appends}
-use Rattle.rt_gen_timer.specs.Inside.Choices.{task_code}
-use Rattle.rt_gen_timer.specs.TimerCode.{queue_of, armed_task, choices_code}
-use Rattle.rt_gen_timer.specs.TimerLines.{choice_lines}
+use Rattle.rt_gen_timer.specs.{Inside.Choices.task_code, TimerLines.choice_lines}
+use Rattle.rt_gen_timer.specs.TimerCode.{armed_task, choices_code, queue_of}
 
 -- Whether messages of a task, by its number, may be armed. What is read of the rows of an application is so of it.
 abbrev pub has_choice : App → ℕ → Task → Bool

@@ -1,37 +1,19 @@
 -- The end of a section of the timer queue: the alarm is set to the least armed instant, which is that of the heap's
 -- first message, or to none where nothing is armed, and the section closes.
-use Rattle.std.proofs.Common.{◌≡◌, ℕ, suc, ◌+◌, ◌^◌, ◌≤◌, true, List, [], ◌∷◌, ◌++◌, length, map, IsSome, slice_index}
-use Rattle.std.proofs.Common.{Some, refl, sym, ap, subst, ◌∙◌, arith}
-use Rattle.std.proofs.lemmas.List.{map-append}
-use Rattle.rt_app.specs.Accepted.{IsAccepted}
-use Rattle.rt_app.specs.Holding.{storage, armed_place}
-use Rattle.rt_app.specs.Sending.{Rest, leave_timer}
-use Rattle.rt_app.specs.Tree.{App}
-use Rattle.rt_code.proofs.Mine.{owns_open, owns_reads, reads_more}
-use Rattle.rt_code.specs.Owning.{Held, reads, Agree}
-use Rattle.rt_gen_queue.proofs.Entering.{opened, leaves, leave_placed, leave_fits, fits_append}
-use Rattle.rt_gen_queue.proofs.Layer.{Setting, Here, Straight, fits, all_fit, placed, stays, loads, loads_at}
-use Rattle.rt_gen_queue.proofs.Layer.{reads_open, alarms, no_alarm, skips, skips_off}
-use Rattle.rt_gen_queue.proofs.Numbers.{steps_and}
-use Rattle.rt_gen_queue.proofs.Owning.{timer_spelled}
-use Rattle.rt_gen_queue.specs.Guards.{guard_of, leave}
-use Rattle.rt_gen_queue.specs.Line.{Line, HasCode}
-use Rattle.rt_gen_timer.proofs.Acting.{Columns, first_open, instant_open}
-use Rattle.rt_gen_timer.proofs.Alone.{instant_in, number_in}
-use Rattle.rt_gen_timer.proofs.Delaying.{at_address}
-use Rattle.rt_gen_timer.proofs.Hollow.{IsFirst}
-use Rattle.rt_gen_timer.proofs.Opening.{timer_irq}
-use Rattle.rt_gen_timer.proofs.Spelled.{first_within}
-use Rattle.rt_gen_timer.proofs.Window.{Words, words, Slots}
-use Rattle.rt_gen_timer.specs.TimerCode.{queue_of}
-use Rattle.rt_gen_timer.specs.TimerLines.{alarm_lines}
-use Rattle.rt_ids.specs.Action.{SetsAlarm}
-use Rattle.rt_ids.specs.Content.{Content, Values, timed, delays, least_instant}
-use Rattle.rt_ids.specs.Doing.{does}
-use Rattle.rt_ids.specs.Entry.{Entry}
-use Rattle.rt_ids.specs.Holder.{Guarded}
-use Rattle.rt_lemmas.proofs.Bools.{and_both}
+use Rattle.rt_gen_queue.proofs.Vocabulary.{Agree, App, Content, Entry, Guarded, HasCode, Held, IsAccepted, IsSome, Line}
+use Rattle.rt_gen_queue.proofs.Vocabulary.{List, Rest, SetsAlarm, Some, Values, [], and_both, ap, arith, armed_place}
+use Rattle.rt_gen_queue.proofs.Vocabulary.{delays, does, guard_of, least_instant, leave, leave_timer, length, map}
+use Rattle.rt_gen_queue.proofs.Vocabulary.{map-append, owns_open, owns_reads, reads, reads_more, refl, slice_index}
+use Rattle.rt_gen_queue.proofs.Vocabulary.{storage, subst, suc, sym, timed, true, ℕ, ◌++◌, ◌+◌, ◌^◌, ◌∙◌, ◌∷◌, ◌≡◌, ◌≤◌}
 use Rattle.rt_ids.specs.declared.ids.Section.TheVariants as section
+use Rattle.rt_gen_queue.proofs.{Numbers.steps_and, Owning.timer_spelled}
+use Rattle.rt_gen_queue.proofs.Entering.{fits_append, leave_fits, leave_placed, leaves, opened}
+use Rattle.rt_gen_queue.proofs.Layer.{Here, Setting, Straight, alarms, all_fit, fits, loads, loads_at, no_alarm, placed}
+use Rattle.rt_gen_queue.proofs.Layer.{reads_open, skips, skips_off, stays}
+use Rattle.rt_gen_timer.proofs.{Acting.Columns, Acting.first_open, Acting.instant_open, Alone.instant_in}
+use Rattle.rt_gen_timer.proofs.{Alone.number_in, Delaying.at_address, Hollow.IsFirst, Opening.timer_irq}
+use Rattle.rt_gen_timer.proofs.{Spelled.first_within, Window.Slots, Window.Words, Window.words}
+use Rattle.rt_gen_timer.specs.{TimerCode.queue_of, TimerLines.alarm_lines}
 
 -- the alarm is set within 5 steps; only one slot is written
 alarm_stands : {z : Setting} {f : Slots} {values : Values} {rest : Rest} {lines : List Line} {h : Here} (w : Words)

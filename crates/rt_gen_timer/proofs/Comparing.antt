@@ -1,20 +1,15 @@
 -- Two keys are compared without a jump: the instants first, and of equal instants the numbers. Of numbers of 32 bits it
 -- is the order of the keys as one number each.
-use Rattle.std.proofs.Common.{◌≡◌, ℕ, ◌+◌, ◌*◌, ◌^◌, ◌<◌, ◌==◌, ◌&&◌, ◌||◌, nat_lt, Bool, List, [], ◌∷◌}
-use Rattle.std.proofs.Common.{◌++◌, slice_index, slice_set, bit_and, bit_or, ap, ◌∙◌, arith}
-use Rattle.std.proofs.lemmas.Bool.Decides.{nat_tests}
-use Rattle.rt_ids.specs.Entry.{Entry}
-use Rattle.rt_ids.specs.Operation.{number_of}
-use Rattle.rt_app.specs.Heap.{key_of}
+use Rattle.rt_gen_queue.proofs.Vocabulary.{Bool, Entry, Line, List, [], ap, arith, bit_and, bit_or, key_of, nat_lt}
+use Rattle.rt_gen_queue.proofs.Vocabulary.{nat_tests, number_of, plain, slice_index, slice_set, ℕ, ◌&&◌, ◌*◌, ◌++◌, ◌+◌}
+use Rattle.rt_gen_queue.proofs.Vocabulary.{◌<◌, ◌==◌, ◌^◌, ◌||◌, ◌∙◌, ◌∷◌, ◌≡◌}
 use Rattle.rt_ids.specs.declared.op.Op.TheVariants as op
 use Rattle.rt_code.specs.declared.instr.Instr.TheVariants as instr
-use Rattle.rt_gen_queue.specs.Line.{Line, plain}
-use Rattle.rt_gen_queue.proofs.Layer.{Setting, Here, Straight, ahead, calculates, loads_at, reads_open}
-use Rattle.rt_gen_timer.specs.TimerLines.{heap_of, instants_of, numbers_of}
-use Rattle.rt_gen_timer.specs.declared.queue.TimerQueue.{TimerQueue}
-use Rattle.rt_gen_timer.proofs.Window.{Slots, Words, words, Scratch, turning}
+use Rattle.rt_gen_queue.proofs.Layer.{Here, Setting, Straight, ahead, calculates, loads_at, reads_open}
+use Rattle.rt_gen_timer.{proofs.Hollow.IsHollow, proofs.Hollow.IsKept, specs.declared.queue.TimerQueue.TimerQueue}
 use Rattle.rt_gen_timer.proofs.Acting.{Columns, heap_open, instant_open, number_open}
-use Rattle.rt_gen_timer.proofs.Hollow.{IsKept, IsHollow}
+use Rattle.rt_gen_timer.proofs.Window.{Scratch, Slots, Words, turning, words}
+use Rattle.rt_gen_timer.specs.TimerLines.{heap_of, instants_of, numbers_of}
 
 -- both of two tests, and one of two, as numbers
 and_numbers : (a b : Bool) → bit_and (number_of a) (number_of b) ≡ number_of (a && b)

@@ -1,21 +1,13 @@
 -- The lines that read the time and add a delay to it, but no more than the longest one: the instant of 32 bits does not
 -- wrap, since the time is below 2^31.
-use Rattle.std.proofs.Common.{◌≡◌, ℕ, ◌+◌, ◌^◌, ◌<◌, ◌≤◌, min, nat_lt, List, ◌++◌, refl, ap, sym, subst}
-use Rattle.std.proofs.Common.{arith, inl, inr}
-use Rattle.std.proofs.lemmas.Bool.{cases_lt, lt-ltb, le-ltb}
-use Rattle.rt_app.specs.Holding.{storage}
-use Rattle.rt_code.specs.Owning.{Agree}
-use Rattle.rt_gen_queue.proofs.Layer.{Setting, Here, S, Straight, sets, copies, calculates, stays, clocks, skips_off}
-use Rattle.rt_gen_queue.proofs.Numbers.{added, steps_and}
-use Rattle.rt_gen_queue.specs.Line.{Line}
-use Rattle.rt_gen_timer.proofs.Window.{Words, words, Slots}
-use Rattle.rt_gen_timer.specs.TimerLines.{time_lines}
-use Rattle.rt_gen_timer.specs.declared.queue.TimerQueue.{TimerQueue}
-use Rattle.rt_ids.specs.Action.{Clocks}
-use Rattle.rt_ids.specs.Content.{Values}
-use Rattle.rt_ids.specs.Doing.{Doing, does}
-use Rattle.rt_ids.specs.Operation.{number_of}
+use Rattle.rt_gen_queue.proofs.Vocabulary.{Agree, Clocks, Doing, Line, List, Values, ap, arith, cases_lt, does, inl}
+use Rattle.rt_gen_queue.proofs.Vocabulary.{inr, le-ltb, lt-ltb, min, nat_lt, number_of, refl, storage, subst, sym, ℕ}
+use Rattle.rt_gen_queue.proofs.Vocabulary.{◌++◌, ◌+◌, ◌<◌, ◌^◌, ◌≡◌, ◌≤◌}
 use Rattle.rt_ids.specs.declared.limits.TheConstants.{LONGEST_DELAY}
+use Rattle.rt_gen_queue.proofs.Layer.{Here, S, Setting, Straight, calculates, clocks, copies, sets, skips_off, stays}
+use Rattle.rt_gen_queue.proofs.Numbers.{added, steps_and}
+use Rattle.rt_gen_timer.proofs.Window.{Slots, Words, words}
+use Rattle.rt_gen_timer.specs.{TimerLines.time_lines, declared.queue.TimerQueue.TimerQueue}
 
 -- an address that is told otherwise
 pub at_address : {z : Setting} {f : Slots} {lines : List Line} {h : Here} {ws : List ℕ} (to : ℕ) → to ≡ h.at

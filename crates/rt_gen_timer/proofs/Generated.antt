@@ -1,42 +1,25 @@
 -- What has to be known of the code of the calls and of the timer handler for it to be generated: that a plan's tables
 -- have the timer queue, how many lines there are at most, and that these name only what the application declares.
-use Rattle.std.proofs.Common.{◌≡◌, ℕ, ◌+◌, ◌*◌, ◌^◌, ◌≤◌, ◌&&◌, Bool, true, false, Option, Some, None, List, [], ◌∷◌}
-use Rattle.std.proofs.Common.{◌++◌, length, IsSome, option_map, if◌then◌else◌, refl, sym, ap, subst, ◌∙◌, arith}
-use Rattle.std.proofs.lemmas.List.{length-append}
-use Rattle.rt_lemmas.proofs.Lists.{AreFrom, all_from, first_from, rest_from}
-use Rattle.rt_ids.specs.Lists.{or_zero, then_from}
+use Rattle.rt_gen_queue.proofs.Vocabulary.{App, AreFrom, Bool, Ceilings, HasIrq, IsAccepted, IsNameable, IsPlan, IsSome}
+use Rattle.rt_gen_queue.proofs.Vocabulary.{Layout, Line, List, Mono, None, Option, Plan, Some, Task, []}
+use Rattle.rt_gen_queue.proofs.Vocabulary.{accepted_are_sound, all_from, ap, app_of, arguments_of, arith, armed_count}
+use Rattle.rt_gen_queue.proofs.Vocabulary.{ceiling, enter_line, false, fill_code, first_from, if◌then◌else◌, irq_number}
+use Rattle.rt_gen_queue.proofs.Vocabulary.{is_armed, is_software, leave_line, length, length-append, names_of}
+use Rattle.rt_gen_queue.proofs.Vocabulary.{option_map, or_zero, plain, refl, rest_from, storage, subst, sym, target_of}
+use Rattle.rt_gen_queue.proofs.Vocabulary.{task_priority, then_from, timer_at, true, ℕ, ◌&&◌, ◌*◌, ◌++◌, ◌+◌, ◌^◌, ◌∙◌}
+use Rattle.rt_gen_queue.proofs.Vocabulary.{◌∷◌, ◌≡◌, ◌≤◌}
 use Rattle.rt_ids.specs.declared.ids.Section.TheVariants as section
-use Rattle.rt_app.specs.declared.app.Mono.{Mono}
-use Rattle.rt_app.specs.declared.plan.Plan.{Plan}
-use Rattle.rt_app.specs.Tree.{Task, App}
-use Rattle.rt_app.specs.Accepted.{IsAccepted, IsMonoPlaced}
-use Rattle.rt_app.specs.Bodies.{task_priority}
-use Rattle.rt_app.specs.BodyCost.{timer_size}
-use Rattle.rt_app.specs.Ceiling.{Ceilings, ceiling}
-use Rattle.rt_app.specs.Handlers.{irq_number}
-use Rattle.rt_app.specs.Holding.{storage, arguments_of}
-use Rattle.rt_app.specs.Layout.{Layout, timer_at, timed_at}
-use Rattle.rt_app.specs.Level.{is_software, is_armed, armed_count}
-use Rattle.rt_app.specs.Names.{names_of}
-use Rattle.rt_app.specs.Plan.{IsPlan}
-use Rattle.rt_app.specs.View.{app_of}
-use Rattle.rt_app.proofs.Sound.{accepted_are_sound}
-use Rattle.rt_code.specs.Listable.{HasIrq, HasTask}
+use Rattle.rt_app.specs.{Accepted.IsMonoPlaced, BodyCost.timer_size, Layout.timed_at}
+use Rattle.rt_code.specs.Listable.{HasTask}
 use Rattle.rt_code.specs.declared.instr.Instr.TheVariants as instr
-use Rattle.rt_gen_queue.specs.Line.{Line, IsNameable, plain}
-use Rattle.rt_gen_queue.specs.Guards.{enter_line, leave_line}
-use Rattle.rt_gen_queue.specs.SpawnCode.{target_of, fill_code}
-use Rattle.rt_gen_queue.specs.SpawnLines.{fill_lines}
-use Rattle.rt_gen_queue.specs.declared.target.Target.{Target}
-use Rattle.rt_gen_queue.proofs.Facts.{Spawned, arguments, few_arguments}
-use Rattle.rt_gen_queue.proofs.Masks.{enter_named, leave_named}
-use Rattle.rt_gen_queue.proofs.Nameable.{AreClaimed, claimed_both, irq_declared}
-use Rattle.rt_gen_queue.proofs.Named.{task_declared, level_declared, fill_claimed}
-use Rattle.rt_gen_queue.proofs.Placing.{fill_long}
+use Rattle.rt_gen_queue.proofs.{Facts.Spawned, Facts.arguments, Facts.few_arguments, Masks.enter_named}
+use Rattle.rt_gen_queue.proofs.{Masks.leave_named, Nameable.AreClaimed, Nameable.claimed_both, Nameable.irq_declared}
+use Rattle.rt_gen_queue.proofs.{Named.fill_claimed, Named.level_declared, Named.task_declared, Placing.fill_long}
+use Rattle.rt_gen_queue.specs.{SpawnLines.fill_lines, declared.target.Target.Target}
+use Rattle.rt_gen_timer.specs.TimerCode.{after_code, armed_task, cancel_code, choices_code, move_code, queue_of}
+use Rattle.rt_gen_timer.specs.TimerCode.{timer_code}
 use Rattle.rt_gen_timer.specs.TimerLines as lines
-use Rattle.rt_gen_timer.specs.TimerCode.{queue_of, armed_task, after_code, cancel_code, move_code}
-use Rattle.rt_gen_timer.specs.TimerCode.{choices_code, timer_code}
-use Rattle.rt_gen_timer.specs.declared.slots.TheConstants.{MASK, ARGUMENTS}
+use Rattle.rt_gen_timer.specs.declared.slots.TheConstants.{ARGUMENTS, MASK}
 
 -- what a plan's tables have of the timer queue
 module _ (plan : Plan) (planned : IsPlan plan) (mono : Mono) (timed : plan.app.now.mono ≡ Some mono) where

@@ -1,13 +1,10 @@
 -- Handles stay given and of one message each, where a message leaves the queue, goes last with its handle, or comes
 -- with the next one.
-use Rattle.std.proofs.Common.{◌≡◌, ◌≢◌, ℕ, ◌+◌, ◌<◌, ◌≤◌, List, [], ◌∷◌, ◌++◌, subst, arith}
-use Rattle.std.specs.List.{AllByRecursion}
-use Rattle.rt_app.specs.Handled.{AreHandled}
+use Rattle.rt_gen_queue.proofs.Vocabulary.{AllByRecursion, AreHandled, Armed, List, Message, Timed, [], all_append}
+use Rattle.rt_gen_queue.proofs.Vocabulary.{all_behind, all_weaker, arith, subst, with_armed, ℕ, ◌++◌, ◌+◌, ◌<◌, ◌∷◌}
+use Rattle.rt_gen_queue.proofs.Vocabulary.{◌≡◌, ◌≢◌, ◌≤◌}
 use Rattle.rt_gen_timer.proofs.Least.{AreApart, others_apart}
-use Rattle.rt_gen_timer.proofs.Numbered.{along_from, along_at, along_less, along_more, all_less}
-use Rattle.rt_ids.specs.Content.{Armed, Timed, Message, with_armed}
-use Rattle.rt_lemmas.proofs.Lists.{all_append, all_behind}
-use Rattle.rt_lemmas.proofs.Membership.{all_weaker}
+use Rattle.rt_gen_timer.proofs.Numbered.{all_less, along_at, along_from, along_less, along_more}
 
 -- a handle that was given, and two that differ
 abbrev IsGiven : ℕ → Armed → Type 0

@@ -1,17 +1,13 @@
 -- A heap of messages in cells: the column of the heap has the row of each, and the columns by row have the message's
 -- instant and the number of its last arming. While one message is in hand its place is a hole, whatever stands there.
 -- Only the heap's column is written then, so keys stay as they are.
-use Rattle.std.proofs.Common.{◌≡◌, ◌≢◌, ◌⊎◌, ℕ, ◌+◌, ◌^◌, ◌<◌, ◌≤◌, Option, Some, None, List, [], ◌∷◌, length}
-use Rattle.std.proofs.Common.{slice_index, slice_set, refl, sym, ap, subst, ◌∙◌, arith, inl, inr, get_or-set_same}
-use Rattle.std.proofs.Common.{get_or-set_other, length-set, take}
-use Rattle.std.proofs.lemmas.Bool.{cases_eq}
-use Rattle.std.proofs.lemmas.List.{length-take-le, get_or-take, get_or-set_same, get_or-set_other}
-use Rattle.rt_app.specs.Heap.{at}
+use Rattle.rt_gen_queue.proofs.Vocabulary.{Entry, List, None, Option, Some, [], ap, arith, at, cases_eq}
+use Rattle.rt_gen_queue.proofs.Vocabulary.{get_or-set_other, get_or-set_same, get_or-take, inl, inr, length, length-set}
+use Rattle.rt_gen_queue.proofs.Vocabulary.{length-take-le, refl, slice_index, slice_set, subst, sym, take, ℕ, ◌+◌, ◌<◌}
+use Rattle.rt_gen_queue.proofs.Vocabulary.{◌^◌, ◌∙◌, ◌∷◌, ◌≡◌, ◌≢◌, ◌≤◌, ◌⊎◌}
 use Rattle.rt_gen_queue.proofs.Layer.{Wrote}
-use Rattle.rt_gen_timer.proofs.Moves.{with_moved}
-use Rattle.rt_gen_timer.specs.TimerLines.{instants_of, numbers_of, heap_of}
-use Rattle.rt_gen_timer.specs.declared.queue.TimerQueue.{TimerQueue}
-use Rattle.rt_ids.specs.Entry.{Entry}
+use Rattle.rt_gen_timer.{proofs.Moves.with_moved, specs.declared.queue.TimerQueue.TimerQueue}
+use Rattle.rt_gen_timer.specs.TimerLines.{heap_of, instants_of, numbers_of}
 
 -- cells outside the heap's column are as before
 pub record IsBeside (q : TimerQueue) (before after : List ℕ) : Type 0 where

@@ -1,54 +1,33 @@
 -- The timer handler: what it has where it begins and what its level keeps meanwhile; its first lines, by which the
 -- section of the timer queue opens and by the clock the first message of the heap is due, or none is; and that it
 -- returns where none is.
-use Rattle.std.proofs.Common.{◌≡◌, ℕ, ◌+◌, true, List, [], ◌∷◌, length, None, IsSome, slice_index, refl, sym, ap}
-use Rattle.std.proofs.Common.{subst, ◌∙◌, arith, ◌^◌, ◌<◌, ◌≤◌, nat_le, nat_lt, Bool, ◌++◌, map, Option, Some}
-use Rattle.std.proofs.Common.{if◌then◌else◌, inl, inr, drop}
-use Rattle.std.proofs.lemmas.Bool.{cases_lt, lt-ltb, le-ltb, le-leb, lt-leb}
-use Rattle.rt_app.proofs.Laid.{resource_is_home, local_is_home}
-use Rattle.rt_app.proofs.Spelling.{IsTimedPlace}
-use Rattle.rt_app.specs.Accepted.{IsAccepted}
-use Rattle.rt_app.specs.Bodies.{task_priority}
-use Rattle.rt_app.specs.BodyCost.{timer_cost}
-use Rattle.rt_app.specs.Ceiling.{ceiling}
-use Rattle.rt_app.specs.Doings.{timer_doing_in, due, fire_doing, nothing}
-use Rattle.rt_app.specs.Heap.{at}
-use Rattle.rt_app.specs.Holding.{storage, armed_place, armed_at}
-use Rattle.rt_app.specs.Layout.{home_of, memory}
-use Rattle.rt_app.specs.Sending.{Rest, act, act_all, leave_timer, ready_actions}
-use Rattle.rt_app.specs.Tree.{App}
-use Rattle.rt_code.proofs.Mine.{owns_kept, owns_reads, reads_more}
-use Rattle.rt_code.specs.Masking.{IsWithin}
-use Rattle.rt_code.specs.Owning.{Held, Spot, reads, MayLoad, Agree, LeavesMine}
-use Rattle.rt_code.specs.declared.image.BodyRow.{BodyRow}
-use Rattle.rt_gen_queue.proofs.Entering.{opened, enter_placed, enters, saves_below, enter_fits, saves_inside}
-use Rattle.rt_gen_queue.proofs.Layer.{Setting, Here, Straight, next_in_time, returns_here, S, Now, ends, sets}
-use Rattle.rt_gen_queue.proofs.Layer.{spot, clocks, loads, loads_at, calculates, stays, jumps_off, reads_open}
-use Rattle.rt_gen_queue.proofs.Numbers.{steps_and}
-use Rattle.rt_gen_queue.proofs.Owning.{home_as, timer_spelled}
-use Rattle.rt_gen_queue.specs.Line.{Line, plain, HasCode}
-use Rattle.rt_gen_timer.proofs.Acting.{run_stands, code_first, code_part, Columns, count_open, first_open, instant_open}
-use Rattle.rt_gen_timer.proofs.Alone.{instant_in}
-use Rattle.rt_gen_timer.proofs.Arranged.{IsLeast, none_armed, first_is_armed}
-use Rattle.rt_gen_timer.proofs.Calling.{Inside, entries, at_work, IsInside, columns_now, queue_now}
-use Rattle.rt_gen_timer.proofs.Closing.{closes_timer, closing_lines, closing_fit, closing_placed}
-use Rattle.rt_gen_timer.proofs.Delaying.{at_here, rest_is}
-use Rattle.rt_gen_timer.proofs.Opening.{MayOpen, may_enter}
-use Rattle.rt_gen_timer.proofs.Spelled.{row_of, few_armings, spelled_count, spelled_column}
-use Rattle.rt_gen_timer.proofs.Window.{Slots, Words, words}
-use Rattle.rt_gen_timer.specs.TimerCode.{queue_of, timer_code}
-use Rattle.rt_gen_timer.specs.TimerLines.{heap_of, due_lines}
-use Rattle.rt_ids.specs.Action.{Returns, Clocks, Fires}
-use Rattle.rt_ids.specs.Content.{Number, Values, Armed, Delays, delays, Content, timed}
-use Rattle.rt_ids.specs.Doing.{Doing, does}
-use Rattle.rt_ids.specs.Entry.{Entry}
-use Rattle.rt_ids.specs.Holder.{Holder, Guarded, Own}
-use Rattle.rt_ids.specs.Lists.{then_from}
-use Rattle.rt_ids.specs.Operation.{number_of}
-use Rattle.rt_ids.specs.Storage.{Home, At, AtLevel}
-use Rattle.rt_lemmas.proofs.Bools.{and_both}
-use Rattle.rt_code.specs.declared.instr.Instr.TheVariants as instr
+use Rattle.rt_gen_queue.proofs.Vocabulary.{Agree, App, Armed, At, AtLevel, BodyRow, Bool, Clocks, Content, Delays}
+use Rattle.rt_gen_queue.proofs.Vocabulary.{Doing, Entry, Fires, Guarded, HasCode, Held, Holder, Home, IsAccepted}
+use Rattle.rt_gen_queue.proofs.Vocabulary.{IsSome, IsTimedPlace, IsWithin, LeavesMine, Line, List, MayLoad, None}
+use Rattle.rt_gen_queue.proofs.Vocabulary.{Number, Option, Own, Rest, Returns, Some, Spot, Values, [], act, act_all}
+use Rattle.rt_gen_queue.proofs.Vocabulary.{and_both, ap, arith, armed_at, armed_place, at, cases_lt, ceiling, delays}
+use Rattle.rt_gen_queue.proofs.Vocabulary.{does, drop, home_of, if◌then◌else◌, inl, inr, le-leb, le-ltb, leave_timer}
+use Rattle.rt_gen_queue.proofs.Vocabulary.{length, local_is_home, lt-ltb, map, memory, nat_le, nat_lt, nothing}
+use Rattle.rt_gen_queue.proofs.Vocabulary.{number_of, owns_reads, plain, reads, reads_more, ready_actions, refl}
+use Rattle.rt_gen_queue.proofs.Vocabulary.{resource_is_home, slice_index, storage, subst, sym, task_priority, then_from}
+use Rattle.rt_gen_queue.proofs.Vocabulary.{timed, timer_cost, true, ℕ, ◌++◌, ◌+◌, ◌<◌, ◌^◌, ◌∙◌, ◌∷◌, ◌≡◌, ◌≤◌}
+use Rattle.std.proofs.lemmas.Bool.{lt-leb}
 use Rattle.rt_ids.specs.declared.ids.Section.TheVariants as section
+use Rattle.rt_app.specs.Doings.{due, fire_doing, timer_doing_in}
+use Rattle.rt_code.proofs.Mine.{owns_kept}
+use Rattle.rt_code.specs.declared.instr.Instr.TheVariants as instr
+use Rattle.rt_gen_queue.proofs.{Numbers.steps_and, Owning.home_as, Owning.timer_spelled}
+use Rattle.rt_gen_queue.proofs.Entering.{enter_fits, enter_placed, enters, opened, saves_below, saves_inside}
+use Rattle.rt_gen_queue.proofs.Layer.{Here, Now, S, Setting, Straight, calculates, clocks, ends, jumps_off, loads}
+use Rattle.rt_gen_queue.proofs.Layer.{loads_at, next_in_time, reads_open, returns_here, sets, spot, stays}
+use Rattle.rt_gen_timer.proofs.{Alone.instant_in, Arranged.IsLeast, Arranged.first_is_armed, Arranged.none_armed}
+use Rattle.rt_gen_timer.proofs.{Delaying.at_here, Delaying.rest_is, Opening.MayOpen, Opening.may_enter, Window.Slots}
+use Rattle.rt_gen_timer.proofs.{Window.Words, Window.words}
+use Rattle.rt_gen_timer.proofs.Acting.{Columns, code_first, code_part, count_open, first_open, instant_open, run_stands}
+use Rattle.rt_gen_timer.proofs.Calling.{Inside, IsInside, at_work, columns_now, entries, queue_now}
+use Rattle.rt_gen_timer.proofs.Closing.{closes_timer, closing_fit, closing_lines, closing_placed}
+use Rattle.rt_gen_timer.proofs.Spelled.{few_armings, row_of, spelled_column, spelled_count}
+use Rattle.rt_gen_timer.specs.{TimerCode.queue_of, TimerCode.timer_code, TimerLines.due_lines, TimerLines.heap_of}
 
 -- what a level keeps is spelled
 pub record AreKept (app : App) (level : ℕ) (cells : List ℕ) (queues : Holder → List Entry) (vs : Values) : Type 0 where

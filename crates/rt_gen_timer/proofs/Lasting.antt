@@ -1,28 +1,18 @@
 -- What the cells of the timer queue spell where a message goes last, armed for the first time or again: its row has its
 -- instant, the next number and its handle, the rows of the others are as before, and the heap is in order.
-use Rattle.std.proofs.Common.{◌≡◌, ◌≢◌, ◌⊎◌, ℕ, ◌+◌, ◌*◌, ◌<◌, ◌≤◌, List, [], ◌∷◌, ◌++◌, map, length, IsSome}
-use Rattle.std.proofs.Common.{slice_index, refl, sym, ap, subst, ◌∙◌, arith, inl, inr}
-use Rattle.std.proofs.lemmas.List.{map-append}
-use Rattle.std.proofs.lemmas.Option.{slice_get_within, get_or_from_slice_get}
-use Rattle.std.specs.List.{AllByRecursion}
-use Rattle.rt_app.proofs.Counting.{all_counted}
-use Rattle.rt_app.proofs.Spelling.{IsTimedPlace}
-use Rattle.rt_app.specs.Handled.{AreHandled}
-use Rattle.rt_app.specs.Heap.{IsArranged, at}
-use Rattle.rt_app.specs.Holding.{SpellsTimer, armed_place, message_at}
-use Rattle.rt_app.specs.Layout.{timer_at, armings_at, given_at, instants_at, numbers_at, handles_at, heap_at}
-use Rattle.rt_app.specs.Level.{armed_messages}
-use Rattle.rt_app.specs.Tree.{App}
+use Rattle.rt_gen_queue.proofs.Vocabulary.{AllByRecursion, App, AreHandled, Armed, Delays, Entry, IsArranged, IsSome}
+use Rattle.rt_gen_queue.proofs.Vocabulary.{IsTimedPlace, List, SpellsTimer, Timed, [], all_append, all_counted, ap}
+use Rattle.rt_gen_queue.proofs.Vocabulary.{arith, armed_messages, armed_place, armings_at, at, count}
+use Rattle.rt_gen_queue.proofs.Vocabulary.{get_or_from_slice_get, given_at, handles_at, heap_at, inl, inr, instants_at}
+use Rattle.rt_gen_queue.proofs.Vocabulary.{length, map, map-append, message_at, numbers_at, refl, slice_get_within}
+use Rattle.rt_gen_queue.proofs.Vocabulary.{slice_index, subst, sym, timer_at, ℕ, ◌*◌, ◌++◌, ◌+◌, ◌<◌, ◌∙◌, ◌∷◌, ◌≡◌}
+use Rattle.rt_gen_queue.proofs.Vocabulary.{◌≢◌, ◌≤◌, ◌⊎◌}
 use Rattle.rt_gen_timer.proofs.Alike.{AreSame, arranged_same, maps_alike}
-use Rattle.rt_gen_timer.proofs.Alone.{instant_in, number_in, handle_in, armed_in, timed_row, timed_once, beside_timer}
-use Rattle.rt_gen_timer.proofs.Alone.{IsTimerAlone, message_same, armed_same}
-use Rattle.rt_gen_timer.proofs.Hollow.{IsBeside, IsKept, IsHollow, IsWhole}
-use Rattle.rt_gen_timer.specs.TimerCode.{queue_of}
-use Rattle.rt_gen_timer.specs.TimerLines.{instants_of, numbers_of, handles_of, heap_of}
-use Rattle.rt_gen_timer.specs.declared.queue.TimerQueue.{TimerQueue}
-use Rattle.rt_ids.specs.Content.{Armed, Timed, Delays}
-use Rattle.rt_ids.specs.Entry.{Entry, count}
-use Rattle.rt_lemmas.proofs.Lists.{all_append}
+use Rattle.rt_gen_timer.proofs.Alone.{IsTimerAlone, armed_in, armed_same, beside_timer, handle_in, instant_in}
+use Rattle.rt_gen_timer.proofs.Alone.{message_same, number_in, timed_once, timed_row}
+use Rattle.rt_gen_timer.proofs.Hollow.{IsBeside, IsHollow, IsKept, IsWhole}
+use Rattle.rt_gen_timer.specs.{TimerCode.queue_of, declared.queue.TimerQueue.TimerQueue}
+use Rattle.rt_gen_timer.specs.TimerLines.{handles_of, heap_of, instants_of, numbers_of}
 
 -- a row has this instant, number and handle; of the cells behind the counts no other is written, and none beside the
 -- queue's

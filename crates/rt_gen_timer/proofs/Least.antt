@@ -1,12 +1,12 @@
 -- Of a list of armed messages: the least one, and the one of a handle, by the places of the list.
-use Rattle.std.proofs.Common.{◌≡◌, ◌≢◌, ◌⊎◌, ℕ, suc, ◌+◌, ◌<◌, ◌≤◌, ◌==◌, min, Bool, true, false, cond, not, find}
-use Rattle.std.proofs.Common.{List, [], ◌∷◌, ◌++◌, Option, Some, None, IfSome, refl, ap, ◌∙◌, eq-eqb, arith}
-use Rattle.std.proofs.lemmas.Bool.{ne_eqb, and_left, and_right, and_from}
-use Rattle.std.specs.List.{AllByRecursion, position_or_len, remove}
-use Rattle.rt_gen_timer.proofs.Numbered.{all_around, Along, along_before, along_others}
-use Rattle.rt_ids.specs.Content.{Armed, lesser, least_instant, has_instant, least, without_least, has_handle}
-use Rattle.rt_ids.specs.Content.{armed_as, without_handle}
-use Rattle.rt_lemmas.proofs.Membership.{all_weaker}
+use Rattle.rt_gen_queue.proofs.Vocabulary.{AllByRecursion, Armed, Bool, IfSome, List, None, Option, Some, []}
+use Rattle.rt_gen_queue.proofs.Vocabulary.{all_weaker, ap, arith, armed_as, cond, eq-eqb, false, find, least}
+use Rattle.rt_gen_queue.proofs.Vocabulary.{least_instant, min, ne_eqb, not, refl, suc, true, without_handle}
+use Rattle.rt_gen_queue.proofs.Vocabulary.{without_least, ℕ, ◌++◌, ◌+◌, ◌<◌, ◌==◌, ◌∙◌, ◌∷◌, ◌≡◌, ◌≢◌, ◌≤◌, ◌⊎◌}
+use Rattle.std.proofs.lemmas.Bool.{and_from, and_left, and_right}
+use Rattle.std.specs.List.{position_or_len, remove}
+use Rattle.rt_ids.specs.Content.{has_handle, has_instant, lesser}
+use Rattle.rt_gen_timer.proofs.Numbered.{Along, all_around, along_before, along_others}
 
 -- where none passes none is found
 none_found : {X : Type 0} (test : X → Bool) (xs : List X) → AllByRecursion (λ y. test y ≡ false) xs

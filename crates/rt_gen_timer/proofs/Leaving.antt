@@ -1,28 +1,16 @@
 -- What the cells of the timer queue spell once a message left its heap: the others, in order of their last arming, each
 -- with its instant, its handle and its arguments as before.
-use Rattle.std.proofs.Common.{◌≡◌, ◌≢◌, ◌⊎◌, ℕ, ◌+◌, ◌<◌, ◌≤◌, List, ◌∷◌, ◌++◌, map, Option, IsSome, slice_index}
-use Rattle.std.proofs.Common.{refl, sym, ap, subst, ◌∙◌, arith, inl, inr}
-use Rattle.std.proofs.lemmas.List.{map-append}
-use Rattle.std.proofs.lemmas.Option.{slice_get_within, get_or_from_slice_get}
-use Rattle.std.specs.List.{AllByRecursion}
-use Rattle.rt_app.proofs.Counting.{all_counted}
-use Rattle.rt_app.proofs.Spelling.{IsTimedPlace}
-use Rattle.rt_app.specs.Handled.{AreHandled}
-use Rattle.rt_app.specs.Heap.{at, key_of}
-use Rattle.rt_app.specs.Holding.{SpellsTimer, armed_place}
-use Rattle.rt_app.specs.Layout.{timer_at, armings_at, given_at, instants_at, numbers_at, handles_at, heap_at}
-use Rattle.rt_app.specs.Level.{armed_messages}
-use Rattle.rt_app.specs.Tree.{App}
-use Rattle.rt_gen_timer.proofs.Alike.{AreSame, arranged_same, maps_alike}
-use Rattle.rt_gen_timer.proofs.Alone.{instant_in, number_in, armed_in, timed_row, IsTimerAlone, beside_timer}
-use Rattle.rt_gen_timer.proofs.Alone.{armed_same}
-use Rattle.rt_gen_timer.proofs.Arranged.{IsPicked, IsWithout, left}
-use Rattle.rt_gen_timer.proofs.Handled.{handled_less}
-use Rattle.rt_gen_timer.proofs.Hollow.{IsWhole}
-use Rattle.rt_gen_timer.proofs.Numbered.{all_less}
+use Rattle.rt_gen_queue.proofs.Vocabulary.{AllByRecursion, App, AreHandled, Armed, Content, Delays, Entry, IsSome}
+use Rattle.rt_gen_queue.proofs.Vocabulary.{IsTimedPlace, List, Option, SpellsTimer, all_counted, ap, arith}
+use Rattle.rt_gen_queue.proofs.Vocabulary.{armed_messages, armed_place, armings_at, at, count, get_or_from_slice_get}
+use Rattle.rt_gen_queue.proofs.Vocabulary.{given_at, handles_at, heap_at, inl, inr, instants_at, key_of, map}
+use Rattle.rt_gen_queue.proofs.Vocabulary.{map-append, numbers_at, refl, slice_get_within, slice_index, subst, sym}
+use Rattle.rt_gen_queue.proofs.Vocabulary.{timer_at, ℕ, ◌++◌, ◌+◌, ◌<◌, ◌∙◌, ◌∷◌, ◌≡◌, ◌≢◌, ◌≤◌, ◌⊎◌}
+use Rattle.rt_gen_timer.proofs.{Alike.AreSame, Alike.arranged_same, Alike.maps_alike, Alone.IsTimerAlone}
+use Rattle.rt_gen_timer.proofs.{Alone.armed_in, Alone.armed_same, Alone.beside_timer, Alone.instant_in, Alone.number_in}
+use Rattle.rt_gen_timer.proofs.{Alone.timed_row, Arranged.IsPicked, Arranged.IsWithout, Arranged.left}
+use Rattle.rt_gen_timer.proofs.{Handled.handled_less, Hollow.IsWhole, Numbered.all_less}
 use Rattle.rt_gen_timer.specs.TimerCode.{queue_of}
-use Rattle.rt_ids.specs.Content.{Content, Armed, Delays}
-use Rattle.rt_ids.specs.Entry.{Entry, count}
 
 -- cells beside the count and the heap's column are as before
 pub record IsAsBefore (app : App) (before after : List ℕ) : Type 0 where

@@ -1,24 +1,16 @@
 -- The notes of the timer queue's code: a message is armed, goes last for another instant, or comes out of the queue
 -- into the hands, for a cancel or because it fires.
-use Rattle.std.proofs.Common.{◌≡◌, ℕ, ◌+◌, true, List, [], ◌∷◌, ◌++◌, Some, slice_get, slice_index, slice_set, refl}
-use Rattle.rt_ids.specs.Action.{Arms, Cancels, Fires, Moves, effect}
-use Rattle.rt_ids.specs.Content.{Message, Values}
-use Rattle.rt_ids.specs.Doing.{Doing, does}
-use Rattle.rt_ids.specs.Entry.{Entry}
-use Rattle.rt_ids.specs.Holder.{Guarded}
+use Rattle.rt_gen_queue.proofs.Vocabulary.{Agree, Arms, Cancels, Doing, Entry, Fires, Guarded, Line, List, Message}
+use Rattle.rt_gen_queue.proofs.Vocabulary.{Moves, Some, Values, [], does, effect, is_open, noted, refl, slice_get}
+use Rattle.rt_gen_queue.proofs.Vocabulary.{slice_index, slice_set, storage, true, with_queue, ℕ, ◌++◌, ◌+◌, ◌∷◌, ◌≡◌}
 use Rattle.rt_ids.specs.declared.ids.Section.TheVariants as section
-use Rattle.rt_app.specs.Holding.{storage}
-use Rattle.rt_code.specs.Acting.{with_queue}
-use Rattle.rt_code.specs.Owning.{is_open, Agree}
 use Rattle.rt_code.specs.declared.instr.Instr.TheVariants as instr
 use Rattle.rt_code.specs.declared.instr.Note.TheVariants as note
-use Rattle.rt_gen_queue.specs.Line.{Line, noted}
-use Rattle.rt_gen_queue.proofs.Layer.{Setting, Here, does as asks, Wrote, wrote, shows, Writes, store_at_gives}
-use Rattle.rt_gen_queue.proofs.Layer.{mark_gives, window, Now, is_there, MayRun, Straight, slot_of, word_of, by_noted}
-use Rattle.rt_gen_queue.proofs.Layer.{acts_later, behind_line}
-use Rattle.rt_gen_timer.specs.TimerLines.{heap_of}
-use Rattle.rt_gen_timer.specs.declared.queue.TimerQueue.{TimerQueue}
+use Rattle.rt_gen_queue.proofs.Layer.{Here, MayRun, Now, Setting, Straight, Writes, Wrote, acts_later, behind_line}
+use Rattle.rt_gen_queue.proofs.Layer.{by_noted, does as asks, is_there, mark_gives, shows, slot_of, store_at_gives}
+use Rattle.rt_gen_queue.proofs.Layer.{window, word_of, wrote}
 use Rattle.rt_gen_timer.proofs.Window.{Slots, Words, words}
+use Rattle.rt_gen_timer.specs.{TimerLines.heap_of, declared.queue.TimerQueue.TimerQueue}
 
 -- a message of a task is in the queue, between these, with its section open
 pub record IsQueued (h : Here) (task : ℕ) (e : Entry) (before behind : List Entry) : Type 0 where

@@ -1,15 +1,12 @@
 -- Where one message of a heap is in hand, and its place is a hole: messages move to the hole, the hole goes up or down,
 -- and with the one in hand at the hole each message is counted as before.
-use Rattle.std.proofs.Common.{◌≡◌, ◌≢◌, ℕ, ◌+◌, ◌<◌, ◌≤◌, List, [], ◌∷◌, ◌++◌, length, take, slice_set, refl, sym, ap}
-use Rattle.std.proofs.Common.{◌∙◌, arith}
-use Rattle.std.proofs.lemmas.List.{length_push, length-take-le, get_or_append_left, get_or-take, length-set}
-use Rattle.std.proofs.lemmas.List.{get_or-set_same, get_or-set_other}
+use Rattle.rt_gen_queue.proofs.Vocabulary.{Entry, IsHeap, List, [], above, ap, arith, at, count, get_or-set_other}
+use Rattle.rt_gen_queue.proofs.Vocabulary.{get_or-set_same, get_or-take, get_or_append_left, keys, length, length-set}
+use Rattle.rt_gen_queue.proofs.Vocabulary.{length-take-le, length_push, one, refl, slice_set, sym, take, ℕ, ◌++◌, ◌+◌}
+use Rattle.rt_gen_queue.proofs.Vocabulary.{◌<◌, ◌∙◌, ◌∷◌, ◌≡◌, ◌≢◌, ◌≤◌}
 use Rattle.std.proofs.lemmas.List.Sums.{sum_by-set}
-use Rattle.rt_app.proofs.Counting.{one}
-use Rattle.rt_app.specs.Heap.{above, IsHeap, at, keys}
-use Rattle.rt_gen_timer.proofs.Order.{IsHeapBeside, IsNoGreater, IsNoLess, IsLesser, IsPut, rises, risen_no_greater}
-use Rattle.rt_gen_timer.proofs.Order.{sinks, sunk_no_less, closed, beside_one}
-use Rattle.rt_ids.specs.Entry.{Entry, count}
+use Rattle.rt_gen_timer.proofs.Order.{IsHeapBeside, IsLesser, IsNoGreater, IsNoLess, IsPut, beside_one, closed}
+use Rattle.rt_gen_timer.proofs.Order.{risen_no_greater, rises, sinks, sunk_no_less}
 
 -- A message moves from a place to another, and leaves a hole: what stands there after that is not looked at.
 abbrev pub with_moved : List Entry → ℕ → ℕ → List Entry

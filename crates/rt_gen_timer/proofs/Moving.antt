@@ -1,47 +1,32 @@
 -- The code of a `reschedule_after`: the message of the handle gets another instant and the next number and goes up or
 -- down from where it stands, or there is none.
-use Rattle.std.proofs.Common.{◌≡◌, ℕ, suc, ◌+◌, ◌*◌, ◌^◌, ◌<◌, ◌≤◌, min, None, List, ◌∷◌, ◌++◌, length, take}
-use Rattle.std.proofs.Common.{slice_index, refl, sym, ap, subst, ◌∙◌, arith}
-use Rattle.rt_ids.specs.Action.{Clocks, Moves}
-use Rattle.rt_ids.specs.Content.{Values, with_moved}
-use Rattle.rt_ids.specs.Doing.{does}
-use Rattle.rt_ids.specs.Entry.{Entry}
-use Rattle.rt_ids.specs.Holder.{Guarded}
+use Rattle.rt_gen_queue.proofs.Vocabulary.{Clocks, Entry, Guarded, HasCode, Line, List, Moves, None, Rest, Values, act}
+use Rattle.rt_gen_queue.proofs.Vocabulary.{ap, arith, armed_messages, armed_place, at, does, few_messages}
+use Rattle.rt_gen_queue.proofs.Vocabulary.{handle_section_cost, leave, leave_timer, length, min, noted, refl}
+use Rattle.rt_gen_queue.proofs.Vocabulary.{slice_index, subst, suc, sym, take, with_moved, ℕ, ◌*◌, ◌++◌, ◌+◌, ◌<◌, ◌^◌}
+use Rattle.rt_gen_queue.proofs.Vocabulary.{◌∙◌, ◌∷◌, ◌≡◌, ◌≤◌}
 use Rattle.rt_ids.specs.declared.ids.Section.TheVariants as section
 use Rattle.rt_ids.specs.declared.limits.TheConstants.{LONGEST_DELAY}
-use Rattle.rt_app.specs.BodyCost.{handle_section_cost}
-use Rattle.rt_app.specs.Heap.{at}
-use Rattle.rt_app.specs.Holding.{armed_place}
-use Rattle.rt_app.specs.Level.{armed_messages}
-use Rattle.rt_app.specs.Sending.{Rest, act, instant_after, leave_timer, move_actions}
-use Rattle.rt_app.proofs.ArmedPlaces.{few_messages}
+use Rattle.rt_app.specs.Sending.{instant_after, move_actions}
 use Rattle.rt_code.specs.declared.instr.Instr.TheVariants as instr
 use Rattle.rt_code.specs.declared.instr.Note.TheVariants as note
-use Rattle.rt_gen_queue.specs.Guards.{leave}
-use Rattle.rt_gen_queue.specs.Line.{Line, noted, HasCode}
-use Rattle.rt_gen_queue.proofs.Layer.{Setting, Here, S, moved, Now, copies, sets, jumps, ends, writes_open}
+use Rattle.rt_gen_queue.proofs.Layer.{Here, Now, S, Setting, copies, ends, jumps, moved, sets, writes_open}
 use Rattle.rt_gen_queue.proofs.Numbers.{steps_and}
-use Rattle.rt_gen_timer.specs.TimerCalls.{MovesStand}
-use Rattle.rt_gen_timer.specs.TimerCode.{queue_of, armed_task, move_code}
-use Rattle.rt_gen_timer.specs.TimerLines.{heap_of, put_off_lines, alarm_lines, answer_lines}
-use Rattle.rt_gen_timer.specs.declared.queue.TimerQueue.{TimerQueue}
-use Rattle.rt_gen_timer.proofs.Window.{Words, words, Scratch, scratch_of}
-use Rattle.rt_gen_timer.proofs.Acting.{sooner, run_stands, code_first, code_part, heap_open}
-use Rattle.rt_gen_timer.proofs.Alone.{instant_in, number_in}
-use Rattle.rt_gen_timer.proofs.Calling.{leaving_fits, leaving_code, Call, Begins, f, on_window, entries}
-use Rattle.rt_gen_timer.proofs.Calling.{at_work, AgreeInside, columns_now, settles, stands_called}
-use Rattle.rt_gen_timer.proofs.Comparing.{Hand, Place}
+use Rattle.rt_gen_timer.proofs.{Alone.instant_in, Alone.number_in, Comparing.Hand, Comparing.Place, Lasting.last_alone}
+use Rattle.rt_gen_timer.proofs.{Marking.moves, Sifting.sinking, Spelled.few_armings, Spelled.row_of}
+use Rattle.rt_gen_timer.proofs.Acting.{code_first, code_part, heap_open, run_stands, sooner}
+use Rattle.rt_gen_timer.proofs.Calling.{AgreeInside, Begins, Call, at_work, columns_now, entries, f, leaving_code}
+use Rattle.rt_gen_timer.proofs.Calling.{leaving_fits, on_window, settles, stands_called}
 use Rattle.rt_gen_timer.proofs.Delaying.{at_address, delayed, time_stands}
-use Rattle.rt_gen_timer.proofs.Seeking.{Taken}
 use Rattle.rt_gen_timer.proofs.Hollow.{IsBeside, beside_more, beside_one_place, hollow_filled}
-use Rattle.rt_gen_timer.proofs.Lasting.{last_alone}
-use Rattle.rt_gen_timer.proofs.Marking.{moves}
-use Rattle.rt_gen_timer.proofs.Postponing.{IsAgain, again_stands, MayMove, are, is_row, again_hole, again_hollow}
+use Rattle.rt_gen_timer.proofs.Postponing.{IsAgain, MayMove, again_hole, again_hollow, again_stands, are, is_row}
 use Rattle.rt_gen_timer.proofs.Postponing.{last_long, spelled_moved}
-use Rattle.rt_gen_timer.proofs.Seeking.{handle_steps, MaySeek, seen, runs_seen, IsSeen, seen_words, seeks}
-use Rattle.rt_gen_timer.proofs.Settling.{reach_enough, MaySettle, IsSettled, settles_stand}
-use Rattle.rt_gen_timer.proofs.Sifting.{sinking}
-use Rattle.rt_gen_timer.proofs.Spelled.{few_armings, row_of}
+use Rattle.rt_gen_timer.proofs.Seeking.{IsSeen, MaySeek, Taken, handle_steps, runs_seen, seeks, seen, seen_words}
+use Rattle.rt_gen_timer.proofs.Settling.{IsSettled, MaySettle, reach_enough, settles_stand}
+use Rattle.rt_gen_timer.proofs.Window.{Scratch, Words, scratch_of, words}
+use Rattle.rt_gen_timer.specs.{TimerCalls.MovesStand, declared.queue.TimerQueue.TimerQueue}
+use Rattle.rt_gen_timer.specs.TimerCode.{armed_task, move_code, queue_of}
+use Rattle.rt_gen_timer.specs.TimerLines.{alarm_lines, answer_lines, heap_of, put_off_lines}
 
 -- the message of a handle is to be put to another instant
 record AsksMove (c : Call) (delay handle : ℕ) (h : Here) : Type 0 where

@@ -1,11 +1,8 @@
 -- On lists in which each is in a relation to all behind it: messages in order of their last arming, whose numbers rise
 -- along the list, and messages of which no two have one handle.
-use Rattle.std.proofs.Common.{◌≡◌, ◌⊎◌, ℕ, zero, suc, ◌<◌, List, [], ◌∷◌, ◌++◌, slice_get, Some, refl, subst, inl}
-use Rattle.std.proofs.Common.{inr, arith}
-use Rattle.std.proofs.lemmas.Option.{same_Some, none-some}
-use Rattle.std.specs.List.{AllByRecursion}
-use Rattle.rt_lemmas.proofs.Lists.{all_append, all_front, all_behind}
-use Rattle.rt_lemmas.proofs.Membership.{all_at, all_weaker}
+use Rattle.rt_gen_queue.proofs.Vocabulary.{AllByRecursion, List, Some, [], all_append, all_at, all_behind, all_front}
+use Rattle.rt_gen_queue.proofs.Vocabulary.{all_weaker, arith, inl, inr, none-some, refl, same_Some, slice_get, subst}
+use Rattle.rt_gen_queue.proofs.Vocabulary.{suc, zero, ℕ, ◌++◌, ◌<◌, ◌∷◌, ◌≡◌, ◌⊎◌}
 
 -- of a list one less, and one more between
 pub all_less : {X : Type 0} (P : X → Type 0) (before behind : List X) (x : X)

@@ -1,28 +1,15 @@
 -- The section of an application's timer queue on the window: how it may be entered, what is open inside it, and what is
 -- left of the window outside it.
-use Rattle.std.proofs.Common.{◌≡◌, ℕ, ◌<◌, false, List, ◌∷◌, length, Option, Some, None, IsSome, option_map}
-use Rattle.std.proofs.Common.{refl, sym, ap, ◌∙◌, arith}
-use Rattle.std.specs.List.{AllByRecursion}
-use Rattle.rt_app.proofs.LaidTimer.{timer_is_home}
-use Rattle.rt_app.proofs.Sound.{accepted_are_sound}
-use Rattle.rt_app.specs.Accepted.{IsMonoPlaced, IsAccepted}
-use Rattle.rt_app.specs.Handlers.{irq_number}
-use Rattle.rt_app.specs.Holding.{storage}
-use Rattle.rt_app.specs.Layout.{memory}
-use Rattle.rt_app.specs.Tree.{App}
-use Rattle.rt_app.specs.declared.app.Mono.{Mono}
-use Rattle.rt_code.specs.Masking.{IsWithin}
-use Rattle.rt_code.specs.Owning.{Held, is_open, saved_slots}
-use Rattle.rt_gen_queue.proofs.Entering.{MayEnter, opened}
-use Rattle.rt_gen_queue.proofs.Layer.{Setting, Here}
-use Rattle.rt_gen_queue.proofs.Owning.{nobody_keeps, is_inside}
-use Rattle.rt_gen_queue.specs.Spawning.{HoldsOff}
-use Rattle.rt_gen_timer.proofs.Acting.{Columns}
-use Rattle.rt_gen_timer.proofs.Window.{Slots}
-use Rattle.rt_gen_timer.specs.TimerCode.{queue_of}
-use Rattle.rt_ids.specs.Lists.{or_zero, then_from}
+use Rattle.rt_gen_queue.proofs.Vocabulary.{AllByRecursion, App, Held, HoldsOff, IsAccepted, IsSome, IsWithin, List}
+use Rattle.rt_gen_queue.proofs.Vocabulary.{Mono, None, Option, Some, accepted_are_sound, ap, arith, false, irq_number}
+use Rattle.rt_gen_queue.proofs.Vocabulary.{is_open, length, memory, option_map, or_zero, refl, saved_slots, storage}
+use Rattle.rt_gen_queue.proofs.Vocabulary.{sym, then_from, ℕ, ◌<◌, ◌∙◌, ◌∷◌, ◌≡◌}
 use Rattle.rt_lemmas.proofs.Places.{there_is}
 use Rattle.rt_ids.specs.declared.ids.Section.TheVariants as section
+use Rattle.rt_app.{proofs.LaidTimer.timer_is_home, specs.Accepted.IsMonoPlaced}
+use Rattle.rt_gen_queue.proofs.{Entering.MayEnter, Entering.opened, Layer.Here, Layer.Setting, Owning.is_inside}
+use Rattle.rt_gen_queue.proofs.{Owning.nobody_keeps}
+use Rattle.rt_gen_timer.{proofs.Acting.Columns, proofs.Window.Slots, specs.TimerCode.queue_of}
 
 -- the interrupt of the monotonic
 pub timer_irq : (app : App) → IsAccepted app → IsSome app.mono

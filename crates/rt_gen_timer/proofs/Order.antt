@@ -1,10 +1,8 @@
 -- On the order of a heap while one message of it is in hand (Williams, Algorithm 232: Heapsort, 1964): its place is a
 -- hole, whose key is not looked at. The key above the hole, or the lesser one below it, goes to the hole, until the one
 -- in hand may fill it.
-use Rattle.std.proofs.Common.{◌≡◌, ◌≢◌, ℕ, zero, suc, ◌+◌, ◌<◌, ◌≤◌, nat_lt, arith}
-use Rattle.std.proofs.lemmas.Bool.Decides.{nat_tests}
-use Rattle.rt_app.specs.Heap.{above, IsHeap}
-use Rattle.rt_ids.specs.Operation.{number_of}
+use Rattle.rt_gen_queue.proofs.Vocabulary.{IsHeap, above, arith, nat_lt, nat_tests, number_of, suc, zero, ℕ, ◌+◌, ◌<◌}
+use Rattle.rt_gen_queue.proofs.Vocabulary.{◌≡◌, ◌≢◌, ◌≤◌}
 
 -- each place but the first lies below one that comes earlier
 pub above_less : (j : ℕ) → 0 < j → above j < j

@@ -1,38 +1,26 @@
 -- A message is put to another instant: the lines by which its row gets it, and what the cells of the timer queue spell
 -- then. It goes last, with the next number and its handle, and the others are as before.
-use Rattle.std.proofs.Common.{◌≡◌, ◌≢◌, ℕ, ◌+◌, ◌^◌, ◌<◌, List, [], ◌∷◌, ◌++◌, map, length, IsSome, slice_index, refl}
-use Rattle.std.proofs.Common.{sym, ap, subst, ◌∙◌, arith, append_assoc}
-use Rattle.std.proofs.lemmas.List.{map-append, length_push}
-use Rattle.std.specs.List.{AllByRecursion}
-use Rattle.rt_app.proofs.Spelling.{IsTimedPlace}
-use Rattle.rt_app.specs.Handled.{AreHandled}
-use Rattle.rt_app.specs.Heap.{IsArranged, at, key_of}
-use Rattle.rt_app.specs.Holding.{SpellsTimer, armed_place}
-use Rattle.rt_app.specs.Layout.{timer_at, given_at, heap_at}
-use Rattle.rt_app.specs.Tree.{App}
-use Rattle.rt_gen_queue.specs.Line.{Line}
-use Rattle.rt_gen_queue.proofs.Numbers.{added}
-use Rattle.rt_gen_queue.proofs.Layer.{Setting, Here, ahead, Straight, calculates, loads, stores, stores_at, reads_open}
-use Rattle.rt_gen_queue.proofs.Layer.{writes_open}
-use Rattle.rt_gen_timer.proofs.Acting.{Columns, columns_on, armings_open, instant_open, number_open}
-use Rattle.rt_gen_timer.proofs.Alone.{instant_in, number_in, handle_in, armed_in}
-use Rattle.rt_gen_timer.proofs.Arranged.{IsOfHandle, others_differ, count_less, length_less, listed_less, elsewhere}
-use Rattle.rt_gen_timer.proofs.Arranged.{move_begins, goes_last}
-use Rattle.rt_gen_timer.proofs.Handled.{handled_last}
-use Rattle.rt_gen_timer.proofs.Hollow.{IsBeside, IsHollow}
-use Rattle.rt_gen_timer.proofs.Lasting.{IsRow, AreOthers, own_row, same_instants, same_numbers}
-use Rattle.rt_gen_timer.proofs.Lasting.{hollow_last, spells_last}
-use Rattle.rt_gen_timer.proofs.Moves.{HasHole, HasSettled, count_put}
-use Rattle.rt_gen_timer.proofs.Numbered.{all_less}
-use Rattle.rt_gen_timer.proofs.Spelled.{place_of, spelled_count, spelled_whole}
-use Rattle.rt_gen_timer.proofs.Window.{Slots, Words, words}
-use Rattle.rt_gen_timer.specs.TimerCode.{queue_of}
-use Rattle.rt_gen_timer.specs.TimerLines.{armings_of, instants_of, numbers_of, handles_of, again_lines}
-use Rattle.rt_gen_timer.specs.declared.queue.TimerQueue.{TimerQueue}
-use Rattle.rt_ids.specs.Content.{Content, Armed, Delays, MayArm, armed_as, without_handle, postponed, with_moved}
-use Rattle.rt_ids.specs.Entry.{Entry}
-use Rattle.rt_ids.specs.Operation.{operate}
+use Rattle.rt_gen_queue.proofs.Vocabulary.{AllByRecursion, App, AreHandled, Armed, Content, Delays, Entry, IsArranged}
+use Rattle.rt_gen_queue.proofs.Vocabulary.{IsSome, IsTimedPlace, Line, List, MayArm, SpellsTimer, [], ap, append_assoc}
+use Rattle.rt_gen_queue.proofs.Vocabulary.{arith, armed_as, armed_place, at, given_at, heap_at, key_of, length}
+use Rattle.rt_gen_queue.proofs.Vocabulary.{length_push, map, map-append, operate, refl, slice_index, subst, sym}
+use Rattle.rt_gen_queue.proofs.Vocabulary.{timer_at, with_moved, without_handle, ℕ, ◌++◌, ◌+◌, ◌<◌, ◌^◌, ◌∙◌, ◌∷◌, ◌≡◌}
+use Rattle.rt_gen_queue.proofs.Vocabulary.{◌≢◌}
+use Rattle.rt_ids.specs.Content.{postponed}
 use Rattle.rt_ids.specs.declared.op.Op.TheVariants as op
+use Rattle.rt_gen_queue.proofs.{Layer.Here, Layer.Setting, Layer.Straight, Layer.ahead, Layer.calculates, Layer.loads}
+use Rattle.rt_gen_queue.proofs.{Layer.reads_open, Layer.stores, Layer.stores_at, Layer.writes_open, Numbers.added}
+use Rattle.rt_gen_timer.proofs.{Handled.handled_last, Hollow.IsBeside, Hollow.IsHollow, Moves.HasHole, Moves.HasSettled}
+use Rattle.rt_gen_timer.proofs.{Moves.count_put, Numbered.all_less, Spelled.place_of, Spelled.spelled_count}
+use Rattle.rt_gen_timer.proofs.{Spelled.spelled_whole, Window.Slots, Window.Words, Window.words}
+use Rattle.rt_gen_timer.proofs.Acting.{Columns, armings_open, columns_on, instant_open, number_open}
+use Rattle.rt_gen_timer.proofs.Alone.{armed_in, handle_in, instant_in, number_in}
+use Rattle.rt_gen_timer.proofs.Arranged.{IsOfHandle, count_less, elsewhere, goes_last, length_less, listed_less}
+use Rattle.rt_gen_timer.proofs.Arranged.{move_begins, others_differ}
+use Rattle.rt_gen_timer.proofs.Lasting.{AreOthers, IsRow, hollow_last, own_row, same_instants, same_numbers}
+use Rattle.rt_gen_timer.proofs.Lasting.{spells_last}
+use Rattle.rt_gen_timer.specs.{TimerCode.queue_of, declared.queue.TimerQueue.TimerQueue}
+use Rattle.rt_gen_timer.specs.TimerLines.{again_lines, armings_of, handles_of, instants_of, numbers_of}
 
 -- a row has another instant and the next number, and the count of armings is one more
 pub record IsAgain (q : TimerQueue) (row instant a : ℕ) (before after : List ℕ) : Type 0 where

@@ -1,34 +1,22 @@
 -- What the cells of the timer queue spell once a message more is armed: it comes last, with the next number and the
 -- next handle, and the others are as before.
-use Rattle.std.proofs.Common.{◌≡◌, ◌≢◌, ℕ, ◌+◌, ◌<◌, ◌≤◌, Bool, true, false, if◌then◌else◌, List, [], ◌∷◌, ◌++◌, map}
-use Rattle.std.proofs.Common.{length, IsSome, slice_index, refl, sym, ap, subst, ◌∙◌, arith}
-use Rattle.std.proofs.Math.Seq.{set-append_seam}
-use Rattle.std.proofs.lemmas.List.{length-append, length_push, get_or_append_left}
-use Rattle.std.proofs.lemmas.List.Sums.{sum_by-append}
-use Rattle.std.specs.List.{AllByRecursion}
-use Rattle.rt_app.proofs.ArmedPlaces.{few_messages}
-use Rattle.rt_app.proofs.Counting.{one, all_counted, count_more, one_itself}
-use Rattle.rt_app.proofs.LaidQueues.{many, capacity_is}
-use Rattle.rt_app.proofs.Spelling.{IsTimedPlace, the_task}
-use Rattle.rt_app.specs.Accepted.{IsAccepted}
-use Rattle.rt_app.specs.Heap.{IsArranged, at, key_of}
-use Rattle.rt_app.specs.Holding.{SpellsTimer, armed_place, message_at}
-use Rattle.rt_app.specs.Layout.{heap_at}
-use Rattle.rt_app.specs.Level.{is_armed, is_software, armed_capacities, armed_messages}
-use Rattle.rt_app.specs.Tree.{Task, App}
-use Rattle.rt_gen_queue.proofs.Places.{places_of, places_from, stands_in, fits_once}
-use Rattle.rt_gen_timer.proofs.Alike.{all_from_counted}
-use Rattle.rt_gen_timer.proofs.Alone.{instant_in, number_in, armed_in}
-use Rattle.rt_gen_timer.proofs.Arranged.{listed, in_queue, push_begins, goes_last}
-use Rattle.rt_gen_timer.proofs.Handled.{handled_more}
-use Rattle.rt_gen_timer.proofs.Hollow.{IsBeside, IsHollow}
-use Rattle.rt_gen_timer.proofs.Lasting.{IsRow, AreOthers, same_instants, same_numbers, hollow_last, spells_last}
-use Rattle.rt_gen_timer.proofs.Moves.{HasHole, HasSettled}
-use Rattle.rt_gen_timer.proofs.Rowing.{HasCounts, HasRow}
+use Rattle.rt_gen_queue.proofs.Vocabulary.{AllByRecursion, App, Bool, Content, Delays, Entry, IsAccepted, IsArranged}
+use Rattle.rt_gen_queue.proofs.Vocabulary.{IsSome, IsTimedPlace, List, MayArm, Message, SpellsTimer, Task, Timed, []}
+use Rattle.rt_gen_queue.proofs.Vocabulary.{all_counted, ap, arith, armed_messages, armed_place, at, capacity_is, count}
+use Rattle.rt_gen_queue.proofs.Vocabulary.{count_more, false, few_messages, get_or_append_left, heap_at, if◌then◌else◌}
+use Rattle.rt_gen_queue.proofs.Vocabulary.{is_armed, is_software, key_of, length, length-append, length_push, many, map}
+use Rattle.rt_gen_queue.proofs.Vocabulary.{message_at, one, one_itself, refl, set-append_seam, slice_index, subst}
+use Rattle.rt_gen_queue.proofs.Vocabulary.{sum_by-append, sym, the_task, true, with_armed, ℕ, ◌++◌, ◌+◌, ◌<◌, ◌∙◌, ◌∷◌}
+use Rattle.rt_gen_queue.proofs.Vocabulary.{◌≡◌, ◌≢◌, ◌≤◌}
+use Rattle.rt_app.specs.Level.{armed_capacities}
+use Rattle.rt_gen_queue.proofs.Places.{fits_once, places_from, places_of, stands_in}
+use Rattle.rt_gen_timer.proofs.{Alike.all_from_counted, Handled.handled_more, Hollow.IsBeside, Hollow.IsHollow}
+use Rattle.rt_gen_timer.proofs.{Moves.HasHole, Moves.HasSettled, Rowing.HasCounts, Rowing.HasRow}
+use Rattle.rt_gen_timer.proofs.Alone.{armed_in, instant_in, number_in}
+use Rattle.rt_gen_timer.proofs.Arranged.{goes_last, in_queue, listed, push_begins}
+use Rattle.rt_gen_timer.proofs.Lasting.{AreOthers, IsRow, hollow_last, same_instants, same_numbers, spells_last}
 use Rattle.rt_gen_timer.proofs.Spelled.{few_armings, spelled_count, spelled_whole}
 use Rattle.rt_gen_timer.specs.TimerCode.{queue_of}
-use Rattle.rt_ids.specs.Content.{Content, Message, Timed, Delays, MayArm, with_armed}
-use Rattle.rt_ids.specs.Entry.{Entry, count}
 
 module _ (app : App) where
   -- there are as many rows as places of tasks whose messages may be armed

@@ -1,29 +1,22 @@
 -- The code by which a message leaves the heap from a place of it: the last message comes into the hand and fills the
 -- place, and goes up or down from there; or it was the last one itself.
-use Rattle.std.proofs.Common.{◌≡◌, ◌≢◌, ◌⊎◌, ℕ, suc, ◌+◌, ◌-◌, ◌*◌, ◌^◌, ◌<◌, ◌≤◌, List, [], ◌∷◌, length, take}
-use Rattle.std.proofs.Common.{slice_index, slice_set, refl, sym, ap, subst, ◌∙◌, arith, inl, inr}
-use Rattle.std.proofs.lemmas.Bool.{cases_lt}
-use Rattle.rt_ids.specs.Entry.{Entry}
-use Rattle.rt_ids.specs.Operation.{operate}
+use Rattle.rt_gen_queue.proofs.Vocabulary.{Entry, HasCode, IsHeap, Line, List, [], ap, arith, at, cases_lt, inl, inr}
+use Rattle.rt_gen_queue.proofs.Vocabulary.{key_of, keys, length, operate, refl, slice_index, slice_set, subst, suc, sym}
+use Rattle.rt_gen_queue.proofs.Vocabulary.{take, ℕ, ◌*◌, ◌+◌, ◌-◌, ◌<◌, ◌^◌, ◌∙◌, ◌∷◌, ◌≡◌, ◌≢◌, ◌≤◌, ◌⊎◌}
 use Rattle.rt_ids.specs.declared.op.Op.TheVariants as op
-use Rattle.rt_gen_queue.specs.Line.{Line, HasCode}
+use Rattle.rt_gen_queue.proofs.Layer.{Here, Now, S, Setting, Wrote, calculates, ends, jumps_off, moved, stays, stores}
+use Rattle.rt_gen_queue.proofs.Layer.{stores_at, writes_open}
 use Rattle.rt_gen_queue.proofs.Numbers.{one_less, steps_and}
-use Rattle.rt_gen_queue.proofs.Layer.{Setting, Here, S, moved, Wrote, Now, calculates, stores, stores_at, jumps_off}
-use Rattle.rt_gen_queue.proofs.Layer.{stays, ends, writes_open}
-use Rattle.rt_app.specs.Heap.{IsHeap, at, keys, key_of}
-use Rattle.rt_gen_timer.specs.TimerLines.{heap_of, last_lines, store_at, remove_lines}
+use Rattle.rt_gen_timer.proofs.{Arranged.IsWithout, Arranged.without_last, Arranged.without_other, Comparing.Hand}
+use Rattle.rt_gen_timer.proofs.{Comparing.Place, Comparing.loads_key, Moves.hole_left, Rowing.taken_off}
+use Rattle.rt_gen_timer.proofs.{Settling.IsSettled, Settling.MaySettle, Settling.settles_stand, Sifting.rise_reach}
+use Rattle.rt_gen_timer.proofs.Acting.{Columns, Runs, code_first, code_part, columns_on, count_open, heap_open}
+use Rattle.rt_gen_timer.proofs.Acting.{run_stands, sooner}
+use Rattle.rt_gen_timer.proofs.Hollow.{IsBeside, IsWhole, beside_more, beside_one_place, kept_beside, whole_counted}
+use Rattle.rt_gen_timer.proofs.Hollow.{whole_fewer, whole_filled, whole_taken}
+use Rattle.rt_gen_timer.proofs.Window.{Scratch, Slots, Words, scratch_of, turning, words}
+use Rattle.rt_gen_timer.specs.TimerLines.{heap_of, last_lines, remove_lines, store_at}
 use Rattle.rt_gen_timer.specs.declared.queue.TimerQueue.{TimerQueue}
-use Rattle.rt_gen_timer.proofs.Moves.{hole_left}
-use Rattle.rt_gen_timer.proofs.Window.{Slots, Words, words, Scratch, scratch_of, turning}
-use Rattle.rt_gen_timer.proofs.Acting.{Runs, sooner, run_stands, code_first, code_part, Columns, columns_on, count_open}
-use Rattle.rt_gen_timer.proofs.Acting.{heap_open}
-use Rattle.rt_gen_timer.proofs.Comparing.{Hand, Place, loads_key}
-use Rattle.rt_gen_timer.proofs.Hollow.{IsBeside, beside_more, beside_one_place, kept_beside}
-use Rattle.rt_gen_timer.proofs.Hollow.{IsWhole, whole_counted, whole_taken, whole_fewer, whole_filled}
-use Rattle.rt_gen_timer.proofs.Sifting.{rise_reach}
-use Rattle.rt_gen_timer.proofs.Rowing.{taken_off}
-use Rattle.rt_gen_timer.proofs.Settling.{MaySettle, IsSettled, settles_stand}
-use Rattle.rt_gen_timer.proofs.Arranged.{IsWithout, without_last, without_other}
 
 -- a heap of so many messages is in cells, and a place of it is the hole
 abbrev pub removing : Words → ℕ → ℕ → Words

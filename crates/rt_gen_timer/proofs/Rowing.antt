@@ -1,22 +1,18 @@
 -- The lines by which a message becomes a row of the columns: the counts of armings and of handles go up by one, the
 -- heap has one place more, and the message's instant, its number and its handle are stored at its row. No other cell
 -- is written.
-use Rattle.std.proofs.Common.{◌≡◌, ◌≢◌, ◌⊎◌, ℕ, ◌+◌, ◌-◌, ◌*◌, ◌%◌, ◌^◌, ◌<◌, ◌≤◌, List, length, ◌++◌, slice_index}
-use Rattle.std.proofs.Common.{refl, ap, ◌∙◌, arith}
-use Rattle.std.proofs.lemmas.Nat.{mod-mul-add}
-use Rattle.rt_ids.specs.Operation.{operate}
+use Rattle.rt_gen_queue.proofs.Vocabulary.{Line, List, ap, arith, length, mod-mul-add, operate, refl, slice_index, ℕ}
+use Rattle.rt_gen_queue.proofs.Vocabulary.{◌%◌, ◌*◌, ◌++◌, ◌+◌, ◌-◌, ◌<◌, ◌^◌, ◌∙◌, ◌≡◌, ◌≢◌, ◌≤◌, ◌⊎◌}
 use Rattle.rt_ids.specs.declared.limits.TheConstants.{CAPACITY}
 use Rattle.rt_ids.specs.declared.op.Op.TheVariants as op
-use Rattle.rt_gen_queue.specs.Line.{Line}
+use Rattle.rt_gen_queue.proofs.Layer.{Here, Setting, Straight, Wrote, ahead, calculates, loads, reads_open, sets}
+use Rattle.rt_gen_queue.proofs.Layer.{stores, stores_at, writes_open}
 use Rattle.rt_gen_queue.proofs.Numbers.{added}
-use Rattle.rt_gen_queue.proofs.Layer.{Setting, Here, Wrote, ahead, Straight, sets, calculates, loads, stores, stores_at}
-use Rattle.rt_gen_queue.proofs.Layer.{reads_open, writes_open}
-use Rattle.rt_gen_timer.specs.TimerLines.{armings_of, given_of, instants_of, numbers_of, handles_of, row_lines}
-use Rattle.rt_gen_timer.specs.declared.armed.ArmedTask.{ArmedTask}
-use Rattle.rt_gen_timer.specs.declared.queue.TimerQueue.{TimerQueue}
+use Rattle.rt_gen_timer.proofs.Acting.{Columns, armings_open, columns_on, count_open, given_open, handle_open}
+use Rattle.rt_gen_timer.proofs.Acting.{instant_open, number_open}
 use Rattle.rt_gen_timer.proofs.Window.{Slots, Words, words}
-use Rattle.rt_gen_timer.proofs.Acting.{Columns, columns_on, count_open, armings_open, given_open, instant_open}
-use Rattle.rt_gen_timer.proofs.Acting.{number_open, handle_open}
+use Rattle.rt_gen_timer.specs.TimerLines.{armings_of, given_of, handles_of, instants_of, numbers_of, row_lines}
+use Rattle.rt_gen_timer.specs.declared.{armed.ArmedTask.ArmedTask, queue.TimerQueue.TimerQueue}
 
 -- a difference of 32 bits that does not wrap
 pub taken_off : (a b c : ℕ) → c + b ≡ a → a < 2 ^ 32 → operate op.Sub a b ≡ c

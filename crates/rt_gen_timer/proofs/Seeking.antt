@@ -1,49 +1,32 @@
 -- A call by a handle: the section of the timer queue opens, and the message of the task that has the handle is looked
 -- for in the heap, from its last place down to the first; or none has it, the section closes, and the answer is 1.
-use Rattle.std.proofs.Common.{◌≡◌, ◌≢◌, ◌⊎◌, ℕ, zero, suc, ◌+◌, ◌*◌, ◌^◌, ◌<◌, ◌≤◌, ◌==◌, ◌&&◌, ◌++◌, ◌∷◌, nat_lt}
-use Rattle.std.proofs.Common.{Bool, true, false, List, [], length, take, Option, Some, is_some, if◌then◌else◌}
-use Rattle.std.proofs.Common.{slice_index, refl, sym, ap, ◌∙◌, subst, arith, inl, inr}
-use Rattle.std.proofs.lemmas.Bool.{cases_eq}
-use Rattle.std.proofs.lemmas.Bool.Decides.{nat_tests}
-use Rattle.rt_ids.specs.Action.{Enters, Leaves}
-use Rattle.rt_ids.specs.Content.{Values, Armed, armed_as}
-use Rattle.rt_ids.specs.Doing.{Doing}
-use Rattle.rt_ids.specs.Entry.{Entry}
-use Rattle.rt_ids.specs.Holder.{Holder, Guarded}
-use Rattle.rt_ids.specs.Operation.{number_of}
+use Rattle.rt_gen_queue.proofs.Vocabulary.{App, Armed, Bool, Doing, Enters, Entry, Guarded, HANDLE_COST, HasCode}
+use Rattle.rt_gen_queue.proofs.Vocabulary.{Holder, Leaves, Line, List, Option, Rest, Some, Values, [], act, ap, arith}
+use Rattle.rt_gen_queue.proofs.Vocabulary.{armed_as, armed_at, armed_messages, armed_place, at, cases_eq, false}
+use Rattle.rt_gen_queue.proofs.Vocabulary.{few_messages, guard_of, handle_at, handle_section_cost, if◌then◌else◌, inl}
+use Rattle.rt_gen_queue.proofs.Vocabulary.{inr, is_armed_as, is_some, leave, length, nat_lt, nat_tests, number_of}
+use Rattle.rt_gen_queue.proofs.Vocabulary.{plain, refl, slice_index, subst, suc, sym, take, true, zero, ℕ, ◌&&◌, ◌*◌}
+use Rattle.rt_gen_queue.proofs.Vocabulary.{◌++◌, ◌+◌, ◌<◌, ◌==◌, ◌^◌, ◌∙◌, ◌∷◌, ◌≡◌, ◌≢◌, ◌≤◌, ◌⊎◌}
 use Rattle.rt_ids.specs.declared.ids.Section.TheVariants as section
 use Rattle.rt_ids.specs.declared.op.Op.TheVariants as op
-use Rattle.rt_app.specs.declared.costs.TheConstants.{HANDLE_COST, HANDLE_MESSAGE_COST}
-use Rattle.rt_app.specs.Tree.{App}
-use Rattle.rt_app.specs.BodyCost.{handle_section_cost}
-use Rattle.rt_app.specs.Heap.{at}
-use Rattle.rt_app.specs.Holding.{armed_place, armed_at, handle_at}
-use Rattle.rt_app.specs.Level.{armed_messages}
-use Rattle.rt_app.specs.Sending.{Rest, act, is_armed_as}
-use Rattle.rt_app.proofs.ArmedPlaces.{few_messages}
+use Rattle.rt_app.specs.declared.costs.TheConstants.{HANDLE_MESSAGE_COST}
 use Rattle.rt_code.specs.declared.instr.Instr.TheVariants as instr
-use Rattle.rt_gen_queue.specs.Guards.{guard_of, leave}
-use Rattle.rt_gen_queue.specs.Line.{Line, HasCode, plain}
-use Rattle.rt_gen_queue.proofs.Entering.{opened, enters, leaves, enter_placed, enter_fits, saves_inside, saves_below}
-use Rattle.rt_gen_queue.proofs.Layer.{Setting, Here, S, Now, is_there, sets, loads, calculates, loads_at, copies}
-use Rattle.rt_gen_queue.proofs.Layer.{jumps_off, stays, ends, moved, lasts_less, reads_open}
-use Rattle.rt_gen_queue.proofs.Numbers.{one_less, steps_and}
-use Rattle.rt_gen_queue.proofs.Owning.{timer_spelled}
-use Rattle.rt_gen_queue.proofs.Placing.{code_front, code_behind}
-use Rattle.rt_gen_timer.specs.TimerCode.{queue_of, armed_task}
-use Rattle.rt_gen_timer.specs.TimerLines.{heap_of, handles_of, search_lines, own_lines, find_lines, open_lines}
-use Rattle.rt_gen_timer.specs.TimerLines as lines
-use Rattle.rt_gen_timer.specs.declared.armed.ArmedTask.{ArmedTask}
-use Rattle.rt_gen_timer.specs.declared.queue.TimerQueue.{TimerQueue}
+use Rattle.rt_gen_queue.proofs.{Numbers.one_less, Numbers.steps_and, Owning.timer_spelled, Placing.code_behind}
+use Rattle.rt_gen_queue.proofs.{Placing.code_front}
+use Rattle.rt_gen_queue.proofs.Entering.{enter_fits, enter_placed, enters, leaves, opened, saves_below, saves_inside}
+use Rattle.rt_gen_queue.proofs.Layer.{Here, Now, S, Setting, calculates, copies, ends, is_there, jumps_off, lasts_less}
+use Rattle.rt_gen_queue.proofs.Layer.{loads, loads_at, moved, reads_open, sets, stays}
+use Rattle.rt_gen_timer.proofs.{Arranged.IsOfHandle, Delaying.rest_is, Opening.may_enter}
+use Rattle.rt_gen_timer.proofs.Acting.{Columns, Lasting, Runs, code_first, code_part, count_open, handle_open}
+use Rattle.rt_gen_timer.proofs.Acting.{heap_open, run_stands, sooner}
+use Rattle.rt_gen_timer.proofs.Calling.{Call, HasCalled, Inside, IsInside, Left, MayCall, at_work, behind_call}
+use Rattle.rt_gen_timer.proofs.Calling.{columns_now, entries, f, leaving_code, leaving_fits, may_open, w}
+use Rattle.rt_gen_timer.proofs.Spelled.{armed_is, found_of, missing_of, own_task, row_of, spelled_column, spelled_count}
 use Rattle.rt_gen_timer.proofs.Window.{Slots, Words, words}
-use Rattle.rt_gen_timer.proofs.Acting.{Lasting, Runs, sooner, run_stands, code_first, code_part, Columns}
-use Rattle.rt_gen_timer.proofs.Acting.{count_open, heap_open, handle_open}
-use Rattle.rt_gen_timer.proofs.Arranged.{IsOfHandle}
-use Rattle.rt_gen_timer.proofs.Calling.{Call, MayCall, f, w, may_open, Left, HasCalled, behind_call, Inside, entries}
-use Rattle.rt_gen_timer.proofs.Calling.{at_work, IsInside, columns_now, leaving_fits, leaving_code}
-use Rattle.rt_gen_timer.proofs.Delaying.{rest_is}
-use Rattle.rt_gen_timer.proofs.Opening.{may_enter}
-use Rattle.rt_gen_timer.proofs.Spelled.{row_of, spelled_count, spelled_column, armed_is, own_task, found_of, missing_of}
+use Rattle.rt_gen_timer.specs.TimerCode.{armed_task, queue_of}
+use Rattle.rt_gen_timer.specs.TimerLines.{find_lines, handles_of, heap_of, open_lines, own_lines, search_lines}
+use Rattle.rt_gen_timer.specs.TimerLines as lines
+use Rattle.rt_gen_timer.specs.declared.{armed.ArmedTask.ArmedTask, queue.TimerQueue.TimerQueue}
 
 -- while a message is looked for: the hole, the row of a message, and a slot beside them
 abbrev looking : Words → ℕ → ℕ → ℕ → Words

@@ -1,18 +1,16 @@
 -- The message in hand goes up from the hole and then down from there, as far as its key leads: with it at the hole that
 -- is left the messages are a heap again.
-use Rattle.std.proofs.Common.{◌≡◌, ℕ, zero, suc, ◌+◌, ◌*◌, ◌^◌, ◌<◌, ◌≤◌, List, slice_set, refl, arith}
+use Rattle.rt_gen_queue.proofs.Vocabulary.{Entry, HasCode, List, arith, refl, slice_set, suc, zero, ℕ, ◌*◌, ◌+◌, ◌<◌}
+use Rattle.rt_gen_queue.proofs.Vocabulary.{◌^◌, ◌≡◌, ◌≤◌}
 use Rattle.std.proofs.Math.Nat.{pow-succ'}
-use Rattle.rt_ids.specs.Entry.{Entry}
-use Rattle.rt_gen_queue.specs.Line.{HasCode}
-use Rattle.rt_gen_queue.proofs.Layer.{Setting, Here, S, Now, moved}
+use Rattle.rt_gen_queue.proofs.Layer.{Here, Now, S, Setting, moved}
+use Rattle.rt_gen_timer.proofs.{Acting.Columns, Acting.Runs, Acting.columns_on, Acting.sooner, Comparing.Hand}
+use Rattle.rt_gen_timer.proofs.{Comparing.IsOpen, Comparing.Place, Comparing.key, Hollow.IsBeside, Hollow.beside_more}
+use Rattle.rt_gen_timer.proofs.{Moves.HasHole, Moves.HasSettled, Moves.settled_both, Window.Scratch, Window.Slots}
+use Rattle.rt_gen_timer.proofs.{Window.Words, Window.words}
+use Rattle.rt_gen_timer.proofs.Sifting.{IsReady, MaySink, reach_more, rise_reach, rises_stand, sink_reach, sinking}
+use Rattle.rt_gen_timer.proofs.Sifting.{sinks_stand}
 use Rattle.rt_gen_timer.specs.TimerLines.{rise_lines, sink_lines}
-use Rattle.rt_gen_timer.proofs.Moves.{HasHole, HasSettled, settled_both}
-use Rattle.rt_gen_timer.proofs.Window.{Slots, Words, words, Scratch}
-use Rattle.rt_gen_timer.proofs.Acting.{Runs, sooner, Columns, columns_on}
-use Rattle.rt_gen_timer.proofs.Comparing.{Hand, Place, key, IsOpen}
-use Rattle.rt_gen_timer.proofs.Hollow.{IsBeside, beside_more}
-use Rattle.rt_gen_timer.proofs.Sifting.{IsReady, rise_reach, rises_stand}
-use Rattle.rt_gen_timer.proofs.Sifting.{MaySink, sink_reach, reach_more, sinking, sinks_stand}
 
 -- As many turns lead up to the first place as lead down from it; and how far, as a power of 2.
 sink_doubles : (turns i : ℕ) → sink_reach turns (i + i + 1) ≡ sink_reach turns i + sink_reach turns i + 1

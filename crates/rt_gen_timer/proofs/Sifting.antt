@@ -1,27 +1,23 @@
 -- The loops in which the message in hand goes up or down from the hole: up within 15 steps a turn, each of which at
 -- least halves the place, and down within 31, each of which at least doubles it. What is behind a loop is told by what
 -- holds there.
-use Rattle.std.proofs.Common.{◌≡◌, ◌≢◌, ℕ, zero, suc, ◌+◌, ◌-◌, ◌*◌, ◌^◌, ◌<◌, ◌≤◌, nat_lt, List, [], ◌∷◌, ◌++◌}
-use Rattle.std.proofs.Common.{take, drop, refl, sym, ap, ◌∙◌, arith, inl, inr}
-use Rattle.std.proofs.lemmas.Bool.{cases_lt, lt-ltb, le-ltb}
-use Rattle.rt_ids.specs.Entry.{Entry}
-use Rattle.rt_ids.specs.Operation.{operate, number_of}
+use Rattle.rt_gen_queue.proofs.Vocabulary.{Entry, HasCode, Line, List, [], above, ap, arith, at, cases_lt, drop, inl}
+use Rattle.rt_gen_queue.proofs.Vocabulary.{inr, keys, le-ltb, lt-ltb, nat_lt, number_of, operate, plain, refl, suc, sym}
+use Rattle.rt_gen_queue.proofs.Vocabulary.{take, zero, ℕ, ◌*◌, ◌++◌, ◌+◌, ◌-◌, ◌<◌, ◌^◌, ◌∙◌, ◌∷◌, ◌≡◌, ◌≢◌, ◌≤◌}
 use Rattle.rt_ids.specs.declared.op.Op.TheVariants as op
 use Rattle.rt_code.specs.declared.instr.Instr.TheVariants as instr
-use Rattle.rt_gen_queue.specs.Line.{Line, plain, HasCode}
+use Rattle.rt_gen_queue.proofs.Layer.{Here, Now, S, Setting, Straight, Wrote, ahead, calculates, copies, jumps}
+use Rattle.rt_gen_queue.proofs.Layer.{jumps_off, stays, stores_at, writes_open}
 use Rattle.rt_gen_queue.proofs.Numbers.{added, one_less, steps_and}
-use Rattle.rt_gen_queue.proofs.Layer.{Setting, Here, S, Wrote, Now, Straight, ahead, calculates, copies, stores_at}
-use Rattle.rt_gen_queue.proofs.Layer.{jumps, jumps_off, stays, writes_open}
-use Rattle.rt_app.specs.Heap.{above, at, keys}
-use Rattle.rt_gen_timer.specs.TimerLines.{heap_of, rise_lines, sink_lines, jump_zero, store_at, copy}
-use Rattle.rt_gen_timer.proofs.Order.{IsNoLess, IsLesser, IsNoGreater, lesser_is, no_greater_than_lesser, none_below}
-use Rattle.rt_gen_timer.proofs.Order.{above_less}
-use Rattle.rt_gen_timer.proofs.Moves.{with_moved, HasHole, HasRisen, rise_hole, rise_ends, rise_turn, HasSunk}
-use Rattle.rt_gen_timer.proofs.Moves.{sink_hole, sink_ends, sink_turn}
-use Rattle.rt_gen_timer.proofs.Window.{Slots, Words, words, Scratch}
-use Rattle.rt_gen_timer.proofs.Acting.{Runs, sooner, run_stands, code_first, Columns, columns_on, heap_open}
-use Rattle.rt_gen_timer.proofs.Comparing.{Hand, Place, key, IsOpen, in_hand, key_from, less_of, compares, loads_key}
-use Rattle.rt_gen_timer.proofs.Hollow.{IsBeside, beside_none, beside_more, beside_one_place, IsKept, hollow_moved}
+use Rattle.rt_gen_timer.proofs.Acting.{Columns, Runs, code_first, columns_on, heap_open, run_stands, sooner}
+use Rattle.rt_gen_timer.proofs.Comparing.{Hand, IsOpen, Place, compares, in_hand, key, key_from, less_of, loads_key}
+use Rattle.rt_gen_timer.proofs.Hollow.{IsBeside, IsKept, beside_more, beside_none, beside_one_place, hollow_moved}
+use Rattle.rt_gen_timer.proofs.Moves.{HasHole, HasRisen, HasSunk, rise_ends, rise_hole, rise_turn, sink_ends, sink_hole}
+use Rattle.rt_gen_timer.proofs.Moves.{sink_turn, with_moved}
+use Rattle.rt_gen_timer.proofs.Order.{IsLesser, IsNoGreater, IsNoLess, above_less, lesser_is, no_greater_than_lesser}
+use Rattle.rt_gen_timer.proofs.Order.{none_below}
+use Rattle.rt_gen_timer.proofs.Window.{Scratch, Slots, Words, words}
+use Rattle.rt_gen_timer.specs.TimerLines.{copy, heap_of, jump_zero, rise_lines, sink_lines, store_at}
 
 module _ {z : Setting} {f : Slots} (k : Hand) {h : Here} {xs : List Entry} {i : ℕ} where
   -- The last lines of a turn, behind a comparison of two keys: where the first is less the message at another place

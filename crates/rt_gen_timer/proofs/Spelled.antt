@@ -1,28 +1,18 @@
 -- The timer queue of an application is a heap in cells, as its section finds it: its messages stand in rows of their
 -- own tasks, its first message has the least armed instant, and a handle that none of them has is of no armed message.
-use Rattle.std.proofs.Common.{◌≡◌, ◌≢◌, ◌⊎◌, ℕ, ◌+◌, ◌^◌, ◌<◌, ◌≤◌, List, [], ◌∷◌, map, length, Some, None}
-use Rattle.std.proofs.Common.{option_map, slice_get, slice_index, if◌then◌else◌, refl, sym, ap, subst, ◌∙◌, arith}
-use Rattle.std.proofs.Common.{inl, inr}
-use Rattle.std.proofs.lemmas.Option.{slice_get-get_or}
+use Rattle.rt_gen_queue.proofs.Vocabulary.{App, Armed, Content, Entry, IsArranged, IsTimedPlace, List, MayArm, None}
+use Rattle.rt_gen_queue.proofs.Vocabulary.{Some, SpellsTimer, Task, [], all_counted, ap, arith, armed_as, armed_at}
+use Rattle.rt_gen_queue.proofs.Vocabulary.{armed_before, armed_messages, armed_place, at, capacity_of, delays}
+use Rattle.rt_gen_queue.proofs.Vocabulary.{handle_at, if◌then◌else◌, inl, inr, is_armed, is_software, least_instant}
+use Rattle.rt_gen_queue.proofs.Vocabulary.{length, map, option_map, or_zero, refl, slice_get, slice_get-get_or}
+use Rattle.rt_gen_queue.proofs.Vocabulary.{slice_index, subst, sym, the_task, ℕ, ◌+◌, ◌<◌, ◌^◌, ◌∙◌, ◌∷◌, ◌≡◌, ◌≢◌, ◌≤◌}
+use Rattle.rt_gen_queue.proofs.Vocabulary.{◌⊎◌}
 use Rattle.rt_app.proofs.ArmedPlaces.{rows, rows_before}
-use Rattle.rt_app.proofs.Counting.{all_counted}
-use Rattle.rt_app.proofs.Spelling.{IsTimedPlace, the_task}
-use Rattle.rt_app.specs.Heap.{IsArranged, at}
-use Rattle.rt_app.specs.Holding.{SpellsTimer, armed_place, handle_at, armed_at}
-use Rattle.rt_app.specs.Level.{is_armed, is_software, armed_messages, armed_before}
-use Rattle.rt_app.specs.Sending.{capacity_of}
-use Rattle.rt_app.specs.Tree.{Task, App}
+use Rattle.rt_gen_timer.proofs.{Handled.apart_of, Hollow.IsFirst, Hollow.IsWhole, Least.AreApart}
 use Rattle.rt_gen_timer.proofs.Alone.{instant_in, number_in, timed_row}
-use Rattle.rt_gen_timer.proofs.Arranged.{IsOfHandle, none_armed, in_queue, first_is_armed, handle_found}
-use Rattle.rt_gen_timer.proofs.Arranged.{handle_missing, handle_of_another}
-use Rattle.rt_gen_timer.proofs.Handled.{apart_of}
-use Rattle.rt_gen_timer.proofs.Hollow.{IsFirst, IsWhole}
-use Rattle.rt_gen_timer.proofs.Least.{AreApart}
-use Rattle.rt_gen_timer.specs.TimerCode.{queue_of, armed_task}
-use Rattle.rt_gen_timer.specs.TimerLines.{heap_of}
-use Rattle.rt_ids.specs.Content.{Armed, Content, MayArm, delays, least_instant, armed_as}
-use Rattle.rt_ids.specs.Entry.{Entry}
-use Rattle.rt_ids.specs.Lists.{or_zero}
+use Rattle.rt_gen_timer.proofs.Arranged.{IsOfHandle, first_is_armed, handle_found, handle_missing, handle_of_another}
+use Rattle.rt_gen_timer.proofs.Arranged.{in_queue, none_armed}
+use Rattle.rt_gen_timer.specs.{TimerCode.armed_task, TimerCode.queue_of, TimerLines.heap_of}
 
 module _ {app : App} {cells : ℕ → ℕ} {entries : List Entry} {content : Content}
     (s : SpellsTimer app cells entries content) where

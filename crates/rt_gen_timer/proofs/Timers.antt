@@ -1,72 +1,41 @@
 -- The timer handler where a message is due: the first message of the heap leaves it and fires, the section closes with
 -- the alarm set, the message becomes ready at its task's level, and the handler returns. So the code of the whole
 -- handler stands, at the level of the monotonic.
-use Rattle.std.proofs.Common.{◌≡◌, ℕ, ◌+◌, ◌^◌, ◌<◌, ◌≤◌, true, List, [], ◌∷◌, ◌++◌, length, Contains, slice_get}
-use Rattle.std.proofs.Common.{slice_index, Some, IsSome, if◌then◌else◌, refl, sym, ap, subst, ◌∙◌, arith, ◌*◌}
-use Rattle.std.proofs.Common.{◌-◌, nat_lt, drop}
-use Rattle.std.proofs.lemmas.Bool.{lt-ltb}
-use Rattle.std.proofs.lemmas.Option.{slice_get_within}
-use Rattle.rt_app.proofs.ArmedPlaces.{few_before, few_messages}
-use Rattle.rt_app.proofs.Spelling.{IsTimedPlace, the_task}
-use Rattle.rt_app.proofs.TimerCeilings.{mover_within, timer_within}
-use Rattle.rt_app.specs.Accepted.{IsAccepted}
-use Rattle.rt_app.specs.Bodies.{task_priority}
-use Rattle.rt_app.specs.BodyCost.{timer_cost}
-use Rattle.rt_app.specs.Ceiling.{ceiling}
-use Rattle.rt_app.specs.Doings.{nothing}
-use Rattle.rt_app.specs.Holding.{storage, armed_place, message_word, message_at, armed_at}
-use Rattle.rt_app.specs.Layout.{memory, ready_room}
-use Rattle.rt_app.specs.Level.{is_software, levels, armed_tasks}
-use Rattle.rt_app.specs.Sending.{act_all, capacity_of, ready_actions}
-use Rattle.rt_app.specs.Tree.{Task, App}
-use Rattle.rt_app.specs.declared.app.Mono.{Mono}
-use Rattle.rt_code.specs.Acting.{with_queue}
-use Rattle.rt_code.specs.Masking.{IsWithin}
-use Rattle.rt_gen_queue.proofs.Entering.{leave_placed, saves_inside}
-use Rattle.rt_gen_queue.proofs.Facts.{Spawned, priority, known, few_ready, ready_top, small, few_free}
-use Rattle.rt_gen_queue.proofs.Layer.{Here, S, Frame, Now, inner, returns_here, ends, sets, calculates}
-use Rattle.rt_gen_queue.proofs.Layer.{stays, spot, begins, moved}
-use Rattle.rt_gen_queue.proofs.Numbers.{steps_and, added}
-use Rattle.rt_gen_queue.proofs.Owning.{nobody_keeps}
-use Rattle.rt_gen_queue.proofs.Places.{IsPlaceOf}
-use Rattle.rt_gen_queue.proofs.Placing.{code_front, code_behind}
-use Rattle.rt_gen_queue.proofs.Queueing.{MayReady, ready_stands}
-use Rattle.rt_gen_queue.specs.Guards.{guard_of}
-use Rattle.rt_gen_queue.specs.Line.{plain, HasCode, Line}
-use Rattle.rt_gen_queue.specs.SpawnCode.{ready_code}
-use Rattle.rt_gen_timer.proofs.Acting.{Runs, sooner, run_stands, code_part}
-use Rattle.rt_gen_timer.proofs.Alone.{instant_in, number_in, message_same}
-use Rattle.rt_gen_timer.proofs.Arranged.{IsPicked, length_less}
-use Rattle.rt_gen_timer.proofs.Calling.{entries, columns_now, settles}
-use Rattle.rt_gen_timer.proofs.Closing.{closing_lines, closing_fit}
-use Rattle.rt_gen_timer.proofs.Comparing.{Place}
-use Rattle.rt_gen_timer.proofs.Delaying.{at_address}
-use Rattle.rt_gen_timer.proofs.Judging.{AreKept, kept_on, Handler, setting, frame, begun, Known, Took, inside}
-use Rattle.rt_gen_timer.proofs.Judging.{in_section, due_rest, foremost, foremost_instant, is_least, MayHandle, may_open}
-use Rattle.rt_gen_timer.proofs.Judging.{judges_stand}
-use Rattle.rt_gen_timer.proofs.Leaving.{IsAsBefore, alone, timer_left}
-use Rattle.rt_gen_timer.proofs.Marking.{fires}
-use Rattle.rt_gen_timer.proofs.Opening.{may_enter}
-use Rattle.rt_gen_timer.proofs.Removing.{Removal, IsRemoved, removed, removes_stand}
-use Rattle.rt_gen_timer.proofs.Spelled.{few_armings, place_of, spelled_whole}
-use Rattle.rt_gen_timer.proofs.Trying.{choice_at, tries_stand}
-use Rattle.rt_gen_timer.proofs.Turning.{AreSinks, sinks_for, idle_enough}
-use Rattle.rt_gen_timer.proofs.Window.{Words, words, words_of, window_of}
-use Rattle.rt_gen_timer.specs.TimerCalls.{TimersStand}
-use Rattle.rt_gen_timer.specs.TimerCode.{armed_task, queue_of, choices_code, timer_code}
-use Rattle.rt_gen_timer.specs.TimerLines.{set, fire_lines, alarm_lines, front_lines}
-use Rattle.rt_gen_timer.specs.declared.armed.ArmedTask.{ArmedTask}
-use Rattle.rt_ids.specs.Action.{Returns}
-use Rattle.rt_ids.specs.Content.{Message, Values, timed, with_fired, least, without_least}
-use Rattle.rt_ids.specs.Entry.{Entry}
-use Rattle.rt_ids.specs.Holder.{Holder}
-use Rattle.rt_ids.specs.Operation.{number_of}
-use Rattle.rt_ids.specs.Storage.{AtLevel}
-use Rattle.rt_ids.specs.declared.limits.TheConstants.{CAPACITY}
-use Rattle.rt_lemmas.proofs.Bools.{or_left}
-use Rattle.rt_code.specs.declared.instr.Instr.TheVariants as instr
-use Rattle.rt_gen_queue.proofs.Facts as facts
+use Rattle.rt_gen_queue.proofs.Vocabulary.{App, AtLevel, Contains, Entry, HasCode, Holder, IsAccepted, IsSome}
+use Rattle.rt_gen_queue.proofs.Vocabulary.{IsTimedPlace, IsWithin, Line, List, Message, Mono, Returns, Some, Task}
+use Rattle.rt_gen_queue.proofs.Vocabulary.{Values, [], act_all, ap, arith, armed_at, armed_place, capacity_of, ceiling}
+use Rattle.rt_gen_queue.proofs.Vocabulary.{drop, few_before, few_messages, guard_of, if◌then◌else◌, is_software, least}
+use Rattle.rt_gen_queue.proofs.Vocabulary.{length, levels, lt-ltb, memory, message_at, message_word, nat_lt, nothing}
+use Rattle.rt_gen_queue.proofs.Vocabulary.{number_of, or_left, plain, ready_actions, ready_code, ready_room, refl}
+use Rattle.rt_gen_queue.proofs.Vocabulary.{slice_get, slice_get_within, slice_index, storage, subst, sym, task_priority}
+use Rattle.rt_gen_queue.proofs.Vocabulary.{the_task, timed, timer_cost, true, with_queue, without_least, ℕ, ◌*◌, ◌++◌}
+use Rattle.rt_gen_queue.proofs.Vocabulary.{◌+◌, ◌-◌, ◌<◌, ◌^◌, ◌∙◌, ◌∷◌, ◌≡◌, ◌≤◌}
+use Rattle.rt_ids.specs.{Content.with_fired, declared.limits.TheConstants.CAPACITY}
 use Rattle.rt_ids.specs.declared.ids.Section.TheVariants as section
+use Rattle.rt_app.{proofs.TimerCeilings.mover_within, proofs.TimerCeilings.timer_within, specs.Level.armed_tasks}
+use Rattle.rt_code.specs.declared.instr.Instr.TheVariants as instr
+use Rattle.rt_gen_queue.proofs.{Entering.leave_placed, Entering.saves_inside, Numbers.added, Numbers.steps_and}
+use Rattle.rt_gen_queue.proofs.{Owning.nobody_keeps, Places.IsPlaceOf, Placing.code_behind, Placing.code_front}
+use Rattle.rt_gen_queue.proofs.{Queueing.MayReady, Queueing.ready_stands}
+use Rattle.rt_gen_queue.proofs.Facts.{Spawned, few_free, few_ready, known, priority, ready_top, small}
+use Rattle.rt_gen_queue.proofs.Facts as facts
+use Rattle.rt_gen_queue.proofs.Layer.{Frame, Here, Now, S, begins, calculates, ends, inner, moved, returns_here, sets}
+use Rattle.rt_gen_queue.proofs.Layer.{spot, stays}
+use Rattle.rt_gen_timer.proofs.{Alone.instant_in, Alone.message_same, Alone.number_in, Arranged.IsPicked}
+use Rattle.rt_gen_timer.proofs.{Arranged.length_less, Calling.columns_now, Calling.entries, Calling.settles}
+use Rattle.rt_gen_timer.proofs.{Closing.closing_fit, Closing.closing_lines, Comparing.Place, Delaying.at_address}
+use Rattle.rt_gen_timer.proofs.{Leaving.IsAsBefore, Leaving.alone, Leaving.timer_left, Marking.fires, Opening.may_enter}
+use Rattle.rt_gen_timer.proofs.{Spelled.few_armings, Spelled.place_of, Spelled.spelled_whole, Trying.choice_at}
+use Rattle.rt_gen_timer.proofs.{Trying.tries_stand, Turning.AreSinks, Turning.idle_enough, Turning.sinks_for}
+use Rattle.rt_gen_timer.proofs.Acting.{Runs, code_part, run_stands, sooner}
+use Rattle.rt_gen_timer.proofs.Judging.{AreKept, Handler, Known, MayHandle, Took, begun, due_rest, foremost}
+use Rattle.rt_gen_timer.proofs.Judging.{foremost_instant, frame, in_section, inside, is_least, judges_stand, kept_on}
+use Rattle.rt_gen_timer.proofs.Judging.{may_open, setting}
+use Rattle.rt_gen_timer.proofs.Removing.{IsRemoved, Removal, removed, removes_stand}
+use Rattle.rt_gen_timer.proofs.Window.{Words, window_of, words, words_of}
+use Rattle.rt_gen_timer.specs.{TimerCalls.TimersStand, declared.armed.ArmedTask.ArmedTask}
+use Rattle.rt_gen_timer.specs.TimerCode.{armed_task, choices_code, queue_of, timer_code}
+use Rattle.rt_gen_timer.specs.TimerLines.{alarm_lines, fire_lines, front_lines, set}
 
 -- a place of a task that may be armed, by its task
 module _ (app : App) (accepted : IsAccepted app) (e : Entry) (is : IsTimedPlace app e) where

@@ -1,26 +1,18 @@
 -- The choices of the timer handler: one after the other is tried, until that of the task whose message is due. Each
 -- that is tried in vain takes 3 steps.
-use Rattle.std.proofs.Common.{◌≡◌, ℕ, suc, ◌+◌, ◌*◌, ◌<◌, ◌≤◌, ◌&&◌, Bool, true, false, List, [], ◌∷◌, ◌++◌, length}
-use Rattle.std.proofs.Common.{Some, option_map, slice_get, if◌then◌else◌, refl, sym, ap, subst, ◌∙◌, arith, inl, inr}
-use Rattle.std.proofs.Common.{append_assoc, take}
-use Rattle.std.proofs.lemmas.Bool.{cases_eq, false≢true, le-ltb}
+use Rattle.rt_gen_queue.proofs.Vocabulary.{Bool, Entry, HasCode, IsTimedPlace, Line, List, Some, Task, [], and_both}
+use Rattle.rt_gen_queue.proofs.Vocabulary.{and_right, ap, append_assoc, arith, armed_count, armed_place, cases_eq}
+use Rattle.rt_gen_queue.proofs.Vocabulary.{false, false≢true, if◌then◌else◌, inl, inr, is_armed, is_software}
+use Rattle.rt_gen_queue.proofs.Vocabulary.{is_some_and, le-ltb, length, number_of, option_map, or_zero, refl, slice_get}
+use Rattle.rt_gen_queue.proofs.Vocabulary.{subst, suc, sym, take, true, ℕ, ◌&&◌, ◌*◌, ◌++◌, ◌+◌, ◌<◌, ◌∙◌, ◌∷◌, ◌≡◌}
+use Rattle.rt_gen_queue.proofs.Vocabulary.{◌≤◌}
 use Rattle.rt_app.proofs.ArmedPlaces.{rows, rows_before}
-use Rattle.rt_app.proofs.Spelling.{IsTimedPlace}
-use Rattle.rt_app.specs.Holding.{armed_place}
-use Rattle.rt_app.specs.Level.{is_software, is_armed, armed_count}
-use Rattle.rt_app.specs.Tree.{Task}
-use Rattle.rt_gen_queue.proofs.Layer.{Here, S, Now, sets, calculates, jumps_off}
-use Rattle.rt_gen_queue.proofs.Placing.{code_front, code_behind}
-use Rattle.rt_gen_queue.specs.Line.{Line, HasCode}
-use Rattle.rt_gen_timer.proofs.Acting.{Runs, sooner, run_stands}
-use Rattle.rt_gen_timer.proofs.Judging.{Handler, setting, frame}
-use Rattle.rt_gen_timer.proofs.Window.{Words, words}
-use Rattle.rt_gen_timer.specs.TimerCode.{queue_of, armed_task, choices_code}
+use Rattle.rt_gen_queue.proofs.Layer.{Here, Now, S, calculates, jumps_off, sets}
+use Rattle.rt_gen_queue.proofs.Placing.{code_behind, code_front}
+use Rattle.rt_gen_timer.proofs.{Acting.Runs, Acting.run_stands, Acting.sooner, Judging.Handler, Judging.frame}
+use Rattle.rt_gen_timer.proofs.{Judging.setting, Window.Words, Window.words}
+use Rattle.rt_gen_timer.specs.TimerCode.{armed_task, choices_code, queue_of}
 use Rattle.rt_gen_timer.specs.TimerLines.{choice_lines}
-use Rattle.rt_ids.specs.Entry.{Entry}
-use Rattle.rt_ids.specs.Lists.{is_some_and, or_zero}
-use Rattle.rt_ids.specs.Operation.{number_of}
-use Rattle.rt_lemmas.proofs.Bools.{and_both, and_right}
 
 module _ (k : Handler) where
   -- the choice of a task, from an address on

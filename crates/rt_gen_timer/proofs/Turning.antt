@@ -1,17 +1,12 @@
 -- How many turns the loops take: that upwards in a `spawn_after`, and that downwards in the timer handler. One for each
 -- binary digit of the number of messages, or for each message, whichever are fewer: so their sections are within both
 -- of their costs.
-use Rattle.std.proofs.Common.{◌≡◌, ℕ, zero, suc, ◌+◌, ◌-◌, ◌*◌, ◌^◌, ◌<◌, ◌≤◌, Bool, true, false, List, [], ◌∷◌}
-use Rattle.std.proofs.Common.{length, if◌then◌else◌, arith, inl, inr}
+use Rattle.rt_gen_queue.proofs.Vocabulary.{AllByRecursion, App, Bool, IsAccepted, KeepsTaskLimits, List, Task, []}
+use Rattle.rt_gen_queue.proofs.Vocabulary.{arith, armed_count, armed_messages, cases_lt, false, if◌then◌else◌, inl, inr}
+use Rattle.rt_gen_queue.proofs.Vocabulary.{is_armed, length, suc, true, zero, ℕ, ◌*◌, ◌+◌, ◌-◌, ◌<◌, ◌^◌, ◌∷◌, ◌≡◌, ◌≤◌}
 use Rattle.std.proofs.Math.Nat.{pow-le-pow_right, pow-succ'}
-use Rattle.std.proofs.lemmas.Bool.{cases_lt}
-use Rattle.std.specs.List.{AllByRecursion}
-use Rattle.rt_app.specs.Accepted.{IsAccepted}
-use Rattle.rt_app.specs.Level.{is_armed, armed_capacities, armed_count, armed_messages, armed_tasks}
-use Rattle.rt_app.specs.Limits.{KeepsTaskLimits}
-use Rattle.rt_app.specs.Tree.{Task, App}
-use Rattle.rt_gen_timer.proofs.Sifting.{rise_reach}
-use Rattle.rt_gen_timer.proofs.Settling.{reach_enough, reach_is}
+use Rattle.rt_app.specs.Level.{armed_capacities, armed_tasks}
+use Rattle.rt_gen_timer.proofs.{Settling.reach_enough, Settling.reach_is, Sifting.rise_reach}
 use Rattle.rt_gen_timer.specs.TimerCalls.{IsSectionCost}
 
 -- the steps of the section in which a message is armed, at most, where the loop upwards may take so many turns

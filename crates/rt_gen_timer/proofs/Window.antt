@@ -1,7 +1,6 @@
 -- The 24 slots of the code for the timer queue as named words. The mask is kept in the tenth.
-use Rattle.std.proofs.Common.{◌≡◌, ℕ, ◌+◌, ◌≤◌, List, [], ◌∷◌, length, slice_index}
-use Rattle.rt_gen_queue.proofs.Layer.{Frame, window, frame_at, framed}
-use Rattle.rt_gen_queue.proofs.Numbers.{steps_and}
+use Rattle.rt_gen_queue.proofs.Vocabulary.{List, [], length, slice_index, ℕ, ◌+◌, ◌∷◌, ◌≡◌, ◌≤◌}
+use Rattle.rt_gen_queue.proofs.{Layer.Frame, Layer.frame_at, Layer.framed, Layer.window, Numbers.steps_and}
 
 abbrev pub Slots : Type 0
 Slots = Frame 24 9

@@ -1,7 +1,7 @@
-use Rattle.std.proofs.Common.{OnOk, sym, subst}
-use Rattle.rt_gen_body.specs.Inside.Lines.{next_address, Appends}
-use Rattle.rt_gen_body.proofs.Generated.{task_found, task_not_found, task_limits, task_code, no_task, appends_none}
+use Rattle.rt_gen_queue.proofs.Vocabulary.{OnOk, subst, sym}
+use Rattle.rt_gen_body.proofs.Generated.{appends_none, no_task, task_code, task_found, task_limits, task_not_found}
 use Rattle.rt_gen_body.proofs.body.declared.Goals as goal
+use Rattle.rt_gen_body.specs.Inside.Lines.{Appends, next_address}
 
 pub blocks-requires-in-Some-task-clause-few : goal.blocks-requires-in-Some-task-clause-few
 blocks-requires-in-Some-task-clause-few c =

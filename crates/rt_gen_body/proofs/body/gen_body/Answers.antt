@@ -1,16 +1,10 @@
-use Rattle.std.proofs.Common.{◌≡◌, ℕ, ◌+◌, ◌++◌, List, length, take, drop, ap, sym, subst, ◌∙◌, arith, length-append}
-use Rattle.std.specs.List.{AllByRecursion}
-use Rattle.std.proofs.lemmas.List.{take_at, drop_at}
-use Rattle.rt_app.specs.Bodies.{member_at}
-use Rattle.rt_app.specs.Names.{names_of}
-use Rattle.rt_app.specs.View.{app_of}
-use Rattle.rt_gen_queue.specs.Line.{Line, IsNameable}
+use Rattle.rt_gen_queue.proofs.Vocabulary.{AllByRecursion, IsNameable, Line, List, ap, app_of, arith, drop, drop_at}
+use Rattle.rt_gen_queue.proofs.Vocabulary.{length, length-append, member_at, names_of, subst, sym, take, take_at, ℕ}
+use Rattle.rt_gen_queue.proofs.Vocabulary.{◌++◌, ◌+◌, ◌∙◌, ◌≡◌}
 use Rattle.rt_gen_queue.proofs.Nameable.{nameable}
-use Rattle.rt_gen_body.specs.Form.{HasForm}
-use Rattle.rt_gen_body.specs.Inside.Whole.{code_of}
-use Rattle.rt_gen_body.proofs.Shapes.{code_formed, code_claimed, code_short}
-use Rattle.rt_gen_body.proofs.Generated.{generated_stands}
+use Rattle.rt_gen_body.proofs.{Generated.generated_stands, Shapes.code_claimed, Shapes.code_formed, Shapes.code_short}
 use Rattle.rt_gen_body.proofs.body.gen_body.Goals as goal
+use Rattle.rt_gen_body.specs.{Form.HasForm, Inside.Whole.code_of}
 
 pub returns : goal.returns
 returns c =

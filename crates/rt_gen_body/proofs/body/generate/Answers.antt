@@ -1,6 +1,5 @@
-use Rattle.std.proofs.Common.{ap, ◌∙◌}
-use Rattle.rt_app.specs.declared.plan.Plan.{Plan}
-use Rattle.rt_gen_body.proofs.Generated.{small_ceilings, guards_are}
+use Rattle.rt_gen_queue.proofs.Vocabulary.{Plan, ap, ◌∙◌}
+use Rattle.rt_gen_body.proofs.Generated.{guards_are, small_ceilings}
 use Rattle.rt_gen_body.proofs.body.generate.Goals as goal
 
 pub guards-requires-clause-greatest : goal.guards-requires-clause-greatest

@@ -1,6 +1,4 @@
-use Rattle.std.proofs.Common.{◌^◌, ◌≤◌}
-use Rattle.std.proofs.lemmas.Option.{slice_get-get_or}
-use Rattle.rt_lemmas.proofs.Membership.{all_at}
+use Rattle.rt_gen_queue.proofs.Vocabulary.{all_at, slice_get-get_or, ◌^◌, ◌≤◌}
 use Rattle.rt_gen_body.proofs.body.guards.Goals as goal
 
 pub of-requires-clause-greatest : goal.of-requires-clause-greatest

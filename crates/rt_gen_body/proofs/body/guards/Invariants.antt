@@ -1,6 +1,5 @@
 -- The guards of the ceilings so far.
-use Rattle.std.proofs.Common.{◌≡◌, map, take}
-use Rattle.rt_gen_queue.specs.Guards.{guarded}
+use Rattle.rt_gen_queue.proofs.Vocabulary.{guarded, map, take, ◌≡◌}
 use Rattle.rt_gen_body.proofs.body.guards.Given as goal
 
 abbrev pub invariant-loop-ceiling : goal.invariant-loop-ceiling

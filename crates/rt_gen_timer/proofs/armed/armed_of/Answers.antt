@@ -1,8 +1,5 @@
-use Rattle.std.proofs.Common.{ap, arith}
-use Rattle.rt_app.specs.Level.{armed_before}
-use Rattle.rt_app.specs.View.{app_of}
+use Rattle.rt_gen_queue.proofs.Vocabulary.{ap, app_of, arith, armed_before, few_before}
 use Rattle.rt_app.specs.declared.app.App.{App}
-use Rattle.rt_app.proofs.ArmedPlaces.{few_before}
 use Rattle.rt_gen_timer.proofs.armed.armed_of.Goals as goal
 
 pub returns-clause-few_before : goal.returns-clause-few_before

@@ -1,18 +1,11 @@
-use Rattle.std.proofs.Common.{◌≡◌, ℕ, ◌≤◌, ◌++◌, ◌∙◌, arith, length, ap, length-append, List}
-use Rattle.rt_app.specs.Names.{names_of}
-use Rattle.rt_app.specs.Tree.{Task, App}
-use Rattle.rt_app.specs.View.{app_of}
-use Rattle.rt_code.specs.Listable.{HasIrq}
-use Rattle.rt_gen_queue.specs.Line.{Line}
-use Rattle.rt_gen_queue.proofs.Facts.{Spawned}
-use Rattle.rt_gen_queue.proofs.Nameable.{AreClaimed, named_behind}
-use Rattle.rt_gen_queue.proofs.Named.{spawned}
-use Rattle.rt_gen_timer.specs.TimerCode.{queue_of, armed_task}
-use Rattle.rt_gen_timer.specs.declared.call.Call.{Call}
-use Rattle.rt_gen_timer.specs.declared.call.Call.TheVariants.{After, Cancel, Move}
-use Rattle.rt_gen_timer.specs.Inside.Calls.{task_of, cost_of, lines_of, code_of}
-use Rattle.rt_gen_timer.proofs.Generated.{timer_named, after_short, after_claimed, cancel_claimed, move_claimed}
+use Rattle.rt_gen_queue.proofs.Vocabulary.{App, HasIrq, Line, List, Task, ap, app_of, arith, length, length-append}
+use Rattle.rt_gen_queue.proofs.Vocabulary.{names_of, ℕ, ◌++◌, ◌∙◌, ◌≡◌, ◌≤◌}
+use Rattle.rt_gen_queue.proofs.{Facts.Spawned, Nameable.AreClaimed, Nameable.named_behind, Named.spawned}
+use Rattle.rt_gen_timer.proofs.Generated.{after_claimed, after_short, cancel_claimed, move_claimed, timer_named}
 use Rattle.rt_gen_timer.proofs.generate.append_call.Goals as goal
+use Rattle.rt_gen_timer.specs.{TimerCode.armed_task, TimerCode.queue_of, declared.call.Call.Call}
+use Rattle.rt_gen_timer.specs.Inside.Calls.{code_of, cost_of, lines_of, task_of}
+use Rattle.rt_gen_timer.specs.declared.call.Call.TheVariants.{After, Cancel, Move}
 
 -- a call has no more lines than it may have
 short : (app : App) (call : Call) (level slot at : ℕ) (t : Task) → Spawned app (task_of call) t

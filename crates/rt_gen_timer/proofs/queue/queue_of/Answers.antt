@@ -1,10 +1,6 @@
-use Rattle.std.proofs.Common.{ap, arith}
+use Rattle.rt_gen_queue.proofs.Vocabulary.{Plan, ap, app_of, arith, armed_messages, few_messages}
 use Rattle.rt_app.specs.declared.app.App as coded
-use Rattle.rt_app.specs.declared.plan.Plan.{Plan}
-use Rattle.rt_app.specs.Level.{armed_messages}
-use Rattle.rt_app.specs.View.{app_of}
-use Rattle.rt_app.proofs.ArmedPlaces.{few_messages}
-use Rattle.rt_gen_timer.proofs.Generated.{first_planned, top_planned, irq_planned, top_small}
+use Rattle.rt_gen_timer.proofs.Generated.{first_planned, irq_planned, top_planned, top_small}
 use Rattle.rt_gen_timer.proofs.queue.queue_of.Goals as goal
 
 pub of-requires-clause-greatest : goal.of-requires-clause-greatest

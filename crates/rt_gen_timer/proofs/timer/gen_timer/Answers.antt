@@ -1,14 +1,10 @@
-use Rattle.std.proofs.Common.{◌≡◌, ◌++◌, List, length, take, drop, subst, sym, ap, ◌∙◌, refl, arith}
-use Rattle.std.proofs.Common.{length-append, IsSome}
-use Rattle.std.specs.List.{AllByRecursion}
-use Rattle.std.proofs.lemmas.List.{take_at, drop_at}
-use Rattle.rt_app.specs.Names.{names_of}
-use Rattle.rt_app.specs.View.{app_of}
-use Rattle.rt_gen_queue.specs.Line.{Line, IsNameable}
+use Rattle.rt_gen_queue.proofs.Vocabulary.{AllByRecursion, IsNameable, IsSome, Line, List, ap, app_of, arith, drop}
+use Rattle.rt_gen_queue.proofs.Vocabulary.{drop_at, length, length-append, names_of, refl, subst, sym, take, take_at}
+use Rattle.rt_gen_queue.proofs.Vocabulary.{◌++◌, ◌∙◌, ◌≡◌}
 use Rattle.rt_gen_queue.proofs.Nameable.{named_behind}
-use Rattle.rt_gen_timer.specs.TimerCode.{timer_code}
-use Rattle.rt_gen_timer.proofs.Generated.{timer_named, timer_short, timer_claimed}
+use Rattle.rt_gen_timer.proofs.Generated.{timer_claimed, timer_named, timer_short}
 use Rattle.rt_gen_timer.proofs.timer.gen_timer.Goals as goal
+use Rattle.rt_gen_timer.specs.TimerCode.{timer_code}
 
 pub returns : goal.returns
 returns c =

@@ -1,11 +1,8 @@
-use Rattle.std.proofs.Common.{◌≡◌, ℕ, ◌+◌, List, length, refl, ap, arith, length-append}
-use Rattle.rt_app.specs.View.{app_of}
-use Rattle.rt_gen_queue.specs.Line.{Line}
-use Rattle.rt_gen_queue.specs.Making.{Made, Appends}
-use Rattle.rt_gen_timer.specs.TimerCode.{queue_of, choices_code}
-use Rattle.rt_gen_timer.specs.TimerLines.{front_lines}
-use Rattle.rt_gen_timer.proofs.Appending.{then, last}
+use Rattle.rt_gen_queue.proofs.Vocabulary.{Appends, Line, List, Made, ap, app_of, arith, length, length-append, refl, ℕ}
+use Rattle.rt_gen_queue.proofs.Vocabulary.{◌+◌, ◌≡◌}
+use Rattle.rt_gen_timer.proofs.Appending.{last, then}
 use Rattle.rt_gen_timer.proofs.timer.generate.Goals as goal
+use Rattle.rt_gen_timer.specs.{TimerCode.choices_code, TimerCode.queue_of, TimerLines.front_lines}
 
 -- no lines were before
 pub returns : goal.returns

@@ -1,10 +1,7 @@
-use Rattle.std.proofs.Common.{◌+◌, ap, ◌∙◌, length}
-use Rattle.rt_ids.specs.Lists.{is_some_and}
-use Rattle.rt_app.specs.Level.{is_software, is_armed}
-use Rattle.rt_app.specs.View.{task_of, app_of}
-use Rattle.rt_gen_timer.proofs.Choosing.{same_choice, not_fired}
+use Rattle.rt_gen_queue.proofs.Vocabulary.{and_left, ap, app_of, is_armed, is_software, is_some_and, length, task_of}
+use Rattle.rt_gen_queue.proofs.Vocabulary.{◌+◌, ◌∙◌}
+use Rattle.rt_gen_timer.proofs.Choosing.{not_fired, same_choice}
 use Rattle.rt_gen_timer.proofs.timer.push_task.Goals as goal
-use Rattle.rt_lemmas.proofs.Bools.{and_left}
 
 pub armed_of-requires-clause-software : goal.armed_of-requires-clause-software
 armed_of-requires-clause-software c =

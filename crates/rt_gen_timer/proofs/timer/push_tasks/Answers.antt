@@ -1,8 +1,6 @@
-use Rattle.std.proofs.Common.{refl, arith}
-use Rattle.std.proofs.lemmas.List.{length-map}
+use Rattle.rt_gen_queue.proofs.Vocabulary.{arith, length-map, refl, task_of}
 use Rattle.rt_lemmas.proofs.Lists.{mapped_read}
-use Rattle.rt_app.specs.View.{task_of}
-use Rattle.rt_gen_timer.proofs.Choosing.{begun, choices_next, choices_all}
+use Rattle.rt_gen_timer.proofs.Choosing.{begun, choices_all, choices_next}
 use Rattle.rt_gen_timer.proofs.timer.push_tasks.Goals as goal
 
 pub loop-number-init : goal.loop-number-init

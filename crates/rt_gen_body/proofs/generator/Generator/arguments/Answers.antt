@@ -1,12 +1,8 @@
-use Rattle.std.proofs.Common.{List, ◌++◌, map, refl, ap, sym, ◌∙◌, append_assoc}
-use Rattle.std.proofs.lemmas.List.{append-nil, drop_all}
-use Rattle.rt_lemmas.proofs.Lists.{drop_as_cons}
-use Rattle.rt_app.specs.View.{expression_of}
-use Rattle.rt_app.specs.declared.expr.Expr.{Expr}
-use Rattle.rt_gen_body.specs.Inside.Values.{arguments_code}
-use Rattle.rt_gen_body.specs.Inside.Generating.{context}
-use Rattle.rt_gen_body.specs.Inside.Lines.{Lines}
+use Rattle.rt_gen_queue.proofs.Vocabulary.{List, ap, append-nil, append_assoc, drop_all, drop_as_cons, map, refl, sym}
+use Rattle.rt_gen_queue.proofs.Vocabulary.{◌++◌, ◌∙◌}
+use Rattle.rt_app.specs.{View.expression_of, declared.expr.Expr.Expr}
 use Rattle.rt_gen_body.proofs.generator.Generator.arguments.Goals as goal
+use Rattle.rt_gen_body.specs.Inside.{Generating.context, Lines.Lines, Values.arguments_code}
 
 pub loop-arg-init : goal.loop-arg-init
 loop-arg-init c = (refl, refl)

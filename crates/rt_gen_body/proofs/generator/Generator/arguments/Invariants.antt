@@ -1,9 +1,8 @@
 -- With the code of the arguments that are left the lines are as they are to be.
-use Rattle.std.proofs.Common.{◌≡◌, ◌++◌, map, drop}
+use Rattle.rt_gen_queue.proofs.Vocabulary.{drop, map, ◌++◌, ◌≡◌}
 use Rattle.rt_app.specs.View.{expression_of}
-use Rattle.rt_gen_body.specs.Inside.Values.{arguments_code}
-use Rattle.rt_gen_body.specs.Inside.Generating.{context}
 use Rattle.rt_gen_body.proofs.generator.Generator.arguments.Given as goal
+use Rattle.rt_gen_body.specs.Inside.{Generating.context, Values.arguments_code}
 
 abbrev pub invariant-loop-arg : goal.invariant-loop-arg
 invariant-loop-arg l =

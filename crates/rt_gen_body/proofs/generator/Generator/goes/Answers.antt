@@ -1,4 +1,4 @@
-use Rattle.std.proofs.Common.{ap}
+use Rattle.rt_gen_queue.proofs.Vocabulary.{ap}
 use Rattle.rt_app.specs.View.{spawn_of}
 use Rattle.rt_gen_body.proofs.generator.Generator.goes.Goals as goal
 

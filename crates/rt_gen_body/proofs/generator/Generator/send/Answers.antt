@@ -1,4 +1,4 @@
-use Rattle.std.proofs.Common.{append_assoc}
+use Rattle.rt_gen_queue.proofs.Vocabulary.{append_assoc}
 use Rattle.rt_gen_body.proofs.Generated.{behind_at}
 use Rattle.rt_gen_body.proofs.generator.Generator.send.Goals as goal
 

@@ -1,4 +1,5 @@
-use Rattle.std.proofs.Common.{Result, OnOk}
+use Rattle.rt_gen_queue.proofs.Vocabulary.{OnOk}
+use Rattle.std.proofs.Common.{Result}
 use Rattle.rt_lemmas.proofs.Results.{on_ok_weaker}
 use Rattle.rt_gen_body.proofs.lines.Lines.push_timed.Goals as goal
 

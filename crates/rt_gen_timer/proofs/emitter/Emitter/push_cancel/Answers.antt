@@ -1,5 +1,5 @@
-use Rattle.std.proofs.Common.{refl}
-use Rattle.rt_gen_timer.proofs.Appending.{then, last}
+use Rattle.rt_gen_queue.proofs.Vocabulary.{refl}
+use Rattle.rt_gen_timer.proofs.Appending.{last, then}
 use Rattle.rt_gen_timer.proofs.emitter.Emitter.push_cancel.Goals as goal
 
 pub returns : goal.returns

@@ -1,4 +1,4 @@
-use Rattle.rt_gen_timer.proofs.Appending.{then, last}
+use Rattle.rt_gen_timer.proofs.Appending.{last, then}
 use Rattle.rt_gen_timer.proofs.emitter.Emitter.push_find.Goals as goal
 
 pub returns : goal.returns
