@@ -1,12 +1,13 @@
 -- How the code of a body comes about: what a generator's calls append, one after the other, is the code of what they
 -- are for, and so the whole code of a body stands.
-use Rattle.rt_gen_queue.proofs.Vocabulary.{AllByRecursion, App, BodyId, Ceilings, IsAccepted, IsPlan, KeepsTaskLimits}
-use Rattle.rt_gen_queue.proofs.Vocabulary.{Line, List, None, Option, Plan, Some, Task, [], accepted_are_sound, all_at}
-use Rattle.rt_gen_queue.proofs.Vocabulary.{ap, app_of, append-nil, append_assoc, arith, block_of, ceiling, eqb-true}
-use Rattle.rt_gen_queue.proofs.Vocabulary.{false, frame_words, get_or, guarded, length, length-append, map, mapped_at}
-use Rattle.rt_gen_queue.proofs.Vocabulary.{member_at, option_map, plain, range_with_len, refl, set-append_seam}
-use Rattle.rt_gen_queue.proofs.Vocabulary.{slice_get, slice_get_read, slice_set, statements_in, subst, suc, sym}
-use Rattle.rt_gen_queue.proofs.Vocabulary.{task_of, true, zero, ℕ, ◌++◌, ◌+◌, ◌<◌, ◌==◌, ◌^◌, ◌∙◌, ◌∷◌, ◌≡◌, ◌≢◌, ◌≤◌}
+use Rattle.rt_gen_queue.proofs.Vocabulary.{AllByRecursion, App, Appends, BodyId, Ceilings, IsAccepted, IsPlan}
+use Rattle.rt_gen_queue.proofs.Vocabulary.{KeepsTaskLimits, Line, List, Made, None, Option, Plan, Some, Task, []}
+use Rattle.rt_gen_queue.proofs.Vocabulary.{accepted_are_sound, all_at, ap, app_of, append-nil, append_assoc, arith}
+use Rattle.rt_gen_queue.proofs.Vocabulary.{block_of, ceiling, eqb-true, false, frame_words, get_or, guarded, length}
+use Rattle.rt_gen_queue.proofs.Vocabulary.{length-append, map, mapped_at, member_at, next_address, option_map, plain}
+use Rattle.rt_gen_queue.proofs.Vocabulary.{range_with_len, refl, set-append_seam, slice_get, slice_get_read, slice_set}
+use Rattle.rt_gen_queue.proofs.Vocabulary.{statements_in, subst, suc, sym, task_of, true, zero, ℕ, ◌++◌, ◌+◌, ◌<◌, ◌==◌}
+use Rattle.rt_gen_queue.proofs.Vocabulary.{◌^◌, ◌∙◌, ◌∷◌, ◌≡◌, ◌≢◌, ◌≤◌}
 use Rattle.std.proofs.lemmas.{Bool.eqb-false, Option.slice_get-map, Simd.map-map}
 use Rattle.rt_lemmas.proofs.{Lists.all_map, Membership.all_from_members}
 use Rattle.rt_ids.specs.declared.ids.BodyId.TheVariants as body
@@ -22,8 +23,7 @@ use Rattle.rt_gen_body.proofs.Promises.{BodyThere, body_between, called_stands, 
 use Rattle.rt_gen_body.proofs.Promises.{init_stands, of_task, task_stands}
 use Rattle.rt_gen_body.specs.Bodies.{BodyStands, DeclaredStands, IsBodyOf}
 use Rattle.rt_gen_body.specs.Inside.{Generating.slots_code, Values.Context}
-use Rattle.rt_gen_body.specs.Inside.Blocks.{block_code, branch_code, first_code, statement_code, two_code}
-use Rattle.rt_gen_body.specs.Inside.Lines.{Appends, EndsWith, Lines, next_address}
+use Rattle.rt_gen_body.specs.Inside.Blocks.{EndsWith, block_code, branch_code, first_code, statement_code, two_code}
 use Rattle.rt_gen_body.specs.Inside.Whole.{blocks_of, code_of, guards_of}
 
 -- the address behind lines
@@ -75,14 +75,14 @@ pub some_second : (c : Context) (at : ℕ) (one two : ℕ → List Line) (n : �
 some_second c at one two n [] is e = (let some : n ≢ 0 = eqb-false n 0 (sym e) in absurd (some is))
 some_second c at one two n (x ∷ xs) is e = refl
 
-pub two_emitted : (c : Context) (b q r : Lines) (first second : ℕ → List Line)
+pub two_emitted : (c : Context) (b q r : Made) (first second : ℕ → List Line)
     → Appends b q (first_code c (next_address b) (first (next_address b + 1)))
     → EndsWith q r (length b.lines + 1 + length (first (next_address b + 1))) (second (next_address q))
     → Appends b r (two_code c (next_address b) first second)
 two_emitted c b q r first second e f = rw (f, e) (simp (behind_at, longer, append_assoc, between_seam))
 
 -- lines and none behind them
-pub appends_none : (code : Lines) → Appends code code []
+pub appends_none : (code : Made) → Appends code code []
 appends_none code = ap (λ (xs : List Line). record code { lines = xs }) (sym (append-nil code.lines))
 
 at_within : (xs : List Stmt) (i : ℕ) (x : Stmt) → i < length xs
@@ -97,12 +97,12 @@ pub statement_within : (xs : List Stmt) (i : ℕ) (x : Stmt) → i < length xs �
 statement_within xs i x within is = omega (arith, at_within xs i x within, ap (λ y. statements_in (statement_of y)) is)
 
 -- the jump over a second block stands among the lines of the first
-pub first_within : (c : Context) (a b : Lines) (over : ℕ) (block : List Line) → over ≡ length a.lines + 1 + length block
+pub first_within : (c : Context) (a b : Made) (over : ℕ) (block : List Line) → over ≡ length a.lines + 1 + length block
     → Appends a b (first_code c (next_address a) block) → over < length b.lines
 first_within c a b over block place e =
     omega (
       arith,
-      ap (λ (l : Lines). length l.lines) e,
+      ap (λ (l : Made). length l.lines) e,
       length-append a.lines (first_code c (next_address a) block),
       length-append block (plain (instr.Jump 0) ∷ []),
     )

@@ -3,5 +3,4 @@ pub mod Values
 pub mod Simple
 pub mod Blocks
 pub mod Whole
-pub mod Lines
 pub mod Generating

@@ -15,15 +15,14 @@ ghost use Rattle.rt_gen_queue.specs.Guards.{guarded};
 ghost use Rattle.rt_gen_body.specs.Bodies.{IsBodyOf, BodyStands};
 ghost use Rattle.rt_gen_body.specs.Form.{end_line, HasForm};
 ghost use Rattle.rt_gen_body.specs.Inside.Whole.{guards_of, blocks_of, code_of};
-ghost use Rattle.rt_gen_body.specs.Inside.Lines.{next_address, Appends};
+ghost use Rattle.rt_gen_queue.specs.Making.{next_address, Appends};
 ghost use Rattle.rt_gen_body.specs.Inside.Generating.{slots_code};
 
 use crate::generator::Generator;
-use crate::lines::Lines;
 use rt_app::{App, Body, Plan};
 use rt_code::{Instr, Line, Note};
 use rt_frames::{ArmedRows, Slots};
-use rt_gen_queue::{Guard, next_entry};
+use rt_gen_queue::{Guard, Lines, next_entry};
 use rt_ids::limits::ARGUMENTS;
 use rt_ids::{BodyId, NoMemory, TaskId};
 use std::alloc::Global;

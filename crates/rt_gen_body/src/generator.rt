@@ -2,13 +2,12 @@ ghost use Rattle.std.specs.Prelude.{◌≡◌, ◌+◌, OnOk};
 ghost use Rattle.rt_app.specs.View.{expression_of, value_of};
 ghost use Rattle.rt_gen_body.specs.Inside.Values as values;
 ghost use Rattle.rt_gen_body.specs.Inside.Simple as simple;
-ghost use Rattle.rt_gen_body.specs.Inside.Lines.{next_address, Appends};
+ghost use Rattle.rt_gen_queue.specs.Making.{next_address, Appends};
 
-use crate::lines::Lines;
 use rt_app::{Atom, Expr, Plan, Value};
 use rt_code::Instr;
 use rt_frames::ArmedRows;
-use rt_gen_queue::Guard;
+use rt_gen_queue::{Guard, Lines};
 use rt_ids::NoMemory;
 use std::alloc::Global;
 

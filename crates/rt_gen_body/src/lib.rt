@@ -3,7 +3,6 @@
 
 pub mod body;
 pub mod generator;
-pub mod lines;
 pub mod spawn;
 pub mod statement;
 

@@ -1,15 +1,27 @@
-ghost use Rattle.std.specs.Prelude.{◌≡◌, map, OnOk};
+ghost use Rattle.std.specs.Prelude.{◌≡◌, true, map, slice_get, IsSome, OnOk};
+ghost use Rattle.rt_ids.specs.Lists.{is_some_and};
+ghost use Rattle.rt_app.specs.Level.{is_software};
 ghost use Rattle.rt_app.specs.View.{expression_of, spawn_of};
+ghost use Rattle.rt_gen_queue.specs.Making.{next_address, Appends};
+ghost use Rattle.rt_gen_queue.specs.SpawnCode.{spawn_code};
 ghost use Rattle.rt_gen_body.specs.Inside.Values as values;
 ghost use Rattle.rt_gen_body.specs.Inside.Simple as simple;
-ghost use Rattle.rt_gen_body.specs.Inside.Lines.{next_address, Appends};
 ghost use Rattle.rt_gen_body.specs.Inside.Generating.{context, IsReady};
 
 use crate::body::is_called;
 use crate::generator::{Generator, next_slot};
-use crate::lines::{Lines, Timed};
 use rt_app::{Expr, Spawn};
+use rt_gen_queue::{Lines, gen_spawn};
+use rt_gen_timer::{gen_after, gen_cancel, gen_move};
 use rt_ids::{NoMemory, TaskId};
+
+/// What goes to the timer queue: a `spawn_after`, a `cancel` or a `reschedule_after`.
+#[derive(Clone, Copy)]
+pub(crate) enum Timed {
+    After,
+    Cancel,
+    Move,
+}
 
 impl<'a> Generator<'a> {
     /// The values of arguments come into the slots from one on.
@@ -25,6 +37,26 @@ impl<'a> Generator<'a> {
         Ok(())
     }
 
+    /// The lines of the spawn of a software task, whose arguments stand in the slots from one on, at a static level.
+    fn push_spawn(&self, level: u8, task: TaskId, code: &mut Lines) -> Result<(), NoMemory>
+        requires ready { IsReady self.now }
+        requires software { is_some_and is_software (slice_get (context self.now).app.tasks task) ≡ true }
+        ensures { OnOk result (Appends code.old code.new
+            (spawn_code (context self.now).app task level self.now.spawns (next_address code.old))) }
+    {
+        let entry = code.next_address()?;
+        gen_spawn(
+            self.alloc,
+            self.plan,
+            task,
+            level,
+            self.spawns,
+            entry,
+            &mut code.lines,
+        )?;
+        Ok(())
+    }
+
     /// The spawn of a task whose arguments are there, at a static level; nothing where it is no software task.
     fn message(&self, level: u8, number: TaskId, code: &mut Lines) -> Result<(), NoMemory>
         requires { IsReady self.now }
@@ -32,9 +64,43 @@ impl<'a> Generator<'a> {
             (simple.message_code (context self.now) level (next_address code.old) number)) }
     {
         if is_called(self.plan.app, number) {
-            code.push_spawn(self, level, number)
+            self.push_spawn(level, number, code)
         } else {
             Ok(())
+        }
+    }
+
+    /// The lines of a call that goes to the timer queue for a software task, whose delay, arguments and handle stand in
+    /// the slots from one on, at a static level.
+    fn push_timed(
+        &self,
+        kind: Timed,
+        level: u8,
+        task: TaskId,
+        code: &mut Lines,
+    ) -> Result<(), NoMemory>
+        requires ready { IsReady self.now }
+        requires timed { IsSome (context self.now).app.mono }
+        requires software { is_some_and is_software (slice_get (context self.now).app.tasks task) ≡ true }
+        ensures { OnOk result (Appends code.old code.new
+            (simple.timed_lines kind (context self.now).app task level self.now.spawns (next_address code.old))) }
+    {
+        let entry = code.next_address()?;
+        let (alloc, slot) = (self.alloc, self.spawns);
+        let (plan, rows) = (self.plan, self.rows);
+        match kind {
+            Timed::After => gen_after(alloc, plan, rows, task, level, slot, entry, &mut code.lines),
+            Timed::Cancel => gen_cancel(
+                alloc,
+                plan,
+                rows,
+                task,
+                level,
+                slot,
+                entry,
+                &mut code.lines,
+            ),
+            Timed::Move => gen_move(alloc, plan, rows, task, level, slot, entry, &mut code.lines),
         }
     }
 
@@ -59,7 +125,7 @@ impl<'a> Generator<'a> {
             (simple.timed_code (context self.now) kind level (next_address code.old) number)) }
     {
         if self.is_timed(number) {
-            code.push_timed(kind, self, level, number)
+            self.push_timed(kind, level, number, code)
         } else {
             Ok(())
         }

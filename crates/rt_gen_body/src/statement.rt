@@ -1,14 +1,14 @@
 ghost use Rattle.std.specs.Prelude.{◌≡◌, ◌<◌, ◌+◌, ℕ, OnOk, IfOk, length, slice_index};
 ghost use Rattle.rt_app.specs.View.{statement_of, block_of};
 ghost use Rattle.rt_gen_body.specs.Inside.Blocks as blocks;
-ghost use Rattle.rt_gen_body.specs.Inside.Lines.{next_address, Appends, EndsWith};
+ghost use Rattle.rt_gen_queue.specs.Making.{next_address, Appends};
+ghost use Rattle.rt_gen_body.specs.Inside.Blocks.{EndsWith};
 ghost use Rattle.rt_gen_body.specs.Inside.Generating.{context, IsReady};
 
 use crate::generator::{Generator, next_slot};
-use crate::lines::Lines;
 use rt_app::Stmt;
 use rt_code::{Instr, Note};
-use rt_gen_queue::Guard;
+use rt_gen_queue::{Guard, Lines};
 use rt_ids::{Irq, NoMemory, Op, ResId, Section};
 
 /// A loop's variable, its first number, and the one that it does not reach.

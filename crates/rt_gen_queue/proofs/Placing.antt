@@ -49,13 +49,9 @@ spawn_long app task level slot at = simp (length-append, length-map-range_with_l
 abbrev pub store_line : ℕ → ℕ → ℕ → Line
 store_line cell slot j = plain (instr.StoreAt (cell + j) (slot + 7) (slot + j))
 
-pub stored_more : (k cell slot : ℕ) (old before after : List Line)
-    → before ≡ old ++ store_code k cell slot 0 → after ≡ before ++ store_line cell slot k ∷ []
-    → after ≡ old ++ store_code (k + 1) cell slot 0
-stored_more k cell slot old before after is made =
-    let more : store_code (k + 1) cell slot 0 ≡ store_code k cell slot 0 ++ store_line cell slot k ∷ [] =
-    map-range_with_len_more (store_line cell slot) 0 k k (omega arith) in
-    rw (made, is, more, append_assoc)
+pub stored_more : (k cell slot : ℕ)
+    → store_code (k + 1) cell slot 0 ≡ store_code k cell slot 0 ++ store_line cell slot k ∷ []
+stored_more k cell slot = map-range_with_len_more (store_line cell slot) 0 k k (omega arith)
 
 -- four parts, one after the other
 pub four_appended : (o a b c d : List Line) → (((o ++ a) ++ b) ++ c) ++ d ≡ o ++ (a ++ (b ++ (c ++ d)))

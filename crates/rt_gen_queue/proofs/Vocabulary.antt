@@ -88,6 +88,7 @@ pub use Rattle.rt_code.proofs.Standing.{stands_with_more}
 pub use Rattle.rt_gen_queue.specs.Called.{AreSpelled, calm, row_for, rows_for}
 pub use Rattle.rt_gen_queue.specs.Guards.{enter, enter_line, guard_of, guarded, kind_at, kind_of, leave, leave_line}
 pub use Rattle.rt_gen_queue.specs.Line.{HasCode, IsNameable, Line, noted, plain}
-pub use Rattle.rt_gen_queue.specs.{Making.Appends, Making.Made, Queue.queue_at, SpawnLines.store_code}
+pub use Rattle.rt_gen_queue.specs.Making.{Appends, Made, next_address}
+pub use Rattle.rt_gen_queue.specs.{Queue.queue_at, SpawnLines.store_code}
 pub use Rattle.rt_gen_queue.specs.{Spawning.HoldsOff}
 pub use Rattle.rt_gen_queue.specs.SpawnCode.{end_code, fill_code, ready_code, spawn_code, take_code, target_of}

@@ -1,11 +1,17 @@
--- Lines as they are generated, one behind the other, as for a spawn.
-use Rattle.std.specs.Prelude.{◌≡◌, ◌++◌, List}
+-- Lines as they are generated, one behind the other.
+use Rattle.std.specs.Prelude.{◌≡◌, ℕ, ◌+◌, ◌++◌, List, length}
 use Rattle.rt_gen_queue.specs.Line.{Line}
 
--- the lines that are generated so far
+-- The lines that are generated so far, and where they begin.
 pub record Made : Type 0 where
+  -- The address of the first line.
+  pub entry : ℕ
   pub lines : List Line
 
--- what is made is longer by these lines
+-- The address of the next line is behind the last one.
+abbrev pub next_address : Made → ℕ
+next_address code = code.entry + length code.lines
+
+-- What is made is longer by these lines.
 abbrev pub Appends : Made → Made → List Line → Type 0
-Appends before after lines = after ≡ record { lines = before.lines ++ lines }
+Appends before after lines = after ≡ record before { lines = before.lines ++ lines }

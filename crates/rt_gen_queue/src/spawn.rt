@@ -79,7 +79,7 @@ pub fn gen_spawn(
     ensures left { OnErr result (code.new.items ≡ code.old.items) }
 {
     let target = find_target(plan, task);
-    let mut lines = Lines::new(alloc);
+    let mut lines = Lines::new(alloc, entry);
     append_spawn(&target, level, slot, entry, &mut lines)?;
     code.extend_from_slice(lines.as_slice())?;
     Ok(())

@@ -5,11 +5,11 @@ use Rattle.rt_gen_queue.proofs.Vocabulary.{Appends, Line, List, Made, ap, append
 -- the last part, which is known as these lines
 pub last : (before : Made) {after : Made} {made part : List Line} → Appends before after made → made ≡ part
     → Appends before after part
-last before appended is = appended ∙ ap (λ (ls : List Line). record { lines = before.lines ++ ls }) is
+last before appended is = appended ∙ ap (λ (ls : List Line). record before { lines = before.lines ++ ls }) is
 
 -- a part, and what is behind it
 pub then : (before : Made) {mid after : Made} {made part : List Line} (more : List Line) → Appends before mid made
     → made ≡ part → Appends mid after more → Appends before after (part ++ more)
 then before {part = part} more appended is behind =
-    behind ∙ ap (λ (m : Made). record { lines = m.lines ++ more }) (last before appended is)
-    ∙ ap (λ (ls : List Line). record { lines = ls }) (append_assoc before.lines part more)
+    behind ∙ ap (λ (m : Made). record m { lines = m.lines ++ more }) (last before appended is)
+    ∙ ap (λ (ls : List Line). record before { lines = ls }) (append_assoc before.lines part more)

@@ -2,8 +2,8 @@
 use Rattle.rt_gen_queue.proofs.Vocabulary.{App, Appends, Bool, Line, List, Made, Some, Task, [], ap, app_of, append-nil}
 use Rattle.rt_gen_queue.proofs.Vocabulary.{append_assoc, arith, drop, drop_all, drop_as_cons, false}
 use Rattle.rt_gen_queue.proofs.Vocabulary.{get_or_from_slice_get, if◌then◌else◌, is_armed, is_software, length}
-use Rattle.rt_gen_queue.proofs.Vocabulary.{length-append, slice_get, slice_get_within, subst, sym, true, ℕ, ◌&&◌, ◌++◌}
-use Rattle.rt_gen_queue.proofs.Vocabulary.{◌+◌, ◌∙◌, ◌∷◌, ◌≡◌, ◌≤◌}
+use Rattle.rt_gen_queue.proofs.Vocabulary.{length-append, next_address, slice_get, slice_get_within, subst, sym, true}
+use Rattle.rt_gen_queue.proofs.Vocabulary.{ℕ, ◌&&◌, ◌++◌, ◌+◌, ◌∙◌, ◌∷◌, ◌≡◌, ◌≤◌}
 use Rattle.rt_app.specs.declared.app.App as code
 use Rattle.rt_gen_timer.specs.{Inside.Choices.task_code, TimerLines.choice_lines}
 use Rattle.rt_gen_timer.specs.TimerCode.{armed_task, choices_code, queue_of}
@@ -21,66 +21,62 @@ pub not_fired : (app : App) (level at n : ℕ) (t : Task) (made : Made) → has_
     → Appends made made (task_code app level at n t)
 not_fired app level at n t made other =
     let own : List Line = choice_lines (queue_of app) 0 level (armed_task app n) at in
-    ap (λ (ls : List Line). record { lines = ls })
+    ap (λ (ls : List Line). record made { lines = ls })
     (sym (append-nil made.lines) ∙ ap (λ b. made.lines ++ (if b then own else [])) (sym other))
 
 -- where the choices of a level begin, behind the lines made before
 pub record Start : Type 0 where
   pub app : App
   pub level : ℕ
-  pub entry : ℕ
   pub old : Made
 
-abbrev pub begun : code.App → ℕ → ℕ → Made → Start
-begun app level entry old = record { app = app_of app; level = level; entry = entry; old = old }
+abbrev pub begun : code.App → ℕ → Made → Start
+begun app level old = record { app = app_of app; level = level; old = old }
 
--- the lines of the tasks from a number on, where so many are made
-abbrev from_task : Start → Made → ℕ → List Task → List Line
-from_task s made n ts = choices_code s.app s.level (s.entry + length made.lines) n ts
+-- lines, and those of the tasks from a number on
+abbrev with_rest : Start → Made → ℕ → List Task → Made
+with_rest s made n ts = record made { lines = made.lines ++ choices_code s.app s.level (next_address made) n ts }
 
 -- All lines are those made so far and those of the tasks from a number on.
 abbrev pub AreLeft : Start → ℕ → Made → Type 0
-AreLeft s n made =
-    s.old.lines ++ from_task s s.old 0 s.app.tasks ≡ made.lines ++ from_task s made n (drop n s.app.tasks)
+AreLeft s n made = with_rest s s.old 0 s.app.tasks ≡ with_rest s made n (drop n s.app.tasks)
 
 -- behind the last task there are none
 pub choices_all : (s : Start) (n : ℕ) {made : Made} → length s.app.tasks ≤ n → AreLeft s n made
-    → Appends s.old made (from_task s s.old 0 s.app.tasks)
+    → Appends s.old made (choices_code s.app s.level (next_address s.old) 0 s.app.tasks)
 choices_all s n {made = made} beyond left =
-    ap (λ (ls : List Line). record { lines = ls })
-    (sym (left ∙ ap (λ ts. made.lines ++ from_task s made n ts) (drop_all n s.app.tasks beyond)
-    ∙ append-nil made.lines))
+    sym (left ∙ ap (with_rest s made n) (drop_all n s.app.tasks beyond)
+    ∙ ap (λ (ls : List Line). record made { lines = ls }) (append-nil made.lines))
 
 -- a task more
 pub choices_next : (s : Start) (n : ℕ) {t : Task} (mid : Made) {new : Made} → slice_get s.app.tasks n ≡ Some t
-    → AreLeft s n mid → Appends mid new (task_code s.app s.level (s.entry + length mid.lines) n t)
-    → AreLeft s (n + 1) new
+    → AreLeft s n mid → Appends mid new (task_code s.app s.level (next_address mid) n t) → AreLeft s (n + 1) new
 choices_next s n {t = t} mid there left pushed =
     let others : List Task = drop (n + 1) s.app.tasks in
     let parts : drop n s.app.tasks ≡ t ∷ others =
     drop_as_cons s.app.tasks n t (slice_get_within s.app.tasks n t there)
     (sym (get_or_from_slice_get s.app.tasks n t t there)) in
-    left ∙ ap (λ ts. mid.lines ++ from_task s mid n ts) parts
-    ∙ subst
-    (λ (made : Made). mid.lines ++ from_task s mid n (t ∷ others) ≡ made.lines ++ from_task s made (n + 1) others)
-    (sym pushed) (by_choice (has_choice s.app n t) others)
+    left ∙ ap (with_rest s mid n) parts
+    ∙ subst (λ (made : Made). with_rest s mid n (t ∷ others) ≡ with_rest s made (n + 1) others) (sym pushed)
+    (by_choice (has_choice s.app n t) others)
   where
-    at : ℕ
-    at = s.entry + length mid.lines
+    with : List Line → Made
+    with ls = record mid { lines = ls }
 
     own : List Line
-    own = choice_lines (queue_of s.app) 0 s.level (armed_task s.app n) at
+    own = choice_lines (queue_of s.app) 0 s.level (armed_task s.app n) (next_address mid)
+
+    others_at : ℕ → List Task → List Line
+    others_at at others = choices_code s.app s.level at (n + 1) others
 
     by_choice : (b : Bool) (others : List Task)
-        → mid.lines ++ (if b then own ++ choices_code s.app s.level (at + 26) (n + 1) others
-        else choices_code s.app s.level at (n + 1) others)
-        ≡ (mid.lines ++ (if b then own else []))
-        ++ choices_code s.app s.level (s.entry + length (mid.lines ++ (if b then own else []))) (n + 1) others
+        → with (mid.lines ++ (if b then own ++ others_at (next_address mid + 26) others
+        else others_at (next_address mid) others))
+        ≡ with_rest s (with (mid.lines ++ (if b then own else []))) (n + 1) others
     by_choice true others =
-        let place : at + 26 ≡ s.entry + length (mid.lines ++ own) = omega (arith, length-append mid.lines own) in
-        ap (λ a. mid.lines ++ (own ++ choices_code s.app s.level a (n + 1) others)) place
-        ∙ sym (append_assoc mid.lines own
-        (choices_code s.app s.level (s.entry + length (mid.lines ++ own)) (n + 1) others))
+        let place : next_address mid + 26 ≡ mid.entry + length (mid.lines ++ own) =
+        omega (arith, length-append mid.lines own) in
+        ap (λ at. with (mid.lines ++ (own ++ others_at at others))) place
+        ∙ ap with (sym (append_assoc mid.lines own (others_at (mid.entry + length (mid.lines ++ own)) others)))
     by_choice false others =
-        ap (λ (ls : List Line). ls ++ choices_code s.app s.level (s.entry + length ls) (n + 1) others)
-        (sym (append-nil mid.lines))
+        ap (λ (ls : List Line). with (ls ++ others_at (mid.entry + length ls) others)) (sym (append-nil mid.lines))

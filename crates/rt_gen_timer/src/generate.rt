@@ -81,7 +81,7 @@ fn append_call(
 {
     let emitter = emitter_of(plan, rows, slot, entry)?;
     let armed = armed_of(plan, rows, call.task());
-    let mut lines = Lines::new(alloc);
+    let mut lines = Lines::new(alloc, entry);
     push_call(&emitter, &armed, call, level, entry, &mut lines)?;
     code.extend_from_slice(lines.as_slice())?;
     Ok(())

@@ -10,7 +10,7 @@ ghost use Rattle.rt_app.specs.Plan.{IsPlan};
 ghost use Rattle.rt_app.specs.View.{app_of, task_of};
 ghost use Rattle.rt_app.specs.declared.costs.TheConstants.{TIMER_QUEUE_WORDS};
 ghost use Rattle.rt_gen_queue.specs.Line.{IsNameable};
-ghost use Rattle.rt_gen_queue.specs.Making.{Appends};
+ghost use Rattle.rt_gen_queue.specs.Making.{next_address, Appends};
 ghost use Rattle.rt_gen_timer.specs.TimerLines as lines;
 ghost use Rattle.rt_gen_timer.specs.TimerCode as spec;
 ghost use Rattle.rt_gen_timer.specs.Inside.Choices.{task_code};
@@ -27,14 +27,13 @@ use rt_gen_queue::{Lines, next_entry};
 use rt_ids::{NoMemory, TaskId};
 use std::alloc::Global;
 
-/// The address of the next line, where the first stands at an entry. Where it, or what a task's lines lead to, has no
-/// 32 bits there is no memory for so much code either.
-fn next_address(entry: u32, lines: &Lines) -> Result<u32, NoMemory>
-    ensures at { IfOk result (λ at. at ≡ entry + length lines.now.lines) }
+/// The address of the next line. Where it, or what a task's lines lead to, has no 32 bits there is no memory for so
+/// much code either.
+fn address_with_room(lines: &Lines) -> Result<u32, NoMemory>
+    ensures at { IfOk result (λ at. at ≡ next_address lines.now) }
     ensures room { IfOk result (λ at. at + MANY_LINES < 2 ^ 32) }
 {
-    let count = next_entry(lines.as_slice())?;
-    let at = entry.checked_add(count).ok_or(NoMemory)?;
+    let at = lines.next_address()?;
     at.checked_add(MANY_LINES).ok_or(NoMemory)?;
     Ok(at)
 }
@@ -54,7 +53,6 @@ fn push_task(
     number: usize,
     task: &Task,
     level: u8,
-    entry: u32,
     lines: &mut Lines,
 ) -> Result<(), NoMemory>
     requires accepted { IsAccepted (app_of plan.now.app.now) }
@@ -65,13 +63,13 @@ fn push_task(
     requires task { slice_get (app_of plan.now.app.now).tasks number ≡ Some (task_of task.now) }
     requires small { number < TASKS }
     ensures { OnOk result (Appends lines.old lines.new (task_code (app_of plan.now.app.now) level
-        (entry + length lines.old.lines) number (task_of task.now))) }
+        (next_address lines.old) number (task_of task.now))) }
 {
     let id = TaskId(number as u8);
     if !is_fired(rows, id, task) {
         return Ok(());
     }
-    let at = next_address(entry, lines)?;
+    let at = address_with_room(lines)?;
     emitter.push_choice(&armed_of(plan, rows, id), level, at, lines)
 }
 
@@ -81,7 +79,6 @@ fn push_tasks(
     rows: &ArmedRows<'_>,
     emitter: &Emitter,
     level: u8,
-    entry: u32,
     lines: &mut Lines,
 ) -> Result<(), NoMemory>
     requires accepted { IsAccepted (app_of plan.now.app.now) }
@@ -90,33 +87,33 @@ fn push_tasks(
     requires emitter { emitter.now ≡ record { queue = spec.queue_of (app_of plan.now.app.now); slot = 0 } }
     requires few { emitter.now.queue.messages ≤ CAPACITY * TASKS }
     ensures { let app = app_of plan.now.app.now in OnOk result (Appends lines.old lines.new
-        (spec.choices_code app level (entry + length lines.old.lines) 0 app.tasks)) }
+        (spec.choices_code app level (next_address lines.old) 0 app.tasks)) }
 {
     for number in 0..plan.app.tasks.len() {
         let task = &plan.app.tasks[number];
-        push_task(plan, rows, emitter, number, task, level, entry, lines)?;
+        push_task(plan, rows, emitter, number, task, level, lines)?;
     }
     Ok(())
 }
 
-/// All lines of the timer handler, the first of which will stand at this address.
+/// All lines of the timer handler.
 fn generate(
     plan: &Plan<'_>,
     rows: &ArmedRows<'_>,
     level: u8,
-    entry: u32,
     lines: &mut Lines,
 ) -> Result<(), NoMemory>
     requires accepted { IsAccepted (app_of plan.now.app.now) }
     requires planned { IsPlan plan.now }
     requires rows { rows.now ≡ plan.now.app.now }
     requires timed { IsSome (app_of plan.now.app.now).mono }
-    requires empty { length lines.old.lines ≡ 0 }
-    ensures { OnOk result (Appends lines.old lines.new (spec.timer_code (app_of plan.now.app.now) level entry)) }
+    ensures { OnOk result (Appends lines.old lines.new
+        (spec.timer_code (app_of plan.now.app.now) level (next_address lines.old))) }
 {
+    let entry = lines.next_address()?;
     let emitter = emitter_of(plan, rows, 0, entry)?;
     emitter.push_front(level, entry, lines)?;
-    push_tasks(plan, rows, &emitter, level, entry, lines)?;
+    push_tasks(plan, rows, &emitter, level, lines)?;
     lines.push(Instr::Jump(entry + IDLE_OFFSET))?;
     Ok(())
 }
@@ -146,8 +143,8 @@ pub fn gen_timer(
     ensures left { OnErr result (code.new.items ≡ code.old.items) }
 {
     let entry = next_entry(code)?;
-    let mut lines = Lines::new(alloc);
-    generate(plan, rows, mono.priority, entry, &mut lines)?;
+    let mut lines = Lines::new(alloc, entry);
+    generate(plan, rows, mono.priority, &mut lines)?;
     code.extend_from_slice(lines.as_slice())?;
     Ok(entry)
 }

@@ -1,15 +1,24 @@
 -- The code of statements and blocks, instruction by instruction, from an address on: choices, loops, and sections of
 -- resources. What it means is not told here but by the promise that it stands.
-use Rattle.std.specs.Prelude.{ℕ, ◌+◌, max, List, [], ◌∷◌, ◌++◌, length, slice_index, slice_index_or}
+use Rattle.std.specs.Prelude.{◌≡◌, ℕ, ◌+◌, max, List, [], ◌∷◌, ◌++◌, length, slice_index, slice_index_or, slice_set}
 use Rattle.rt_ids.specs.declared.ids.Section.TheVariants as section
 use Rattle.rt_ids.specs.declared.op.Op.TheVariants as op
 use Rattle.rt_app.specs.Tree.{Statement, Bind, Assign, Branch, Repeat, Locked, Emit, Pend, Spawns, Block, Empty, Then}
 use Rattle.rt_code.specs.declared.instr.Instr.TheVariants as instr
 use Rattle.rt_gen_queue.specs.Line.{Line, plain}
+use Rattle.rt_gen_queue.specs.Making.{Made, next_address}
 use Rattle.rt_gen_queue.specs.Guards.{enter_line, leave_line}
 use Rattle.rt_gen_queue.specs.declared.guard.Guard.{Guard}
 use Rattle.rt_gen_body.specs.Inside.Values.{Context, next_slot, value_code}
 use Rattle.rt_gen_body.specs.Inside.Simple.{send_code, bind_code, assign_code, emit_code}
+
+-- code is longer by these lines, and the jump at a place leads behind them
+abbrev pub EndsWith : Made → Made → ℕ → List Line → Type 0
+EndsWith before after over lines =
+    after
+    ≡ record before {
+      lines = slice_set (before.lines ++ lines) over (plain (instr.Jump (next_address before + length lines)));
+    }
 
 module _ (c : Context) where
   -- how a resource's sections mask; those of one that is not declared mask nothing

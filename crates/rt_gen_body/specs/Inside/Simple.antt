@@ -9,8 +9,8 @@ use Rattle.rt_code.specs.declared.instr.Instr.TheVariants as instr
 use Rattle.rt_gen_queue.specs.Line.{Line, plain}
 use Rattle.rt_gen_queue.specs.SpawnCode.{spawn_code}
 use Rattle.rt_gen_timer.specs.TimerCode.{after_code, cancel_code, move_code}
-use Rattle.rt_gen_body.specs.declared.lines.Timed.{Timed}
-use Rattle.rt_gen_body.specs.declared.lines.Timed.TheVariants as timed
+use Rattle.rt_gen_body.specs.declared.spawn.Timed.{Timed}
+use Rattle.rt_gen_body.specs.declared.spawn.Timed.TheVariants as timed
 use Rattle.rt_gen_body.specs.Inside.Values.{Context, store, value_code, arguments_code}
 
 -- the values that a spawn goes with

@@ -1,7 +1,6 @@
-use Rattle.rt_gen_queue.proofs.Vocabulary.{OnOk, subst, sym}
+use Rattle.rt_gen_queue.proofs.Vocabulary.{Appends, OnOk, next_address, subst, sym}
 use Rattle.rt_gen_body.proofs.Generated.{appends_none, no_task, task_code, task_found, task_limits, task_not_found}
 use Rattle.rt_gen_body.proofs.body.declared.Goals as goal
-use Rattle.rt_gen_body.specs.Inside.Lines.{Appends, next_address}
 
 pub blocks-requires-in-Some-task-clause-few : goal.blocks-requires-in-Some-task-clause-few
 blocks-requires-in-Some-task-clause-few c =

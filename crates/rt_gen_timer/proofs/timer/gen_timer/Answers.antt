@@ -1,6 +1,6 @@
 use Rattle.rt_gen_queue.proofs.Vocabulary.{AllByRecursion, IsNameable, IsSome, Line, List, ap, app_of, arith, drop}
 use Rattle.rt_gen_queue.proofs.Vocabulary.{drop_at, length, length-append, names_of, refl, subst, sym, take, take_at}
-use Rattle.rt_gen_queue.proofs.Vocabulary.{◌++◌, ◌∙◌, ◌≡◌}
+use Rattle.rt_gen_queue.proofs.Vocabulary.{◌++◌, ◌+◌, ◌∙◌, ◌≡◌}
 use Rattle.rt_gen_queue.proofs.Nameable.{named_behind}
 use Rattle.rt_gen_timer.proofs.Generated.{timer_claimed, timer_named, timer_short}
 use Rattle.rt_gen_timer.proofs.timer.gen_timer.Goals as goal
@@ -14,6 +14,7 @@ returns c =
     let code : List Line = timer_code app c.args.mono.priority c.in_ok-entry.entry in
     let entry : c.in_ok-entry.entry ≡ length old =
     c.in_ok-entry.ensures ∙ ap (λ (l : List Line). length l) c.deref.ensures.value in
+    let none : c.in_ok-entry.entry + 0 ≡ c.in_ok-entry.entry = omega arith in
     let some : IsSome c.args.plan.now.app.now.mono = subst (λ o. IsSome o) (sym c.requires.timed) refl in
     let is : new ≡ old ++ code =
     rw (
@@ -22,6 +23,7 @@ returns c =
       c.as_slice.ensures,
       c.in_ok-generate.ensures,
       c.new-lines.ensures,
+      none,
     ) in
     record {
       entry = entry;

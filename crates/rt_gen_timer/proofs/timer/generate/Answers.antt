@@ -1,24 +1,25 @@
-use Rattle.rt_gen_queue.proofs.Vocabulary.{Appends, Line, List, Made, ap, app_of, arith, length, length-append, refl, ℕ}
-use Rattle.rt_gen_queue.proofs.Vocabulary.{◌+◌, ◌≡◌}
+use Rattle.rt_gen_queue.proofs.Vocabulary.{Appends, Line, List, Made, [], ap, app_of, arith, length-append}
+use Rattle.rt_gen_queue.proofs.Vocabulary.{next_address, plain, refl, ℕ, ◌+◌, ◌∷◌, ◌≡◌}
+use Rattle.rt_code.specs.declared.instr.Instr.TheVariants as instr
 use Rattle.rt_gen_timer.proofs.Appending.{last, then}
 use Rattle.rt_gen_timer.proofs.timer.generate.Goals as goal
 use Rattle.rt_gen_timer.specs.{TimerCode.choices_code, TimerCode.queue_of, TimerLines.front_lines}
 
--- no lines were before
 pub returns : goal.returns
 returns c =
     let app = app_of c.args.plan.now.app.now in
-    let entry : ℕ = c.args.entry in
-    let front : List Line = front_lines (queue_of app) 0 c.args.level entry in
-    let begins : Appends c.args.lines.now c.push_front.new.lines front =
-    rw (c.in_ok-push_front.ensures, c.in_ok-emitter.ensures.queue, c.in_ok-emitter.ensures.slot) in
-    let place : entry + length c.push_front.new.lines.lines ≡ entry + 73 =
-    omega (
-      arith,
-      c.requires.empty,
-      ap (λ (m : Made). length m.lines) begins,
-      length-append c.args.lines.now.lines front,
+    let old : Made = c.args.lines.now in
+    let front : List Line = front_lines (queue_of app) 0 c.args.level (next_address old) in
+    let begins : Appends old c.push_front.new.lines front =
+    rw (
+      c.in_ok-push_front.ensures,
+      c.in_ok-emitter.ensures.queue,
+      c.in_ok-emitter.ensures.slot,
+      c.in_ok-entry.ensures,
     ) in
-    then c.args.lines.now _ begins refl
+    let place : next_address c.push_front.new.lines ≡ next_address old + 73 =
+    omega (arith, ap (λ (m : Made). next_address m) begins, length-append old.lines front) in
+    then old _ begins refl
     (then _ _ c.in_ok-push_tasks.ensures (ap (λ a. choices_code app c.args.level a 0 app.tasks) place)
-    (last c.push_tasks.new.lines c.in_ok-push.ensures refl))
+    (last c.push_tasks.new.lines c.in_ok-push.ensures
+    (ap (λ (at : ℕ). plain (instr.Jump (at + 10)) ∷ []) c.in_ok-entry.ensures)))

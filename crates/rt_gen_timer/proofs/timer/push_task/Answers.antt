@@ -1,5 +1,5 @@
-use Rattle.rt_gen_queue.proofs.Vocabulary.{and_left, ap, app_of, is_armed, is_software, is_some_and, length, task_of}
-use Rattle.rt_gen_queue.proofs.Vocabulary.{◌+◌, ◌∙◌}
+use Rattle.rt_gen_queue.proofs.Vocabulary.{and_left, ap, app_of, is_armed, is_software, is_some_and, next_address}
+use Rattle.rt_gen_queue.proofs.Vocabulary.{task_of, ◌∙◌}
 use Rattle.rt_gen_timer.proofs.Choosing.{not_fired, same_choice}
 use Rattle.rt_gen_timer.proofs.timer.push_task.Goals as goal
 
@@ -11,8 +11,8 @@ armed_of-requires-clause-software c =
 
 pub returns-then-not-is_fired : goal.returns-then-not-is_fired
 returns-then-not-is_fired c =
-    not_fired (app_of c.args.plan.now.app.now) c.args.level (c.args.entry + length c.args.lines.now.lines)
-    c.args.number (task_of c.args.task.now) c.args.lines.now
+    not_fired (app_of c.args.plan.now.app.now) c.args.level (next_address c.args.lines.now) c.args.number
+    (task_of c.args.task.now) c.args.lines.now
     (same_choice c.args.number (task_of c.args.task.now) c.is_fired.ensures c.requires.rows c.if-not-is_fired.true)
 
 pub returns : goal.returns

@@ -1,14 +1,13 @@
-use Rattle.rt_gen_queue.proofs.Vocabulary.{Line, List, ap, append-nil, append_assoc, arith, block_of, length}
-use Rattle.rt_gen_queue.proofs.Vocabulary.{length-append, refl, set-append_seam, statements_in, sym, take_more, ℕ, ◌+◌}
-use Rattle.rt_gen_queue.proofs.Vocabulary.{◌∙◌}
+use Rattle.rt_gen_queue.proofs.Vocabulary.{Appends, Line, List, ap, append-nil, append_assoc, arith, block_of, length}
+use Rattle.rt_gen_queue.proofs.Vocabulary.{length-append, next_address, refl, set-append_seam, statements_in, sym}
+use Rattle.rt_gen_queue.proofs.Vocabulary.{take_more, ℕ, ◌+◌, ◌∙◌}
 use Rattle.rt_lemmas.proofs.Results.{on_ok_weaker}
 use Rattle.rt_app.specs.declared.stmt.Stmt.{Stmt}
 use Rattle.rt_frames.proofs.Views.{branch_at, locked_at, repeat_at}
 use Rattle.rt_gen_body.proofs.Generated.{behind_at, behind_four, behind_loop, block_code-append, first_within}
 use Rattle.rt_gen_body.proofs.Generated.{fourth_seam, no_second, some_second, statement_within, two_emitted}
 use Rattle.rt_gen_body.proofs.generator.Generator.+block.Goals as goal
-use Rattle.rt_gen_body.specs.Inside.{Blocks.block_code, Blocks.one_code, Generating.context, Lines.Appends}
-use Rattle.rt_gen_body.specs.Inside.{Lines.next_address}
+use Rattle.rt_gen_body.specs.Inside.{Blocks.block_code, Blocks.one_code, Generating.context}
 
 pub block-loop-stmt-preserved : goal.block-loop-stmt-preserved
 block-loop-stmt-preserved t c =

@@ -1,8 +1,8 @@
 -- The lines of the statements so far; each call is of something lighter.
-use Rattle.rt_gen_queue.proofs.Vocabulary.{block_of, statements_in, take, ◌*◌, ◌+◌}
+use Rattle.rt_gen_queue.proofs.Vocabulary.{Appends, block_of, next_address, statements_in, take, ◌*◌, ◌+◌}
 use Rattle.rt_app.specs.{Limits.statements_of, View.statement_of}
 use Rattle.rt_gen_body.proofs.generator.Generator.+block.Given as goal
-use Rattle.rt_gen_body.specs.Inside.{Blocks.block_code, Generating.context, Lines.Appends, Lines.next_address}
+use Rattle.rt_gen_body.specs.Inside.{Blocks.block_code, Generating.context}
 
 abbrev pub invariant-block-loop-stmt : goal.invariant-block-loop-stmt
 invariant-block-loop-stmt l =

@@ -1,15 +1,15 @@
-use Rattle.rt_gen_queue.proofs.Vocabulary.{List, ap, append-nil, append_assoc, drop_all, drop_as_cons, map, refl, sym}
-use Rattle.rt_gen_queue.proofs.Vocabulary.{◌++◌, ◌∙◌}
+use Rattle.rt_gen_queue.proofs.Vocabulary.{List, Made, ap, append-nil, append_assoc, drop_all, drop_as_cons, map, refl}
+use Rattle.rt_gen_queue.proofs.Vocabulary.{sym, ◌++◌, ◌∙◌}
 use Rattle.rt_app.specs.{View.expression_of, declared.expr.Expr.Expr}
 use Rattle.rt_gen_body.proofs.generator.Generator.arguments.Goals as goal
-use Rattle.rt_gen_body.specs.Inside.{Generating.context, Lines.Lines, Values.arguments_code}
+use Rattle.rt_gen_body.specs.Inside.{Generating.context, Values.arguments_code}
 
 pub loop-arg-init : goal.loop-arg-init
 loop-arg-init c = (refl, refl)
 
 pub loop-arg-preserved : goal.loop-arg-preserved
 loop-arg-preserved c = (
-  ap (λ (code : Lines). code.entry) c.in_ok-expression.ensures ∙ c.loop-arg.invariant.0,
+  ap (λ (code : Made). code.entry) c.in_ok-expression.ensures ∙ c.loop-arg.invariant.0,
   rw (c.in_ok-expression.ensures, c.next_slot-next.ensures, append_assoc)
       (ap (λ (es : List Expr). c.loop-arg.code.lines
       ++ arguments_code (context c.args.self.now) (map expression_of es) c.loop-arg.next)

@@ -1,4 +1,0 @@
-use Rattle.rt_gen_body.proofs.lines.Lines.push_spawn.Goals as goal
-
-pub returns : goal.returns
-returns c = rw (c.in_ok-gen_spawn.ensures.code, c.in_ok-entry.ensures, ← c.self.view_is)
