@@ -1,10 +1,11 @@
 -- How the code of a dispatcher comes about.
-use Rattle.rt_gen_queue.proofs.Vocabulary.{App, Bool, IsAccepted, IsPlan, Line, List, None, Plan, Some, Task, []}
-use Rattle.rt_gen_queue.proofs.Vocabulary.{and_left, ap, app_of, append-nil, append_assoc, arith, drop, drop_as_cons}
-use Rattle.rt_gen_queue.proofs.Vocabulary.{false, get_or, if◌then◌else◌, inl, inr, is_of_level, is_software, length}
-use Rattle.rt_gen_queue.proofs.Vocabulary.{length-append, length-map, map, mapped_at, none-some, plain, queue_at, refl}
-use Rattle.rt_gen_queue.proofs.Vocabulary.{same_Some, slice_get, slice_get_read, subst, suc, sym, task_of, true, zero}
-use Rattle.rt_gen_queue.proofs.Vocabulary.{ℕ, ◌++◌, ◌+◌, ◌<◌, ◌==◌, ◌∙◌, ◌∷◌, ◌≡◌, ◌≤◌}
+use Rattle.rt_gen_queue.proofs.Vocabulary.{App, Bool, IsAccepted, IsPlan, Line, List, Made, None, Option, Plan, Some}
+use Rattle.rt_gen_queue.proofs.Vocabulary.{Task, [], and_left, ap, app_of, append-nil, append_assoc, arith, drop}
+use Rattle.rt_gen_queue.proofs.Vocabulary.{drop_as_cons, false, get_or, if◌then◌else◌, inl, inr, is_of_level}
+use Rattle.rt_gen_queue.proofs.Vocabulary.{is_software, length, length-append, length-map, map, mapped_at, next_address}
+use Rattle.rt_gen_queue.proofs.Vocabulary.{none-some, plain, queue_at, refl, same_Some, slice_get, slice_get_read}
+use Rattle.rt_gen_queue.proofs.Vocabulary.{subst, suc, sym, task_of, true, zero, ℕ, ◌++◌, ◌+◌, ◌<◌, ◌==◌, ◌∙◌, ◌∷◌, ◌≡◌}
+use Rattle.rt_gen_queue.proofs.Vocabulary.{◌≤◌}
 use Rattle.std.proofs.lemmas.{Bool.cases_Bool, List.FromFn.map-range_with_len_more, Option.slice_get_past}
 use Rattle.std.specs.Int.{from_bool}
 use Rattle.rt_app.specs.declared.app.App as code
@@ -16,13 +17,10 @@ use Rattle.rt_gen_disp.specs.{Inside.Generating.task_code, declared.called.Calle
 use Rattle.rt_gen_disp.specs.Code.{argument_lines, called_at, choice_code, choices_code, last_from, next_for}
 
 -- one argument more
-pub arguments_more : (old lines new : List Line) (inputs k : ℕ)
-    → lines ≡ old ++ argument_lines inputs k → new ≡ lines ++ plain (instr.LoadAt k (inputs + k) 7) ∷ []
-    → new ≡ old ++ argument_lines inputs (k + 1)
-arguments_more old lines new inputs k before pushed =
-    let load : ℕ → Line = λ j. plain (instr.LoadAt j (inputs + j) 7) in
-    let more = map-range_with_len_more load 0 k k (omega arith) in
-    rw (pushed, before, more, append_assoc)
+pub arguments_more : (inputs k : ℕ)
+    → argument_lines inputs (k + 1) ≡ argument_lines inputs k ++ plain (instr.LoadAt k (inputs + k) 7) ∷ []
+arguments_more inputs k =
+    map-range_with_len_more (λ (j : ℕ). plain (instr.LoadAt j (inputs + j) 7)) 0 k k (omega arith)
 
 -- the tasks from one on, where there is one
 pub tasks_left : (items : List row.Task) (n : ℕ) (t : row.Task) → n < length items → t ≡ get_or items n t
@@ -34,35 +32,41 @@ pub record Site : Type 0 where
   pub app : App
   pub level : ℕ
   pub exit : Exit
-  pub entry : ℕ
 
 -- lines, and those of the tasks from a number on, with the rows of software tasks from another on
-abbrev pub with_rest : Site → List Line → ℕ → ℕ → List Task → List Line
-with_rest s lines n r ts = lines ++ choices_code s.app s.level s.exit (s.entry + length lines) n r ts
+abbrev pub with_rest : Site → Made → ℕ → ℕ → List Task → Made
+with_rest s made n r ts =
+    record made { lines = made.lines ++ choices_code s.app s.level s.exit (next_address made) n r ts }
+
+-- lines, and those of a task by its number, with its row, where there is one
+abbrev with_task : Site → Made → ℕ → ℕ → Option Task → Made
+with_task s made n r task =
+    record made { lines = made.lines ++ task_code s.app s.level s.exit (next_address made) n r task }
 
 -- what is left behind the lines of a task
-rest_next : (s : Site) (lines : List Line) (n r : ℕ) (t : Task) (ts : List Task) → with_rest s lines n r (t ∷ ts)
-    ≡ with_rest s (lines ++ task_code s.app s.level s.exit (s.entry + length lines) n r (Some t)) (n + 1)
-    (r + from_bool (is_software t)) ts
-rest_next s lines n r t ts =
-    let at : ℕ = s.entry + length lines in
+rest_next : (s : Site) (made : Made) (n r : ℕ) (t : Task) (ts : List Task) → with_rest s made n r (t ∷ ts)
+    ≡ with_rest s (with_task s made n r (Some t)) (n + 1) (r + from_bool (is_software t)) ts
+rest_next s made n r t ts =
+    let lines : List Line = made.lines in
+    let with : List Line → Made = λ ls. record made { lines = ls } in
+    let at : ℕ = next_address made in
     let own : List Line = choice_code s.app s.level s.exit at n r t in
     let more : ℕ → ℕ → List Line = λ a k. choices_code s.app s.level s.exit a (n + 1) k ts in
     elim (cases_Bool (is_of_level s.level t)) [
       | inl of ↦
           (let long =
           choice_long (queue_at s.app s.level) (called_at s.app n r t) (next_for s.exit n (at + (17 + t.args))) at in
-          let behind : at + (17 + t.args) ≡ s.entry + length (lines ++ own) =
+          let behind : at + (17 + t.args) ≡ made.entry + length (lines ++ own) =
           omega (arith, length-append lines own, long) in
           rw (of, and_left (is_software t) (t.priority == s.level) of)
-          (ap (λ a. lines ++ (own ++ more a (r + 1))) behind
-          ∙ sym (append_assoc lines own (more (s.entry + length (lines ++ own)) (r + 1)))))
+          (ap (λ a. with (lines ++ (own ++ more a (r + 1)))) behind
+          ∙ ap with (sym (append_assoc lines own (more (made.entry + length (lines ++ own)) (r + 1))))))
       | inr other ↦
           elim (cases_Bool (is_software t)) [
             | inl is ↦ rw (other, is, append-nil) refl
             | inr fails ↦
                 (let same : r ≡ r + 0 = omega arith in
-                rw (other, fails, append-nil) (ap (λ k. lines ++ more at k) same))
+                rw (other, fails, append-nil) (ap (λ k. with (lines ++ more at k)) same))
           ]
     ]
 
@@ -80,16 +84,15 @@ no_task app items n is beyond =
     (ap (λ (xs : List row.Task). length xs) is ∙ sym (length-map app.tasks.items task_of)) beyond)
 
 -- what is left behind the lines of a task of the code
-pub choices_next : (s : Site) (items : List row.Task) (lines : List Line) (r : ℕ) {n : ℕ} {t : row.Task}
-    → n < length items → t ≡ get_or items n t → with_rest s lines n r (map task_of (drop n items))
-    ≡ with_rest s (lines
-    ++ task_code s.app s.level s.exit (s.entry + length lines) n r (slice_get (map task_of items) n)) (n + 1)
+pub choices_next : (s : Site) (items : List row.Task) (made : Made) (r : ℕ) {n : ℕ} {t : row.Task}
+    → n < length items → t ≡ get_or items n t → with_rest s made n r (map task_of (drop n items))
+    ≡ with_rest s (with_task s made n r (slice_get (map task_of items) n)) (n + 1)
     (r + from_bool (is_software (task_of t))) (map task_of (drop (n + 1) items))
-choices_next s items lines r {n = n} {t = t} within at =
+choices_next s items made r {n = n} {t = t} within at =
     let there : slice_get (map task_of items) n ≡ Some (task_of t) =
     mapped_at task_of items n t (slice_get_read items (length items) n t refl within at) in
-    ap (with_rest s lines n r) (tasks_left items n t within at)
-    ∙ rest_next s lines n r (task_of t) (map task_of (drop (n + 1) items)) ∙ rw there refl
+    ap (with_rest s made n r) (tasks_left items n t within at)
+    ∙ rest_next s made n r (task_of t) (map task_of (drop (n + 1) items)) ∙ rw there refl
 
 pub at_most_one : (b : Bool) → from_bool b ≤ 1
 at_most_one true = omega arith

@@ -1,4 +1,4 @@
-ghost use Rattle.std.specs.Prelude.{◌≡◌, ◌+◌, ◌≤◌, ◌<◌, ◌++◌, ◌^◌, length, map, take, drop, slice_get, Contains, IfOk};
+ghost use Rattle.std.specs.Prelude.{◌≡◌, ◌+◌, ◌≤◌, ◌<◌, ◌^◌, length, map, take, drop, slice_get, Contains, IfOk};
 ghost use Rattle.std.specs.Prelude.{OnOk};
 ghost use Rattle.std.specs.Prelude.{OnErr};
 ghost use Rattle.std.specs.List.{AllByRecursion};
@@ -9,6 +9,7 @@ ghost use Rattle.rt_app.specs.Names.{names_of};
 ghost use Rattle.rt_app.specs.Plan.{IsPlan};
 ghost use Rattle.rt_app.specs.View.{app_of, task_of};
 ghost use Rattle.rt_gen_queue.specs.Line.{IsNameable};
+ghost use Rattle.rt_gen_queue.specs.Making.{next_address, Appends};
 ghost use Rattle.rt_gen_queue.specs.Queue.{queue_at};
 ghost use Rattle.rt_gen_disp.specs.Code.{choices_code, dispatcher_code, last_from};
 ghost use Rattle.rt_gen_disp.specs.Inside.Generating.{task_code};
@@ -18,18 +19,17 @@ use crate::called::called_of;
 use crate::lines::{CHOICE_LINES, EMPTY_OFFSET, Exit, MANY_LINES, push_choice, push_front};
 use rt_app::{Plan, Task};
 use rt_code::Line;
-use rt_gen_queue::{ReadyQueue, next_entry, queue_of};
+use rt_gen_queue::{Lines, ReadyQueue, next_entry, queue_of};
 use rt_ids::NoMemory;
 use std::alloc::Global;
 
-/// The address of the next line, where the first stands at an entry. Where it, or what a task's lines lead to, has no
-/// 32 bits there is no memory for so much code either.
-fn next_address(entry: u32, lines: &[Line]) -> Result<u32, NoMemory>
-    ensures at { IfOk result (λ at. at ≡ entry + length lines.now) }
+/// The address of the next line. Where it, or what a task's lines lead to, has no 32 bits there is no memory for so
+/// much code either.
+fn address_with_room(lines: &Lines) -> Result<u32, NoMemory>
+    ensures at { IfOk result (λ at. at ≡ next_address lines.now) }
     ensures room { IfOk result (λ at. at + MANY_LINES < 2 ^ 32) }
 {
-    let count = next_entry(lines)?;
-    let at = entry.checked_add(count).ok_or(NoMemory)?;
+    let at = lines.next_address()?;
     at.checked_add(MANY_LINES).ok_or(NoMemory)?;
     Ok(at)
 }
@@ -54,22 +54,20 @@ fn push_task(
     exit: Exit,
     number: usize,
     row: u32,
-    entry: u32,
-    lines: &mut Vec<Line>,
+    lines: &mut Lines,
 ) -> Result<(), NoMemory>
     requires accepted { IsAccepted (app_of plan.now.app.now) }
     requires planned { IsPlan plan.now }
     requires queue { queue.now ≡ queue_at (app_of plan.now.app.now) queue.now.level }
-    ensures { let app = app_of plan.now.app.now in OnOk result (lines.new.items ≡ lines.old.items
-        ++ task_code app queue.now.level exit (entry + length lines.old.items) number row
-        (slice_get app.tasks number)) }
+    ensures { let app = app_of plan.now.app.now in OnOk result (Appends lines.old lines.new
+        (task_code app queue.now.level exit (next_address lines.old) number row (slice_get app.tasks number))) }
 {
     match plan.app.tasks.get(number) {
         Some(task) => {
             if !task.is_of_level(queue.level) {
                 return Ok(());
             }
-            let at = next_address(entry, lines)?;
+            let at = address_with_room(lines)?;
             let next = exit.next_for(number, at + (CHOICE_LINES + u32::from(task.args)));
             push_choice(queue, &called_of(plan, number, row, task), next, at, lines)
         }
@@ -82,38 +80,37 @@ fn push_choices(
     plan: &Plan<'_>,
     queue: &ReadyQueue,
     exit: Exit,
-    entry: u32,
-    lines: &mut Vec<Line>,
+    lines: &mut Lines,
 ) -> Result<(), NoMemory>
     requires accepted { IsAccepted (app_of plan.now.app.now) }
     requires planned { IsPlan plan.now }
     requires queue { queue.now ≡ queue_at (app_of plan.now.app.now) queue.now.level }
-    ensures { let app = app_of plan.now.app.now in OnOk result (lines.new.items ≡ lines.old.items
-        ++ choices_code app queue.now.level exit (entry + length lines.old.items) 0 0 app.tasks) }
+    ensures { let app = app_of plan.now.app.now in OnOk result (Appends lines.old lines.new
+        (choices_code app queue.now.level exit (next_address lines.old) 0 0 app.tasks)) }
 {
     let mut row: u32 = 0;
     for number in 0..plan.app.tasks.len() {
-        push_task(plan, queue, exit, number, row, entry, lines)?;
+        push_task(plan, queue, exit, number, row, lines)?;
         let task = &plan.app.tasks[number];
         row += u32::from(task.is_software());
     }
     Ok(())
 }
 
-/// The lines of the dispatcher of a level, the first of which will stand at this address.
-fn generate(plan: &Plan<'_>, level: u8, entry: u32, lines: &mut Vec<Line>) -> Result<(), NoMemory>
+/// The lines of the dispatcher of a level.
+fn generate(plan: &Plan<'_>, level: u8, lines: &mut Lines) -> Result<(), NoMemory>
     requires accepted { IsAccepted (app_of plan.now.app.now) }
     requires planned { IsPlan plan.now }
     requires software { Contains (levels (app_of plan.now.app.now)) level }
-    requires empty { length lines.old.items ≡ 0 }
-    ensures { OnOk result (lines.new.items ≡ lines.old.items ++ dispatcher_code (app_of plan.now.app.now) level entry) }
+    ensures { OnOk result (Appends lines.old lines.new
+        (dispatcher_code (app_of plan.now.app.now) level (next_address lines.old))) }
 {
     let queue = queue_of(plan, level);
-    let at = next_address(entry, lines)?;
+    let at = address_with_room(lines)?;
     push_front(&queue, at, lines)?;
     let last = last_of(&plan.app.tasks, level);
     let address = at + EMPTY_OFFSET;
-    push_choices(plan, &queue, Exit { address, last }, entry, lines)
+    push_choices(plan, &queue, Exit { address, last }, lines)
 }
 
 /// Appends the code of the dispatcher of a level of software tasks to code, and answers the address where it begins.
@@ -139,8 +136,8 @@ pub fn gen_dispatcher(
     ensures left { OnErr result (code.new.items ≡ code.old.items) }
 {
     let entry = next_entry(code)?;
-    let mut lines = Vec::new(alloc);
-    generate(plan, level, entry, &mut lines)?;
-    code.extend_from_slice(&lines)?;
+    let mut lines = Lines::new(alloc, entry);
+    generate(plan, level, &mut lines)?;
+    code.extend_from_slice(lines.as_slice())?;
     Ok(entry)
 }

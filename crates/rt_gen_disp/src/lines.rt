@@ -1,5 +1,6 @@
-ghost use Rattle.std.specs.Prelude.{◌≡◌, ◌+◌, ◌^◌, ◌≤◌, ◌<◌, ◌++◌, OnOk};
+ghost use Rattle.std.specs.Prelude.{◌≡◌, ◌+◌, ◌^◌, ◌≤◌, ◌<◌, OnOk};
 ghost use Rattle.rt_gen_queue.specs.Guards.{enter_line, leave_line};
+ghost use Rattle.rt_gen_queue.specs.Making.{Appends};
 ghost use Rattle.rt_gen_disp.specs.Code as spec;
 ghost use Rattle.rt_gen_disp.specs.declared.slots.TheConstants.{MASK};
 ghost use Rattle.rt_gen_disp.specs.declared.lines.TheConstants.{TAKING_OFFSET, MANY_LINES};
@@ -7,7 +8,7 @@ ghost use Rattle.rt_gen_disp.specs.declared.lines.TheConstants.{TAKING_OFFSET, M
 use crate::called::Called;
 use crate::slots::{INDEX, LEFT, MASK, ONE, OTHER, PLACE, TASK, WORD};
 use rt_code::{Instr, Line, Note};
-use rt_gen_queue::{Guard, ReadyQueue};
+use rt_gen_queue::{Guard, Lines, ReadyQueue};
 use rt_ids::limits::CAPACITY;
 use rt_ids::{NoMemory, Op, Prio, Section};
 
@@ -41,18 +42,14 @@ fn leaving(guard: Guard, level: u8, section: Section) -> Line
 }
 
 /// The lines before the tasks, the first of which will stand at this address.
-pub(crate) fn push_front(
-    queue: &ReadyQueue,
-    entry: u32,
-    lines: &mut Vec<Line>,
-) -> Result<(), NoMemory>
+pub(crate) fn push_front(queue: &ReadyQueue, entry: u32, lines: &mut Lines) -> Result<(), NoMemory>
     requires room { entry + TAKING_OFFSET < 2 ^ 32 }
-    ensures { OnOk result (lines.new.items ≡ lines.old.items ++ spec.front_lines queue.now entry) }
+    ensures { OnOk result (Appends lines.old lines.new (spec.front_lines queue.now entry)) }
 {
     let head = u32::from(queue.at);
     let count = head + 1;
     let (guard, level) = (queue.guard, queue.level);
-    lines.extend_from_slice(&[
+    lines.append(&[
         entering(guard, level, Section::Ready(Prio(level))),
         (Instr::Load(LEFT, count), None),
         (Instr::JumpZ(LEFT, entry + EMPTY_OFFSET), None),
@@ -71,8 +68,7 @@ pub(crate) fn push_front(
         (Instr::Set(OTHER, CAPACITY), None),
         (Instr::Calc(Op::Div, TASK, WORD, OTHER), None),
         (Instr::Calc(Op::Rem, PLACE, WORD, OTHER), None),
-    ])?;
-    Ok(())
+    ])
 }
 
 /// Where a dispatcher goes with a message that is of no task of its level, behind the test of the last one.
@@ -97,28 +93,27 @@ impl Exit {
 }
 
 /// The lines that look whether the message is of a task, up to where its arguments are loaded.
-fn push_test(called: &Called, next: u32, lines: &mut Vec<Line>) -> Result<(), NoMemory>
-    ensures { OnOk result (lines.new.items ≡ lines.old.items ++ spec.test_lines called.now next) }
+fn push_test(called: &Called, next: u32, lines: &mut Lines) -> Result<(), NoMemory>
+    ensures { OnOk result (Appends lines.old lines.new (spec.test_lines called.now next)) }
 {
     let args = u32::from(called.args);
-    lines.extend_from_slice(&[
+    lines.append(&[
         (Instr::Set(OTHER, u32::from(called.task.0)), None),
         (Instr::Calc(Op::Eq, OTHER, TASK, OTHER), None),
         (Instr::JumpZ(OTHER, next), None),
         (Instr::Set(OTHER, args), None),
         (Instr::Calc(Op::Mul, OTHER, PLACE, OTHER), None),
-    ])?;
-    Ok(())
+    ])
 }
 
 /// The lines that load its arguments.
-fn push_arguments(called: &Called, lines: &mut Vec<Line>) -> Result<(), NoMemory>
-    ensures { OnOk result (lines.new.items ≡ lines.old.items
-        ++ spec.argument_lines called.now.inputs called.now.args) }
+fn push_arguments(called: &Called, lines: &mut Lines) -> Result<(), NoMemory>
+    ensures { OnOk result (Appends lines.old lines.new
+        (spec.argument_lines called.now.inputs called.now.args)) }
 {
     let inputs = u32::from(called.inputs);
     for argument in 0..u32::from(called.args) {
-        lines.push((Instr::LoadAt(argument, inputs + argument, OTHER), None))?;
+        lines.push(Instr::LoadAt(argument, inputs + argument, OTHER))?;
     }
     Ok(())
 }
@@ -128,13 +123,13 @@ fn push_start(
     queue: &ReadyQueue,
     called: &Called,
     at: u32,
-    lines: &mut Vec<Line>,
+    lines: &mut Lines,
 ) -> Result<(), NoMemory>
     requires room { at + 3 < 2 ^ 32 }
-    ensures { OnOk result (lines.new.items ≡ lines.old.items ++ spec.start_lines queue.now called.now at) }
+    ensures { OnOk result (Appends lines.old lines.new (spec.start_lines queue.now called.now at)) }
 {
     let (free, level) = (u32::from(called.free), queue.level);
-    lines.extend_from_slice(&[
+    lines.append(&[
         (Instr::Mark, Some(Note::Start(called.task, 0))),
         (Instr::JumpZ(LEFT, at + 3), None),
         (Instr::Post(queue.irq), None),
@@ -147,8 +142,7 @@ fn push_start(
         leaving(called.guard, level, Section::Free(called.task)),
         (Instr::Call(called.row, 0), None),
         (Instr::Ret, None),
-    ])?;
-    Ok(())
+    ])
 }
 
 /// The lines of a task, the first of which will stand at an address; its test leads to another.
@@ -157,11 +151,11 @@ pub(crate) fn push_choice(
     called: &Called,
     next: u32,
     at: u32,
-    lines: &mut Vec<Line>,
+    lines: &mut Lines,
 ) -> Result<(), NoMemory>
     requires few { called.now.args ≤ 4 }
     requires room { at + MANY_LINES < 2 ^ 32 }
-    ensures { OnOk result (lines.new.items ≡ lines.old.items ++ spec.choice_lines queue.now called.now next at) }
+    ensures { OnOk result (Appends lines.old lines.new (spec.choice_lines queue.now called.now next at)) }
 {
     push_test(called, next, lines)?;
     push_arguments(called, lines)?;

@@ -1,6 +1,6 @@
-use Rattle.rt_gen_queue.proofs.Vocabulary.{App, Line, List, OnOk, ap, app_of, append_assoc, arith, length}
-use Rattle.rt_gen_queue.proofs.Vocabulary.{length-append, map, queue_at, refl, subst, sym, task_of, ℕ, ◌++◌, ◌+◌, ◌∙◌}
-use Rattle.rt_gen_queue.proofs.Vocabulary.{◌≡◌}
+use Rattle.rt_gen_queue.proofs.Vocabulary.{App, Line, List, Made, OnOk, ap, app_of, append_assoc, arith, length}
+use Rattle.rt_gen_queue.proofs.Vocabulary.{length-append, map, next_address, queue_at, refl, subst, sym, task_of, ℕ}
+use Rattle.rt_gen_queue.proofs.Vocabulary.{◌++◌, ◌+◌, ◌∙◌, ◌≡◌}
 use Rattle.rt_gen_queue.specs.declared.queue.ReadyQueue.{ReadyQueue}
 use Rattle.rt_gen_disp.proofs.dispatcher.generate.Goals as goal
 use Rattle.rt_gen_disp.specs.Code.{choices_code, exit_of, front_lines, last_from}
@@ -14,25 +14,25 @@ push_choices-requires-clause-queue c =
 pub returns : goal.returns
 returns c =
     let app : App = app_of c.args.plan.now.app.now in
-    let old : List Line = c.args.lines.now.items in
-    let own : List Line = front_lines (queue_at app c.args.level) c.args.entry in
-    let here : c.in_ok-at.at ≡ c.args.entry =
-    omega (arith, c.in_ok-at.ensures.at, ap (λ (l : List Line). length l) c.deref.ensures.value, c.requires.empty) in
-    let behind : c.args.entry + length (old ++ own) ≡ c.args.entry + 18 =
-    omega (arith, c.requires.empty, length-append old own) in
+    let old : Made = c.args.lines.now in
+    let entry : ℕ = next_address old in
+    let own : List Line = front_lines (queue_at app c.args.level) entry in
+    let with : List Line → Made = λ ls. record old { lines = ls } in
+    let behind : old.entry + length (old.lines ++ own) ≡ entry + 18 = omega (arith, length-append old.lines own) in
     let last = c.last_of-last.ensures
-    ∙ ap (λ ts. last_from c.args.level 0 0 (map task_of ts)) c.deref-2.ensures.value in
+    ∙ ap (λ ts. last_from c.args.level 0 0 (map task_of ts)) c.deref.ensures.value in
     let exit : Exit = record { address = c.in_ok-at.at + 4; last = c.last_of-last.result } in
-    let exits : exit ≡ exit_of app c.args.level c.args.entry = rw (here, last) refl in
+    let exits : exit ≡ exit_of app c.args.level entry = rw (c.in_ok-at.ensures.at, last) refl in
     let front = c.in_ok-push_front.ensures
-    ∙ ap (λ (q : ReadyQueue). old ++ front_lines q c.in_ok-at.at) c.queue_of-queue.ensures
-    ∙ ap (λ a. old ++ front_lines (queue_at app c.args.level) a) here in
-    let first : List Line = c.push_front.new.lines.items in
+    ∙ ap (λ (q : ReadyQueue). with (old.lines ++ front_lines q c.in_ok-at.at)) c.queue_of-queue.ensures
+    ∙ ap (λ a. with (old.lines ++ front_lines (queue_at app c.args.level) a)) c.in_ok-at.ensures.at in
+    let first : Made = c.push_front.new.lines in
     let rest : ℕ → Exit → ℕ → List Line = λ level x at. choices_code app level x at 0 0 app.tasks in
-    subst (λ lines. OnOk c.push_choices.result (c.push_choices.new.lines.items ≡ lines))
-    (ap (λ (q : ReadyQueue). first ++ rest q.level exit (c.args.entry + length first)) c.queue_of-queue.ensures
-    ∙ ap (λ ls. ls ++ rest c.args.level exit (c.args.entry + length ls)) front
-    ∙ ap (λ a. (old ++ own) ++ rest c.args.level exit a) behind
-    ∙ ap (λ x. (old ++ own) ++ rest c.args.level x (c.args.entry + 18)) exits
-    ∙ append_assoc old own (rest c.args.level (exit_of app c.args.level c.args.entry) (c.args.entry + 18)))
+    subst (λ made. OnOk c.push_choices.result (c.push_choices.new.lines ≡ made))
+    (ap (λ (q : ReadyQueue). record first { lines = first.lines ++ rest q.level exit (next_address first) })
+    c.queue_of-queue.ensures
+    ∙ ap (λ (m : Made). record m { lines = m.lines ++ rest c.args.level exit (next_address m) }) front
+    ∙ ap (λ a. with ((old.lines ++ own) ++ rest c.args.level exit a)) behind
+    ∙ ap (λ x. with ((old.lines ++ own) ++ rest c.args.level x (entry + 18))) exits
+    ∙ ap with (append_assoc old.lines own (rest c.args.level (exit_of app c.args.level entry) (entry + 18))))
     c.push_choices.ensures

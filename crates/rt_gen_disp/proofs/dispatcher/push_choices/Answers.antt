@@ -13,8 +13,7 @@ loop-number-preserved c = record {
         app = app_of c.args.plan.now.app.now;
         level = c.args.queue.now.level;
         exit = c.args.exit;
-        entry = c.args.entry;
-      }) c.args.plan.now.app.now.tasks.items c.loop-number.lines.items c.loop-number.row (omega arith)
+      }) c.args.plan.now.app.now.tasks.items c.loop-number.lines c.loop-number.row (omega arith)
       c.index-task.ensures ∙ rw (c.in_ok-push_task.ensures, c.from-row.ensures, c.is_software.ensures) refl;
   row = omega (arith, at_most_one c.is_software.result);
 }

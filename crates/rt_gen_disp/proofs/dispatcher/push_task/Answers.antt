@@ -26,6 +26,6 @@ returns-in-None c =
 pub returns-in_ok-at-in-Some : goal.returns-in_ok-at-in-Some
 returns-in_ok-at-in-Some c =
     let sent = rw (c.called_of.ensures.is, c.next_for-next.ensures, c.from.ensures) at c.push_choice.ensures in
-    let pushed = rw (c.in_ok-at-in-Some.ensures.at, c.deref-in-Some.ensures.value, c.requires.queue) at sent in
+    let pushed = rw (c.in_ok-at-in-Some.ensures.at, c.requires.queue) at sent in
     rw (there (goal.at.returns-in_ok-at-in-Some c).In-Some, sym c.is_of_level.ensures ∙ c.if-not-is_of_level.false)
     pushed
